@@ -1,0 +1,5 @@
+pub mod Bools
+pub mod Count
+pub mod Greatest
+pub mod Map
+pub mod Runs
