@@ -1,0 +1,61 @@
+-- One number of a card, as document 01 gives it: groups of seven bits, lowest first, one group a byte; the top bit is set on every byte but the last.
+use Prim.Native.Nat.{ℕ, zero, suc, _+_, _-_, _*_, _/_, _%_}
+use mathlib.Core.List.{List, [], _∷_, _++_}
+use mathlib.Core.Bool.{Bool, cond, _&&_}
+use lib.ListN.{length, getD, take, drop}
+use lib.Dec.{leb, ltb, eqb}
+use Rattle.leb128.specs.declared.Number.{Number}
+use Rattle.leb128.specs.declared.Number.the-variants.{Value, CutOff, Malformed}
+
+-- the groups of a number, with at most k before the last
+unfoldable pub groupsFrom : ℕ → ℕ → List ℕ
+groupsFrom zero v = v ∷ []
+groupsFrom (suc k) v = cond (ltb v 128) (v ∷ []) ((v % 128 + 128) ∷ groupsFrom k (v / 128))
+
+-- the bytes of a number in its shortest form; five suffice for a number of 32 bits
+unfoldable pub groups : ℕ → List ℕ
+groups v = groupsFrom 4 v
+
+-- how many of the first k bytes have their top bit set before one that has not
+unfoldable pub continuing : ℕ → List ℕ → ℕ
+continuing zero bs = 0
+continuing (suc k) [] = 0
+continuing (suc k) (b ∷ bs) = cond (ltb b 128) 0 (suc (continuing k bs))
+
+-- the number that groups make, lowest first
+unfoldable pub joined : List ℕ → ℕ
+joined [] = 0
+joined (b ∷ bs) = b % 128 + 128 * joined bs
+
+-- the value and what ends it: a last group of zero after others is not the shortest form, and 32 bits are the most
+unfoldable pub judged : ℕ → ℕ → ℕ → ℕ → Number
+judged start k last v =
+    cond (ltb 0 k && eqb last 0) (Malformed start)
+    (cond (ltb v 4294967296) (Value v (start + k + 1)) (Malformed start))
+
+-- the number whose bytes are bs and what follows, of which k continue; `size` is the length of all the bytes
+unfoldable pub numberIn : ℕ → ℕ → List ℕ → ℕ → Number
+numberIn size start bs k =
+    cond (leb 5 k) (Malformed start)
+    (cond (leb (length bs) k) (CutOff size)
+    (judged start k (getD bs k 0) (joined (take (suc k) bs))))
+
+-- THE NUMBER AT AN OFFSET: five bytes that all continue are malformed; fewer, cut off, end too early
+unfoldable pub numberAt : List ℕ → ℕ → Number
+numberAt s start = numberIn (length s) start (drop start s) (continuing 5 (drop start s))
+
+-- the bytes s with the number v written from an offset on
+unfoldable pub written : List ℕ → ℕ → ℕ → List ℕ
+written s start v = take start s ++ (groups v ++ drop (start + length (groups v)) s)
+
+-- ---- the quick form of the code
+
+-- at most left more groups, from at on; the groups before add up to sum, and the next has the weight w
+unfoldable pub scan : ℕ → List ℕ → ℕ → ℕ → ℕ → ℕ → Number
+scan zero s start at sum w = Malformed start
+scan (suc left) s start at sum w =
+    cond (ltb at (length s))
+    (cond (ltb (getD s at 0) 128)
+    (judged start (at - start) (getD s at 0) (sum + getD s at 0 * w))
+    (scan left s start (at + 1) (sum + getD s at 0 % 128 * w) (w * 128)))
+    (CutOff (length s))

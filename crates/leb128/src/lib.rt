@@ -1,0 +1,86 @@
+// One number of a card: groups of seven bits, lowest first, in the shortest form, at most five bytes and at most 4,294,967,295.
+ghost use mathlib.Core.Path.{_≡_};
+ghost use Prim.Native.Nat.{_+_, _-_, _*_, _≤_, _<_, _^_};
+ghost use lib.ListN.{length};
+ghost use Rattle.leb128.specs.Number.{numberAt, groups, judged, written};
+
+// The number at an offset, or why there is none.
+pub enum Number {
+    // Its value and the offset after it.
+    Value(u32, usize),
+    // The bytes end within it; their length.
+    CutOff(usize),
+    // Not the shortest form, over five bytes or too great; its offset.
+    Malformed(usize),
+}
+
+// The number that ends with the group b of the given weight.
+fn last_group(start: usize, at: usize, sum: u64, weight: u64, b: u64) -> Number
+    requires { ⌜ (start ≤ at) × (sum + b * weight < 2 ^ 64) × (at + 1 < 2 ^ 64) ⌝ }
+    ensures { λ r. ⌜ r ≡ judged start (at - start) b (sum + b * weight) ⌝ }
+{
+    if at != start {
+        if b == 0 {
+            return Number::Malformed(start);
+        }
+    }
+    let value = sum + b * weight;
+    if value < 4294967296 {
+        Number::Value(value as u32, at + 1)
+    } else {
+        Number::Malformed(start)
+    }
+}
+
+// The number that starts at an offset.
+pub fn read_number(s: &[u8], start: usize) -> Number
+    ensures { λ r. ⌜ r ≡ numberAt (now (s .entry)) start ⌝ }
+{
+    let mut sum: u64 = 0;
+    let mut weight: u64 = 1;
+    let mut at = start;
+    let mut left: u8 = 5;
+    while 0 < left {
+        if s.len() <= at {
+            return Number::CutOff(s.len());
+        }
+        let b = s[at] as u64;
+        if b < 128 {
+            return last_group(start, at, sum, weight, b);
+        }
+        sum += b % 128 * weight;
+        weight *= 128;
+        at += 1;
+        left -= 1;
+    }
+    Number::Malformed(start)
+}
+
+// How many bytes a number takes.
+pub fn number_length(v: u32) -> usize
+    ensures { λ r. ⌜ r ≡ length (groups v) ⌝ }
+{
+    let mut rest = v;
+    let mut count: usize = 1;
+    while 128 <= rest {
+        rest /= 128;
+        count += 1;
+    }
+    count
+}
+
+// Writes a number from an offset on and answers the offset after it.
+pub fn write_number(out: &mut [u8], start: usize, v: u32) -> usize
+    requires { ⌜ start + length (groups v) ≤ length (now out) ⌝ }
+    ensures { λ r. ⌜ (r ≡ start + length (groups v)) × (now (out .exit) ≡ written (now (out .entry)) start v) ⌝ }
+{
+    let mut rest = v;
+    let mut at = start;
+    while 128 <= rest {
+        out[at] = (rest % 128 + 128) as u8;
+        rest /= 128;
+        at += 1;
+    }
+    out[at] = rest as u8;
+    at + 1
+}
