@@ -13,7 +13,8 @@ use lib.Seq.{set-split, take-suc-set, drop-set-lt, drop-drop}
 use borrow.Author.Tests.{lt-ltb, le-ltb, eq-eqb, ne-eqb}
 use Rattle.leb128.specs.declared.Number.{Number}
 use Rattle.leb128.specs.declared.Number.the-variants.{Value, CutOff, Malformed}
-use Rattle.leb128.specs.Number.{judged, scan, groupsFrom, groups, written}
+use Rattle.leb128.specs.Number.{judged, scan, groupsFrom, groups}
+use Rattle.laws.specs.Overwrite.{overwrite}
 
 module _ (start at b v : ℕ) (low : start ≤ at) where
   pub judged-zero : (at ≡ start → ⊥) → b ≡ 0 → Malformed start ≡ judged start (at - start) b v
@@ -122,7 +123,7 @@ count-more v rest count c h =
     let l : length (groupsFrom (5 - count) rest) ≡ suc (length (groupsFrom (5 - count - 1) (rest / 128))) = ap length (f .is) in
     record { low = omega arith; high = omega (arith, f .some); small = rw e (f .small); whole = rw e (omega (arith, c .whole)) }
 
-pub count-end : (v rest count : ℕ) → Counting v rest count → rest < 128 → count ≡ length (groups v)
+pub count-end : (v rest count : ℕ) → Counting v rest count → rest < 128 → (count ≡ length (groups v)) × (count ≤ 5)
 count-end v rest count c h = omega (arith, c .whole, ap length (groups-last (5 - count) rest h))
 
 -- writing: what stands before at, the groups of the rest and the old bytes after the number are the bytes to be
@@ -132,11 +133,11 @@ pub record Writing (out₀ : List ℕ) (start v : ℕ) (out : List ℕ) (rest at
   pub small : rest < 128 ^ suc (start + 4 - at)
   pub long : at + length (groupsFrom (start + 4 - at) rest) ≡ start + length (groups v)
   pub kept : length out ≡ length out₀
-  pub whole : take at out ++ (groupsFrom (start + 4 - at) rest ++ drop (start + length (groups v)) out₀) ≡ written out₀ start v
+  pub whole : take at out ++ (groupsFrom (start + 4 - at) rest ++ drop (start + length (groups v)) out₀) ≡ overwrite out₀ start (groups v)
   pub later : drop at out ≡ drop at out₀
 
 pub write-start : (out : List ℕ) (start v : ℕ) → v < 4294967296 → Writing out start v out v start
-unfolding groups written
+unfolding groups overwrite
 write-start out start v h =
     let e : start + 4 - start ≡ 4 = omega arith in
     record { low = omega arith; high = omega arith; small = rw e (omega arith); long = rw e; kept = refl; whole = rw e; later = refl }
@@ -176,7 +177,7 @@ write-more out₀ start v out rest at w l h =
     }
 
 pub write-end : (out₀ : List ℕ) (start v : ℕ) (out : List ℕ) (rest at : ℕ) → Writing out₀ start v out rest at → at < length out → rest < 128
-    → (at + 1 ≡ start + length (groups v)) × (set out at rest ≡ written out₀ start v)
+    → (at + 1 ≡ start + length (groups v)) × (set out at rest ≡ overwrite out₀ start (groups v))
 write-end out₀ start v out rest at w l h =
     let g = groups-last (start + 4 - at) rest h in
     let e : start + length (groups v) ≡ suc at = omega (arith, w .long, ap length g) in

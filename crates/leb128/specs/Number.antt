@@ -1,6 +1,6 @@
 -- One number of a card, as document 01 gives it: groups of seven bits, lowest first, one group a byte; the top bit is set on every byte but the last.
 use Prim.Native.Nat.{ℕ, zero, suc, _+_, _-_, _*_, _/_, _%_}
-use mathlib.Core.List.{List, [], _∷_, _++_}
+use mathlib.Core.List.{List, [], _∷_}
 use mathlib.Core.Bool.{Bool, cond, _&&_}
 use lib.ListN.{length, getD, take, drop}
 use lib.Dec.{leb, ltb, eqb}
@@ -43,10 +43,6 @@ numberIn size start bs k =
 -- THE NUMBER AT AN OFFSET: five bytes that all continue are malformed; fewer, cut off, end too early
 unfoldable pub numberAt : List ℕ → ℕ → Number
 numberAt s start = numberIn (length s) start (drop start s) (continuing 5 (drop start s))
-
--- the bytes s with the number v written from an offset on
-unfoldable pub written : List ℕ → ℕ → ℕ → List ℕ
-written s start v = take start s ++ (groups v ++ drop (start + length (groups v)) s)
 
 -- ---- the quick form of the code
 

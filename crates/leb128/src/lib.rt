@@ -2,7 +2,8 @@
 ghost use mathlib.Core.Path.{_≡_};
 ghost use Prim.Native.Nat.{_+_, _-_, _*_, _≤_, _<_, _^_};
 ghost use lib.ListN.{length};
-ghost use Rattle.leb128.specs.Number.{numberAt, groups, judged, written};
+ghost use Rattle.leb128.specs.Number.{numberAt, groups, judged};
+ghost use Rattle.laws.specs.Overwrite.{overwrite};
 
 // The number at an offset, or why there is none.
 pub enum Number {
@@ -58,7 +59,7 @@ pub fn read_number(s: &[u8], start: usize) -> Number
 
 // How many bytes a number takes.
 pub fn number_length(v: u32) -> usize
-    ensures { λ r. ⌜ r ≡ length (groups v) ⌝ }
+    ensures { λ r. ⌜ (r ≡ length (groups v)) × (r ≤ 5) ⌝ }
 {
     let mut rest = v;
     let mut count: usize = 1;
@@ -72,7 +73,7 @@ pub fn number_length(v: u32) -> usize
 // Writes a number from an offset on and answers the offset after it.
 pub fn write_number(out: &mut [u8], start: usize, v: u32) -> usize
     requires { ⌜ start + length (groups v) ≤ length (now out) ⌝ }
-    ensures { λ r. ⌜ (r ≡ start + length (groups v)) × (now (out .exit) ≡ written (now (out .entry)) start v) ⌝ }
+    ensures { λ r. ⌜ (r ≡ start + length (groups v)) × (now (out .exit) ≡ overwrite (now (out .entry)) start (groups v)) ⌝ }
 {
     let mut rest = v;
     let mut at = start;
