@@ -1,0 +1,4 @@
+pub mod Placement
+pub mod Tally
+pub mod Row
+pub mod Best
