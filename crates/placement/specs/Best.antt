@@ -2,7 +2,7 @@
 -- Assumes nothing.
 use Prim.Native.Nat.{ℕ, suc, _+_, _*_, _-_, _/_, _%_, _≤_, _<_}
 use mathlib.Core.Path.{_≡_, refl}
-use mathlib.Core.Logic.{_⊎_, inl, inr, by-cases}
+use mathlib.Core.Logic.{inl, inr, by-cases}
 use mathlib.Core.Bool.{Bool, true, false, cond}
 use native.Mathlib.Omega.{arith}
 use native.Mathlib.Decide.{decLe}
@@ -32,6 +32,15 @@ place-laying P N np = record {
     same a b u v true d false e q = omega (arith, eqb-true (a % 2) 0 d, eqb-false (b % 2) 0 e)
     same a b u v false d true e q = omega (arith, eqb-false (a % 2) 0 d, eqb-true (b % 2) 0 e)
     same a b u v false d false e q = omega (arith, eqb-false (a % 2) 0 d, eqb-false (b % 2) 0 e)
+
+-- the film takes the N highest positions
+pub place-high : (P N b : ℕ) → N ≤ P → b < N → P - N ≤ place P N b
+unfolding place
+place-high P N b np u = go (eqb (b % 2) 0)
+  where
+    go : (x : Bool) → P - N ≤ cond x (P - N + b / 2) (P - 1 - b / 2)
+    go true = omega arith
+    go false = omega arith
 
 module _ (P N : ℕ) (τ : ℕ → ℕ) (falls : Falling P τ) (l : ℕ → ℕ) (lay : Laying P N l) (W : ℕ) (under : (b : ℕ) → suc b < N → τ (l b) + τ (l (suc b)) ≤ W) where
   -- what bounds the successive pairs of any laying bounds τ s + τ f, where more blocks must be slow than can be fast

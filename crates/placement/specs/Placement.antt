@@ -1,15 +1,26 @@
 -- Document 01, 'Laying the film': where a block lies, what a laying is, and its worst time.
 -- Assumes nothing.
-use Prim.Native.Nat.{ℕ, suc, _+_, _-_, _/_, _%_, _≤_, _<_}
+use Prim.Native.Nat.{ℕ, suc, _+_, _*_, _-_, _/_, _%_, _≤_, _<_}
 use mathlib.Core.Path.{_≡_}
 use mathlib.Core.Bool.{cond}
+use native.Mathlib.Omega.{arith}
 use lib.Dec.{eqb}
+use borrow.Author.Tests.{eq-eqb, ne-eqb}
 use Rattle.laws.specs.Greatest.{greatestOf}
 
--- the position of block b of a film of N blocks on the N highest of P positions:
--- 'Block 2i goes to position P − N + i, block 2i+1 to position P − 1 − i'
+-- the position of block b of a film of N blocks, which takes the N highest of P positions
 unfoldable pub place : ℕ → ℕ → ℕ → ℕ
 place P N b = cond (eqb (b % 2) 0) (P - N + b / 2) (P - 1 - b / 2)
+
+-- 'Block 2i goes to position P − N + i'
+pub place-even : (P N i : ℕ) → place P N (2 * i) ≡ P - N + i
+unfolding place
+place-even P N i = rw (eq-eqb (2 * i % 2) 0 (omega arith)) (omega arith)
+
+-- 'block 2i+1 to position P − 1 − i'
+pub place-odd : (P N i : ℕ) → place P N (2 * i + 1) ≡ P - 1 - i
+unfolding place
+place-odd P N i = rw (ne-eqb ((2 * i + 1) % 2) 0 (omega arith)) (omega arith)
 
 -- 'A laying gives each of the N blocks a position of its own among the P'
 pub record Laying (P N : ℕ) (l : ℕ → ℕ) : Type 0 where

@@ -1,36 +1,14 @@
 -- The quick forms that code computes: worst2 from one pair of positions for every two blocks, and the greatest time from one position.
 -- Assumes nothing.
-use Prim.Native.Nat.{ℕ, zero, suc, _+_, _*_, _-_, _/_, _%_, _≤_, _<_}
-use mathlib.Core.Path.{_≡_, refl, ap, _∙_}
+use Prim.Native.Nat.{ℕ, suc, _+_, _*_, _-_, _/_, _%_, _≤_, _<_}
+use mathlib.Core.Path.{_≡_, ap, _∙_}
 use mathlib.Core.Logic.{by-cases}
-use mathlib.Core.Bool.{Bool, true, false, cond}
 use native.Mathlib.Omega.{arith}
 use native.Mathlib.Nat.{le-antisymm}
 use native.Mathlib.Decide.{ℕ-discrete}
-use lib.Dec.{eqb}
-use borrow.Author.Tests.{eqb-true, eqb-false, eq-eqb, ne-eqb}
 use Rattle.laws.specs.Greatest.{greatestOf, greatestOf-above, greatestOf-least}
-use Rattle.placement.specs.Placement.{place, Laying, Falling, worstTime}
-use Rattle.placement.specs.Best.{place-laying}
-
--- 'Block 2i goes to position P − N + i'
-pub place-even : (P N i : ℕ) → place P N (2 * i) ≡ P - N + i
-unfolding place
-place-even P N i = rw (eq-eqb (2 * i % 2) 0 (omega arith)) (omega arith)
-
--- 'block 2i+1 to position P − 1 − i'
-pub place-odd : (P N i : ℕ) → place P N (2 * i + 1) ≡ P - 1 - i
-unfolding place
-place-odd P N i = rw (ne-eqb ((2 * i + 1) % 2) 0 (omega arith)) (omega arith)
-
--- the film takes the N highest positions
-pub place-high : (P N b : ℕ) → N ≤ P → b < N → P - N ≤ place P N b
-unfolding place
-place-high P N b np u = go (eqb (b % 2) 0)
-  where
-    go : (x : Bool) → P - N ≤ cond x (P - N + b / 2) (P - 1 - b / 2)
-    go true = omega arith
-    go false = omega arith
+use Rattle.placement.specs.Placement.{place, place-even, place-odd, Falling, worstTime}
+use Rattle.placement.specs.Best.{place-laying, place-high}
 
 module _ (P N : ℕ) (np : N ≤ P) (τ : ℕ → ℕ) (falls : Falling P τ) where
   -- the pairs (2i, 2i+1) alone decide: in the pair (2i+1, 2i+2) the even block lies further out than block 2i
