@@ -1,10 +1,9 @@
--- A film as the sweeps see it, and the runs of blocks in it.
+-- A film as the sweeps see it, what paces it, and the leads of its blocks.
 -- Assumes nothing.
 use Prim.Native.Nat.{ℕ, zero, suc, _+_, _*_, _-_, _≤_, _<_}
 use mathlib.Core.Path.{_≡_}
 use mathlib.Core.Bool.{Bool, true, false, cond, _&&_}
 use mathlib.Core.List.{List, []}
-use native.Mathlib.Omega.{arith}
 use lib.Dec.{ltb, eqb}
 use Rattle.laws.specs.Greatest.{greatestOf}
 
@@ -31,13 +30,15 @@ pub record Film (A : Type 0) : Type 0 where
   -- the most blocks of a run that starts there
   pub longest : A → ℕ
 
--- all that leads rely on: successive pairs within w, single times within m.
--- In document 01 w is worst2 and m the greatest time(b)
+-- all that the laws of leads rely on. In document 01 w is worst2 and m the greatest time(b)
 pub record Paced {A : Type 0} (film : Film A) (w m : ℕ) : Type 0 where
   -- after a block comes a block or the end
   pub goes : (a : A) → film .isBlock a ≡ true → film .isEnd (film .next a) ≡ false → film .isBlock (film .next a) ≡ true
+  -- two successive blocks take at most w
   pub pairs : (a : A) → film .isBlock a ≡ true → film .isBlock (film .next a) ≡ true → film .time a + film .time (film .next a) ≤ w
+  -- no block takes more than m
   pub slow : (a : A) → film .isBlock a ≡ true → film .time a ≤ m
+  -- a run may hold at least its first block
   pub runs : (a : A) → film .isBlock a ≡ true → 0 < film .longest a
 
 module _ {A : Type 0} (film : Film A) where
@@ -74,13 +75,4 @@ once N time place = record {
   others = λ b. [];
   time = time;
   longest = λ b. N - b;
-}
-
--- a film within its own worst time is within a greater one
-pub paced-more : {A : Type 0} (film : Film A) (w w′ m m′ : ℕ) → w ≤ w′ → m ≤ m′ → Paced film w m → Paced film w′ m′
-paced-more film w w′ m m′ h k ok = record {
-  goes = ok .goes;
-  pairs = λ a e q. omega (arith, ok .pairs a e q);
-  slow = λ a e. omega (arith, ok .slow a e);
-  runs = ok .runs;
 }

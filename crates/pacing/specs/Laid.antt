@@ -31,25 +31,28 @@ module _ (τ l : ℕ → ℕ) (N : ℕ) where
   unfolding worstTime
   pair-within b u = greatestOf-above (λ b. τ (l b) + τ (l (suc b))) (N - 1) b (omega arith)
 
+  -- a block takes at most the greatest time
   pub time-within : (b : ℕ) → b < N → τ (l b) ≤ slowest
   unfolding slowest
   time-within b u = greatestOf-above (λ b. τ (l b)) N b u
 
+  -- so the film is paced by them
   pub laid-paced : Paced laidFilm (worstTime τ l N) slowest
   unfolding laidFilm
   laid-paced = once-paced N (λ b. τ (l b)) l (worstTime τ l N) slowest pair-within time-within
 
+  -- and its leads are
   pub laid-lead : (b : ℕ) → b < N → lead laidFilm (worstTime τ l N) b ≡ 2 * τ (l b) - worstTime τ l N
   unfolding laidFilm
   laid-lead b u = once-lead N (λ b. τ (l b)) l (worstTime τ l N) slowest laid-paced b u
 
-  -- the margin's subtraction is exact
+  -- twice the greatest time is at least the worst time: the margin's subtraction is exact
   pub worst-within : worstTime τ l N ≤ 2 * slowest
   unfolding worstTime
   worst-within = greatestOf-least (λ b. τ (l b) + τ (l (suc b))) (N - 1) (2 * slowest) (λ b u. omega (arith, time-within b (omega arith), time-within (suc b) (omega arith)))
 
   module _ (two : 1 < N) (positive : (b : ℕ) → b < N → 0 < τ (l b)) where
-    -- every block has a neighbour
+    -- every block has a neighbour, and that takes time too
     time-below : (b : ℕ) → b < N → τ (l b) < worstTime τ l N
     time-below b u = by-cases (decLt (suc b) N)
         (λ h. omega (arith, pair-within b h, positive (suc b) h))
@@ -72,7 +75,7 @@ unfolding margin slowest
 margin-quick P N np n1 τ falls = rw (slowest-quick P N np τ falls n1)
 
 -- of any laying 'with [its worst time] in place of worst2 no number above n in the range of streams meets the formula of streams'
-pub streams-of-laying : (P N : ℕ) → N ≤ P → (τ : ℕ → ℕ) → Falling P τ → (l : ℕ → ℕ) → Laying P N l
+pub no-laying-feeds-more : (P N : ℕ) → N ≤ P → (τ : ℕ → ℕ) → Falling P τ → (l : ℕ → ℕ) → Laying P N l
     → (c : ℕ) (over : ℕ → ℕ) (B n : ℕ) → streams c (worstTime τ (place P N) N) over B < n → n ≤ 256 → 2000000 * B < load c (worstTime τ l N) over n
-streams-of-laying P N np τ falls l lay c over B n m u =
+no-laying-feeds-more P N np τ falls l lay c over B n m u =
     streams-best c (worstTime τ (place P N) N) over B (worstTime τ l N) n (placement-best P N np τ falls l lay) m u

@@ -1,28 +1,30 @@
 -- Document 01's lead: the greatest sum over a run, and what the desk relies on of it.
 -- Assumes nothing.
-use Prim.Native.Nat.{ℕ, zero, suc, _+_, _*_, _-_, _≤_, _<_}
+use Prim.Native.Nat.{ℕ, zero, suc, _+_, _*_, _-_, _≤_}
 use mathlib.Core.Path.{_≡_, refl}
 use mathlib.Core.Logic.{by-cases}
-use mathlib.Core.Bool.{Bool, true, false, cond, _&&_}
+use mathlib.Core.Bool.{Bool, true, false, cond}
 use native.Mathlib.Omega.{arith}
 use native.Mathlib.Nat.{le-antisymm}
 use native.Mathlib.Decide.{decLt}
 use Rattle.laws.specs.Bools.{and-left, and-right, and-both}
-use Rattle.laws.specs.Greatest.{greatestOf, greatestOf-above, greatestOf-least, greatestOf-reached}
+use Rattle.laws.specs.Greatest.{greatestOf-above, greatestOf-least, greatestOf-reached}
 use Rattle.pacing.specs.Film.{Film, Paced, row, span, runSum, lead}
 
 module _ {A : Type 0} (film : Film A) where
-  -- ---- it is the greatest: no run is above it, one reaches it, and no other number does so
-
+  -- it is the greatest: no run is above it
   pub lead-above : (w j : ℕ) (a : A) → j ≤ film .longest a → row film j a ≡ true → 2 * span film j a ≤ j * w + lead film w a
   unfolding lead
   lead-above w j a h e =
       let u : 2 * span film j a - j * w ≤ lead film w a = rw e at (greatestOf-above (runSum film w a) (suc (film .longest a)) j (omega arith)) in
       omega arith
 
+  -- a run reaches it
   pub lead-attained : (w : ℕ) (a : A) → (j : ℕ) × (j ≤ film .longest a) × (row film j a ≡ true) × (2 * span film j a ≡ j * w + lead film w a)
   unfolding lead row span
-  lead-attained w a = go (greatestOf-reached (runSum film w a) (suc (film .longest a)) (omega arith))
+  lead-attained w a =
+      let (j, u, e) = greatestOf-reached (runSum film w a) (suc (film .longest a)) (omega arith) in
+      at j (omega arith) (row film j a) refl e
     where
       empty : lead film w a ≡ 0 → (j : ℕ) × (j ≤ film .longest a) × (row film j a ≡ true) × (2 * span film j a ≡ j * w + lead film w a)
       empty e = (0, omega arith, refl, omega arith)
@@ -32,10 +34,7 @@ module _ {A : Type 0} (film : Film A) where
       at j u true r e = by-cases (decLt 0 (lead film w a)) (λ h. (j, u, r, omega arith)) (λ h. empty (omega arith))
       at j u false r e = empty (omega arith)
 
-      go : (j : ℕ) × (j < suc (film .longest a)) × (runSum film w a j ≡ lead film w a)
-          → (j : ℕ) × (j ≤ film .longest a) × (row film j a ≡ true) × (2 * span film j a ≡ j * w + lead film w a)
-      go (j, u, e) = at j (omega arith) (row film j a) refl e
-
+  -- and no other number has both
   pub lead-only : (w m : ℕ) (a : A) → ((j : ℕ) → j ≤ film .longest a → row film j a ≡ true → 2 * span film j a ≤ j * w + m)
       → (j : ℕ) → j ≤ film .longest a → row film j a ≡ true → 2 * span film j a ≡ j * w + m → m ≡ lead film w a
   lead-only w m a above j u r e =
@@ -52,7 +51,7 @@ module _ {A : Type 0} (film : Film A) where
       none (suc j) = rw e (omega arith)
 
   module _ (w m : ℕ) (ok : Paced film w m) where
-    -- no run is better than its first block
+    -- no run is above what its first block alone gives: the rest falls into pairs
     run-below : (j : ℕ) (a : A) → row film j a ≡ true → 2 * span film j a ≤ j * w + (2 * film .time a - w)
     unfolding row span
     run-below zero a e = omega arith
@@ -61,6 +60,7 @@ module _ {A : Type 0} (film : Film A) where
         let r = and-right (film .isBlock a) _ e in
         omega (arith, run-below (suc j) (film .next a) r, ok .pairs a (and-left (film .isBlock a) _ e) (and-left (film .isBlock (film .next a)) _ r))
 
+    -- so the run of one block decides
     pub lead-closed : (a : A) → film .isBlock a ≡ true → lead film w a ≡ 2 * film .time a - w
     unfolding lead row span
     lead-closed a e = le-antisymm (greatestOf-least (runSum film w a) (suc (film .longest a)) _ (λ j u. under j (row film j a) refl)) one

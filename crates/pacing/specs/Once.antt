@@ -2,15 +2,16 @@
 -- Assumes nothing.
 use Prim.Native.Nat.{ℕ, zero, suc, _+_, _*_, _-_, _≤_, _<_}
 use mathlib.Core.Path.{_≡_}
-use mathlib.Core.Bool.{true, _&&_}
+use mathlib.Core.Bool.{true}
 use native.Mathlib.Omega.{arith}
 use lib.Dec.{ltb}
 use borrow.Author.Tests.{ltb-true, lt-ltb, le-ltb, eqb-false}
 use Rattle.laws.specs.Bools.{and-left, and-right}
-use Rattle.pacing.specs.Film.{Film, Paced, row, span, lead, once}
+use Rattle.pacing.specs.Film.{Paced, row, span, lead, once}
 use Rattle.pacing.specs.Lead.{lead-above, lead-none, lead-closed}
 
 module _ (N : ℕ) (time place : ℕ → ℕ) where
+  -- paced by what bounds its pairs and its blocks
   pub once-paced : (w m : ℕ) → ((b : ℕ) → suc b < N → time b + time (suc b) ≤ w) → ((b : ℕ) → b < N → time b ≤ m) → Paced (once N time place) w m
   unfolding once
   once-paced w m pairs slow = record {
@@ -34,6 +35,7 @@ module _ (N : ℕ) (time place : ℕ → ℕ) where
   pub once-end : (w : ℕ) → lead (once N time place) w N ≡ 0
   once-end w = lead-none (once N time place) w N (unfold once in le-ltb N N (omega arith))
 
+  -- a lead as code computes it
   pub once-lead : (w m : ℕ) → Paced (once N time place) w m → (b : ℕ) → b < N → lead (once N time place) w b ≡ 2 * time b - w
   unfolding once
   once-lead w m ok b u = lead-closed (once N time place) w m ok b (lt-ltb b N u)

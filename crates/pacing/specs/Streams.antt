@@ -2,7 +2,7 @@
 -- Assumes nothing.
 use Prim.Native.Nat.{ℕ, _+_, _*_, _-_, _/_, _≤_, _<_}
 use mathlib.Core.Path.{_≡_, refl}
-use mathlib.Core.Bool.{Bool, true, false}
+use mathlib.Core.Bool.{Bool}
 use native.Mathlib.Nat.{mul-le-mul-left, mul-le-mul-right, mul-pos, le-refl}
 use native.Mathlib.Omega.{arith}
 use native.Mathlib.Decide.{decLt}
@@ -67,7 +67,7 @@ pub load-rises : (c w : ℕ) (over : ℕ → ℕ) → ((j k : ℕ) → j ≤ k �
 unfolding load
 load-rises c w over rises j k h = omega (arith, mul-le-mul-left c (mul-le-mul-right w h), mul-le-mul-left c (rises j k h))
 
--- 'not even one stream fits': 0 just where one does not
+-- where one stream does not fit, no number does: 'not even one stream fits'
 pub streams-none : (c w : ℕ) (over : ℕ → ℕ) (B : ℕ) → ((j k : ℕ) → j ≤ k → over j ≤ over k) → 2000000 * B < load c w over 1 → streams c w over B ≡ 0
 streams-none c w over B rises h = go (decLt 0 (streams c w over B))
   where
@@ -82,18 +82,22 @@ unfoldable pub tried : ℕ → ℕ → (ℕ → ℕ) → ℕ → ℕ → ℕ
 tried c w over B n = greatest (fits c w over B) n
 
 module _ (c w : ℕ) (over : ℕ → ℕ) (B : ℕ) where
+  -- the start
   pub tried-all : tried c w over B 256 ≡ streams c w over B
   unfolding tried streams
   tried-all = refl
 
+  -- the first that fits
   pub tried-hit : (n : ℕ) → 0 < n → load c w over n ≤ 2000000 * B → tried c w over B n ≡ n
   unfolding tried
   tried-hit n p l = greatest-hit (fits c w over B) n p (le-leb (load c w over n) (2000000 * B) l)
 
+  -- one turn
   pub tried-down : (n : ℕ) → 0 < n → 2000000 * B < load c w over n → tried c w over B n ≡ tried c w over B (n - 1)
   unfolding tried
   tried-down n p l = greatest-down (fits c w over B) n p (lt-leb (load c w over n) (2000000 * B) l)
 
+  -- no number is left
   pub tried-none : (n : ℕ) → n ≡ 0 → tried c w over B n ≡ 0
   unfolding tried greatest
   tried-none n e = rw e
@@ -111,6 +115,7 @@ module _ (c w : ℕ) (over : ℕ → ℕ) (B n margin : ℕ) where
   unfolding load
   margin-below c1 n1 h l = omega (arith, mul-le-mul-left (c * n) h, mul-pos c1 n1)
 
+  -- so the buffer is at most four blocks
   pub buffer-bound : margin ≤ w → load c w over n ≤ 2000000 * B → bufferOf c n margin B ≤ 4 * B
   unfolding bufferOf
   buffer-bound h l = omega (arith, margin-cost h l)
