@@ -72,7 +72,7 @@ module _ (τ l : ℕ → ℕ) (N : ℕ) where
 -- the margin of document 01's laying, as code computes it: block 0 is the slowest
 pub margin-quick : (P N : ℕ) → N ≤ P → 0 < N → (τ : ℕ → ℕ) → Falling P τ → margin τ (place P N) N ≡ 2 * τ (P - N) - worstTime τ (place P N) N
 unfolding margin slowest
-margin-quick P N np n1 τ falls = rw (slowest-quick P N np τ falls n1)
+margin-quick P N np some τ falls = rw (slowest-quick P N np τ falls some)
 
 -- of any laying 'with [its worst time] in place of worst2 no number above n in the range of streams meets the formula of streams'
 pub no-laying-feeds-more : (P N : ℕ) → N ≤ P → (τ : ℕ → ℕ) → Falling P τ → (l : ℕ → ℕ) → Laying P N l

@@ -105,7 +105,7 @@ module _ (c w : ℕ) (over : ℕ → ℕ) (B : ℕ) where
 -- ---- the size of the buffer
 
 module _ (c w : ℕ) (over : ℕ → ℕ) (B n margin : ℕ) where
-  -- the margins of n streams cost at most a block
+  -- the margins of n streams cost at most a block, in two-millionths of a byte
   pub margin-cost : margin ≤ w → load c w over n ≤ 2000000 * B → c * n * margin ≤ 2000000 * B
   unfolding load
   margin-cost h l = omega (arith, mul-le-mul-left (c * n) h)
@@ -113,7 +113,7 @@ module _ (c w : ℕ) (over : ℕ → ℕ) (B n margin : ℕ) where
   -- and less than one where the margin is below the worst time
   pub margin-below : 0 < c → 0 < n → margin + 1 ≤ w → load c w over n ≤ 2000000 * B → c * n * margin < 2000000 * B
   unfolding load
-  margin-below c1 n1 h l = omega (arith, mul-le-mul-left (c * n) h, mul-pos c1 n1)
+  margin-below rate some h l = omega (arith, mul-le-mul-left (c * n) h, mul-pos rate some)
 
   -- so the buffer is at most four blocks
   pub buffer-bound : margin ≤ w → load c w over n ≤ 2000000 * B → bufferOf c n margin B ≤ 4 * B

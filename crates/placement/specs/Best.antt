@@ -18,13 +18,13 @@ use Rattle.placement.specs.Row.{Balanced, row-balanced}
 pub place-laying : (P N : ℕ) → N ≤ P → Laying P N (place P N)
 unfolding place
 place-laying P N np = record {
-  into = λ b u. inside b u (eqb (b % 2) 0) refl;
+  into = λ b u. inside b u (eqb (b % 2) 0);
   apart = λ a b u v e. same a b u v (eqb (a % 2) 0) refl (eqb (b % 2) 0) refl e;
 }
   where
-    inside : (b : ℕ) → b < N → (x : Bool) → eqb (b % 2) 0 ≡ x → cond x (P - N + b / 2) (P - 1 - b / 2) < P
-    inside b u true e = omega arith
-    inside b u false e = omega arith
+    inside : (b : ℕ) → b < N → (x : Bool) → cond x (P - N + b / 2) (P - 1 - b / 2) < P
+    inside b u true = omega arith
+    inside b u false = omega arith
 
     same : (a b : ℕ) → a < N → b < N → (x : Bool) → eqb (a % 2) 0 ≡ x → (y : Bool) → eqb (b % 2) 0 ≡ y
         → cond x (P - N + a / 2) (P - 1 - a / 2) ≡ cond y (P - N + b / 2) (P - 1 - b / 2) → a ≡ b

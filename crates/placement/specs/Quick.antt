@@ -42,8 +42,8 @@ module _ (P N : ℕ) (np : N ≤ P) (τ : ℕ → ℕ) (falls : Falling P τ) wh
   -- block 0 is the slowest
   pub slowest-quick : 0 < N → greatestOf (λ b. τ (place P N b)) N ≡ τ (P - N)
   unfolding Falling
-  slowest-quick n1 =
+  slowest-quick some =
       let x : place P N 0 ≡ P - N = ap (place P N) (omega arith) ∙ place-even P N 0 ∙ omega arith in
       le-antisymm
       (greatestOf-least (λ b. τ (place P N b)) N _ (λ b u. falls (P - N) (place P N b) (place-high P N b np u) (place-laying P N np .into b u)))
-      (rw x at (greatestOf-above (λ b. τ (place P N b)) N 0 n1))
+      (rw x at (greatestOf-above (λ b. τ (place P N b)) N 0 some))

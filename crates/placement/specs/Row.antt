@@ -14,7 +14,7 @@ abbrev pub Balanced : ℕ → ℕ → ℕ → Type 0
 Balanced s f m = (s ≤ f) ⊎ ((s ≡ f + 1) × (m ≡ s + f))
 
 -- the same by its last block
-abbrev pub Row : Class → ℕ → ℕ → ℕ → Type 0
+abbrev Row : Class → ℕ → ℕ → ℕ → Type 0
 Row slow s f m = Balanced s f m
 Row fast s f m = (s < f) ⊎ ((s ≡ f) × (m ≡ s + f))
 Row other s f m = s ≤ f

@@ -38,7 +38,7 @@ unfoldable pub classOf : ℕ → ℕ → ℕ → Class
 classOf s f p = elim (leb p s) [ true ↦ slow | false ↦ elim (ltb f p) [ true ↦ fast | false ↦ other ] ]
 
 -- a class with what it says of its position
-pub data Known (s f p : ℕ) : Class → Type 0 where
+data Known (s f p : ℕ) : Class → Type 0 where
   known-slow : p ≤ s → Known s f p slow
   known-fast : s < p → f < p → Known s f p fast
   known-other : s < p → p ≤ f → Known s f p other
