@@ -25,6 +25,18 @@ unfolding greatestOf
 greatestOf-least g zero W h = omega arith
 greatestOf-least g (suc n) W h = omega (arith, h n (omega arith), greatestOf-least g n W (λ b u. h b (omega arith)))
 
+-- one of them is the greatest
+pub greatestOf-reached : (g : ℕ → ℕ) (n : ℕ) → 0 < n → (b : ℕ) × (b < n) × (g b ≡ greatestOf g n)
+unfolding greatestOf
+greatestOf-reached g zero h = absurd (omega arith)
+greatestOf-reached g (suc zero) h = (0, omega arith, omega arith)
+greatestOf-reached g (suc (suc n)) h = go (decLt (g (suc n)) (greatestOf g (suc n))) (greatestOf-reached g (suc n) (omega arith))
+  where
+    go : Dec (g (suc n) < greatestOf g (suc n)) → (b : ℕ) × (b < suc n) × (g b ≡ greatestOf g (suc n))
+        → (b : ℕ) × (b < suc (suc n)) × (g b ≡ max (g (suc n)) (greatestOf g (suc n)))
+    go (yes d) (b, u, e) = (b, omega arith, omega arith)
+    go (no d) r = (suc n, omega arith, omega arith)
+
 -- the greatest number from 1 to n that passes the test; 0 where none does
 unfoldable pub greatest : (ℕ → Bool) → ℕ → ℕ
 greatest f zero = 0

@@ -1,0 +1,5 @@
+pub mod Film
+pub mod Lead
+pub mod Once
+pub mod Streams
+pub mod Laid
