@@ -1,0 +1,39 @@
+// STUB of the card crate: types and definitions only; the real one is merged from main.
+pub mod fields;
+
+// The figures of a card (document 01: the numbers of a card but its kind). Entries past the zone count are zero.
+pub struct Figures {
+    pub zones: u32,
+    // Positions of each zone, innermost first.
+    pub positions: [u32; 64],
+    // Time to read one block in each zone, in microseconds.
+    pub times: [u32; 64],
+    // N, the film's blocks.
+    pub blocks: u32,
+    // B, the bytes of a block.
+    pub bytes: u32,
+    // c, the top rate in bytes a second.
+    pub rate: u32,
+    // Worst move to one block, in microseconds.
+    pub hop: u32,
+    // Arm back, once a sweep, in microseconds.
+    pub back: u32,
+}
+
+// Document 01's refusal number and what is returned with it; 0 and 0 where the call is accepted.
+pub struct Verdict {
+    pub number: u32,
+    pub place: usize,
+}
+
+// The figures of an accepted card; all zero where it is refused.
+pub struct CardRead {
+    pub verdict: Verdict,
+    pub figures: Figures,
+}
+
+// The length of a written card; zero where it is refused.
+pub struct CardWritten {
+    pub verdict: Verdict,
+    pub length: usize,
+}
