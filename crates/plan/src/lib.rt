@@ -1,0 +1,22 @@
+// The planner: from the figures of a card it lays the film and says how many streams may be fed and with what buffers.
+mod zones; // the times of positions, by cursors over the zones
+mod streams; // the formula of streams, and the buffer
+
+ghost use mathlib.Core.Path.{_≡_};
+ghost use Prim.Native.Nat.{_+_, _*_, _≤_, _<_};
+ghost use Rattle.pacing.specs.Streams.{overhead};
+
+// The product of two numbers of 32 bits. Every product of a rate and a time goes through it.
+pub fn product(a: u32, b: u32) -> u64
+    ensures { λ r. ⌜ r ≡ a * b ⌝ }
+{
+    a as u64 * b as u64
+}
+
+// The overhead of a sweep that fetches `count` blocks: count × hop, plus return.
+pub fn overhead(hop: u32, back: u32, count: u32) -> u32
+    requires { ⌜ overhead hop back count < 4294967296 ⌝ }
+    ensures { λ r. ⌜ r ≡ overhead hop back count ⌝ }
+{
+    count * hop + back
+}
