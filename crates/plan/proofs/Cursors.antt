@@ -122,3 +122,25 @@ module _ (ps : List ℕ) (at : Zone) (q : ℕ) where
 
 pub time-held : (ps ts : List ℕ) (i q : ℕ) → Holds ps i q → getD ts i 0 ≡ timeAt ps ts q
 time-held ps ts i q h = sym (timeAt-zone ps ts i q (h .from) (h .to))
+
+-- ---- a turn of a loop over pairs of positions
+
+-- both cursors hold their positions: their zones are zones, and give the positions' times
+pub record Times (ps ts : List ℕ) (inner outer p q : ℕ) : Type 0 where
+  pub first : inner < 64
+  pub second : outer < 64
+  pub low : getD ts inner 0 ≡ timeAt ps ts p
+  pub high : getD ts outer 0 ≡ timeAt ps ts q
+
+pub times-held : (ps ts : List ℕ) (low high : Zone) (p q : ℕ) → Zoned ps → Above ps low p → Below ps high q → Times ps ts (low .index) (high .index) p q
+times-held ps ts low high p q ok a b = record {
+  first = omega (arith, holds-index ps (low .index) p (a .holds), ok .wide);
+  second = omega (arith, holds-index ps (high .index) q (b .holds), ok .wide);
+  low = time-held ps ts (low .index) p (a .holds);
+  high = time-held ps ts (high .index) q (b .holds);
+}
+
+-- one value more for the greatest
+pub greatest-more : (g : ℕ → ℕ) (n w t : ℕ) → w ≡ greatestOf g n → t ≡ g n → max w t ≡ greatestOf g (n + 1)
+unfolding greatestOf
+greatest-more g n w t p q = let e : n + 1 ≡ suc n = omega arith in rw e (omega arith)
