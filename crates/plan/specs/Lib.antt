@@ -1,2 +1,4 @@
 pub mod Cursors
+pub mod Legal
+pub mod Plan
 pub mod Ranges

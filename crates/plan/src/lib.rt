@@ -1,10 +1,26 @@
 // The planner: from the figures of a card it lays the film and says how many streams may be fed and with what buffers.
 mod zones; // the times of positions, by cursors over the zones
 mod streams; // the formula of streams, and the buffer
+mod film; // the plan of legal figures
+
+use card::Figures;
 
 ghost use mathlib.Core.Path.{_≡_};
 ghost use Prim.Native.Nat.{_+_, _*_, _≤_, _<_};
 ghost use Rattle.pacing.specs.Streams.{overhead};
+
+// A plan; all zero where there is none.
+pub struct Plan {
+    pub figures: Figures,
+    // n, the most streams that may be fed.
+    pub streams: u32,
+    // Bytes of a stream's buffer.
+    pub buffer: u32,
+    // The greatest time of two successive blocks, in microseconds.
+    pub worst2: u32,
+    // The most that a lead can be, in half microseconds.
+    pub margin: u32,
+}
 
 // The product of two numbers of 32 bits. Every product of a rate and a time goes through it.
 pub fn product(a: u32, b: u32) -> u64
