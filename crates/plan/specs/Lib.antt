@@ -1,4 +1,5 @@
 pub mod Cursors
 pub mod Legal
 pub mod Plan
+pub mod Promise
 pub mod Ranges
