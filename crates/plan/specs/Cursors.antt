@@ -1,10 +1,11 @@
 -- Cursors over the zones: the code's way to the time of a position, from the zone of the position beside it.
 -- Assumes nothing.
-use Prim.Native.Nat.{ℕ, zero, suc, _+_, _-_, _≤_, _<_}
+use Prim.Native.Nat.{ℕ, suc, _+_, _-_, _*_, _≤_, _<_}
 use mathlib.Core.Path.{_≡_}
 use mathlib.Core.List.{List}
 use lib.ListN.{length, getD, take}
-use Rattle.placement.specs.Zones.{total}
+use Rattle.placement.specs.Placement.{place}
+use Rattle.placement.specs.Zones.{total, timeAt}
 use Rattle.plan.specs.declared.zones.Zone.{Zone}
 
 -- the zones of a disk: each up to the last position has positions of its own, and there are few enough in all
@@ -45,3 +46,14 @@ pub record Drops (ps : List ℕ) (at : Zone) (q : ℕ) : Type 0 where
   pub from : at .border ≤ suc q
   pub some : at .border < total (take (suc (at .index)) ps)
   pub to : q < total (take (suc (at .index)) ps)
+
+-- a film of N blocks on the disk, whose positions are P
+pub record Film (ps ts : List ℕ) (P N : ℕ) : Type 0 where
+  pub disk : Disk ps ts
+  pub whole : P ≡ total ps
+  pub some : 0 < N
+  pub room : N ≤ P
+
+-- the lead of block b as the code computes it, w being worst2
+abbrev pub leadAt : List ℕ → List ℕ → ℕ → ℕ → ℕ → ℕ → ℕ
+leadAt ps ts P N w b = 2 * timeAt ps ts (place P N b) - w

@@ -1,3 +1,4 @@
+pub mod Answer
 pub mod Cursors
 pub mod Legal
 pub mod Plan

@@ -2,8 +2,9 @@
 mod zones; // the times of positions, by cursors over the zones
 mod streams; // the formula of streams, and the buffer
 mod film; // the plan of legal figures
+mod lists; // the lent lists of positions and leads
 
-use card::Figures;
+use card::{Figures, Verdict};
 
 ghost use mathlib.Core.Path.{_≡_};
 ghost use Prim.Native.Nat.{ℕ, _+_, _*_, _≤_, _<_};
@@ -25,6 +26,12 @@ pub struct Plan {
     pub worst2: u32,
     // The most that a lead can be, in half microseconds.
     pub margin: u32,
+}
+
+// The answer of the planner.
+pub struct Planned {
+    pub verdict: Verdict,
+    pub plan: Plan,
 }
 
 // The product of two numbers of 32 bits. Every product of a rate and a time goes through it.
