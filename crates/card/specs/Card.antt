@@ -1,0 +1,117 @@
+-- The figures of a record, and the card that is made of them.
+use Prim.Native.Nat.{ℕ, zero, suc, _+_, _≤_, _<_}
+use mathlib.Core.Path.{_≡_}
+use mathlib.Core.List.{List, [], _∷_, _++_}
+use mathlib.Core.Bool.{Bool, true, false, cond, _&&_}
+use lib.ListN.{length, getD, take, drop}
+use lib.Dec.{leb, eqb}
+use Rattle.laws.specs.Runs.{allBy, sumBy}
+use Rattle.leb128.specs.Number.{groups}
+use Rattle.card.specs.declared.Figures.{Figures}
+use Rattle.card.specs.declared.Verdict.{Verdict}
+use Rattle.card.specs.declared.CardWritten.{CardWritten}
+use Rattle.card.specs.declared.fields.Rule.{Rule}
+use Rattle.card.specs.declared.fields.Rule.the-variants.{Kind, Zones, Positions, Time, Blocks, Measure}
+use Rattle.card.specs.Ranges.{first, faultOf}
+
+-- ---- legal figures: document 01's table of ranges, as plain facts
+
+-- P, the positions of all zones
+unfoldable pub totalPositions : Figures → ℕ
+totalPositions f = sumBy (λ (p : ℕ). p) (take (f .zones) (f .positions))
+
+pub record Legal (f : Figures) : Type 0 where
+  -- a record has 64 zone entries
+  pub wide : (length (f .positions) ≡ 64) × (length (f .times) ≡ 64)
+  pub zones : (1 ≤ f .zones) × (f .zones ≤ 64)
+  pub unused : (i : ℕ) → f .zones ≤ i → (getD (f .positions) i 0 ≡ 0) × (getD (f .times) i 0 ≡ 0)
+  pub positions : (i : ℕ) → i < f .zones → 1 ≤ getD (f .positions) i 0
+  pub total : totalPositions f ≤ 1048576
+  pub times : (i : ℕ) → i < f .zones → (1 ≤ getD (f .times) i 0) × (getD (f .times) i 0 ≤ 4000000)
+  -- never above the zone before
+  pub falling : (i : ℕ) → suc i < f .zones → getD (f .times) (suc i) 0 ≤ getD (f .times) i 0
+  pub blocks : (2 ≤ f .blocks) × (f .blocks ≤ 16384)
+  pub room : f .blocks ≤ totalPositions f
+  pub bytes : (1 ≤ f .bytes) × (f .bytes ≤ 4194304)
+  pub rate : (1 ≤ f .rate) × (f .rate ≤ 10000000)
+  pub hop : (1 ≤ f .hop) × (f .hop ≤ 1000000)
+  pub back : (1 ≤ f .back) × (f .back ≤ 1000000)
+
+-- ---- the judge of a record: 4 to 10 in the card's order
+
+-- the film's figures: N, B, c, hop, return; total is P
+unfoldable pub filmFault : Figures → ℕ → ℕ
+filmFault f total =
+    first (faultOf Blocks total (f .blocks))
+    (first (faultOf Measure 4194304 (f .bytes))
+    (first (faultOf Measure 10000000 (f .rate))
+    (first (faultOf Measure 1000000 (f .hop)) (faultOf Measure 1000000 (f .back)))))
+
+-- `left` more zones from the i-th on; total is the positions so far, before the time of the zone before
+unfoldable pub zoneFaults : ℕ → ℕ → Figures → ℕ → ℕ → ℕ
+zoneFaults zero i f total before = filmFault f total
+zoneFaults (suc left) i f total before =
+    first (faultOf Positions total (getD (f .positions) i 0))
+    (first (faultOf Time before (getD (f .times) i 0))
+    (zoneFaults left (i + 1) f (total + getD (f .positions) i 0) (getD (f .times) i 0)))
+
+-- a record's unused zones are zero
+unfoldable pub unusedZero : Figures → Bool
+unusedZero f = allBy (λ (v : ℕ). eqb v 0) (drop (f .zones) (f .positions)) && allBy (λ (v : ℕ). eqb v 0) (drop (f .zones) (f .times))
+
+-- the refusal of a record, 0 where it is legal
+unfoldable pub recordFault : Figures → ℕ
+recordFault f = first (faultOf Zones 0 (f .zones)) (first (cond (unusedZero f) 0 4) (zoneFaults (f .zones) 0 f 0 4000000))
+
+-- records answer with offset 0
+unfoldable pub judgeRecord : Figures → Verdict
+judgeRecord f = record { number = recordFault f; place = 0 }
+
+-- ---- the card of figures
+
+-- the film's numbers
+unfoldable pub filmNumbers : Figures → List ℕ
+filmNumbers f = f .blocks ∷ f .bytes ∷ f .rate ∷ f .hop ∷ f .back ∷ []
+
+-- `left` zones from the i-th on, each its positions and its time, then the film
+unfoldable pub zoneNumbers : ℕ → ℕ → Figures → List ℕ
+zoneNumbers zero i f = filmNumbers f
+zoneNumbers (suc left) i f = getD (f .positions) i 0 ∷ getD (f .times) i 0 ∷ zoneNumbers left (i + 1) f
+
+-- the numbers of a card, in order: kind, zones, each zone, the film
+unfoldable pub numbersOf : Figures → List ℕ
+numbersOf f = 1 ∷ f .zones ∷ zoneNumbers (f .zones) 0 f
+
+-- numbers as bytes, one after the other
+unfoldable pub bytesOf : List ℕ → List ℕ
+bytesOf [] = []
+bytesOf (v ∷ vs) = groups v ++ bytesOf vs
+
+-- THE CARD OF FIGURES
+unfoldable pub cardOf : Figures → List ℕ
+cardOf f = bytesOf (numbersOf f)
+
+-- ---- the writer: 4 to 10, then 13
+
+unfoldable pub writeFault : Figures → ℕ → ℕ
+writeFault f room = first (recordFault f) (cond (leb (length (cardOf f)) room) 0 13)
+
+-- a refusal answers offset 0 and length 0
+abbrev pub notWritten : ℕ → CardWritten
+notWritten k = record { verdict = record { number = k; place = 0 }; length = 0 }
+
+-- the length is the card's
+abbrev pub writtenBy : ℕ → Figures → CardWritten
+writtenBy zero f = record { verdict = record { number = 0; place = 0 }; length = length (cardOf f) }
+writtenBy (suc k) f = notWritten (suc k)
+
+unfoldable pub writtenCard : Figures → List ℕ → CardWritten
+writtenCard f out = writtenBy (writeFault f (length out)) f
+
+-- the buffer: the card, and what stood past it; a refusal leaves it
+abbrev pub bufferBy : ℕ → Figures → List ℕ → List ℕ
+bufferBy zero f out = cardOf f ++ drop (length (cardOf f)) out
+bufferBy (suc k) f out = out
+
+unfoldable pub bufferAfter : Figures → List ℕ → List ℕ
+bufferAfter f out = bufferBy (writeFault f (length out)) f out

@@ -1,0 +1,4 @@
+pub mod Card
+pub mod Laws
+pub mod Ranges
+pub mod Read

@@ -1,0 +1,34 @@
+-- The ranges of a card's figures (document 01, the table of ranges) and the refusal of each.
+use Prim.Native.Nat.{ℕ, zero, suc, _+_}
+use mathlib.Core.Bool.{cond}
+use lib.Dec.{leb}
+use Rattle.card.specs.declared.fields.Rule.{Rule}
+use Rattle.card.specs.declared.fields.Rule.the-variants.{Kind, Zones, Positions, Time, Blocks, Measure}
+
+-- the first fault of two; 0 is none
+unfoldable pub first : ℕ → ℕ → ℕ
+first zero later = later
+first (suc k) later = suc k
+
+-- refused by k below the least value, or above the greatest
+unfoldable pub below : ℕ → ℕ → ℕ → ℕ
+below least k v = cond (leb least v) 0 k
+
+unfoldable pub above : ℕ → ℕ → ℕ → ℕ
+above most k v = cond (leb v most) 0 k
+
+unfoldable pub outside : ℕ → ℕ → ℕ → ℕ → ℕ
+outside least most k v = first (below least k v) (above most k v)
+
+unfoldable pub thenAbove : ℕ → ℕ → ℕ → ℕ → ℕ
+thenAbove fault most k v = first fault (above most k v)
+
+-- the refusal of the value v of a figure, 0 where it is in range. The bound is the total of positions so far, the time of the
+-- zone before, P, or the greatest value of B, c, hop or return
+unfoldable pub faultOf : Rule → ℕ → ℕ → ℕ
+faultOf Kind bound v = outside 1 1 3 v
+faultOf Zones bound v = outside 1 64 4 v
+faultOf Positions total v = thenAbove (outside 1 4294967295 5 v) 1048576 5 (total + v)
+faultOf Time before v = thenAbove (outside 1 4000000 6 v) before 7 v
+faultOf Blocks total v = thenAbove (outside 2 16384 8 v) total 9 v
+faultOf Measure most v = outside 1 most 10 v

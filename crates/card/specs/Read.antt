@@ -1,0 +1,115 @@
+-- A card is read number by number, form before range, and the first fault ends it.
+use Prim.Native.Nat.{ℕ, zero, suc, _+_}
+use mathlib.Core.List.{List}
+use mathlib.Core.Bool.{cond}
+use lib.ListN.{length, set, replicate}
+use lib.Dec.{ltb}
+use Rattle.leb128.specs.declared.Number.{Number}
+use Rattle.leb128.specs.declared.Number.the-variants as number
+use Rattle.leb128.specs.Number.{numberAt}
+use Rattle.card.specs.declared.Figures.{Figures}
+use Rattle.card.specs.declared.Verdict.{Verdict}
+use Rattle.card.specs.declared.CardRead.{CardRead}
+use Rattle.card.specs.declared.fields.Rule.{Rule}
+use Rattle.card.specs.declared.fields.Rule.the-variants.{Kind, Zones, Positions, Time, Blocks, Measure}
+use Rattle.card.specs.declared.fields.Field.{Field}
+use Rattle.card.specs.declared.fields.Field.the-variants.{Value, Refused}
+use Rattle.card.specs.Ranges.{faultOf}
+
+-- ---- one figure
+
+-- a value in range, or the refusal at the number's offset
+unfoldable pub onFault : ℕ → ℕ → ℕ → ℕ → Field
+onFault zero at v next = Value v next
+onFault (suc k) at v next = Refused (suc k) at
+
+-- document 01's number and place for each answer of a number: the card ends too early is 1 with the card's length; not the
+-- shortest form, over five bytes or above 4,294,967,295 is 2 with the number's offset
+unfoldable pub onNumber : (ℕ → ℕ) → ℕ → Number → Field
+onNumber judge at (number.Value v next) = onFault (judge v) at v next
+onNumber judge at (number.CutOff size) = Refused 1 size
+onNumber judge at (number.Malformed start) = Refused 2 start
+
+-- the figure at an offset of the card s
+unfoldable pub fieldAt : Rule → ℕ → List ℕ → ℕ → Field
+fieldAt rule bound s at = onNumber (faultOf rule bound) at (numberAt s at)
+
+-- ---- the answer
+
+-- the entries of a record's arrays, all zero
+unfoldable pub blankZones : List ℕ
+blankZones = replicate 64 0
+
+-- figures that are all zero
+unfoldable pub blankFigures : Figures
+blankFigures = record { zones = 0; positions = blankZones; times = blankZones; blocks = 0; bytes = 0; rate = 0; hop = 0; back = 0 }
+
+abbrev pub accepted : Verdict
+accepted = record { number = 0; place = 0 }
+
+unfoldable pub refusedCard : ℕ → ℕ → CardRead
+refusedCard k at = record { verdict = record { number = k; place = at }; figures = blankFigures }
+
+-- a refused figure ends the card; after another, go goes on with its value and the offset after it
+unfoldable pub thenField : Field → (ℕ → ℕ → CardRead) → CardRead
+thenField (Refused k at) go = refusedCard k at
+thenField (Value v next) go = go v next
+
+-- ---- the figures, in the card's order
+
+-- figures with a zone count, with the i-th zone, and with the film's figures
+abbrev pub withZones : ℕ → Figures
+withZones z = record { zones = z; positions = blankZones; times = blankZones; blocks = 0; bytes = 0; rate = 0; hop = 0; back = 0 }
+
+abbrev pub withZone : Figures → ℕ → ℕ → ℕ → Figures
+withZone f i p t = record {
+  zones = f .zones;
+  positions = set (f .positions) i p;
+  times = set (f .times) i t;
+  blocks = f .blocks;
+  bytes = f .bytes;
+  rate = f .rate;
+  hop = f .hop;
+  back = f .back;
+}
+
+abbrev pub withFilm : Figures → ℕ → ℕ → ℕ → ℕ → ℕ → Figures
+withFilm f n b c hop ret = record {
+  zones = f .zones;
+  positions = f .positions;
+  times = f .times;
+  blocks = n;
+  bytes = b;
+  rate = c;
+  hop = hop;
+  back = ret;
+}
+
+-- after the last figure no byte is left over (11)
+unfoldable pub cardEnd : List ℕ → ℕ → Figures → CardRead
+cardEnd s at f = cond (ltb at (length s)) (refusedCard 11 at) (record { verdict = accepted; figures = f })
+
+-- the film's figures from an offset on: N, B, c, hop, return; total is P
+unfoldable pub filmFrom : List ℕ → ℕ → Figures → ℕ → CardRead
+filmFrom s at f total =
+    thenField (fieldAt Blocks total s at) (λ n at₁.
+    thenField (fieldAt Measure 4194304 s at₁) (λ b at₂.
+    thenField (fieldAt Measure 10000000 s at₂) (λ c at₃.
+    thenField (fieldAt Measure 1000000 s at₃) (λ hop at₄.
+    thenField (fieldAt Measure 1000000 s at₄) (λ ret at₅.
+    cardEnd s at₅ (withFilm f n b c hop ret))))))
+
+-- `left` more zones from the i-th on, at an offset; total is the positions so far, before the time of the zone before
+unfoldable pub zonesFrom : ℕ → List ℕ → ℕ → ℕ → Figures → ℕ → ℕ → CardRead
+zonesFrom zero s at i f total before = filmFrom s at f total
+zonesFrom (suc left) s at i f total before =
+    thenField (fieldAt Positions total s at) (λ p at₁.
+    thenField (fieldAt Time before s at₁) (λ t at₂.
+    zonesFrom left s at₂ (i + 1) (withZone f i p t) (total + p) t))
+
+-- THE CARD: kind, zones, each zone innermost first, the film. The first zone's time is bounded by the greatest time alone
+unfoldable pub readCard : List ℕ → CardRead
+readCard s =
+    thenField (fieldAt Kind 0 s 0) (λ kind at₁.
+    thenField (fieldAt Zones 0 s at₁) (λ z at₂.
+    zonesFrom z s at₂ 0 (withZones z) 0 4000000))
