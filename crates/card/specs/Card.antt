@@ -96,10 +96,14 @@ cardOf f = bytesOf (numbersOf f)
 unfoldable pub writeFault : Figures → ℕ → ℕ
 writeFault f room = first (recordFault f) (cond (leb (length (cardOf f)) room) 0 13)
 
--- the length is the card's, and zero where it is refused
+-- a refusal answers offset 0 and length 0
+abbrev pub notWritten : ℕ → CardWritten
+notWritten k = record { verdict = record { number = k; place = 0 }; length = 0 }
+
+-- the length is the card's
 abbrev pub writtenBy : ℕ → Figures → CardWritten
 writtenBy zero f = record { verdict = record { number = 0; place = 0 }; length = length (cardOf f) }
-writtenBy (suc k) f = record { verdict = record { number = suc k; place = 0 }; length = 0 }
+writtenBy (suc k) f = notWritten (suc k)
 
 unfoldable pub writtenCard : Figures → List ℕ → CardWritten
 writtenCard f out = writtenBy (writeFault f (length out)) f

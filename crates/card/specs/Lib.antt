@@ -1,3 +1,4 @@
 pub mod Card
+pub mod Laws
 pub mod Ranges
 pub mod Read

@@ -1,0 +1,97 @@
+use Prim.Native.Nat.{ℕ, _-_, _≤_}
+use mathlib.Core.Path.{_≡_, sym, ap, _∙_}
+use native.Mathlib.Omega.{arith}
+use borrow.Author.Needs.{needs}
+use Rattle.card.specs.Laws.{positions-range}
+use Rattle.card.proofs.Laws.{zones-done, zones-few, zones-slow, zones-more}
+use Rattle.card.specs.Card.{zoneFaults}
+use Rattle.card.proofs.judge.fault_of_zones.Statement.{statement}
+use Rattle.card.proofs.judge.fault_of_zones.Tie as tie
+
+abbrev Inv-loop : tie.InvT-loop
+Inv-loop figures zones total₀ before₀ i₀ total before i =
+    (i ≤ zones) × (total ≤ 1048576) × (zoneFaults (zones - i) i figures total before ≡ zoneFaults zones 0 figures 0 4000000)
+
+abbrev μ-loop : tie.MeasureT-loop
+μ-loop figures zones total₀ before₀ i₀ total before i = zones - i
+
+cast-zones : tie.Need-cast-zones Inv-loop μ-loop
+cast-zones c = search needs
+
+loop-holds : tie.Need-loop-holds Inv-loop μ-loop
+loop-holds c =
+    let f = c .args .t1 in
+    let e : f .zones - 0 ≡ f .zones = omega arith in
+    (omega arith, omega arith, ap (λ (n : ℕ). zoneFaults n 0 f 0 4000000) e)
+
+mul-positions : tie.Need-mul-positions Inv-loop μ-loop
+mul-positions c = search needs
+
+element-copy-out-positions : tie.Need-element-copy-out-positions Inv-loop μ-loop
+element-copy-out-positions c = search needs
+
+mul-time : tie.Need-mul-time Inv-loop μ-loop
+mul-time c = search needs
+
+element-copy-out-time : tie.Need-element-copy-out-time Inv-loop μ-loop
+element-copy-out-time c = search needs
+
+fault-requires : tie.Need-fault-requires Inv-loop μ-loop
+fault-requires c κs = search needs
+
+returns : tie.Need-returns Inv-loop μ-loop
+returns c = let l = c .before .before .before .before .before .loop in zones-few _ _ _ _ _ (omega arith) (c .before .fault .ensures) (c .if1 .taken) ∙ l .inv .2
+
+fault-requires-2 : tie.Need-fault-requires-2 Inv-loop μ-loop
+fault-requires-2 c κs = search needs
+
+returns-2 : tie.Need-returns-2 Inv-loop μ-loop
+returns-2 c =
+    let l = c .before .before .before .before .before .before .before .loop in
+    zones-slow _ _ _ _ _ (omega arith) (c .before .before .before .fault .ensures) (c .before .before .if1 .left) (c .before .fault2 .ensures) (c .if2 .taken) ∙ l .inv .2
+
+add-total : tie.Need-add-total Inv-loop μ-loop
+add-total c = let h = positions-range _ _ (sym (c .before .before .before .fault .ensures) ∙ c .before .before .if1 .left) in omega arith
+
+add-i : tie.Need-add-i Inv-loop μ-loop
+add-i c = search needs
+
+loop-less : tie.Need-loop-less Inv-loop μ-loop
+loop-less c = search needs
+
+loop-again : tie.Need-loop-again Inv-loop μ-loop
+loop-again c =
+    let l = c .before .before .before .before .before .before .before .loop in (
+      omega arith,
+      positions-range _ _ (sym (c .before .before .before .fault .ensures) ∙ c .before .before .if1 .left) .1,
+      zones-more _ _ _ _ _ _ (omega arith) (c .before .before .before .fault .ensures) (c .before .before .if1 .left) (c .before .fault2 .ensures) (c .if2 .left) ∙ l .inv .2,
+    )
+
+fault-of-film-requires : tie.Need-fault-of-film-requires Inv-loop μ-loop
+fault-of-film-requires c κs = search needs
+
+returns-3 : tie.Need-returns-3 Inv-loop μ-loop
+returns-3 c = let l = c .before .before .loop in c .fault-of-film .ensures ∙ zones-done _ _ _ _ _ (omega arith) ∙ l .inv .2
+
+pub fault-of-zones-spec : {M : Type 1} → statement M
+fault-of-zones-spec =
+    tie.close
+    (tie.spec
+    Inv-loop
+    μ-loop
+    cast-zones
+    loop-holds
+    mul-positions
+    element-copy-out-positions
+    mul-time
+    element-copy-out-time
+    fault-requires
+    returns
+    fault-requires-2
+    returns-2
+    add-total
+    add-i
+    loop-less
+    loop-again
+    fault-of-film-requires
+    returns-3)
