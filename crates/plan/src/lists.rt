@@ -25,13 +25,13 @@ fn lead(time: u32, worst2: u32) -> u32
     twice - worst2
 }
 
-// Writes the position and the lead of block b.
-fn put_block(positions: &mut [u8], leads: &mut [u8], b: usize, q: u32, lead: u32)
-    requires { ⌜ (b < length (wordsOf (now positions))) × (b < length (wordsOf (now leads))) ⌝ }
-    ensures { λ _. ⌜ (now (positions .exit) ≡ withWord (now (positions .entry)) b q) × (now (leads .exit) ≡ withWord (now (leads .entry)) b lead) ⌝ }
+// Writes the position q and the lead of block b, which lies in a zone.
+fn put_block(times: &[u32; 64], zone: usize, worst2: u32, positions: &mut [u8], leads: &mut [u8], b: usize, q: u32)
+    requires { ⌜ (zone < 64) × (getD (now times) zone 0 ≤ 4000000) × (b < length (wordsOf (now positions))) × (b < length (wordsOf (now leads))) ⌝ }
+    ensures { λ _. ⌜ (now (positions .exit) ≡ withWord (now (positions .entry)) b q) × (now (leads .exit) ≡ withWord (now (leads .entry)) b (2 * getD (now (times .entry)) zone 0 - worst2)) ⌝ }
 {
     put_word(positions, b, q);
-    put_word(leads, b, lead);
+    put_word(leads, b, lead(times[zone], worst2));
 }
 
 // Writes the first `blocks` entries of both lists; `total` is P.
@@ -51,8 +51,8 @@ pub fn write_lists<'a>(sizes: &'a [u32; 64], times: &'a [u32; 64], total: u32, b
         let inner = low.index;
         let outer = high.index;
         let b = (2 * i) as usize;
-        put_block(positions, leads, b, first + i, lead(times[inner], worst2));
-        put_block(positions, leads, b + 1, last - i, lead(times[outer], worst2));
+        put_block(times, inner, worst2, positions, leads, b, first + i);
+        put_block(times, outer, worst2, positions, leads, b + 1, last - i);
         i += 1;
     }
     if blocks == 2 * pairs {
@@ -60,18 +60,19 @@ pub fn write_lists<'a>(sizes: &'a [u32; 64], times: &'a [u32; 64], total: u32, b
     }
     low = zone_up(sizes, low, first + pairs);
     let inner = low.index;
-    put_block(positions, leads, (2 * pairs) as usize, first + pairs, lead(times[inner], worst2));
+    let b = (2 * pairs) as usize;
+    put_block(times, inner, worst2, positions, leads, b, first + pairs);
 }
 
-// The position and the lead of block b are the given ones.
-fn same_block(positions: &[u8], leads: &[u8], b: usize, q: u32, lead: u32) -> bool
-    requires { ⌜ (b < length (wordsOf (now positions))) × (b < length (wordsOf (now leads))) ⌝ }
-    ensures { λ r. ⌜ r ≡ (eqb (getD (wordsOf (now (positions .entry))) b 0) q && eqb (getD (wordsOf (now (leads .entry))) b 0) lead) ⌝ }
+// The lists have the position q and the lead of block b, which lies in a zone.
+fn same_block(times: &[u32; 64], zone: usize, worst2: u32, positions: &[u8], leads: &[u8], b: usize, q: u32) -> bool
+    requires { ⌜ (zone < 64) × (getD (now times) zone 0 ≤ 4000000) × (b < length (wordsOf (now positions))) × (b < length (wordsOf (now leads))) ⌝ }
+    ensures { λ r. ⌜ r ≡ (eqb (getD (wordsOf (now (positions .entry))) b 0) q && eqb (getD (wordsOf (now (leads .entry))) b 0) (2 * getD (now (times .entry)) zone 0 - worst2)) ⌝ }
 {
     if word_at(positions, b) != q {
         return false;
     }
-    word_at(leads, b) == lead
+    word_at(leads, b) == lead(times[zone], worst2)
 }
 
 // Both lists begin with the `blocks` entries of the film; `total` is P.
@@ -91,10 +92,10 @@ pub fn same_lists<'a>(sizes: &'a [u32; 64], times: &'a [u32; 64], total: u32, bl
         let inner = low.index;
         let outer = high.index;
         let b = (2 * i) as usize;
-        if !same_block(positions, leads, b, first + i, lead(times[inner], worst2)) {
+        if !same_block(times, inner, worst2, positions, leads, b, first + i) {
             return false;
         }
-        if !same_block(positions, leads, b + 1, last - i, lead(times[outer], worst2)) {
+        if !same_block(times, outer, worst2, positions, leads, b + 1, last - i) {
             return false;
         }
         i += 1;
@@ -104,5 +105,6 @@ pub fn same_lists<'a>(sizes: &'a [u32; 64], times: &'a [u32; 64], total: u32, bl
     }
     low = zone_up(sizes, low, first + pairs);
     let inner = low.index;
-    same_block(positions, leads, (2 * pairs) as usize, first + pairs, lead(times[inner], worst2))
+    let b = (2 * pairs) as usize;
+    same_block(times, inner, worst2, positions, leads, b, first + pairs)
 }

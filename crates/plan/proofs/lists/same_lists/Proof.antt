@@ -2,7 +2,6 @@ use Rattle.plan.proofs.lists.same_lists.Statement.{statement}
 use Rattle.plan.proofs.lists.same_lists.Tie as tie
 use Rattle.plan.proofs.lists.same_lists.Reads as reads
 use Rattle.plan.proofs.lists.same_lists.Lts as lts
-use Rattle.plan.proofs.lists.lead.Reads as lead-reads
 use Rattle.plan.proofs.lists.same_block.Reads as same-block-reads
 use Rattle.plan.proofs.zones.zone_down.Reads as zone-down-reads
 use Rattle.plan.proofs.zones.zone_from.Reads as zone-from-reads
@@ -17,159 +16,123 @@ abbrev μ-loop : tie.MeasureT-loop
 μ-loop sizes times total blocks worst2 positions leads first last pairs low₀ high₀ i₀ low high i =
     ?
 
--- src/lists.rt:82:17
+-- src/lists.rt:83:17
 sub-first : tie.Need-sub-first Inv-loop μ-loop
 sub-first c = ?
 
--- src/lists.rt:83:16
+-- src/lists.rt:84:16
 sub-last : tie.Need-sub-last Inv-loop μ-loop
 sub-last c = ?
 
--- src/lists.rt:85:9
+-- src/lists.rt:86:9
 zone-of-requires : tie.Need-zone-of-requires Inv-loop μ-loop
 zone-of-requires c κs = ?
 
--- src/lists.rt:86:9
+-- src/lists.rt:87:9
 zone-from-requires : tie.Need-zone-from-requires Inv-loop μ-loop
 zone-from-requires c κs = ?
 
--- src/lists.rt:88:5
+-- src/lists.rt:89:5
 loop-holds : tie.Need-loop-holds Inv-loop μ-loop
 loop-holds c = ?
 
--- src/lists.rt:89:35
+-- src/lists.rt:90:35
 add-zone-up : tie.Need-add-zone-up Inv-loop μ-loop
 add-zone-up c = ?
 
--- src/lists.rt:89:9
+-- src/lists.rt:90:9
 zone-up-requires : tie.Need-zone-up-requires Inv-loop μ-loop
 zone-up-requires c κs = ?
 
--- src/lists.rt:90:39
+-- src/lists.rt:91:39
 sub-zone-down : tie.Need-sub-zone-down Inv-loop μ-loop
 sub-zone-down c = ?
 
--- src/lists.rt:90:9
+-- src/lists.rt:91:9
 zone-down-requires : tie.Need-zone-down-requires Inv-loop μ-loop
 zone-down-requires c κs = ?
 
--- src/lists.rt:93:18
+-- src/lists.rt:94:18
 mul-b : tie.Need-mul-b Inv-loop μ-loop
 mul-b c = ?
 
--- src/lists.rt:93:17
+-- src/lists.rt:94:17
 cast-b : tie.Need-cast-b Inv-loop μ-loop
 cast-b c = ?
 
--- src/lists.rt:94:45
+-- src/lists.rt:95:67
 add-same-block : tie.Need-add-same-block Inv-loop μ-loop
 add-same-block c = ?
 
--- src/lists.rt:94:61
-mul-lead : tie.Need-mul-lead Inv-loop μ-loop
-mul-lead c = ?
-
--- src/lists.rt:94:61
-element-copy-out-lead : tie.Need-element-copy-out-lead Inv-loop μ-loop
-element-copy-out-lead c = ?
-
--- src/lists.rt:94:56
-lead-requires : tie.Need-lead-requires Inv-loop μ-loop
-lead-requires c κs = ?
-
--- src/lists.rt:94:13
+-- src/lists.rt:95:13
 same-block-requires : tie.Need-same-block-requires Inv-loop μ-loop
 same-block-requires c κs = ?
 
--- src/lists.rt:95:13
+-- src/lists.rt:96:13
 returns : tie.Need-returns Inv-loop μ-loop
 returns c = ?
 
--- src/lists.rt:97:42
+-- src/lists.rt:98:64
 add-same-block-2 : tie.Need-add-same-block-2 Inv-loop μ-loop
 add-same-block-2 c = ?
 
--- src/lists.rt:97:49
+-- src/lists.rt:98:71
 sub-same-block : tie.Need-sub-same-block Inv-loop μ-loop
 sub-same-block c = ?
 
--- src/lists.rt:97:64
-mul-lead-2 : tie.Need-mul-lead-2 Inv-loop μ-loop
-mul-lead-2 c = ?
-
--- src/lists.rt:97:64
-element-copy-out-lead-2 : tie.Need-element-copy-out-lead-2 Inv-loop μ-loop
-element-copy-out-lead-2 c = ?
-
--- src/lists.rt:97:59
-lead-requires-2 : tie.Need-lead-requires-2 Inv-loop μ-loop
-lead-requires-2 c κs = ?
-
--- src/lists.rt:97:13
+-- src/lists.rt:98:13
 same-block-requires-2 : tie.Need-same-block-requires-2 Inv-loop μ-loop
 same-block-requires-2 c κs = ?
 
--- src/lists.rt:98:13
+-- src/lists.rt:99:13
 returns-2 : tie.Need-returns-2 Inv-loop μ-loop
 returns-2 c = ?
 
--- src/lists.rt:100:9
+-- src/lists.rt:101:9
 add-i : tie.Need-add-i Inv-loop μ-loop
 add-i c = ?
 
--- src/lists.rt:88:5
+-- src/lists.rt:89:5
 loop-less : tie.Need-loop-less Inv-loop μ-loop
 loop-less c = ?
 
--- src/lists.rt:88:5
+-- src/lists.rt:89:5
 loop-again : tie.Need-loop-again Inv-loop μ-loop
 loop-again c = ?
 
--- src/lists.rt:102:18
+-- src/lists.rt:103:18
 mul-if3 : tie.Need-mul-if3 Inv-loop μ-loop
 mul-if3 c = ?
 
--- src/lists.rt:103:9
+-- src/lists.rt:104:9
 returns-3 : tie.Need-returns-3 Inv-loop μ-loop
 returns-3 c = ?
 
--- src/lists.rt:105:31
+-- src/lists.rt:106:31
 add-zone-up-2 : tie.Need-add-zone-up-2 Inv-loop μ-loop
 add-zone-up-2 c = ?
 
--- src/lists.rt:105:5
+-- src/lists.rt:106:5
 zone-up-requires-2 : tie.Need-zone-up-requires-2 Inv-loop μ-loop
 zone-up-requires-2 c κs = ?
 
--- src/lists.rt:107:35
-mul-same-block : tie.Need-mul-same-block Inv-loop μ-loop
-mul-same-block c = ?
+-- src/lists.rt:108:14
+mul-b-2 : tie.Need-mul-b-2 Inv-loop μ-loop
+mul-b-2 c = ?
 
--- src/lists.rt:107:34
-cast-same-block : tie.Need-cast-same-block Inv-loop μ-loop
-cast-same-block c = ?
+-- src/lists.rt:108:13
+cast-b-2 : tie.Need-cast-b-2 Inv-loop μ-loop
+cast-b-2 c = ?
 
--- src/lists.rt:107:56
+-- src/lists.rt:109:59
 add-same-block-3 : tie.Need-add-same-block-3 Inv-loop μ-loop
 add-same-block-3 c = ?
 
--- src/lists.rt:107:76
-mul-lead-3 : tie.Need-mul-lead-3 Inv-loop μ-loop
-mul-lead-3 c = ?
-
--- src/lists.rt:107:76
-element-copy-out-lead-3 : tie.Need-element-copy-out-lead-3 Inv-loop μ-loop
-element-copy-out-lead-3 c = ?
-
--- src/lists.rt:107:71
-lead-requires-3 : tie.Need-lead-requires-3 Inv-loop μ-loop
-lead-requires-3 c κs = ?
-
--- src/lists.rt:107:5
+-- src/lists.rt:109:5
 same-block-requires-3 : tie.Need-same-block-requires-3 Inv-loop μ-loop
 same-block-requires-3 c κs = ?
 
--- src/lists.rt:78:1
+-- src/lists.rt:79:1
 returns-4 : tie.Need-returns-4 Inv-loop μ-loop
 returns-4 c = ?
 
@@ -191,16 +154,10 @@ same-lists-spec =
     mul-b
     cast-b
     add-same-block
-    mul-lead
-    element-copy-out-lead
-    lead-requires
     same-block-requires
     returns
     add-same-block-2
     sub-same-block
-    mul-lead-2
-    element-copy-out-lead-2
-    lead-requires-2
     same-block-requires-2
     returns-2
     add-i
@@ -210,11 +167,8 @@ same-lists-spec =
     returns-3
     add-zone-up-2
     zone-up-requires-2
-    mul-same-block
-    cast-same-block
+    mul-b-2
+    cast-b-2
     add-same-block-3
-    mul-lead-3
-    element-copy-out-lead-3
-    lead-requires-3
     same-block-requires-3
     returns-4)
