@@ -135,6 +135,14 @@ module _ (g h : ℕ → ℕ) (n : ℕ) (ps ls : List ℕ) where
       go true c false d = refl
       go false c y d = refl
 
+  -- the last entry decides
+  pub same-last : (m b v w : ℕ) → suc m ≡ n → n ≤ length ps → n ≤ length ls → b ≡ m → v ≡ g m → w ≡ h m → Same m → (eqb (getD ps b 0) v && eqb (getD ls b 0) w) ≡ both
+  same-last m b v w d lp ll e p q s = go (eqb (getD ps b 0) v && eqb (getD ls b 0) w) refl
+    where
+      go : (t : Bool) → (eqb (getD ps b 0) v && eqb (getD ls b 0) w) ≡ t → t ≡ both
+      go true x = let a : Same (suc m) = same-more m b v w e p q x s in sym (same-all lp ll (rw d at a))
+      go false x = sym (same-not m b v w (omega arith) e p q x)
+
 -- ---- the blocks of a turn
 
 module _ (ps ts : List ℕ) (P N w i z : ℕ) where
