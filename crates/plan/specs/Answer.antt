@@ -22,12 +22,16 @@ planFault f np nl = cond (ltb np (f .blocks) || ltb nl (f .blocks)) 13 (cond (eq
 abbrev pub faultAfter : CardRead → List ℕ → List ℕ → ℕ
 faultAfter r ps ls = planFault (r .figures) (length (wordsOf ps)) (length (wordsOf ls))
 
+-- a refusal; 'A plan .. in a refused answer is all zero'
+unfoldable pub refusal : ℕ → ℕ → Planned
+refusal k at = record { verdict = record { number = k; place = at }; plan = blankPlan }
+
 -- the answer by the number of the refusal of the figures and by that of 13 and 12. A refusal of the figures keeps its place; 13 and 12
--- answer with 0. 'A plan .. in a refused answer is all zero'
+-- answer with 0
 abbrev pub answer : ℕ → ℕ → CardRead → Planned
 answer zero zero r = record { verdict = record { number = 0; place = 0 }; plan = planOf (r .figures) }
-answer zero (suc k) r = record { verdict = record { number = suc k; place = 0 }; plan = blankPlan }
-answer (suc j) k r = record { verdict = r .verdict; plan = blankPlan }
+answer zero (suc k) r = refusal (suc k) 0
+answer (suc j) k r = refusal (suc j) (r .verdict .place)
 
 -- a list by the same two numbers: its first entries are written, or it is left as it was
 abbrev pub filled : ℕ → ℕ → List ℕ → List ℕ → List ℕ

@@ -4,7 +4,10 @@ mod streams; // the formula of streams, and the buffer
 mod film; // the plan of legal figures
 mod lists; // the lent lists of positions and leads
 
-use card::{Figures, Verdict};
+use crate::film::plan_of;
+use crate::lists::{same_lists, write_lists};
+use crate::zones::sum_positions;
+use card::{CardRead, Figures, Verdict};
 
 ghost use mathlib.Core.Path.{_≡_};
 ghost use Prim.Native.Nat.{ℕ, _+_, _*_, _≤_, _<_};
@@ -13,6 +16,9 @@ ghost use Rattle.card.specs.Card.{Legal, totalPositions};
 ghost use Rattle.placement.specs.Placement.{Laying, worstTime};
 ghost use Rattle.pacing.specs.Streams.{overhead, load};
 ghost use Rattle.plan.specs.Plan.{timeOn, placeOf, worst2Of, overOf, streamsOf};
+ghost use Rattle.card.specs.Read.{blankZones};
+ghost use Rattle.plan.specs.Plan.{blankPlan};
+ghost use Rattle.plan.specs.Answer.{refusal, planned, positionsAfter, leadsAfter};
 ghost use Rattle.plan.specs.Promise.{LeadLaws, Promise};
 
 // A plan; all zero where there is none.
@@ -47,6 +53,82 @@ pub fn overhead(hop: u32, back: u32, count: u32) -> u32
     ensures { λ r. ⌜ r ≡ overhead hop back count ⌝ }
 {
     count * hop + back
+}
+
+fn blank_zones() -> [u32; 64]
+    ensures { λ r. ⌜ r ≡ blankZones ⌝ }
+{
+    [0u32; 64]
+}
+
+fn blank_plan() -> Plan
+    ensures { λ r. ⌜ r ≡ blankPlan ⌝ }
+{
+    Plan {
+        figures: Figures {
+            zones: 0,
+            positions: blank_zones(),
+            times: blank_zones(),
+            blocks: 0,
+            bytes: 0,
+            rate: 0,
+            hop: 0,
+            back: 0,
+        },
+        streams: 0,
+        buffer: 0,
+        worst2: 0,
+        margin: 0,
+    }
+}
+
+// A refusal.
+fn refused(number: u32, place: usize) -> Planned
+    ensures { λ r. ⌜ r ≡ refusal number place ⌝ }
+{
+    Planned {
+        verdict: Verdict {
+            number: number,
+            place: place,
+        },
+        plan: blank_plan(),
+    }
+}
+
+// Plans figures that were read or judged: their refusal, else 13, then 12.
+fn plan_figures(read: CardRead, positions: &mut [u8], leads: &mut [u8]) -> Planned
+    requires { ⌜ (read .verdict .number ≡ 0 → Legal (read .figures)) ⌝ }
+    ensures {
+        λ r. ⌜ (r ≡ planned read (now (positions .entry)) (now (leads .entry)))
+            × (now (positions .exit) ≡ positionsAfter read (now (positions .entry)) (now (leads .entry)))
+            × (now (leads .exit) ≡ leadsAfter read (now (positions .entry)) (now (leads .entry))) ⌝
+    }
+{
+    let verdict = read.verdict;
+    if verdict.number != 0 {
+        return refused(verdict.number, verdict.place);
+    }
+    let figures = read.figures;
+    let blocks = figures.blocks as usize;
+    if words::entries(positions) < blocks {
+        return refused(13, 0);
+    }
+    if words::entries(leads) < blocks {
+        return refused(13, 0);
+    }
+    let total = sum_positions(&figures.positions, figures.zones);
+    let plan = plan_of(figures, total);
+    if plan.streams == 0 {
+        return refused(12, 0);
+    }
+    write_lists(&figures.positions, &figures.times, total, figures.blocks, plan.worst2, positions, leads);
+    Planned {
+        verdict: Verdict {
+            number: 0,
+            place: 0,
+        },
+        plan: plan,
+    }
 }
 
 // No laying is better: every laying's worst time is at least worst2, and with it no number above the plan's streams meets the
