@@ -1,0 +1,387 @@
+-- Laws of entries in byte strings: what an entry is, what a store changes and keeps, and that reading and writing undo each other.
+-- Assumes nothing.
+use Prim.Native.Nat.{ℕ, zero, suc, _+_, _-_, _*_, _/_, _%_, _≤_, _<_}
+use mathlib.Core.Path.{_≡_, refl, sym, ap, _∙_}
+use mathlib.Core.Logic.{_≢_, by-cases}
+use mathlib.Core.List.{List, [], _∷_, _++_, append-assoc}
+use native.Mathlib.Omega.{arith}
+use native.Mathlib.Nat.{div-div-eq-div-mul}
+use native.Mathlib.Decide.{decLt}
+use native.Mathlib.Numerals.{add-one, add-two, add-three}
+use mir.Syntax.{w8, w32}
+use mir.Val.{Fits}
+use lib.ListN.{length, getD, set, take, drop, length-set, drop-of-length-le}
+use lib.Seq.{getD-set-same, getD-set-other, take-set-le, drop-set-lt, drop-set-add, drop-cons, take-append-seam, drop-at, length-take-le, sets, sets-eq}
+use Rattle.laws.specs.Overwrite.{overwrite, overwrite-none, overwrite-more}
+use Rattle.words.specs.Words.{Bytes, Words, wordsOf, withWord, withWords, bytesOf}
+
+-- ---- ranges, from what the checker knows of a slice or an array
+
+pub bytes-fit : (s : List ℕ) → ((i : ℕ) → Fits w8 (getD s i 0)) → Bytes s
+bytes-fit s f i = f i .fits
+
+pub words-fit : (vs : List ℕ) → ((i : ℕ) → Fits w32 (getD vs i 0)) → Words vs
+words-fit vs f i = f i .fits
+
+-- ---- four bytes and a number
+
+-- the number that four bytes make
+abbrev joined : ℕ → ℕ → ℕ → ℕ → ℕ
+joined a b c d = a + 256 * b + 65536 * c + 16777216 * d
+
+-- its bytes are those four
+split : (a b c d : ℕ) → a < 256 → b < 256 → c < 256 → d < 256
+    → (joined a b c d % 256 ≡ a) × (joined a b c d / 256 % 256 ≡ b) × (joined a b c d / 65536 % 256 ≡ c) × (joined a b c d / 16777216 % 256 ≡ d)
+split a b c d p q r t = omega arith
+
+-- the four bytes of a number make its low 32 bits
+low : (v : ℕ) → joined (v % 256) (v / 256 % 256) (v / 65536 % 256) (v / 16777216 % 256) ≡ v % 4294967296
+low v =
+    let p : v / 256 % 256 + 256 * (v / 65536) ≡ v / 256 = omega (arith, div-div-eq-div-mul v 256 256) in
+    let q : v / 65536 % 256 + 256 * (v / 16777216) ≡ v / 65536 = omega (arith, div-div-eq-div-mul v 65536 256) in
+    let r : v / 16777216 % 256 + 256 * (v / 4294967296) ≡ v / 16777216 = omega (arith, div-div-eq-div-mul v 16777216 256) in
+    omega arith
+
+whole : (v : ℕ) → v < 4294967296 → v % 4294967296 ≡ v
+whole v h = omega arith
+
+-- the offsets of the next entry
+next-first : (i : ℕ) → 4 * suc i ≡ suc (suc (suc (suc (4 * i))))
+next-first i = omega arith
+
+next : (i k : ℕ) → 4 * suc i + k ≡ suc (suc (suc (suc (4 * i + k))))
+next i k = omega arith
+
+-- ---- the entries of a string
+
+-- whole entries count
+pub words-length : (s : List ℕ) → length (wordsOf s) ≡ length s / 4
+unfolding wordsOf
+words-length [] = refl
+words-length (a ∷ []) = refl
+words-length (a ∷ (b ∷ [])) = refl
+words-length (a ∷ (b ∷ (c ∷ []))) = refl
+words-length (a ∷ (b ∷ (c ∷ (d ∷ s)))) = omega (arith, words-length s)
+
+-- the four bytes of an entry
+pub word-bytes : (s : List ℕ) (i : ℕ) → i < length s / 4
+    → getD (wordsOf s) i 0 ≡ getD s (4 * i) 0 + 256 * getD s (4 * i + 1) 0 + 65536 * getD s (4 * i + 2) 0 + 16777216 * getD s (4 * i + 3) 0
+unfolding wordsOf
+word-bytes [] i h = absurd (omega arith)
+word-bytes (a ∷ []) i h = absurd (omega arith)
+word-bytes (a ∷ (b ∷ [])) i h = absurd (omega arith)
+word-bytes (a ∷ (b ∷ (c ∷ []))) i h = absurd (omega arith)
+word-bytes (a ∷ (b ∷ (c ∷ (d ∷ s)))) zero h = refl
+word-bytes (a ∷ (b ∷ (c ∷ (d ∷ s)))) (suc i) h = rw (next i 1, next i 2, next i 3, next-first i) (word-bytes s i (omega arith))
+
+-- entries of bytes have 32 bits
+pub words-small : (s : List ℕ) → Bytes s → Words (wordsOf s)
+unfolding wordsOf
+words-small [] y i = omega arith
+words-small (a ∷ []) y i = omega arith
+words-small (a ∷ (b ∷ [])) y i = omega arith
+words-small (a ∷ (b ∷ (c ∷ []))) y i = omega arith
+words-small (a ∷ (b ∷ (c ∷ (d ∷ s)))) y zero = omega (arith, y 0, y 1, y 2, y 3)
+words-small (a ∷ (b ∷ (c ∷ (d ∷ s)))) y (suc i) = words-small s (λ j. y (suc (suc (suc (suc j))))) i
+
+-- a part of the string that begins or ends with an entry
+pub words-drop : (s : List ℕ) (k : ℕ) → wordsOf (drop (4 * k) s) ≡ drop k (wordsOf s)
+unfolding wordsOf
+words-drop s zero = refl
+words-drop [] (suc k) = rw (next-first k)
+words-drop (a ∷ []) (suc k) = rw (next-first k)
+words-drop (a ∷ (b ∷ [])) (suc k) = rw (next-first k)
+words-drop (a ∷ (b ∷ (c ∷ []))) (suc k) = rw (next-first k)
+words-drop (a ∷ (b ∷ (c ∷ (d ∷ s)))) (suc k) = rw (next-first k) (words-drop s k)
+
+pub words-take : (s : List ℕ) (k : ℕ) → wordsOf (take (4 * k) s) ≡ take k (wordsOf s)
+unfolding wordsOf
+words-take s zero = refl
+words-take [] (suc k) = rw (next-first k)
+words-take (a ∷ []) (suc k) = rw (next-first k)
+words-take (a ∷ (b ∷ [])) (suc k) = rw (next-first k)
+words-take (a ∷ (b ∷ (c ∷ []))) (suc k) = rw (next-first k)
+words-take (a ∷ (b ∷ (c ∷ (d ∷ s)))) (suc k) = rw (next-first k) (ap (λ (ws : List ℕ). joined a b c d ∷ ws) (words-take s k))
+
+-- ---- one entry stored
+
+pub withWord-length : (s : List ℕ) (i v : ℕ) → length (withWord s i v) ≡ length s
+unfolding withWord
+withWord-length s i v = simp length-set
+
+-- a store makes no entry and takes none away
+pub withWord-entries : (s : List ℕ) (i v : ℕ) → length (wordsOf (withWord s i v)) ≡ length (wordsOf s)
+withWord-entries s i v = omega (arith, words-length s, words-length (withWord s i v), withWord-length s i v)
+
+-- past the first entry
+withWord-next : (a b c d : ℕ) (s : List ℕ) (i v : ℕ) → withWord (a ∷ (b ∷ (c ∷ (d ∷ s)))) (suc i) v ≡ a ∷ (b ∷ (c ∷ (d ∷ withWord s i v)))
+unfolding withWord
+withWord-next a b c d s i v = rw (next i 1, next i 2, next i 3, next-first i)
+
+-- fewer than four bytes are no entry
+short : (s : List ℕ) → length s < 4 → wordsOf s ≡ []
+unfolding wordsOf
+short [] h = refl
+short (a ∷ []) h = refl
+short (a ∷ (b ∷ [])) h = refl
+short (a ∷ (b ∷ (c ∷ []))) h = refl
+short (a ∷ (b ∷ (c ∷ (d ∷ s)))) h = absurd (omega arith)
+
+-- the entries after a store of any number: its low 32 bits
+words-stored : (s : List ℕ) (i v : ℕ) → wordsOf (withWord s i v) ≡ set (wordsOf s) i (v % 4294967296)
+unfolding wordsOf withWord
+words-stored [] i v = refl
+words-stored (a ∷ []) i v = short (withWord (a ∷ []) i v) (omega (arith, withWord-length (a ∷ []) i v))
+words-stored (a ∷ (b ∷ [])) i v = short (withWord (a ∷ (b ∷ [])) i v) (omega (arith, withWord-length (a ∷ (b ∷ [])) i v))
+words-stored (a ∷ (b ∷ (c ∷ []))) i v = short (withWord (a ∷ (b ∷ (c ∷ []))) i v) (omega (arith, withWord-length (a ∷ (b ∷ (c ∷ []))) i v))
+words-stored (a ∷ (b ∷ (c ∷ (d ∷ s)))) zero v = ap (λ (w : ℕ). w ∷ wordsOf s) (low v)
+words-stored (a ∷ (b ∷ (c ∷ (d ∷ s)))) (suc i) v =
+    ap wordsOf (withWord-next a b c d s i v) ∙ ap (λ (ws : List ℕ). joined a b c d ∷ ws) (words-stored s i v)
+
+-- the entries after a store
+pub words-withWord : (s : List ℕ) (i v : ℕ) → v < 4294967296 → wordsOf (withWord s i v) ≡ set (wordsOf s) i v
+words-withWord s i v h = words-stored s i v ∙ ap (set (wordsOf s) i) (whole v h)
+
+-- the entry itself, and any other
+pub word-same : (s : List ℕ) (i v : ℕ) → v < 4294967296 → i < length (wordsOf s) → getD (wordsOf (withWord s i v)) i 0 ≡ v
+word-same s i v h l = rw (words-withWord s i v h) (getD-set-same (wordsOf s) i v 0 l)
+
+pub word-other : (s : List ℕ) (i v j : ℕ) → j ≢ i → getD (wordsOf (withWord s i v)) j 0 ≡ getD (wordsOf s) j 0
+word-other s i v j n = rw (words-stored s i v) (getD-set-other (wordsOf s) i j (v % 4294967296) 0 n)
+
+-- a byte of another entry, or a spare one, stays
+pub withWord-other : (s : List ℕ) (i v j : ℕ) → j / 4 ≢ i → getD (withWord s i v) j 0 ≡ getD s j 0
+unfolding withWord
+withWord-other s i v j n =
+    let p : j ≢ 4 * i = omega arith in
+    let q : j ≢ 4 * i + 1 = omega arith in
+    let r : j ≢ 4 * i + 2 = omega arith in
+    let t : j ≢ 4 * i + 3 = omega arith in
+    simp getD-set-other
+
+set-bytes : (s : List ℕ) (i b : ℕ) → Bytes s → b < 256 → Bytes (set s i b)
+set-bytes [] i b y h j = omega arith
+set-bytes (a ∷ s) zero b y h zero = h
+set-bytes (a ∷ s) zero b y h (suc j) = y (suc j)
+set-bytes (a ∷ s) (suc i) b y h zero = y 0
+set-bytes (a ∷ s) (suc i) b y h (suc j) = set-bytes s i b (λ k. y (suc k)) h j
+
+-- bytes stay bytes
+pub withWord-bytes : (s : List ℕ) (i v : ℕ) → Bytes s → Bytes (withWord s i v)
+unfolding withWord
+withWord-bytes s i v y =
+    let first : List ℕ = set s (4 * i) (v % 256) in
+    let second : List ℕ = set first (4 * i + 1) (v / 256 % 256) in
+    let third : List ℕ = set second (4 * i + 2) (v / 65536 % 256) in
+    let p : Bytes first = set-bytes s (4 * i) (v % 256) y (omega arith) in
+    let q : Bytes second = set-bytes first (4 * i + 1) (v / 256 % 256) p (omega arith) in
+    let r : Bytes third = set-bytes second (4 * i + 2) (v / 65536 % 256) q (omega arith) in
+    set-bytes third (4 * i + 3) (v / 16777216 % 256) r (omega arith)
+
+-- an entry stored where it was read changes nothing
+pub withWord-same : (s : List ℕ) (i : ℕ) → Bytes s → i < length (wordsOf s) → withWord s i (getD (wordsOf s) i 0) ≡ s
+unfolding wordsOf withWord
+withWord-same [] i y h = absurd (omega arith)
+withWord-same (a ∷ []) i y h = absurd (omega arith)
+withWord-same (a ∷ (b ∷ [])) i y h = absurd (omega arith)
+withWord-same (a ∷ (b ∷ (c ∷ []))) i y h = absurd (omega arith)
+withWord-same (a ∷ (b ∷ (c ∷ (d ∷ s)))) zero y h =
+    let e = split a b c d (y 0) (y 1) (y 2) (y 3) in rw (e .0, e .1, e .2, e .3)
+withWord-same (a ∷ (b ∷ (c ∷ (d ∷ s)))) (suc i) y h =
+    withWord-next a b c d s i _ ∙ ap (λ (t : List ℕ). a ∷ (b ∷ (c ∷ (d ∷ t)))) (withWord-same s i (λ j. y (suc (suc (suc (suc j))))) (omega arith))
+
+-- ---- several entries stored
+
+pub withWords-none : (s : List ℕ) (start : ℕ) → withWords s start [] ≡ s
+unfolding withWords
+withWords-none s start = refl
+
+pub withWords-cons : (s : List ℕ) (start v : ℕ) (vs : List ℕ) → withWords s start (v ∷ vs) ≡ withWords (withWord s start v) (start + 1) vs
+unfolding withWords
+withWords-cons s start v vs = refl
+
+-- one piece after the other is both at once
+pub withWords-append : (s : List ℕ) (start : ℕ) (vs ws : List ℕ) → withWords s start (vs ++ ws) ≡ withWords (withWords s start vs) (start + length vs) ws
+unfolding withWords
+withWords-append s start [] ws = let e : start + 0 ≡ start = omega arith in rw e
+withWords-append s start (v ∷ vs) ws =
+    let e : start + 1 + length vs ≡ start + suc (length vs) = omega arith in
+    withWords-append (withWord s start v) (start + 1) vs ws ∙ rw e
+
+-- one turn of a loop that stores entry by entry
+pub withWords-turn : (s : List ℕ) (start : ℕ) (vs : List ℕ) (k : ℕ) → k < length vs
+    → withWords s start (take (suc k) vs) ≡ withWord (withWords s start (take k vs)) (start + k) (getD vs k 0)
+unfolding withWords
+withWords-turn s start [] k h = absurd (omega arith)
+withWords-turn s start (v ∷ vs) zero h = let e : start + 0 ≡ start = omega arith in rw e
+withWords-turn s start (v ∷ vs) (suc k) h =
+    let e : start + 1 + k ≡ start + suc k = omega arith in
+    withWords-turn (withWord s start v) (start + 1) vs k (omega arith) ∙ rw e
+
+-- the same in the code's words
+pub withWords-more : (s : List ℕ) (start : ℕ) (vs : List ℕ) (k : ℕ) → k < length vs
+    → withWord (withWords s start (take k vs)) (start + k) (getD vs k 0) ≡ withWords s start (take (k + 1) vs)
+withWords-more s start vs k h = rw add-one (sym (withWords-turn s start vs k h))
+
+pub withWords-length : (s : List ℕ) (start : ℕ) (vs : List ℕ) → length (withWords s start vs) ≡ length s
+unfolding withWords
+withWords-length s start [] = refl
+withWords-length s start (v ∷ vs) = withWords-length (withWord s start v) (start + 1) vs ∙ withWord-length s start v
+
+pub withWords-entries : (s : List ℕ) (start : ℕ) (vs : List ℕ) → length (wordsOf (withWords s start vs)) ≡ length (wordsOf s)
+withWords-entries s start vs = omega (arith, words-length s, words-length (withWords s start vs), withWords-length s start vs)
+
+pub withWords-bytes : (s : List ℕ) (start : ℕ) (vs : List ℕ) → Bytes s → Bytes (withWords s start vs)
+unfolding withWords
+withWords-bytes s start [] y = y
+withWords-bytes s start (v ∷ vs) y = withWords-bytes (withWord s start v) (start + 1) vs (withWord-bytes s start v y)
+
+-- a byte before or after them stays
+pub withWords-before : (s : List ℕ) (start : ℕ) (vs : List ℕ) (j : ℕ) → j < 4 * start → getD (withWords s start vs) j 0 ≡ getD s j 0
+unfolding withWords
+withWords-before s start [] j h = refl
+withWords-before s start (v ∷ vs) j h =
+    withWords-before (withWord s start v) (start + 1) vs j (omega arith) ∙ withWord-other s start v j (omega arith)
+
+pub withWords-after : (s : List ℕ) (start : ℕ) (vs : List ℕ) (j : ℕ) → 4 * (start + length vs) ≤ j → getD (withWords s start vs) j 0 ≡ getD s j 0
+unfolding withWords
+withWords-after s start [] j h = refl
+withWords-after s start (v ∷ vs) j h =
+    withWords-after (withWord s start v) (start + 1) vs j (omega arith) ∙ withWord-other s start v j (omega arith)
+
+-- the entries after the stores, element by element
+words-sets : (s : List ℕ) (start : ℕ) (vs : List ℕ) → Words vs → wordsOf (withWords s start vs) ≡ sets (wordsOf s) start vs
+unfolding withWords
+words-sets s start [] y = refl
+words-sets s start (v ∷ vs) y =
+    rw (add-one, words-sets (withWord s start v) (suc start) vs (λ i. y (suc i)), words-withWord s start v (y 0))
+
+-- the entries after the stores
+pub words-withWords : (s : List ℕ) (start : ℕ) (vs : List ℕ) → Words vs → start + length vs ≤ length (wordsOf s)
+    → wordsOf (withWords s start vs) ≡ overwrite (wordsOf s) start vs
+unfolding overwrite
+words-withWords s start vs y h = words-sets s start vs y ∙ sets-eq vs (wordsOf s) start h ∙ append-assoc (take start (wordsOf s)) vs _
+
+-- an entry before, among and after them
+pub word-before : (s : List ℕ) (start : ℕ) (vs : List ℕ) (i : ℕ) → i < start → getD (wordsOf (withWords s start vs)) i 0 ≡ getD (wordsOf s) i 0
+unfolding withWords
+word-before s start [] i h = refl
+word-before s start (v ∷ vs) i h = word-before (withWord s start v) (start + 1) vs i (omega arith) ∙ word-other s start v i (omega arith)
+
+pub word-written : (s : List ℕ) (start : ℕ) (vs : List ℕ) (k : ℕ) → Words vs → k < length vs → start + k < length (wordsOf s)
+    → getD (wordsOf (withWords s start vs)) (start + k) 0 ≡ getD vs k 0
+unfolding withWords
+word-written s start [] k y h l = absurd (omega arith)
+word-written s start (v ∷ vs) zero y h l =
+    let e : start + 0 ≡ start = omega arith in
+    rw e (word-before (withWord s start v) (start + 1) vs start (omega arith) ∙ word-same s start v (y 0) (omega arith))
+word-written s start (v ∷ vs) (suc k) y h l =
+    let e : start + suc k ≡ start + 1 + k = omega arith in
+    rw e (word-written (withWord s start v) (start + 1) vs k (λ i. y (suc i)) (omega arith) (omega (arith, withWord-entries s start v)))
+
+pub word-after : (s : List ℕ) (start : ℕ) (vs : List ℕ) (i : ℕ) → start + length vs ≤ i → getD (wordsOf (withWords s start vs)) i 0 ≡ getD (wordsOf s) i 0
+unfolding withWords
+word-after s start [] i h = refl
+word-after s start (v ∷ vs) i h = word-after (withWord s start v) (start + 1) vs i (omega arith) ∙ word-other s start v i (omega arith)
+
+-- ---- reading and writing
+
+-- WHAT IS WRITTEN IS READ BACK
+pub read-written : (s : List ℕ) (start : ℕ) (vs : List ℕ) → Words vs → start + length vs ≤ length (wordsOf s)
+    → take (length vs) (drop start (wordsOf (withWords s start vs))) ≡ vs
+unfolding overwrite
+read-written s start vs y h =
+    rw (words-withWords s start vs y h, drop-at (take start (wordsOf s)) _ start (length-take-le start (wordsOf s) (omega arith)))
+    (take-append-seam vs _)
+
+-- the same for an array of n numbers
+pub read-array : (s : List ℕ) (start : ℕ) (vs : List ℕ) (n : ℕ) → Words vs → length vs ≡ n → start + n ≤ length (wordsOf s)
+    → take n (drop start (wordsOf (withWords s start vs))) ≡ vs
+read-array s start vs n y e h = ap (λ (k : ℕ). take k (drop start (wordsOf (withWords s start vs)))) (sym e) ∙ read-written s start vs y (omega arith)
+
+-- a store behind a part leaves it
+set-behind : (l : List ℕ) (k v i n : ℕ) → i + n ≤ k → take n (drop i (set l k v)) ≡ take n (drop i l)
+set-behind l k v i n h =
+    let e : k ≡ i + (k - i) = omega arith in
+    ap (λ (m : ℕ). take n (drop i (set l m v))) e ∙ ap (take n) (drop-set-add i l (k - i) v) ∙ take-set-le n (drop i l) (k - i) v (omega arith)
+
+-- a part before or after what is written is read as it was
+pub read-before : (s : List ℕ) (start : ℕ) (vs : List ℕ) (i n : ℕ) → i + n ≤ start
+    → take n (drop i (wordsOf (withWords s start vs))) ≡ take n (drop i (wordsOf s))
+unfolding withWords
+read-before s start [] i n h = refl
+read-before s start (v ∷ vs) i n h =
+    read-before (withWord s start v) (start + 1) vs i n (omega arith)
+    ∙ rw (words-stored s start v) (set-behind (wordsOf s) start (v % 4294967296) i n h)
+
+pub read-after : (s : List ℕ) (start : ℕ) (vs : List ℕ) (i : ℕ) → start + length vs ≤ i → drop i (wordsOf (withWords s start vs)) ≡ drop i (wordsOf s)
+unfolding withWords
+read-after s start [] i h = refl
+read-after s start (v ∷ vs) i h =
+    read-after (withWord s start v) (start + 1) vs i (omega arith)
+    ∙ rw (words-stored s start v) (drop-set-lt i (wordsOf s) start (v % 4294967296) (omega arith))
+
+-- WHAT WAS READ IS WRITTEN BACK
+pub written-read : (s : List ℕ) (start n : ℕ) → Bytes s → withWords s start (take n (drop start (wordsOf s))) ≡ s
+written-read s start zero y = withWords-none s start
+written-read s start (suc n) y = by-cases (decLt start (length (wordsOf s))) (inside (written-read s (start + 1) n y)) outside
+  where
+    inside : withWords s (start + 1) (take n (drop (start + 1) (wordsOf s))) ≡ s → start < length (wordsOf s) → withWords s start (take (suc n) (drop start (wordsOf s))) ≡ s
+    inside ih h = rw (drop-cons (wordsOf s) start 0 h, withWords-cons, withWord-same s start y h, ← add-one start) ih
+
+    outside : (start < length (wordsOf s) → ⊥) → withWords s start (take (suc n) (drop start (wordsOf s))) ≡ s
+    outside h = rw (drop-of-length-le (wordsOf s) {i = start} (omega arith)) (withWords-none s start)
+
+-- ---- the bytes of numbers
+
+pub bytesOf-length : (vs : List ℕ) → length (bytesOf vs) ≡ 4 * length vs
+unfolding bytesOf
+bytesOf-length [] = refl
+bytesOf-length (v ∷ vs) = omega (arith, bytesOf-length vs)
+
+pub bytesOf-bytes : (vs : List ℕ) → Bytes (bytesOf vs)
+unfolding bytesOf
+bytesOf-bytes [] i = omega arith
+bytesOf-bytes (v ∷ vs) zero = omega arith
+bytesOf-bytes (v ∷ vs) (suc zero) = omega arith
+bytesOf-bytes (v ∷ vs) (suc (suc zero)) = omega arith
+bytesOf-bytes (v ∷ vs) (suc (suc (suc zero))) = omega arith
+bytesOf-bytes (v ∷ vs) (suc (suc (suc (suc i)))) = bytesOf-bytes vs i
+
+-- the entries of numbers in front of other bytes
+pub words-bytesOf : (vs s : List ℕ) → Words vs → wordsOf (bytesOf vs ++ s) ≡ vs ++ wordsOf s
+unfolding bytesOf wordsOf
+words-bytesOf [] s y = refl
+words-bytesOf (v ∷ vs) s y = rw (low v, whole v (y 0), words-bytesOf vs s (λ i. y (suc i)))
+
+-- the bytes of the entries, where none are spare
+pub bytesOf-words : (s : List ℕ) → Bytes s → length s % 4 ≡ 0 → bytesOf (wordsOf s) ≡ s
+unfolding bytesOf wordsOf
+bytesOf-words [] y h = refl
+bytesOf-words (a ∷ []) y h = absurd (omega arith)
+bytesOf-words (a ∷ (b ∷ [])) y h = absurd (omega arith)
+bytesOf-words (a ∷ (b ∷ (c ∷ []))) y h = absurd (omega arith)
+bytesOf-words (a ∷ (b ∷ (c ∷ (d ∷ s)))) y h =
+    let e = split a b c d (y 0) (y 1) (y 2) (y 3) in
+    rw (e .0, e .1, e .2, e .3, bytesOf-words s (λ j. y (suc (suc (suc (suc j))))) (omega arith))
+
+-- strings of whole entries that have the same entries are the same
+pub same-words : (s t : List ℕ) → Bytes s → Bytes t → length s % 4 ≡ 0 → length t % 4 ≡ 0 → wordsOf s ≡ wordsOf t → s ≡ t
+same-words s t y z h k e = sym (bytesOf-words s y h) ∙ ap bytesOf e ∙ bytesOf-words t z k
+
+-- an entry is four bytes in a row
+withWord-overwrite : (s : List ℕ) (i v : ℕ) → i < length (wordsOf s) → withWord s i v ≡ overwrite s (4 * i) (bytesOf (v ∷ []))
+unfolding withWord bytesOf overwrite
+withWord-overwrite s i v h =
+    rw (add-one, add-two, add-three)
+    (sets-eq (bytesOf (v ∷ [])) s (4 * i) (omega (arith, words-length s)) ∙ append-assoc (take (4 * i) s) (bytesOf (v ∷ [])) _)
+
+-- the stores write one piece of bytes, and all else stays
+pub withWords-overwrite : (s : List ℕ) (start : ℕ) (vs : List ℕ) → start + length vs ≤ length (wordsOf s)
+    → withWords s start vs ≡ overwrite s (4 * start) (bytesOf vs)
+unfolding withWords bytesOf
+withWords-overwrite s start [] h = sym (overwrite-none s (4 * start))
+withWords-overwrite s start (v ∷ vs) h =
+    let e : 4 * (start + 1) ≡ 4 * start + 4 = omega arith in
+    withWords-overwrite (withWord s start v) (start + 1) vs (omega (arith, withWord-entries s start v))
+    ∙ rw (e, withWord-overwrite s start v (omega arith)) (overwrite-more s (4 * start) (bytesOf (v ∷ [])) (bytesOf vs) (omega (arith, words-length s)))
