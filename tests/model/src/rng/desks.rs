@@ -67,8 +67,13 @@ pub fn fair_draws(rng: &mut Rng, desk: &Desk, draw: Draw) -> Vec<u32> {
 pub fn wild_draws(rng: &mut Rng, desk: &Desk) -> Vec<u32> {
     let bound = sweep_bound(desk);
     let mut draws = fair_draws(rng, desk, Draw::Mixed);
+    let drawing = slots_where(desk, |kind| kind == PLAYING || kind == TAIL);
     for _ in 0..=rng.below(2) {
-        let slot = rng.below(draws.len());
+        let slot = if drawing.is_empty() || rng.once_in(4) {
+            rng.below(draws.len())
+        } else {
+            rng.pick(&drawing) as usize
+        };
         let limit = draw_limit(desk, slot, bound) as u32;
         let held = desk.held[slot];
         let any = rng.any();
@@ -83,24 +88,30 @@ pub fn wild_draws(rng: &mut Rng, desk: &Desk) -> Vec<u32> {
 
 // Calls.
 
+/// The used slots of wanted kinds.
 fn slots_where(desk: &Desk, wanted: impl Fn(u32) -> bool) -> Vec<u32> {
     desk.used_slots().filter(|&slot| wanted(desk.kinds[slot])).map(|slot| slot as u32).collect()
 }
 
-/// A join of a free slot, or of slot 0 where none is free.
-fn fair_join(rng: &mut Rng, desk: &Desk) -> Call {
+/// A join of a free slot, if there is one.
+fn fair_join(rng: &mut Rng, desk: &Desk) -> Option<Call> {
     let free = slots_where(desk, |kind| kind == FREE);
-    let slot = if free.is_empty() { 0 } else { rng.pick(&free) };
+    if free.is_empty() {
+        return None;
+    }
+    let slot = rng.pick(&free);
     let last = desk.plan.figures.blocks - 1;
     let block = if rng.once_in(3) { 0 } else { rng.between(0, last) };
-    Call::Join { slot, block }
+    Some(Call::Join { slot, block })
 }
 
-/// A leave of an occupied slot, or of slot 0 where all are free.
-fn fair_leave(rng: &mut Rng, desk: &Desk) -> Call {
+/// A leave of an occupied slot, if there is one.
+fn fair_leave(rng: &mut Rng, desk: &Desk) -> Option<Call> {
     let occupied = slots_where(desk, |kind| kind != FREE);
-    let slot = if occupied.is_empty() { 0 } else { rng.pick(&occupied) };
-    Call::Leave { slot }
+    if occupied.is_empty() {
+        return None;
+    }
+    Some(Call::Leave { slot: rng.pick(&occupied) })
 }
 
 /// A fetch list long enough.
@@ -108,39 +119,51 @@ fn fair_begin(rng: &mut Rng, desk: &Desk) -> Call {
     Call::Begin { fetch_list: desk.plan.streams as usize + rng.pick(&[0, 0, 1, 300]) }
 }
 
-/// A call that the desk's phase takes.
+/// A call that the desk accepts.
 pub fn fair_call(rng: &mut Rng, desk: &Desk, temper: &Temper) -> Call {
     if desk.phase == SWEEPING {
         return Call::End { draws: fair_draws(rng, desk, temper.draw) };
     }
     let choice = rng.below(temper.joins + temper.leaves + temper.begins);
-    if choice < temper.joins {
+    let call = if choice < temper.joins {
         fair_join(rng, desk)
     } else if choice < temper.joins + temper.leaves {
         fair_leave(rng, desk)
     } else {
-        fair_begin(rng, desk)
-    }
+        None
+    };
+    call.unwrap_or_else(|| fair_begin(rng, desk))
 }
 
-/// A slot about n, or anything.
-fn wild_slot(rng: &mut Rng, desk: &Desk) -> u32 {
+/// A slot of a wanted kind, about n, or anything.
+fn wild_slot(rng: &mut Rng, desk: &Desk, wanted: impl Fn(u32) -> bool) -> u32 {
+    let slots = slots_where(desk, wanted);
+    if !slots.is_empty() && rng.once_in(2) {
+        return rng.pick(&slots);
+    }
     let n = desk.plan.streams;
     let (used, any) = (rng.between(0, n - 1), rng.any());
     rng.pick(&[used, used, used, n - 1, n, n + 1, 255, 256, any])
 }
 
-/// A call of any sort with any arguments, on a sound desk.
-pub fn wild_call(rng: &mut Rng, desk: &Desk) -> Call {
+fn wild_join(rng: &mut Rng, desk: &Desk) -> Call {
     let blocks = desk.plan.figures.blocks;
+    let any = rng.any();
+    let block = rng.pick(&[0, blocks - 1, blocks, blocks + 1, any]);
+    Call::Join { slot: wild_slot(rng, desk, |kind| kind == FREE), block }
+}
+
+/// A call of any sort with any arguments, on a sound desk; more often one of its phase.
+pub fn wild_call(rng: &mut Rng, desk: &Desk) -> Call {
     let n = desk.plan.streams as usize;
-    match rng.below(5) {
-        0 => {
-            let any = rng.any();
-            let block = rng.pick(&[0, blocks - 1, blocks, blocks + 1, any]);
-            Call::Join { slot: wild_slot(rng, desk), block }
-        }
-        1 => Call::Leave { slot: wild_slot(rng, desk) },
+    let sort = match rng.below(4) {
+        0 => rng.below(4),
+        _ if desk.phase == SWEEPING => 3,
+        _ => rng.below(3),
+    };
+    match sort {
+        0 => wild_join(rng, desk),
+        1 => Call::Leave { slot: wild_slot(rng, desk, |kind| kind != FREE) },
         2 => Call::Begin { fetch_list: rng.pick(&[0, n - 1, n, n + 1, 1000]) },
         _ => Call::End { draws: wild_draws(rng, desk) },
     }
@@ -310,11 +333,11 @@ pub fn any_desk(rng: &mut Rng, planned: &Planned) -> Desk {
     desk
 }
 
-/// Any call on any desk of the plan, with any lists.
+/// Any call on any desk of the plan, with any lists. The call is one for a sound desk.
 pub fn any_step(rng: &mut Rng, planned: &Planned) -> (Desk, Step) {
     let sound = sound_desk(rng, planned);
-    let temper = temper(rng);
+    let temper = Temper { wild: 2, ..temper(rng) };
     let step = next_step(rng, planned, &sound, &temper);
-    let desk = if rng.once_in(2) { sound } else { any_desk(rng, planned) };
+    let desk = if rng.once_in(3) { any_desk(rng, planned) } else { sound };
     (desk, step)
 }

@@ -160,6 +160,14 @@ pub fn desk_plan(rng: &mut Rng) -> Planned {
     }
 }
 
+/// A plan for desks with a film of any length and zones of any size.
+pub fn large_desk_plan(rng: &mut Rng) -> Planned {
+    let mut figures = large_figures(rng);
+    let n = rng.pick(&[1, 3, 20, 256]);
+    tighten(rng, &mut figures, n);
+    plan_of(&figures).expect("n streams fit")
+}
+
 /// Alters one figure, used or not.
 pub fn alter_figure(rng: &mut Rng, figures: &mut Figures) {
     let used = figures.zones.clamp(1, MAX_ZONES) as usize;
