@@ -121,7 +121,7 @@ fn judge_kind(kind: u32) -> Result<(), u32> {
 }
 
 fn judge_zone_count(zones: u32) -> Result<(), u32> {
-    if zones < 1 || zones > MAX_ZONES {
+    if !(1..=MAX_ZONES).contains(&zones) {
         return Err(cause::ZONES);
     }
     Ok(())
@@ -137,7 +137,7 @@ fn judge_positions(count: u32, total: u64) -> Result<(), u32> {
 
 /// A zone's time, after the time of the zone before if there is one.
 fn judge_time(time: u32, before: Option<u32>) -> Result<(), u32> {
-    if time < 1 || time > MAX_TIME {
+    if !(1..=MAX_TIME).contains(&time) {
         return Err(cause::TIME);
     }
     match before {
@@ -148,7 +148,7 @@ fn judge_time(time: u32, before: Option<u32>) -> Result<(), u32> {
 
 /// N, on a disk of `total` positions.
 fn judge_blocks(blocks: u32, total: u64) -> Result<(), u32> {
-    if blocks < MIN_BLOCKS || blocks > MAX_BLOCKS {
+    if !(MIN_BLOCKS..=MAX_BLOCKS).contains(&blocks) {
         return Err(cause::BLOCKS);
     }
     if blocks as u64 > total {
@@ -159,7 +159,7 @@ fn judge_blocks(blocks: u32, total: u64) -> Result<(), u32> {
 
 /// B, c, hop or return, from 1 to its greatest.
 fn judge_other(value: u32, greatest: u32) -> Result<(), u32> {
-    if value < 1 || value > greatest {
+    if !(1..=greatest).contains(&value) {
         return Err(cause::OTHER_FIGURE);
     }
     Ok(())

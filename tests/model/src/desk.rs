@@ -199,12 +199,7 @@ fn free_slot(desk: &mut Desk, slot: usize) {
 }
 
 /// Leave: an occupied slot becomes free, all zero.
-pub fn leave(
-    desk: &Desk,
-    positions: &[u32],
-    leads: &[u32],
-    slot: u32,
-) -> Result<Desk, Refusal> {
+pub fn leave(desk: &Desk, positions: &[u32], leads: &[u32], slot: u32) -> Result<Desk, Refusal> {
     judge_sound(desk, positions, leads)?;
     judge_phase(desk, BETWEEN)?;
     judge_slot(desk, slot)?;
@@ -343,12 +338,7 @@ fn end_slot(desk: &mut Desk, slot: usize, draw: u32, fetched: bool) {
 }
 
 /// End the sweep, given a draw for each of the n slots.
-pub fn end(
-    desk: &Desk,
-    positions: &[u32],
-    leads: &[u32],
-    draws: &[u32],
-) -> Result<Desk, Refusal> {
+pub fn end(desk: &Desk, positions: &[u32], leads: &[u32], draws: &[u32]) -> Result<Desk, Refusal> {
     judge_sound(desk, positions, leads)?;
     judge_phase(desk, SWEEPING)?;
     judge_draws(desk, draws)?;

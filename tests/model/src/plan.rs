@@ -51,7 +51,10 @@ pub fn position(figures: &Figures, block: u32) -> u32 {
     let total = figures.total_positions();
     let blocks = figures.blocks as u64;
     let i = (block / 2) as u64;
-    let position = if block % 2 == 0 { total - blocks + i } else { total - 1 - i };
+    let position = match block % 2 {
+        0 => total - blocks + i,
+        _ => total - 1 - i,
+    };
     narrow(position as u128)
 }
 

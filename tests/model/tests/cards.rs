@@ -86,7 +86,9 @@ fn ranges_of_the_numbers() {
 /// Each number of the least card is one byte, so the offset is the number's place.
 #[test]
 fn offsets_of_the_numbers() {
-    for (place, number) in [(0, 3), (1, 4), (2, 5), (3, 6), (4, 8), (5, 10), (6, 10), (7, 10), (8, 10)] {
+    for (place, number) in
+        [(0, 3), (1, 4), (2, 5), (3, 6), (4, 8), (5, 10), (6, 10), (7, 10), (8, 10)]
+    {
         assert_eq!(refusal(&least_with(place, 0)), (number, place as u64));
     }
     for length in 0..9 {
@@ -253,6 +255,19 @@ fn damaged_cards_meet_each_refusal() {
     for number in 1..=11 {
         assert!(counts[number] > 500, "refusal {number}: {counts:?}");
     }
+}
+
+/// The cards of the listing comparison: accepted ones, and each refusal up to 12.
+#[test]
+fn any_cards_meet_each_answer() {
+    let mut rng = Rng::new(9);
+    let planned = |card: &[u8]| plan_card(card, 16_384, 16_384);
+    let counts =
+        tally(5000, || planned(&any_card(&mut rng)).map_or_else(|refusal| refusal.number, |_| 0));
+    for number in 0..=12 {
+        assert!(counts[number] > 50, "refusal {number}: {counts:?}");
+    }
+    assert!(counts[0] > 1000, "{counts:?}");
 }
 
 #[test]

@@ -12,8 +12,7 @@ use std::process::{Command, ExitCode, Stdio};
 
 /// What the program printed, or how it failed to end.
 fn run_listing(program: &str, card: &[u8]) -> Result<Vec<u8>> {
-    let mut child =
-        Command::new(program).stdin(Stdio::piped()).stdout(Stdio::piped()).spawn()?;
+    let mut child = Command::new(program).stdin(Stdio::piped()).stdout(Stdio::piped()).spawn()?;
     let mut input = child.stdin.take().expect("a piped input");
     let bytes = card.to_vec();
     // A program may end before it has read everything: a failed write is no fault.

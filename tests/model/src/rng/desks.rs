@@ -211,11 +211,8 @@ fn lent_lists(rng: &mut Rng, planned: &Planned, spoiled: usize) -> (Vec<u32>, Ve
 
 /// The next call of a list, with its lent lists, on the sound desk that the last call left.
 pub fn next_step(rng: &mut Rng, planned: &Planned, desk: &Desk, temper: &Temper) -> Step {
-    let call = if rng.once_in(temper.wild) {
-        wild_call(rng, desk)
-    } else {
-        fair_call(rng, desk, temper)
-    };
+    let call =
+        if rng.once_in(temper.wild) { wild_call(rng, desk) } else { fair_call(rng, desk, temper) };
     let (positions, leads) = lent_lists(rng, planned, 4 * temper.wild);
     Step { positions, leads, call }
 }
