@@ -1,0 +1,97 @@
+//! The bench film and the other fixed cards.
+
+use crate::card::{card_bytes, Figures};
+
+/// Figures with these zones, each of positions and time, innermost first.
+pub fn figures_of(zones: &[(u32, u32)], blocks: u32, bytes: u32, rate: u32) -> Figures {
+    let mut figures = Figures::zero();
+    figures.zones = zones.len() as u32;
+    for (zone, &(positions, time)) in zones.iter().enumerate() {
+        figures.positions[zone] = positions;
+        figures.times[zone] = time;
+    }
+    figures.blocks = blocks;
+    figures.block_bytes = bytes;
+    figures.rate = rate;
+    figures.hop = 12_670;
+    figures.ret = 15_000;
+    figures
+}
+
+/// The bench film of 01.
+pub fn bench_film() -> Figures {
+    let zones = [(1, 22270), (1, 20550), (1, 19090), (1, 17810), (1, 16700), (1, 15720)];
+    figures_of(&zones, 6, 262_144, 500_000)
+}
+
+/// The bench film with another N.
+pub fn bench_blocks(blocks: u32) -> Figures {
+    Figures { blocks, ..bench_film() }
+}
+
+/// The bench film with another B.
+pub fn bench_bytes(block_bytes: u32) -> Figures {
+    Figures { block_bytes, ..bench_film() }
+}
+
+/// The bench film with the second zone's time 0.
+pub fn bench_zero_time() -> Figures {
+    let mut figures = bench_film();
+    figures.times[1] = 0;
+    figures
+}
+
+/// One zone, 3 positions of 20000, N 3.
+pub fn three_alike() -> Figures {
+    figures_of(&[(3, 20_000)], 3, 262_144, 500_000)
+}
+
+/// One zone, 2 positions of 20000, N 2.
+pub fn two_alike(block_bytes: u32) -> Figures {
+    figures_of(&[(2, 20_000)], 2, block_bytes, 500_000)
+}
+
+/// The Barracuda 9 drive.
+pub fn barracuda(blocks: u32) -> Figures {
+    let zones = [
+        (598, 135_594),
+        (776, 125_000),
+        (1163, 114_286),
+        (1363, 103_897),
+        (1606, 96_386),
+        (1080, 89_888),
+        (2285, 86_957),
+    ];
+    let figures = figures_of(&zones, blocks, 1_048_576, 524_288);
+    Figures { hop: 8280, ret: 10_090, ..figures }
+}
+
+/// The Deskstar 120GXP drive as one zone.
+pub fn deskstar() -> Figures {
+    figures_of(&[(1000, 52_258)], 1000, 1_829_000, 187_500)
+}
+
+/// Cards that every listing program is run on.
+pub fn fixed_cards() -> Vec<Vec<u8>> {
+    let records = [
+        bench_film(),
+        bench_zero_time(),
+        bench_bytes(260_820),
+        bench_bytes(260_819),
+        bench_blocks(5),
+        bench_blocks(1),
+        bench_blocks(7),
+        three_alike(),
+        two_alike(23_835),
+        two_alike(23_834),
+        barracuda(8871),
+        barracuda(3600),
+        deskstar(),
+        figures_of(&[(2, 2), (1, 1)], 3, 262_144, 500_000),
+    ];
+    let mut cards: Vec<Vec<u8>> = records.iter().map(card_bytes).collect();
+    cards.push(Vec::new());
+    cards.push(vec![0x81, 0x00]);
+    cards.push([card_bytes(&bench_film()), vec![b'\n']].concat());
+    cards
+}

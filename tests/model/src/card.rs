@@ -1,0 +1,280 @@
+//! The card of one disk and one film: reading, judging and writing it.
+
+use crate::refusal::{cause, refuse, Refusal};
+
+/// The only kind of card.
+pub const CARD_KIND: u32 = 1;
+pub const MAX_ZONES: u32 = 64;
+/// Greatest total P of all zones' positions.
+pub const MAX_POSITIONS: u32 = 1_048_576;
+pub const MAX_TIME: u32 = 4_000_000;
+pub const MIN_BLOCKS: u32 = 2;
+pub const MAX_BLOCKS: u32 = 16_384;
+pub const MAX_BLOCK_BYTES: u32 = 4_194_304;
+pub const MAX_RATE: u32 = 10_000_000;
+pub const MAX_HOP: u32 = 1_000_000;
+pub const MAX_RETURN: u32 = 1_000_000;
+/// A number has at most this many bytes.
+pub const MAX_NUMBER_BYTES: usize = 5;
+
+/// The figures of a card as a record.
+#[derive(Clone, Debug, PartialEq, Eq)]
+pub struct Figures {
+    pub zones: u32,
+    /// Positions of each zone, innermost first; zero past the zone count.
+    pub positions: [u32; 64],
+    /// Time to read one block in each zone; zero past the zone count.
+    pub times: [u32; 64],
+    /// N, film blocks.
+    pub blocks: u32,
+    /// B, block bytes.
+    pub block_bytes: u32,
+    /// c, top rate in bytes a second.
+    pub rate: u32,
+    /// Worst move to one block.
+    pub hop: u32,
+    /// Arm back, once a sweep.
+    pub ret: u32,
+}
+
+impl Figures {
+    /// The record with every figure zero.
+    pub fn zero() -> Figures {
+        Figures {
+            zones: 0,
+            positions: [0; 64],
+            times: [0; 64],
+            blocks: 0,
+            block_bytes: 0,
+            rate: 0,
+            hop: 0,
+            ret: 0,
+        }
+    }
+
+    /// P, the total of positions over the counted zones.
+    pub fn total_positions(&self) -> u64 {
+        let zones = self.zones.min(MAX_ZONES) as usize;
+        self.positions[..zones].iter().map(|&count| count as u64).sum()
+    }
+}
+
+// Numbers of a card.
+
+/// The shortest form of a number: groups of seven bits, lowest first, the top bit set on every
+/// byte but the last.
+pub fn number_bytes(value: u32) -> Vec<u8> {
+    let mut bytes = Vec::new();
+    let mut rest = value;
+    while rest >= 128 {
+        bytes.push((rest % 128) as u8 + 128);
+        rest /= 128;
+    }
+    bytes.push(rest as u8);
+    bytes
+}
+
+/// The bytes of the number that starts at `offset`: up to the first byte without top bit. Fewer
+/// than five continuing bytes, cut off, are 1; five that all continue are 2.
+fn take_number(card: &[u8], offset: usize) -> Result<&[u8], Refusal> {
+    for length in 1..=MAX_NUMBER_BYTES {
+        let Some(byte) = card.get(offset + length - 1) else {
+            return refuse(cause::ENDS_EARLY, card.len() as u64);
+        };
+        if *byte < 128 {
+            return Ok(&card[offset..offset + length]);
+        }
+    }
+    refuse(cause::BAD_NUMBER, offset as u64)
+}
+
+/// The value of a number's bytes, whatever its form.
+fn number_value(bytes: &[u8]) -> u128 {
+    let mut value = 0;
+    let mut weight = 1;
+    for byte in bytes {
+        value += (byte % 128) as u128 * weight;
+        weight *= 128;
+    }
+    value
+}
+
+/// The number at `offset` and the offset after it. Not shortest or above 4,294,967,295 is 2.
+pub fn read_number(card: &[u8], offset: usize) -> Result<(u32, usize), Refusal> {
+    let bytes = take_number(card, offset)?;
+    let Ok(value) = u32::try_from(number_value(bytes)) else {
+        return refuse(cause::BAD_NUMBER, offset as u64);
+    };
+    if number_bytes(value) != bytes {
+        return refuse(cause::BAD_NUMBER, offset as u64);
+    }
+    Ok((value, offset + bytes.len()))
+}
+
+// Ranges of the figures. Each judge answers the cause of its refusal.
+
+fn judge_kind(kind: u32) -> Result<(), u32> {
+    if kind != CARD_KIND {
+        return Err(cause::KIND);
+    }
+    Ok(())
+}
+
+fn judge_zone_count(zones: u32) -> Result<(), u32> {
+    if !(1..=MAX_ZONES).contains(&zones) {
+        return Err(cause::ZONES);
+    }
+    Ok(())
+}
+
+/// A zone's positions, after zones with `total` positions together.
+fn judge_positions(count: u32, total: u64) -> Result<(), u32> {
+    if count < 1 || total + count as u64 > MAX_POSITIONS as u64 {
+        return Err(cause::POSITIONS);
+    }
+    Ok(())
+}
+
+/// A zone's time, after the time of the zone before if there is one.
+fn judge_time(time: u32, before: Option<u32>) -> Result<(), u32> {
+    if !(1..=MAX_TIME).contains(&time) {
+        return Err(cause::TIME);
+    }
+    match before {
+        Some(before) if time > before => Err(cause::TIME_RISES),
+        _ => Ok(()),
+    }
+}
+
+/// N, on a disk of `total` positions.
+fn judge_blocks(blocks: u32, total: u64) -> Result<(), u32> {
+    if !(MIN_BLOCKS..=MAX_BLOCKS).contains(&blocks) {
+        return Err(cause::BLOCKS);
+    }
+    if blocks as u64 > total {
+        return Err(cause::BLOCKS_ABOVE_POSITIONS);
+    }
+    Ok(())
+}
+
+/// B, c, hop or return, from 1 to its greatest.
+fn judge_other(value: u32, greatest: u32) -> Result<(), u32> {
+    if !(1..=greatest).contains(&value) {
+        return Err(cause::OTHER_FIGURE);
+    }
+    Ok(())
+}
+
+/// The time of the zone before `zone`.
+fn time_before(figures: &Figures, zone: usize) -> Option<u32> {
+    if zone == 0 {
+        None
+    } else {
+        Some(figures.times[zone - 1])
+    }
+}
+
+/// Is each zone entry past the zone count zero?
+fn unused_zones_zero(figures: &Figures) -> bool {
+    let used = figures.zones as usize;
+    figures.positions[used..].iter().all(|&count| count == 0)
+        && figures.times[used..].iter().all(|&time| time == 0)
+}
+
+/// Judges figures given as a record: 4 to 10 in the order of the card, zone by zone.
+pub fn judge_record(figures: &Figures) -> Result<(), u32> {
+    judge_zone_count(figures.zones)?;
+    if !unused_zones_zero(figures) {
+        return Err(cause::ZONES);
+    }
+    let mut total = 0;
+    for zone in 0..figures.zones as usize {
+        judge_positions(figures.positions[zone], total)?;
+        judge_time(figures.times[zone], time_before(figures, zone))?;
+        total += figures.positions[zone] as u64;
+    }
+    judge_blocks(figures.blocks, total)?;
+    judge_other(figures.block_bytes, MAX_BLOCK_BYTES)?;
+    judge_other(figures.rate, MAX_RATE)?;
+    judge_other(figures.hop, MAX_HOP)?;
+    judge_other(figures.ret, MAX_RETURN)
+}
+
+/// A card and how far it has been read.
+struct Reader<'a> {
+    card: &'a [u8],
+    offset: usize,
+}
+
+impl Reader<'_> {
+    /// The next number, form before range; a range fault has the number's own offset.
+    fn field(&mut self, judge: impl Fn(u32) -> Result<(), u32>) -> Result<u32, Refusal> {
+        let start = self.offset;
+        let (value, after) = read_number(self.card, start)?;
+        if let Err(number) = judge(value) {
+            return refuse(number, start as u64);
+        }
+        self.offset = after;
+        Ok(value)
+    }
+
+    /// 11 if bytes are left over.
+    fn finish(&self) -> Result<(), Refusal> {
+        if self.offset < self.card.len() {
+            return refuse(cause::LEFT_OVER, self.offset as u64);
+        }
+        Ok(())
+    }
+}
+
+/// Reads a card number by number; the first fault ends it: 1 to 11.
+pub fn read_card(card: &[u8]) -> Result<Figures, Refusal> {
+    let mut reader = Reader { card, offset: 0 };
+    let mut figures = Figures::zero();
+    reader.field(judge_kind)?;
+    figures.zones = reader.field(judge_zone_count)?;
+    let mut total = 0;
+    for zone in 0..figures.zones as usize {
+        figures.positions[zone] = reader.field(|count| judge_positions(count, total))?;
+        total += figures.positions[zone] as u64;
+        let before = time_before(&figures, zone);
+        figures.times[zone] = reader.field(|time| judge_time(time, before))?;
+    }
+    figures.blocks = reader.field(|blocks| judge_blocks(blocks, total))?;
+    figures.block_bytes = reader.field(|bytes| judge_other(bytes, MAX_BLOCK_BYTES))?;
+    figures.rate = reader.field(|rate| judge_other(rate, MAX_RATE))?;
+    figures.hop = reader.field(|hop| judge_other(hop, MAX_HOP))?;
+    figures.ret = reader.field(|ret| judge_other(ret, MAX_RETURN))?;
+    reader.finish()?;
+    Ok(figures)
+}
+
+/// The numbers of a card in order. Zones past the 64 of a record are left out.
+pub fn card_numbers(figures: &Figures) -> Vec<u32> {
+    let mut numbers = vec![CARD_KIND, figures.zones];
+    for zone in 0..figures.zones.min(MAX_ZONES) as usize {
+        numbers.push(figures.positions[zone]);
+        numbers.push(figures.times[zone]);
+    }
+    numbers.extend([figures.blocks, figures.block_bytes, figures.rate, figures.hop, figures.ret]);
+    numbers
+}
+
+/// The bytes of a card with these figures, unjudged.
+pub fn card_bytes(figures: &Figures) -> Vec<u8> {
+    card_numbers(figures).into_iter().flat_map(number_bytes).collect()
+}
+
+/// Writes the card of a record and answers its length: 4 to 10, then 13, each with place 0. Bytes
+/// past the card keep their contents; a refusal writes none.
+pub fn write_card(figures: &Figures, lent: &mut [u8]) -> Result<usize, Refusal> {
+    if let Err(number) = judge_record(figures) {
+        return refuse(number, 0);
+    }
+    let card = card_bytes(figures);
+    if lent.len() < card.len() {
+        return refuse(cause::TOO_SHORT, 0);
+    }
+    lent[..card.len()].copy_from_slice(&card);
+    Ok(card.len())
+}

@@ -1,0 +1,30 @@
+//! An executable model of the film-disk planner and its sweep desk, written from the words of its
+//! document ("01" in the comments) in the most direct form. It is the oracle of comparisons, and
+//! so it is never made quicker than the words.
+//!
+//! - `card`: the figures, reading, judging and writing a card.
+//! - `plan`: laying, streams, leads, buffer; the plan of a card or a record.
+//! - `desk`: soundness and the calls open, join, leave, begin and end.
+//! - `book`: lists of calls, the book of demand 3 and the checker of its claim.
+//! - `listing`: the text of the listing program.
+//! - `bench`: fixed cards. `rng`: random inputs of every sort from a seed.
+//!
+//! Answers are values: a refusal has 01's number and place, and leaves what was lent. An accepted
+//! call has number 0 and place 0.
+
+pub mod bench;
+pub mod book;
+pub mod card;
+pub mod desk;
+pub mod listing;
+pub mod plan;
+pub mod refusal;
+pub mod rng;
+
+pub use book::{answer, check_claim, Answer, Book, Call, Row, Run, Step};
+pub use card::{card_bytes, judge_record, read_card, write_card, Figures};
+pub use desk::{begin, end, is_sound, join, leave, open, Begun, Desk, Entry, SLOTS};
+pub use listing::listing;
+pub use plan::{fill_lent, is_plan, plan_card, plan_record, Plan, Planned};
+pub use refusal::{cause, Refusal};
+pub use rng::Rng;

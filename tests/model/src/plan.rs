@@ -1,0 +1,244 @@
+//! The plan of a card: the laying, the streams, the buffer and the leads.
+//!
+//! The definitions take figures that `judge_record` accepts.
+
+use crate::card::{judge_record, read_card, Figures};
+use crate::refusal::{cause, refuse, Refusal};
+
+/// Greatest number of streams.
+pub const MAX_STREAMS: u32 = 256;
+/// A half microsecond at one byte a second, as a share of a byte: the unit of 01's formulas.
+pub const TWO_MILLION: u128 = 2_000_000;
+/// Up to this N the leads are worked out by 01's words alone.
+pub const NAIVE_BLOCKS: usize = 256;
+
+/// The plan record.
+#[derive(Clone, Debug, PartialEq, Eq)]
+pub struct Plan {
+    pub figures: Figures,
+    /// n, the screens that may be fed.
+    pub streams: u32,
+    /// Bytes of each screen's buffer.
+    pub buffer: u32,
+    /// Greatest time of two successive blocks.
+    pub worst2: u32,
+    /// Twice the greatest time, less worst2.
+    pub margin: u32,
+}
+
+impl Plan {
+    /// The plan in a refused answer.
+    pub fn zero() -> Plan {
+        Plan { figures: Figures::zero(), streams: 0, buffer: 0, worst2: 0, margin: 0 }
+    }
+}
+
+/// A plan and the N entries of each of its two lists.
+#[derive(Clone, Debug, PartialEq, Eq)]
+pub struct Planned {
+    pub plan: Plan,
+    pub positions: Vec<u32>,
+    pub leads: Vec<u32>,
+}
+
+/// A result that 01's ranges keep within 32 bits.
+pub(crate) fn narrow(value: u128) -> u32 {
+    u32::try_from(value).expect("within 32 bits for judged figures")
+}
+
+/// Position of a block: 2i goes to P - N + i, 2i + 1 to P - 1 - i.
+pub fn position(figures: &Figures, block: u32) -> u32 {
+    let total = figures.total_positions();
+    let blocks = figures.blocks as u64;
+    let i = (block / 2) as u64;
+    let position = match block % 2 {
+        0 => total - blocks + i,
+        _ => total - 1 - i,
+    };
+    narrow(position as u128)
+}
+
+/// The zone of a position, found by walking the zones from the innermost.
+pub fn zone_at(figures: &Figures, position: u32) -> usize {
+    let mut zone = 0;
+    let mut end = figures.positions[0] as u64;
+    while position as u64 >= end {
+        zone += 1;
+        end += figures.positions[zone] as u64;
+    }
+    zone
+}
+
+/// Time to read the block at a position.
+pub fn time_at(figures: &Figures, position: u32) -> u32 {
+    figures.times[zone_at(figures, position)]
+}
+
+/// time(b): time of the zone where block b is laid.
+pub fn time(figures: &Figures, block: u32) -> u32 {
+    time_at(figures, position(figures, block))
+}
+
+/// The positions list.
+pub fn positions(figures: &Figures) -> Vec<u32> {
+    (0..figures.blocks).map(|block| position(figures, block)).collect()
+}
+
+/// time(b) for each block.
+pub fn times(figures: &Figures) -> Vec<u32> {
+    (0..figures.blocks).map(|block| time(figures, block)).collect()
+}
+
+/// Greatest sum of the times of two successive blocks. The film does not wrap.
+fn greatest_pair(times: &[u32]) -> u32 {
+    let mut greatest = 0;
+    for b in 0..times.len() - 1 {
+        greatest = greatest.max(times[b] + times[b + 1]);
+    }
+    greatest
+}
+
+/// worst2: the greatest time(b) + time(b+1) for b from 0 to N - 2.
+pub fn worst2(figures: &Figures) -> u32 {
+    greatest_pair(&times(figures))
+}
+
+/// The formula of streams: c × (n × worst2 + 2 × (n × hop + return)) at most 2,000,000 × B.
+pub fn fits(figures: &Figures, worst2: u32, n: u32) -> bool {
+    let c = figures.rate as u128;
+    let hop = figures.hop as u128;
+    let ret = figures.ret as u128;
+    let bytes = figures.block_bytes as u128;
+    let worst2 = worst2 as u128;
+    let n = n as u128;
+    c * (n * worst2 + 2 * (n * hop + ret)) <= TWO_MILLION * bytes
+}
+
+/// streams: the greatest n from 1 to 256 that fits. All are tried.
+pub fn streams(figures: &Figures, worst2: u32) -> Option<u32> {
+    (1..=MAX_STREAMS).filter(|&n| fits(figures, worst2, n)).max()
+}
+
+/// margin: twice the greatest time(b), less worst2.
+pub fn margin(times: &[u32], worst2: u32) -> u32 {
+    let greatest = times.iter().copied().max().unwrap_or(0);
+    2 * greatest - worst2
+}
+
+/// What a block adds to a run: 2 × time - worst2.
+fn excess(time: u32, worst2: u32) -> i128 {
+    2 * time as i128 - worst2 as i128
+}
+
+/// lead(b): the greatest sum of 2 × time - worst2 over a run of blocks starting at b, the empty
+/// run (0) included.
+pub fn lead(times: &[u32], worst2: u32, b: usize) -> u32 {
+    let mut greatest = 0;
+    let mut sum = 0;
+    for &time in &times[b..] {
+        sum += excess(time, worst2);
+        greatest = greatest.max(sum);
+    }
+    narrow(greatest as u128)
+}
+
+/// The leads list by the words: every run of every block.
+pub fn leads_by_runs(times: &[u32], worst2: u32) -> Vec<u32> {
+    (0..times.len()).map(|b| lead(times, worst2, b)).collect()
+}
+
+/// The leads list in one pass from the last block: a run from b is empty, or it is b and then a
+/// run from b + 1, so lead(b) is 0 or 2 × time(b) - worst2 + lead(b+1), whichever is greater.
+pub fn leads_backward(times: &[u32], worst2: u32) -> Vec<u32> {
+    let mut leads = vec![0; times.len()];
+    let mut after = 0;
+    for b in (0..times.len()).rev() {
+        after = (excess(times[b], worst2) + after).max(0);
+        leads[b] = narrow(after as u128);
+    }
+    leads
+}
+
+/// The leads list.
+pub fn leads(times: &[u32], worst2: u32) -> Vec<u32> {
+    if times.len() <= NAIVE_BLOCKS {
+        leads_by_runs(times, worst2)
+    } else {
+        leads_backward(times, worst2)
+    }
+}
+
+/// buffer: 3 × B plus c × n × margin / 2,000,000 rounded up.
+pub fn buffer(figures: &Figures, streams: u32, margin: u32) -> u32 {
+    let spare = figures.rate as u128 * streams as u128 * margin as u128;
+    narrow(3 * figures.block_bytes as u128 + spare.div_ceil(TWO_MILLION))
+}
+
+/// The plan of judged figures, or nothing where not even one stream fits.
+pub fn plan_of(figures: &Figures) -> Option<Planned> {
+    let times = times(figures);
+    let worst2 = greatest_pair(&times);
+    let streams = streams(figures, worst2)?;
+    let margin = margin(&times, worst2);
+    let buffer = buffer(figures, streams, margin);
+    let plan = Plan { figures: figures.clone(), streams, buffer, worst2, margin };
+    Some(Planned { plan, positions: positions(figures), leads: leads(&times, worst2) })
+}
+
+/// 13, then 12, of judged figures.
+fn plan_judged(figures: &Figures, positions: usize, leads: usize) -> Result<Planned, Refusal> {
+    let blocks = figures.blocks as usize;
+    if positions < blocks || leads < blocks {
+        return refuse(cause::TOO_SHORT, 0);
+    }
+    match plan_of(figures) {
+        Some(planned) => Ok(planned),
+        None => refuse(cause::NO_STREAM, 0),
+    }
+}
+
+/// The plan of a record, with the lengths of the two lent lists: 4 to 10, 13, 12, each at 0.
+pub fn plan_record(figures: &Figures, positions: usize, leads: usize) -> Result<Planned, Refusal> {
+    if let Err(number) = judge_record(figures) {
+        return refuse(number, 0);
+    }
+    plan_judged(figures, positions, leads)
+}
+
+/// The plan of a card, with the lengths of the two lent lists: 1 to 11 with offset, 13, 12.
+pub fn plan_card(card: &[u8], positions: usize, leads: usize) -> Result<Planned, Refusal> {
+    plan_judged(&read_card(card)?, positions, leads)
+}
+
+/// Puts an answer at the start of a lent list; entries past it keep their contents.
+pub fn fill_lent<T: Clone>(lent: &mut [T], answer: &[T]) {
+    lent[..answer.len()].clone_from_slice(answer);
+}
+
+/// Is this the plan of its figures, and do both lists begin with its N entries?
+pub fn is_plan(plan: &Plan, positions: &[u32], leads: &[u32]) -> bool {
+    let Ok(planned) = plan_record(&plan.figures, positions.len(), leads.len()) else {
+        return false;
+    };
+    planned.plan == *plan
+        && positions.starts_with(&planned.positions)
+        && leads.starts_with(&planned.leads)
+}
+
+/// Does the list give each of the N blocks a position of its own among the P?
+pub fn is_laying(figures: &Figures, laying: &[u32]) -> bool {
+    let total = figures.total_positions();
+    let mut seen = laying.to_vec();
+    seen.sort_unstable();
+    seen.dedup();
+    laying.len() == figures.blocks as usize
+        && seen.len() == laying.len()
+        && laying.iter().all(|&position| (position as u64) < total)
+}
+
+/// A laying's worst time: the greatest sum of the times of two successive blocks, each where it
+/// lies.
+pub fn worst_time(figures: &Figures, laying: &[u32]) -> u32 {
+    let times: Vec<u32> = laying.iter().map(|&position| time_at(figures, position)).collect();
+    greatest_pair(&times)
+}

@@ -1,0 +1,340 @@
+//! Desks: lists of calls, the desks they reach, sound desks that no list reaches, corrupted
+//! desks, bent lists and draws about the limit.
+
+use super::figures::alter_figure;
+use super::Rng;
+use crate::book::{answer, Call, Step};
+use crate::desk::{
+    draw_limit, floor, sweep_bound, Desk, ASKED, FILLING, FREE, PLAYING, SLOTS, SWEEPING, TAIL,
+};
+use crate::plan::{Plan, Planned, TWO_MILLION};
+
+/// How the draws of a list go, within what the slots may draw.
+#[derive(Clone, Copy, Debug)]
+pub enum Draw {
+    None,
+    Full,
+    Any,
+    Mixed,
+}
+
+/// The habits of one list of calls.
+#[derive(Clone, Copy, Debug)]
+pub struct Temper {
+    /// Weights of join, leave and begin between sweeps.
+    pub joins: usize,
+    pub leaves: usize,
+    pub begins: usize,
+    /// A call in so many is anything at all.
+    pub wild: usize,
+    pub draw: Draw,
+}
+
+pub fn temper(rng: &mut Rng) -> Temper {
+    Temper {
+        joins: rng.pick(&[1, 2, 4, 12]),
+        leaves: rng.pick(&[0, 0, 1, 1, 3]),
+        begins: rng.pick(&[1, 3, 6]),
+        wild: rng.pick(&[3, 10, 40]),
+        draw: rng.pick(&[Draw::None, Draw::Full, Draw::Full, Draw::Any, Draw::Mixed]),
+    }
+}
+
+// Draws.
+
+/// The most that a slot can draw in this sweep: what it may and what it holds.
+fn most_drawn(desk: &Desk, slot: usize, bound: u32) -> u32 {
+    draw_limit(desk, slot, bound).min(desk.held[slot] as u128) as u32
+}
+
+/// Draws that a sound desk accepts.
+pub fn fair_draws(rng: &mut Rng, desk: &Desk, draw: Draw) -> Vec<u32> {
+    let bound = sweep_bound(desk);
+    let mut draws = Vec::new();
+    for slot in desk.used_slots() {
+        let most = most_drawn(desk, slot, bound);
+        draws.push(match draw {
+            Draw::None => 0,
+            Draw::Full => most,
+            Draw::Any => rng.between(0, most),
+            Draw::Mixed => rng.pick(&[0, most, most / 2, most.saturating_sub(1)]),
+        });
+    }
+    draws
+}
+
+/// Draws of which one or two are often at or above what the slot may draw or holds.
+pub fn wild_draws(rng: &mut Rng, desk: &Desk) -> Vec<u32> {
+    let bound = sweep_bound(desk);
+    let mut draws = fair_draws(rng, desk, Draw::Mixed);
+    let drawing = slots_where(desk, |kind| kind == PLAYING || kind == TAIL);
+    for _ in 0..=rng.below(2) {
+        let slot = if drawing.is_empty() || rng.once_in(4) {
+            rng.below(draws.len())
+        } else {
+            rng.pick(&drawing) as usize
+        };
+        let limit = draw_limit(desk, slot, bound) as u32;
+        let held = desk.held[slot];
+        let any = rng.any();
+        draws[slot] = rng.pick(&[limit, limit + 1, held, held + 1, held + 1, any]);
+    }
+    if rng.once_in(5) {
+        let length = rng.below(SLOTS + 4);
+        draws.resize(length, 0);
+    }
+    draws
+}
+
+// Calls.
+
+/// The used slots of wanted kinds.
+fn slots_where(desk: &Desk, wanted: impl Fn(u32) -> bool) -> Vec<u32> {
+    desk.used_slots().filter(|&slot| wanted(desk.kinds[slot])).map(|slot| slot as u32).collect()
+}
+
+/// A join of a free slot, if there is one.
+fn fair_join(rng: &mut Rng, desk: &Desk) -> Option<Call> {
+    let free = slots_where(desk, |kind| kind == FREE);
+    if free.is_empty() {
+        return None;
+    }
+    let slot = rng.pick(&free);
+    let last = desk.plan.figures.blocks - 1;
+    let block = if rng.once_in(3) { 0 } else { rng.between(0, last) };
+    Some(Call::Join { slot, block })
+}
+
+/// A leave of an occupied slot, if there is one.
+fn fair_leave(rng: &mut Rng, desk: &Desk) -> Option<Call> {
+    let occupied = slots_where(desk, |kind| kind != FREE);
+    if occupied.is_empty() {
+        return None;
+    }
+    Some(Call::Leave { slot: rng.pick(&occupied) })
+}
+
+/// A fetch list long enough.
+fn fair_begin(rng: &mut Rng, desk: &Desk) -> Call {
+    Call::Begin { fetch_list: desk.plan.streams as usize + rng.pick(&[0, 0, 1, 300]) }
+}
+
+/// A call that the desk accepts.
+pub fn fair_call(rng: &mut Rng, desk: &Desk, temper: &Temper) -> Call {
+    if desk.phase == SWEEPING {
+        return Call::End { draws: fair_draws(rng, desk, temper.draw) };
+    }
+    let choice = rng.below(temper.joins + temper.leaves + temper.begins);
+    let call = if choice < temper.joins {
+        fair_join(rng, desk)
+    } else if choice < temper.joins + temper.leaves {
+        fair_leave(rng, desk)
+    } else {
+        None
+    };
+    call.unwrap_or_else(|| fair_begin(rng, desk))
+}
+
+/// A slot of a wanted kind, about n, or anything.
+fn wild_slot(rng: &mut Rng, desk: &Desk, wanted: impl Fn(u32) -> bool) -> u32 {
+    let slots = slots_where(desk, wanted);
+    if !slots.is_empty() && rng.once_in(2) {
+        return rng.pick(&slots);
+    }
+    let n = desk.plan.streams;
+    let (used, any) = (rng.between(0, n - 1), rng.any());
+    rng.pick(&[used, used, used, n - 1, n, n + 1, 255, 256, any])
+}
+
+fn wild_join(rng: &mut Rng, desk: &Desk) -> Call {
+    let blocks = desk.plan.figures.blocks;
+    let any = rng.any();
+    let block = rng.pick(&[0, blocks - 1, blocks, blocks + 1, any]);
+    Call::Join { slot: wild_slot(rng, desk, |kind| kind == FREE), block }
+}
+
+/// A call of any sort with any arguments, on a sound desk; more often one of its phase.
+pub fn wild_call(rng: &mut Rng, desk: &Desk) -> Call {
+    let n = desk.plan.streams as usize;
+    let sort = match rng.below(4) {
+        0 => rng.below(4),
+        _ if desk.phase == SWEEPING => 3,
+        _ => rng.below(3),
+    };
+    match sort {
+        0 => wild_join(rng, desk),
+        1 => Call::Leave { slot: wild_slot(rng, desk, |kind| kind != FREE) },
+        2 => Call::Begin { fetch_list: rng.pick(&[0, n - 1, n, n + 1, 1000]) },
+        _ => Call::End { draws: wild_draws(rng, desk) },
+    }
+}
+
+// Lists.
+
+/// A list that no longer begins with the plan's entries.
+pub fn spoiled_list(rng: &mut Rng, list: &[u32]) -> Vec<u32> {
+    let mut spoiled = list.to_vec();
+    let place = rng.below(list.len());
+    match rng.below(3) {
+        0 => spoiled.truncate(place),
+        1 => spoiled.truncate(list.len() - 1),
+        _ => spoiled[place] = rng.other_than(list[place]),
+    }
+    spoiled
+}
+
+/// A list with more entries than the plan's N.
+pub fn longer_list(rng: &mut Rng, list: &[u32]) -> Vec<u32> {
+    let mut longer = list.to_vec();
+    for _ in 0..=rng.below(4) {
+        longer.push(rng.any());
+    }
+    longer
+}
+
+/// The plan's lists, longer ones, or once in `spoiled` times bad ones.
+fn lent_lists(rng: &mut Rng, planned: &Planned, spoiled: usize) -> (Vec<u32>, Vec<u32>) {
+    let mut positions = planned.positions.clone();
+    let mut leads = planned.leads.clone();
+    if rng.once_in(4) {
+        positions = longer_list(rng, &positions);
+        leads = longer_list(rng, &leads);
+    }
+    if rng.once_in(spoiled) {
+        match rng.below(2) {
+            0 => positions = spoiled_list(rng, &planned.positions),
+            _ => leads = spoiled_list(rng, &planned.leads),
+        }
+    }
+    (positions, leads)
+}
+
+/// The next call of a list, with its lent lists, on the sound desk that the last call left.
+pub fn next_step(rng: &mut Rng, planned: &Planned, desk: &Desk, temper: &Temper) -> Step {
+    let call =
+        if rng.once_in(temper.wild) { wild_call(rng, desk) } else { fair_call(rng, desk, temper) };
+    let (positions, leads) = lent_lists(rng, planned, 4 * temper.wild);
+    Step { positions, leads, call }
+}
+
+// Desks.
+
+/// The desk that a random list of so many calls leaves.
+pub fn reached_desk(rng: &mut Rng, planned: &Planned, calls: usize) -> Desk {
+    let temper = temper(rng);
+    let mut desk = Desk::all_free(&planned.plan);
+    for _ in 0..calls {
+        let call = fair_call(rng, &desk, &temper);
+        desk = answer(&desk, &planned.positions, &planned.leads, &call).desk;
+    }
+    desk
+}
+
+/// Held bytes from `least` to the buffer, the ends and the edge of fetching often.
+fn some_held(rng: &mut Rng, plan: &Plan, least: u32) -> u32 {
+    let edge = plan.buffer - plan.figures.block_bytes;
+    let held = match rng.below(6) {
+        0 => least,
+        1 => plan.buffer,
+        2 => edge,
+        3 => edge + 1,
+        _ => rng.between(least, plan.buffer),
+    };
+    held.clamp(least, plan.buffer)
+}
+
+/// A sound desk whether or not a list reaches it.
+pub fn sound_desk(rng: &mut Rng, planned: &Planned) -> Desk {
+    let mut desk = Desk::all_free(&planned.plan);
+    let blocks = planned.plan.figures.blocks;
+    desk.phase = rng.between(0, 1);
+    for slot in desk.used_slots() {
+        desk.kinds[slot] = rng.pick(&[FREE, ASKED, FILLING, FILLING, PLAYING, PLAYING, TAIL]);
+        desk.next[slot] = match desk.kinds[slot] {
+            FREE => 0,
+            TAIL => blocks,
+            _ => rng.between(0, blocks - 1),
+        };
+    }
+    let low = floor(&desk, &planned.leads).div_ceil(TWO_MILLION) as u32;
+    for slot in desk.used_slots() {
+        desk.held[slot] = match desk.kinds[slot] {
+            FILLING => some_held(rng, &planned.plan, 0),
+            PLAYING => some_held(rng, &planned.plan, low),
+            TAIL => some_held(rng, &planned.plan, 1),
+            _ => 0,
+        };
+    }
+    desk
+}
+
+/// Alters one figure of a plan record.
+pub fn alter_plan(rng: &mut Rng, plan: &mut Plan) {
+    let figure = match rng.below(8) {
+        0 => &mut plan.streams,
+        1 => &mut plan.buffer,
+        2 => &mut plan.worst2,
+        3 => &mut plan.margin,
+        _ => return alter_figure(rng, &mut plan.figures),
+    };
+    *figure = rng.other_than(*figure);
+}
+
+/// Alters one number of the slots. The record may stay sound.
+fn alter_slot(rng: &mut Rng, desk: &mut Desk) {
+    let used = (desk.plan.streams as usize).clamp(1, SLOTS);
+    let slot = if rng.once_in(4) { rng.below(SLOTS) } else { rng.below(used) };
+    let number = match rng.below(3) {
+        0 => &mut desk.kinds[slot],
+        1 => &mut desk.next[slot],
+        _ => &mut desk.held[slot],
+    };
+    *number = if rng.once_in(3) { rng.between(0, 5) } else { rng.other_than(*number) };
+}
+
+/// Alters one number of a desk. The record may stay sound.
+pub fn alter_desk(rng: &mut Rng, desk: &mut Desk) {
+    match rng.below(6) {
+        0 => alter_plan(rng, &mut desk.plan),
+        1 => desk.phase = rng.other_than(desk.phase),
+        _ => alter_slot(rng, desk),
+    }
+}
+
+/// A desk of anything on a plan or on none.
+pub fn random_desk(rng: &mut Rng, plan: &Plan) -> Desk {
+    let mut desk = Desk::all_free(plan);
+    if rng.once_in(2) {
+        alter_plan(rng, &mut desk.plan);
+    }
+    desk.phase = rng.any();
+    for slot in 0..SLOTS {
+        desk.kinds[slot] = rng.any();
+        desk.next[slot] = rng.any();
+        desk.held[slot] = rng.any();
+    }
+    desk
+}
+
+/// A desk that may be sound, corrupted or noise.
+pub fn any_desk(rng: &mut Rng, planned: &Planned) -> Desk {
+    let calls = rng.pick(&[0, 3, 10, 40]);
+    let mut desk = match rng.below(8) {
+        0 => return random_desk(rng, &planned.plan),
+        1..=3 => reached_desk(rng, planned, calls),
+        _ => sound_desk(rng, planned),
+    };
+    for _ in 0..rng.pick(&[0, 1, 1, 2]) {
+        alter_desk(rng, &mut desk);
+    }
+    desk
+}
+
+/// Any call on any desk of the plan, with any lists. The call is one for a sound desk.
+pub fn any_step(rng: &mut Rng, planned: &Planned) -> (Desk, Step) {
+    let sound = sound_desk(rng, planned);
+    let temper = Temper { wild: 2, ..temper(rng) };
+    let step = next_step(rng, planned, &sound, &temper);
+    let desk = if rng.once_in(3) { any_desk(rng, planned) } else { sound };
+    (desk, step)
+}

@@ -1,0 +1,201 @@
+//! Laying, streams, leads and buffers.
+
+use film_disk_model::bench::{bench_film, figures_of};
+use film_disk_model::plan::{
+    fits, is_laying, lead, leads_backward, leads_by_runs, plan_of, streams, times, worst2,
+    worst_time,
+};
+use film_disk_model::rng::desks::{alter_plan, longer_list, spoiled_list};
+use film_disk_model::rng::figures::{
+    any_figures, desk_plan, large_figures, small_figures, tight_figures,
+};
+use film_disk_model::*;
+
+/// 2 × time - worst2 added up over the run from b to before `end`.
+fn run_sum(times: &[u32], worst2: u32, b: usize, end: usize) -> i64 {
+    (b..end).map(|k| 2 * times[k] as i64 - worst2 as i64).sum()
+}
+
+/// The greatest sum over all runs from b, each added up by itself.
+fn lead_of_all_runs(times: &[u32], worst2: u32, b: usize) -> i64 {
+    (b..=times.len()).map(|end| run_sum(times, worst2, b, end)).max().unwrap()
+}
+
+#[test]
+fn leads_are_greatest_run_sums() {
+    let mut rng = Rng::new(11);
+    for _ in 0..2000 {
+        let figures = small_figures(&mut rng, 30);
+        let (times, worst2) = (times(&figures), worst2(&figures));
+        for b in 0..times.len() {
+            assert_eq!(lead(&times, worst2, b) as i64, lead_of_all_runs(&times, worst2, b));
+        }
+        assert_eq!(lead(&times, worst2, times.len()), 0);
+    }
+}
+
+/// The one pass is the same as all runs, for the times of films and for any times and worst2.
+#[test]
+fn one_pass_gives_the_same_leads() {
+    let mut rng = Rng::new(12);
+    for _ in 0..2000 {
+        let times: Vec<u32> = (0..rng.below(40)).map(|_| rng.spread(1, 4_000_000)).collect();
+        let worst2 = rng.spread(2, 8_000_000);
+        assert_eq!(leads_by_runs(&times, worst2), leads_backward(&times, worst2));
+    }
+    for _ in 0..40 {
+        let figures = Figures { blocks: 1000, ..large_figures(&mut rng) };
+        if judge_record(&figures).is_ok() {
+            let (times, worst2) = (times(&figures), worst2(&figures));
+            assert_eq!(leads_by_runs(&times, worst2), leads_backward(&times, worst2));
+        }
+    }
+    let figures = figures_of(&[(9000, 4_000_000), (7384, 123_457)], 16_384, 1, 1);
+    let (times, worst2) = (times(&figures), worst2(&figures));
+    assert_eq!(leads_by_runs(&times, worst2), leads_backward(&times, worst2));
+}
+
+/// Calls `look` with each laying of the blocks on the disk.
+fn each_laying(figures: &Figures, laying: &mut Vec<u32>, look: &mut impl FnMut(&[u32])) {
+    if laying.len() == figures.blocks as usize {
+        return look(laying);
+    }
+    for position in 0..figures.total_positions() as u32 {
+        if !laying.contains(&position) {
+            laying.push(position);
+            each_laying(figures, laying, look);
+            laying.pop();
+        }
+    }
+}
+
+/// Its worst time is at least worst2, and with it no number above n meets the formula.
+fn check_laying(figures: &Figures, worst2: u32, n: u32, laying: &[u32]) {
+    assert!(is_laying(figures, laying));
+    let worst = worst_time(figures, laying);
+    assert!(worst >= worst2, "{figures:?} {laying:?}");
+    assert!((n + 1..=256).all(|more| !fits(figures, worst, more)), "{figures:?} {laying:?}");
+}
+
+#[test]
+fn no_laying_is_better() {
+    let mut rng = Rng::new(13);
+    let mut tried = 0;
+    while tried < 300 {
+        let figures = tight_figures(&mut rng, 6);
+        if figures.total_positions() > 7 {
+            continue;
+        }
+        tried += 1;
+        let worst2 = worst2(&figures);
+        let n = streams(&figures, worst2).unwrap_or(0);
+        each_laying(&figures, &mut Vec::new(), &mut |laying| {
+            check_laying(&figures, worst2, n, laying)
+        });
+    }
+}
+
+/// The plan's own list is a laying with worst time worst2, on the N highest positions.
+#[test]
+fn own_laying() {
+    let mut rng = Rng::new(14);
+    for _ in 0..500 {
+        let figures = any_figures(&mut rng);
+        let Ok(planned) = plan_record(&figures, 16_384, 16_384) else { continue };
+        assert!(is_laying(&figures, &planned.positions));
+        assert_eq!(worst_time(&figures, &planned.positions), planned.plan.worst2);
+        let lowest = figures.total_positions() - figures.blocks as u64;
+        assert_eq!(planned.positions.iter().min().copied(), Some(lowest as u32));
+    }
+}
+
+/// Streams by division in place of trying them all.
+fn streams_by_division(figures: &Figures, worst2: u32) -> i128 {
+    let room = 2_000_000 * figures.block_bytes as i128 / figures.rate as i128;
+    let each = worst2 as i128 + 2 * figures.hop as i128;
+    ((room - 2 * figures.ret as i128).div_euclid(each)).min(256)
+}
+
+/// The number of streams is right, and 0, 1, 255 and 256 are all met.
+#[test]
+fn streams_at_the_edges() {
+    let mut rng = Rng::new(15);
+    let mut met = [0; 257];
+    for _ in 0..20_000 {
+        let figures = tight_figures(&mut rng, 20);
+        let worst2 = worst2(&figures);
+        let n = streams(&figures, worst2).unwrap_or(0);
+        assert_eq!(n as i128, streams_by_division(&figures, worst2).max(0));
+        met[n as usize] += 1;
+    }
+    for n in [0, 1, 254, 255, 256] {
+        assert!(met[n] > 100, "{n} streams: {met:?}");
+    }
+}
+
+/// Both sides of the formula equal: the stream fits.
+#[test]
+fn equality_fits() {
+    let figures = Figures { hop: 1, ret: 1, ..figures_of(&[(2, 1)], 2, 6, 2_000_000) };
+    assert_eq!(plan_of(&figures).unwrap().plan.streams, 1);
+    assert_eq!(plan_of(&Figures { block_bytes: 5, ..figures.clone() }), None);
+    let most = 256 * (2 + 2) + 2;
+    let at = |block_bytes| plan_of(&Figures { block_bytes, ..figures.clone() }).unwrap().plan;
+    assert_eq!(at(most - 1).streams, 255);
+    assert_eq!(at(most).streams, 256);
+    assert_eq!(at(most + 1000).streams, 256);
+}
+
+/// The greatest buffer, and the round bounds of accepted plans.
+#[test]
+fn greatest_figures() {
+    let zones = [(1, 3_998_506), (1, 1)];
+    let figures = Figures { hop: 1, ret: 1, ..figures_of(&zones, 2, 4_194_304, 9242) };
+    let plan = plan_of(&figures).unwrap().plan;
+    assert_eq!((plan.streams, plan.margin, plan.buffer), (227, 3_998_505, 16_777_212));
+    let mut rng = Rng::new(16);
+    for _ in 0..5000 {
+        if let Some(Planned { plan, leads, .. }) = plan_of(&tight_figures(&mut rng, 20)) {
+            assert!(plan.buffer <= 4 * plan.figures.block_bytes);
+            assert!(plan.margin < plan.worst2);
+            assert_eq!(leads.iter().max(), Some(&plan.margin));
+        }
+    }
+}
+
+/// The margin's rounding is up, and only up to the next whole byte.
+#[test]
+fn buffer_is_rounded_up() {
+    let plan = plan_of(&bench_film()).unwrap().plan;
+    let spare = 500_000 * 16 * 6550_u64;
+    assert_eq!(plan.buffer as u64, 3 * 262_144 + spare / 2_000_000);
+    let plan = plan_of(&Figures { rate: 500_001, ..bench_film() }).unwrap().plan;
+    assert_eq!((plan.streams, plan.buffer), (16, 812_633));
+}
+
+#[test]
+fn which_records_are_plans() {
+    let mut rng = Rng::new(17);
+    for _ in 0..3000 {
+        let Planned { plan, positions, leads } = desk_plan(&mut rng);
+        assert!(is_plan(&plan, &positions, &leads));
+        let longer = (longer_list(&mut rng, &positions), longer_list(&mut rng, &leads));
+        assert!(is_plan(&plan, &longer.0, &longer.1));
+        assert!(!is_plan(&plan, &spoiled_list(&mut rng, &positions), &leads));
+        assert!(!is_plan(&plan, &positions, &spoiled_list(&mut rng, &leads)));
+        let mut altered = plan.clone();
+        alter_plan(&mut rng, &mut altered);
+        let is = is_plan(&altered, &positions, &leads);
+        let made = plan_record(&altered.figures, positions.len(), leads.len());
+        assert_eq!(is, made == Ok(Planned { plan: altered, positions, leads }));
+    }
+    assert!(!is_plan(&Plan::zero(), &[], &[]));
+}
+
+#[test]
+fn lent_entries_past_the_answer_stay() {
+    let planned = plan_record(&bench_film(), 8, 8).unwrap();
+    let mut lent = [77; 8];
+    fill_lent(&mut lent, &planned.positions);
+    assert_eq!(lent, [0, 5, 1, 4, 2, 3, 77, 77]);
+}

@@ -1,0 +1,69 @@
+//! Cards of real drives and of the papers' examples.
+
+use film_disk_model::bench::{barracuda, deskstar, figures_of};
+use film_disk_model::plan::{plan_of, times, worst2};
+use film_disk_model::Figures;
+
+/// Streams, worst2, margin and buffer.
+fn summary(figures: &Figures) -> (u32, u32, u32, u32) {
+    let plan = plan_of(figures).expect("a stream that fits").plan;
+    (plan.streams, plan.worst2, plan.margin, plan.buffer)
+}
+
+#[test]
+fn barracuda_9() {
+    assert_eq!(summary(&barracuda(8871)), (16, 222_551, 48_637, 3_349_727));
+    assert_eq!(summary(&barracuda(3600)), (19, 183_343, 9429, 3_192_692));
+}
+
+#[test]
+fn deskstar_120gxp() {
+    assert_eq!(summary(&deskstar()).0, 150);
+}
+
+/// Time to read B bytes at so many Mbit a second, rounded up.
+fn read_time(bytes: u32, megabits: u64) -> u32 {
+    (bytes as u64 * 8_000_000).div_ceil(megabits << 20) as u32
+}
+
+/// A disk with one position in each zone of these rates, with blocks of so many bytes.
+fn disk(bytes: u32, positions: u32, rates: &[u64]) -> Figures {
+    let zones: Vec<(u32, u32)> =
+        rates.iter().map(|&rate| (positions, read_time(bytes, rate))).collect();
+    let blocks = positions * rates.len() as u32;
+    let figures = figures_of(&zones, blocks, bytes, 524_288);
+    Figures { hop: 8280, ret: 10_090, ..figures }
+}
+
+/// The least B that feeds 12 streams, and the buffer with it.
+fn least_for_twelve(positions: u32, rates: &[u64]) -> (u32, u32) {
+    let feeds = |bytes: u32| match plan_of(&disk(bytes, positions, rates)) {
+        Some(planned) => planned.plan.streams >= 12,
+        None => false,
+    };
+    let bytes = (150_000..300_000).find(|&bytes| feeds(bytes)).expect("a block size");
+    (bytes, plan_of(&disk(bytes, positions, rates)).unwrap().plan.buffer)
+}
+
+#[test]
+fn triple_buffering_of_one_zone() {
+    let (bytes, buffer) = least_for_twelve(2, &[60]);
+    assert_eq!(bytes, 286_921);
+    assert_eq!((buffer as f64 / 10.24).round(), 84_059.0); // 840.59 kB
+}
+
+#[test]
+fn six_zones_of_example_1() {
+    let (bytes, buffer) = least_for_twelve(1, &[60, 65, 70, 75, 80, 85]);
+    assert_eq!(bytes, 180_659);
+    assert_eq!((buffer as f64 / 102.4).round(), 5500.0); // 550.0 kB
+}
+
+#[test]
+fn times_two_two_one() {
+    let figures = figures_of(&[(2, 2), (1, 1)], 3, 262_144, 500_000);
+    let planned = plan_of(&figures).unwrap();
+    assert_eq!(planned.positions, [0, 2, 1]);
+    assert_eq!(times(&figures), [2, 1, 2]);
+    assert_eq!(worst2(&figures), 3);
+}
