@@ -1,7 +1,7 @@
 -- Each way that the planner can answer.
 -- Assumes nothing.
 use Prim.Native.Nat.{ℕ, zero, suc, _+_, _-_, _*_, _≤_, _<_}
-use mathlib.Core.Path.{_≡_, refl, sym, ap, ap₂, _∙_}
+use mathlib.Core.Path.{_≡_, refl, sym, ap, ap₂, _∙_, subst}
 use mathlib.Core.Bool.{Bool, true, false, cond, _&&_, _||_}
 use mathlib.Core.List.{List}
 use native.Mathlib.Omega.{arith}
@@ -10,16 +10,20 @@ use lib.Dec.{ltb, eqb}
 use borrow.Author.Tests.{lt-ltb, le-ltb, eq-eqb, ne-eqb}
 use Rattle.card.specs.declared.Figures.{Figures}
 use Rattle.card.specs.declared.CardRead.{CardRead}
-use Rattle.card.specs.Card.{Legal, totalPositions}
+use Rattle.card.specs.declared.Verdict.{Verdict}
+use Rattle.card.specs.Card.{Legal, totalPositions, recordFault, judgeRecord}
+use Rattle.card.specs.Read.{readCard}
+use Rattle.round_trip.specs.Legality.{fault-legal}
+use Rattle.round_trip.specs.RoundTrip.{read-card}
 use Rattle.placement.specs.Placement.{place}
-use Rattle.words.specs.Words.{wordsOf, withWords}
+use Rattle.words.specs.Words.{Bytes, wordsOf, withWords}
 use Rattle.plan.specs.declared.Plan.{Plan}
 use Rattle.plan.specs.declared.Planned.{Planned}
 use Rattle.plan.specs.Plan.{placeOf, timeOn, worst2Of, streamsOf, leadOf, planOf, blankPlan, row, positionsOf, leadsOf}
 use Rattle.plan.specs.Cursors.{Film, leadAt}
 use Rattle.plan.specs.Legal.{total-is, legal-disk, lead-is}
-use Rattle.plan.specs.Answer.{planFault, faultAfter, refusal, answer, filled, planned, positionsAfter, leadsAfter}
-use Rattle.plan.proofs.Rows.{row-same}
+use Rattle.plan.specs.Answer.{planFault, faultAfter, refusal, answer, filled, planned, positionsAfter, leadsAfter, judged, begins, sameNumbers, isPlan}
+use Rattle.plan.proofs.Rows.{row-same, begins-short}
 
 module _ (r : CardRead) (ps ls : List ℕ) where
   -- the answer and the later contents of both lists
@@ -94,3 +98,73 @@ module _ (f : Figures) (ok : Legal f) (t : ℕ) (e : t ≡ totalPositions f) whe
       ap₂ (λ (n v : ℕ). row (leadAt (f .positions) (f .times) n (f .blocks) v) 0 (f .blocks)) e d
       ∙ row-same (leadAt (f .positions) (f .times) (totalPositions f) (f .blocks) (worst2Of f)) (leadOf f) 0 (f .blocks)
       (λ b l u. sym (lead-is f ok b (omega arith)))
+
+-- ---- figures that are read or judged
+
+-- an accepted card has legal figures
+pub card-legal : (s : List ℕ) → Bytes s → (r : CardRead) → r ≡ readCard s → r .verdict .number ≡ 0 → Legal (r .figures)
+card-legal s y r e n =
+    let a = read-card s y (sym (ap (λ (x : CardRead). x .verdict .number) e) ∙ n) in
+    subst (λ (x : CardRead). Legal (x .figures)) (sym e) (fault-legal (readCard s .figures) (a .wide) (a .clear))
+
+module _ (f : Figures) (v : Verdict) (e : v ≡ judgeRecord f) where
+  pub record-fault : v .number ≡ recordFault f
+  unfolding judgeRecord
+  record-fault = ap (λ (x : Verdict). x .number) e
+
+  pub judged-is : _≡_ {A = CardRead} (record { verdict = v; figures = f }) (judged f)
+  unfolding judged
+  judged-is = λ i. record { verdict = e i; figures = f }
+
+-- ---- is this the plan of its figures
+
+module _ (p q : Plan) where
+  pub other-streams : (p .streams ≡ q .streams → ⊥) → false ≡ sameNumbers p q
+  unfolding sameNumbers
+  other-streams n = rw (ne-eqb (p .streams) (q .streams) n)
+
+  pub other-buffer : p .streams ≡ q .streams → (p .buffer ≡ q .buffer → ⊥) → false ≡ sameNumbers p q
+  unfolding sameNumbers
+  other-buffer s n = rw (eq-eqb (p .streams) (q .streams) s, ne-eqb (p .buffer) (q .buffer) n)
+
+  pub other-worst2 : p .streams ≡ q .streams → p .buffer ≡ q .buffer → (p .worst2 ≡ q .worst2 → ⊥) → false ≡ sameNumbers p q
+  unfolding sameNumbers
+  other-worst2 s b n = rw (eq-eqb (p .streams) (q .streams) s, eq-eqb (p .buffer) (q .buffer) b, ne-eqb (p .worst2) (q .worst2) n)
+
+  pub same-margin : p .streams ≡ q .streams → p .buffer ≡ q .buffer → p .worst2 ≡ q .worst2 → eqb (p .margin) (q .margin) ≡ sameNumbers p q
+  unfolding sameNumbers
+  same-margin s b w = rw (eq-eqb (p .streams) (q .streams) s, eq-eqb (p .buffer) (q .buffer) b, eq-eqb (p .worst2) (q .worst2) w)
+
+module _ (p : Plan) (ps ls : List ℕ) where
+  abbrev pub bothBegin : Bool
+  bothBegin = begins (positionsOf (p .figures)) (wordsOf ps) && begins (leadsOf (p .figures)) (wordsOf ls)
+
+  pub not-legal : (recordFault (p .figures) ≡ 0 → ⊥) → false ≡ isPlan p ps ls
+  unfolding isPlan
+  not-legal n = rw (ne-eqb (recordFault (p .figures)) 0 n)
+
+  pub not-fed : recordFault (p .figures) ≡ 0 → streamsOf (p .figures) ≡ 0 → false ≡ isPlan p ps ls
+  unfolding isPlan
+  not-fed e s = rw (eq-eqb (recordFault (p .figures)) 0 e, le-ltb 0 (streamsOf (p .figures)) (omega arith))
+
+  module _ (e : recordFault (p .figures) ≡ 0) (s : streamsOf (p .figures) ≡ 0 → ⊥) where
+    pub not-same : sameNumbers p (planOf (p .figures)) ≡ false → false ≡ isPlan p ps ls
+    unfolding isPlan
+    not-same n = rw (eq-eqb (recordFault (p .figures)) 0 e, lt-ltb 0 (streamsOf (p .figures)) (omega arith), n)
+
+    -- the lists decide
+    pub lists-decide : sameNumbers p (planOf (p .figures)) ≡ true → bothBegin ≡ isPlan p ps ls
+    unfolding isPlan
+    lists-decide n = rw (eq-eqb (recordFault (p .figures)) 0 e, lt-ltb 0 (streamsOf (p .figures)) (omega arith), n)
+
+  pub few-positions : length (wordsOf ps) < p .figures .blocks → false ≡ bothBegin
+  unfolding positionsOf
+  few-positions h = rw (begins-short (placeOf (p .figures)) 0 (p .figures .blocks) (wordsOf ps) h)
+
+  pub few-leads : length (wordsOf ls) < p .figures .blocks → false ≡ bothBegin
+  unfolding leadsOf
+  few-leads h = rw (begins-short (leadOf (p .figures)) 0 (p .figures .blocks) (wordsOf ls) h) (go (begins (positionsOf (p .figures)) (wordsOf ps)))
+    where
+      go : (t : Bool) → false ≡ (t && false)
+      go true = refl
+      go false = refl

@@ -10,7 +10,7 @@ use native.Mathlib.Decide.{ℕ-discrete, decLt}
 use lib.ListN.{length, getD}
 use lib.Dec.{eqb}
 use borrow.Author.Tests.{eqb-true, eqb-false, eq-eqb, ne-eqb}
-use Rattle.laws.specs.Bools.{clash, and-left, and-right, and-both}
+use Rattle.laws.specs.Bools.{clash, is-false, and-left, and-right, and-both}
 use Rattle.words.specs.Words.{wordsOf, withWord, withWords}
 use Rattle.words.specs.Laws.{withWords-none, withWords-cons, withWords-append, withWord-length, withWords-length, withWord-entries, withWords-entries}
 use Rattle.plan.specs.Plan.{row}
@@ -94,6 +94,10 @@ unfolding begins row
 begins-long g b zero ws e = omega arith
 begins-long g b (suc n) [] e = clash e refl
 begins-long g b (suc n) (w ∷ ws) e = omega (arith, begins-long g (suc b) n ws (and-right (eqb w (g b)) _ e))
+
+-- a shorter list does not begin with them
+pub begins-short : (g : ℕ → ℕ) (b n : ℕ) (ws : List ℕ) → length ws < n → begins (row g b n) ws ≡ false
+begins-short g b n ws h = is-false (begins (row g b n) ws) (λ e. omega (arith, begins-long g b n ws e))
 
 module _ (g h : ℕ → ℕ) (n : ℕ) (ps ls : List ℕ) where
   -- both lists have the first k entries

@@ -11,7 +11,7 @@ use Rattle.card.specs.Read.{readCard}
 use Rattle.words.specs.Words.{wordsOf, withWords}
 use Rattle.plan.specs.declared.Plan.{Plan}
 use Rattle.plan.specs.declared.Planned.{Planned}
-use Rattle.plan.specs.Plan.{streamsOf, bufferSize, worst2Of, marginOf, planOf, blankPlan, positionsOf, leadsOf}
+use Rattle.plan.specs.Plan.{streamsOf, planOf, blankPlan, positionsOf, leadsOf}
 
 -- ---- the answer
 
@@ -61,14 +61,15 @@ begins [] ws = true
 begins (v ∷ vs) [] = false
 begins (v ∷ vs) (w ∷ ws) = eqb w v && begins vs ws
 
--- 'it is the plan of its figures, both lists begin with its N entries'
+-- two plans have the same streams, buffer, worst2 and margin
+unfoldable pub sameNumbers : Plan → Plan → Bool
+sameNumbers p q = eqb (p .streams) (q .streams) && (eqb (p .buffer) (q .buffer) && (eqb (p .worst2) (q .worst2) && eqb (p .margin) (q .margin)))
+
+-- 'it is the plan of its figures, both lists begin with its N entries': the figures are legal and feed a stream
 unfoldable pub isPlan : Plan → List ℕ → List ℕ → Bool
 isPlan p ps ls =
     eqb (recordFault (p .figures)) 0
     && (ltb 0 (streamsOf (p .figures))
-    && (eqb (p .streams) (streamsOf (p .figures))
-    && (eqb (p .buffer) (bufferSize (p .figures))
-    && (eqb (p .worst2) (worst2Of (p .figures))
-    && (eqb (p .margin) (marginOf (p .figures))
+    && (sameNumbers p (planOf (p .figures))
     && (begins (positionsOf (p .figures)) (wordsOf ps)
-    && begins (leadsOf (p .figures)) (wordsOf ls)))))))
+    && begins (leadsOf (p .figures)) (wordsOf ls))))

@@ -16,9 +16,9 @@ ghost use Rattle.card.specs.Card.{Legal, totalPositions};
 ghost use Rattle.placement.specs.Placement.{Laying, worstTime};
 ghost use Rattle.pacing.specs.Streams.{overhead, load};
 ghost use Rattle.plan.specs.Plan.{timeOn, placeOf, worst2Of, overOf, streamsOf};
-ghost use Rattle.card.specs.Read.{blankZones};
+ghost use Rattle.card.specs.Read.{blankZones, readCard};
 ghost use Rattle.plan.specs.Plan.{blankPlan};
-ghost use Rattle.plan.specs.Answer.{refusal, planned, positionsAfter, leadsAfter};
+ghost use Rattle.plan.specs.Answer.{refusal, planned, positionsAfter, leadsAfter, judged, sameNumbers, isPlan};
 ghost use Rattle.plan.specs.Promise.{LeadLaws, Promise};
 
 // A plan; all zero where there is none.
@@ -129,6 +129,76 @@ fn plan_figures(read: CardRead, positions: &mut [u8], leads: &mut [u8]) -> Plann
         },
         plan: plan,
     }
+}
+
+// Two plans have the same streams, buffer, worst2 and margin.
+fn same_numbers(plan: Plan, own: Plan) -> bool
+    ensures { λ r. ⌜ r ≡ sameNumbers plan own ⌝ }
+{
+    if plan.streams != own.streams {
+        return false;
+    }
+    if plan.buffer != own.buffer {
+        return false;
+    }
+    if plan.worst2 != own.worst2 {
+        return false;
+    }
+    plan.margin == own.margin
+}
+
+// Plans a card: 1 to 11 as the reader gives them, then 13, then 12. A refusal leaves both lists.
+pub fn plan_card(card: &[u8], positions: &mut [u8], leads: &mut [u8]) -> Planned
+    ensures {
+        λ r. ⌜ (r ≡ planned (readCard (now (card .entry))) (now (positions .entry)) (now (leads .entry)))
+            × (now (positions .exit) ≡ positionsAfter (readCard (now (card .entry))) (now (positions .entry)) (now (leads .entry)))
+            × (now (leads .exit) ≡ leadsAfter (readCard (now (card .entry))) (now (positions .entry)) (now (leads .entry))) ⌝
+    }
+{
+    plan_figures(card::read_card(card), positions, leads)
+}
+
+// Plans a record of figures: 4 to 10, then 13, then 12, place 0. A refusal leaves both lists.
+pub fn plan_record(figures: Figures, positions: &mut [u8], leads: &mut [u8]) -> Planned
+    ensures {
+        λ r. ⌜ (r ≡ planned (judged figures) (now (positions .entry)) (now (leads .entry)))
+            × (now (positions .exit) ≡ positionsAfter (judged figures) (now (positions .entry)) (now (leads .entry)))
+            × (now (leads .exit) ≡ leadsAfter (judged figures) (now (positions .entry)) (now (leads .entry))) ⌝
+    }
+{
+    let verdict = card::judge_figures(figures);
+    let read = CardRead {
+        verdict: verdict,
+        figures: figures,
+    };
+    plan_figures(read, positions, leads)
+}
+
+// Is this record the plan of its figures, and do both lists begin with its N entries?
+pub fn is_plan(plan: Plan, positions: &[u8], leads: &[u8]) -> bool
+    ensures { λ r. ⌜ r ≡ isPlan plan (now (positions .entry)) (now (leads .entry)) ⌝ }
+{
+    let figures = plan.figures;
+    let verdict = card::judge_figures(figures);
+    if verdict.number != 0 {
+        return false;
+    }
+    let total = sum_positions(&figures.positions, figures.zones);
+    let own = plan_of(figures, total);
+    if own.streams == 0 {
+        return false;
+    }
+    if !same_numbers(plan, own) {
+        return false;
+    }
+    let blocks = figures.blocks as usize;
+    if words::entries(positions) < blocks {
+        return false;
+    }
+    if words::entries(leads) < blocks {
+        return false;
+    }
+    same_lists(&figures.positions, &figures.times, total, figures.blocks, own.worst2, positions, leads)
 }
 
 // No laying is better: every laying's worst time is at least worst2, and with it no number above the plan's streams meets the
