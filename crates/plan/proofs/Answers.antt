@@ -23,7 +23,7 @@ use Rattle.plan.specs.Plan.{placeOf, timeOn, worst2Of, streamsOf, leadOf
 use Rattle.plan.specs.Cursors.{Film, leadAt}
 use Rattle.plan.specs.Legal.{total-is, legal-disk, lead-is}
 use Rattle.plan.specs.Answer.{planFault, faultAfter, refusal, answer, filled, planned, positionsAfter, leadsAfter, judged, begins, sameNumbers, isPlan}
-use Rattle.plan.proofs.Rows.{row-same, begins-short}
+use Rattle.plan.specs.Rows.{row-same, begins-short}
 
 module _ (r : CardRead) (ps ls : List ℕ) where
   -- the answer and the later contents of both lists

@@ -1,5 +1,5 @@
 use borrow.Author.Tests.{not-true, not-false}
-use Rattle.plan.proofs.Rows.{same-last}
+use Rattle.plan.proofs.Turns.{same-last}
 use Prim.Native.Nat.{ℕ, suc, _+_, _-_, _*_, _/_, _≤_, _<_}
 use mathlib.Core.Path.{_≡_, refl, sym, ap, ap₂, _∙_}
 use mathlib.Core.List.{List}
@@ -14,7 +14,7 @@ use Rattle.plan.proofs.Cursors.{Times, times-held, holds-index, time-he
 use mathlib.Core.Bool.{Bool, true, false, not, _&&_}
 use lib.Dec.{eqb}
 use Rattle.laws.specs.Bools.{clash}
-use Rattle.plan.proofs.Rows.{Same, both, same-none, same-more, same-all, same-not, place-low, place-high, lead-low, lead-high}
+use Rattle.plan.proofs.Turns.{Same, both, same-none, same-more, same-all, same-not, place-low, place-high, lead-low, lead-high}
 use Rattle.plan.proofs.lists.same_lists.Statement.{statement}
 use Rattle.plan.proofs.lists.same_lists.Tie as tie
 use Rattle.plan.proofs.lists.same_lists.Reads as reads

@@ -1,4 +1,4 @@
-use Rattle.plan.proofs.Rows.{store-entries, store-length, written-length}
+use Rattle.plan.proofs.Turns.{store-entries, store-length, written-length}
 use Prim.Native.Nat.{ℕ, suc, _+_, _-_, _*_, _/_, _≤_, _<_}
 use mathlib.Core.Path.{_≡_, refl, sym, ap, ap₂, _∙_}
 use mathlib.Core.List.{List}
@@ -10,7 +10,7 @@ use Rattle.words.specs.Laws.{withWord-entries, withWords-length}
 use Rattle.plan.specs.Plan.{row}
 use Rattle.plan.specs.Cursors.{Climbs, Drops, leadAt}
 use Rattle.plan.proofs.Cursors.{Times, times-held, holds-index, time-held, above-here, above-next, below-here, below-next}
-use Rattle.plan.proofs.Rows.{Written, written-none, written-more, written-pair, written-entries, place-low, place-high, lead-low, lead-high}
+use Rattle.plan.proofs.Turns.{Written, written-none, written-more, written-pair, written-entries, place-low, place-high, lead-low, lead-high}
 use Rattle.plan.proofs.lists.write_lists.Statement.{statement}
 use Rattle.plan.proofs.lists.write_lists.Tie as tie
 use Rattle.plan.proofs.lists.write_lists.Reads as reads
