@@ -5,10 +5,12 @@ mod film; // the plan of legal figures
 mod lists; // the lent lists of positions and leads
 
 use crate::film::plan_of;
-use crate::lists::{same_lists, write_lists};
+use crate::lists::same_lists;
+use crate::lists::write_lists;
 use crate::zones::sum_positions;
-use card::{CardRead, Figures, Verdict};
-
+use card::CardRead;
+use card::Figures;
+use card::Verdict;
 ghost use mathlib.Core.Path.{_≡_};
 ghost use Prim.Native.Nat.{ℕ, _+_, _*_, _≤_, _<_};
 ghost use Rattle.card.specs.declared.Figures.{Figures};
@@ -98,11 +100,9 @@ fn refused(number: u32, place: usize) -> Planned
 // Plans figures that were read or judged: their refusal, else 13, then 12.
 fn plan_figures(read: CardRead, positions: &mut [u8], leads: &mut [u8]) -> Planned
     requires { ⌜ (read .verdict .number ≡ 0 → Legal (read .figures)) ⌝ }
-    ensures {
-        λ r. ⌜ (r ≡ planned read (now (positions .entry)) (now (leads .entry)))
-            × (now (positions .exit) ≡ positionsAfter read (now (positions .entry)) (now (leads .entry)))
-            × (now (leads .exit) ≡ leadsAfter read (now (positions .entry)) (now (leads .entry))) ⌝
-    }
+    ensures { λ r. ⌜ (r ≡ planned read (now (positions .entry)) (now (leads .entry)))
+        × (now (positions .exit) ≡ positionsAfter read (now (positions .entry)) (now (leads .entry)))
+        × (now (leads .exit) ≡ leadsAfter read (now (positions .entry)) (now (leads .entry))) ⌝ }
 {
     let verdict = read.verdict;
     if verdict.number != 0 {
@@ -121,7 +121,15 @@ fn plan_figures(read: CardRead, positions: &mut [u8], leads: &mut [u8]) -> Plann
     if plan.streams == 0 {
         return refused(12, 0);
     }
-    write_lists(&figures.positions, &figures.times, total, figures.blocks, plan.worst2, positions, leads);
+    write_lists(
+        &figures.positions,
+        &figures.times,
+        total,
+        figures.blocks,
+        plan.worst2,
+        positions,
+        leads,
+    );
     Planned {
         verdict: Verdict {
             number: 0,
@@ -149,22 +157,18 @@ fn same_numbers(plan: Plan, own: Plan) -> bool
 
 // Plans a card: 1 to 11 as the reader gives them, then 13, then 12. A refusal leaves both lists.
 pub fn plan_card(card: &[u8], positions: &mut [u8], leads: &mut [u8]) -> Planned
-    ensures {
-        λ r. ⌜ (r ≡ planned (readCard (now (card .entry))) (now (positions .entry)) (now (leads .entry)))
-            × (now (positions .exit) ≡ positionsAfter (readCard (now (card .entry))) (now (positions .entry)) (now (leads .entry)))
-            × (now (leads .exit) ≡ leadsAfter (readCard (now (card .entry))) (now (positions .entry)) (now (leads .entry))) ⌝
-    }
+    ensures { λ r. ⌜ (r ≡ planned (readCard (now (card .entry))) (now (positions .entry)) (now (leads .entry)))
+        × (now (positions .exit) ≡ positionsAfter (readCard (now (card .entry))) (now (positions .entry)) (now (leads .entry)))
+        × (now (leads .exit) ≡ leadsAfter (readCard (now (card .entry))) (now (positions .entry)) (now (leads .entry))) ⌝ }
 {
     plan_figures(card::read_card(card), positions, leads)
 }
 
 // Plans a record of figures: 4 to 10, then 13, then 12, place 0. A refusal leaves both lists.
 pub fn plan_record(figures: Figures, positions: &mut [u8], leads: &mut [u8]) -> Planned
-    ensures {
-        λ r. ⌜ (r ≡ planned (judged figures) (now (positions .entry)) (now (leads .entry)))
-            × (now (positions .exit) ≡ positionsAfter (judged figures) (now (positions .entry)) (now (leads .entry)))
-            × (now (leads .exit) ≡ leadsAfter (judged figures) (now (positions .entry)) (now (leads .entry))) ⌝
-    }
+    ensures { λ r. ⌜ (r ≡ planned (judged figures) (now (positions .entry)) (now (leads .entry)))
+        × (now (positions .exit) ≡ positionsAfter (judged figures) (now (positions .entry)) (now (leads .entry)))
+        × (now (leads .exit) ≡ leadsAfter (judged figures) (now (positions .entry)) (now (leads .entry))) ⌝ }
 {
     let verdict = card::judge_figures(figures);
     let read = CardRead {
@@ -198,26 +202,28 @@ pub fn is_plan(plan: Plan, positions: &[u8], leads: &[u8]) -> bool
     if words::entries(leads) < blocks {
         return false;
     }
-    same_lists(&figures.positions, &figures.times, total, figures.blocks, own.worst2, positions, leads)
+    same_lists(
+        &figures.positions,
+        &figures.times,
+        total,
+        figures.blocks,
+        own.worst2,
+        positions,
+        leads,
+    )
 }
 
 // No laying is better: every laying's worst time is at least worst2, and with it no number above the plan's streams meets the
 // formula. The plan's own laying is a laying and reaches worst2.
 pub fn placement_best()
-    ensures best {
-        λ _. ⌜ ((f : Figures) → Legal f → (l : ℕ → ℕ) → Laying (totalPositions f) (f .blocks) l
-            → (worst2Of f ≤ worstTime (timeOn f) l (f .blocks))
-            × ((n : ℕ) → streamsOf f < n → n ≤ 256 → 2000000 * f .bytes < load (f .rate) (worstTime (timeOn f) l (f .blocks)) (overOf f) n)) ⌝
-    }
-    ensures own {
-        λ _. ⌜ ((f : Figures) → Legal f → Laying (totalPositions f) (f .blocks) (placeOf f) × (worstTime (timeOn f) (placeOf f) (f .blocks) ≡ worst2Of f)) ⌝
-    }
-{
-}
+    ensures best { λ _. ⌜ ((f : Figures) → Legal f → (l : ℕ → ℕ) → Laying (totalPositions f) (f .blocks) l
+        → (worst2Of f ≤ worstTime (timeOn f) l (f .blocks))
+        × ((n : ℕ) → streamsOf f < n → n ≤ 256 → 2000000 * f .bytes < load (f .rate) (worstTime (timeOn f) l (f .blocks)) (overOf f) n)) ⌝ }
+    ensures own { λ _. ⌜ ((f : Figures) → Legal f → Laying (totalPositions f) (f .blocks) (placeOf f) × (worstTime (timeOn f) (placeOf f) (f .blocks) ≡ worst2Of f)) ⌝ }
+{}
 
 // The lead laws hold of every legal film, and of each that feeds a stream all that the desk relies on.
 pub fn lead_promise()
     ensures leads { λ _. ⌜ ((f : Figures) → Legal f → LeadLaws f) ⌝ }
     ensures all { λ _. ⌜ ((f : Figures) → Legal f → 0 < streamsOf f → Promise f) ⌝ }
-{
-}
+{}

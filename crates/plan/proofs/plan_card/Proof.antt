@@ -34,10 +34,11 @@ returns : tie.Need-returns
 returns c = let p = c .before .before .before .before in
     let r = p .before .before .before in
     let a = r .before .before .before .before .args in
-    let e = r .read-card .ensures in
-    (p .plan-figures .ensures .0 ∙ ap (λ (x : CardRead). planned x (a .positions .now) (a .leads .now)) e,
-    p .plan-figures .ensures .1 ∙ ap (λ (x : CardRead). positionsAfter x (a .positions .now) (a .leads .now)) e,
-    p .plan-figures .ensures .2 ∙ ap (λ (x : CardRead). leadsAfter x (a .positions .now) (a .leads .now)) e)
+    let e = r .read-card .ensures in (
+      p .plan-figures .ensures .0 ∙ ap (λ (x : CardRead). planned x (a .positions .now) (a .leads .now)) e,
+      p .plan-figures .ensures .1 ∙ ap (λ (x : CardRead). positionsAfter x (a .positions .now) (a .leads .now)) e,
+      p .plan-figures .ensures .2 ∙ ap (λ (x : CardRead). leadsAfter x (a .positions .now) (a .leads .now)) e,
+    )
 
 pub plan-card-spec : {M : Type 1} → statement M
 plan-card-spec =

@@ -146,10 +146,11 @@ returns-5 c = let w = c .before .before .before .before .write-lists in
     let f = a .read .figures in
     let t = s .sum-positions .ensures ∙ total-zones _ (legal e) in
     let n = c .before .before .before .before .before .before .before .before .before .before .if4 .left in
-    let o = by-none (a .read) (a .positions .now) (a .leads .now) (accepted e) (some-stream f _ _ (long e .0) (long e .1) (λ z. n (plan-streams f (p .result) (p .ensures) ∙ z))) in
-    ((λ i. record { verdict = record { number = 0; place = 0 }; plan = p .ensures i }) ∙ o .0,
-    w .ensures .0 ∙ ap (withWords (a .positions .now) 0) (positions-are f (legal e) _ t) ∙ o .1,
-    w .ensures .1 ∙ ap (withWords (a .leads .now) 0) (leads-are f (legal e) _ t _ (plan-worst2 f (p .result) (p .ensures))) ∙ o .2)
+    let o = by-none (a .read) (a .positions .now) (a .leads .now) (accepted e) (some-stream f _ _ (long e .0) (long e .1) (λ z. n (plan-streams f (p .result) (p .ensures) ∙ z))) in (
+      (λ i. record { verdict = record { number = 0; place = 0 }; plan = p .ensures i }) ∙ o .0,
+      w .ensures .0 ∙ ap (withWords (a .positions .now) 0) (positions-are f (legal e) _ t) ∙ o .1,
+      w .ensures .1 ∙ ap (withWords (a .leads .now) 0) (leads-are f (legal e) _ t _ (plan-worst2 f (p .result) (p .ensures))) ∙ o .2,
+    )
 
 pub plan-figures-spec : {M : Type 1} → statement M
 plan-figures-spec =
