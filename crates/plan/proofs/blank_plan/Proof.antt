@@ -3,19 +3,13 @@ use Rattle.plan.specs.Plan.{blankPlan}
 use borrow.Author.Needs.{needs}
 use Rattle.plan.proofs.blank_plan.Statement.{statement}
 use Rattle.plan.proofs.blank_plan.Tie as tie
-use Rattle.plan.proofs.blank_plan.Reads as reads
-use Rattle.plan.proofs.blank_plan.Lts as lts
-use Rattle.plan.proofs.blank_zones.Reads as blank-zones-reads
 
--- src/lib.rt:70:24
 blank-zones-requires : tie.Need-blank-zones-requires
 blank-zones-requires c κs = search needs
 
--- src/lib.rt:71:20
 blank-zones-requires-2 : tie.Need-blank-zones-requires-2
 blank-zones-requires-2 c κs = search needs
 
--- src/lib.rt:64:1
 returns : tie.Need-returns
 unfolding blankFigures blankPlan
 returns c = let p = c .before .blank-zones .ensures in

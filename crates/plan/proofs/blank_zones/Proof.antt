@@ -2,10 +2,7 @@ use mathlib.Core.Path.{refl}
 use Rattle.card.specs.Read.{blankZones}
 use Rattle.plan.proofs.blank_zones.Statement.{statement}
 use Rattle.plan.proofs.blank_zones.Tie as tie
-use Rattle.plan.proofs.blank_zones.Reads as reads
-use Rattle.plan.proofs.blank_zones.Lts as lts
 
--- src/lib.rt:58:1
 returns : tie.Need-returns
 unfolding blankZones
 returns c = refl

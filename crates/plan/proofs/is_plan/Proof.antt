@@ -1,11 +1,9 @@
-use Prim.Native.Nat.{ℕ, _≤_}
+use Prim.Native.Nat.{ℕ}
 use mathlib.Core.Path.{_≡_, sym, ap, ap₂, _∙_}
-use mathlib.Core.Bool.{Bool, true, false, _&&_}
+use mathlib.Core.Bool.{_&&_}
 use mathlib.Core.List.{List}
 use native.Mathlib.Omega.{arith}
 use borrow.Author.Tests.{not-true, not-false}
-use lib.ListN.{length}
-use Rattle.card.specs.declared.Figures.{Figures}
 use Rattle.card.specs.Card.{Legal, recordFault}
 use Rattle.words.specs.Words.{wordsOf}
 use Rattle.round_trip.specs.Legality.{Wide, fault-legal}
@@ -17,14 +15,6 @@ use Rattle.plan.proofs.Answers.{bothBegin, record-fault, plan-streams, 
 use borrow.Author.Needs.{needs}
 use Rattle.plan.proofs.is_plan.Statement.{statement}
 use Rattle.plan.proofs.is_plan.Tie as tie
-use Rattle.plan.proofs.is_plan.Reads as reads
-use Rattle.plan.proofs.is_plan.Lts as lts
-use Rattle.card.proofs.judge_figures.Reads as judge-figures-reads
-use Rattle.plan.proofs.film.plan_of.Reads as plan-of-reads
-use Rattle.plan.proofs.lists.same_lists.Reads as same-lists-reads
-use Rattle.plan.proofs.same_numbers.Reads as same-numbers-reads
-use Rattle.plan.proofs.zones.sum_positions.Reads as sum-positions-reads
-use Rattle.words.proofs.entries.Reads as entries-reads
 
 wide : (c : tie.Start) → Wide (c .args .plan .figures)
 wide c = (search needs, search needs)
@@ -57,71 +47,58 @@ decide c =
     let a = start e .args in
     lists-decide (a .plan) (a .positions .now) (a .leads .now) (clear e) (fed d) (sym (numbers (c .before)) ∙ not-false _ (c .if3 .left))
 
--- src/lib.rt:182:9
 judge-figures-requires : tie.Need-judge-figures-requires
 judge-figures-requires c κs = search needs
 
--- src/lib.rt:184:9
 returns : tie.Need-returns
 returns c = let s = c .before .before .before .before .before .before in
     let a = s .args in
     let j = c .before .before .judge-figures in
     not-legal (a .plan) (a .positions .now) (a .leads .now) (λ e. c .if1 .taken (record-fault (a .plan .figures) (j .result) (j .ensures) ∙ e))
 
--- src/lib.rt:186:9
 sum-positions-requires : tie.Need-sum-positions-requires
 sum-positions-requires c κs = let ok = legal (c .before .before) in (legal-zoned _ ok, ok .zones .1)
 
--- src/lib.rt:187:9
 plan-of-requires : tie.Need-plan-of-requires
 plan-of-requires c κs = let e = c .before .before .before in
     (legal e, c .sum-positions .ensures ∙ total-zones _ (legal e))
 
--- src/lib.rt:189:9
 returns-2 : tie.Need-returns-2
 returns-2 c = let e = c .before .before .before .before .before .before in
     let a = start e .args in
     let p = c .before .before .plan-of in
     not-fed (a .plan) (a .positions .now) (a .leads .now) (clear e) (sym (plan-streams (a .plan .figures) (p .result) (p .ensures)) ∙ c .if2 .taken)
 
--- src/lib.rt:191:9
 same-numbers-requires : tie.Need-same-numbers-requires
 same-numbers-requires c κs = search needs
 
--- src/lib.rt:192:9
 returns-3 : tie.Need-returns-3
 returns-3 c = let d = c .before .before in
     let e = first d in
     let a = start e .args in
     not-same (a .plan) (a .positions .now) (a .leads .now) (clear e) (fed d) (sym (numbers (c .before)) ∙ not-true _ (c .if3 .taken))
 
--- src/lib.rt:194:18
 cast-blocks : tie.Need-cast-blocks
 cast-blocks c = let ok = legal (first (c .before .before)) in omega (arith, ok .blocks)
 
--- src/lib.rt:195:8
 entries-requires : tie.Need-entries-requires
 entries-requires c κs = search needs
 
--- src/lib.rt:196:9
 returns-4 : tie.Need-returns-4
 returns-4 c = let t = c .before .before in
     let a = start (first (t .before .before)) .args in
     let n = c .before .entries .ensures in
     few-positions (a .plan) (a .positions .now) (a .leads .now) (omega (arith, c .if4 .taken)) ∙ decide t
 
--- src/lib.rt:198:8
 entries-requires-2 : tie.Need-entries-requires-2
 entries-requires-2 c κs = search needs
 
--- src/lib.rt:199:9
 returns-5 : tie.Need-returns-5
 returns-5 c = let t = c .before .before .before .before in
     let a = start (first (t .before .before)) .args in
     let n = c .before .entries2 .ensures in
     few-leads (a .plan) (a .positions .now) (a .leads .now) (omega (arith, c .if5 .taken)) ∙ decide t
 
--- src/lib.rt:201:5
 same-lists-requires : tie.Need-same-lists-requires
 same-lists-requires c κs = let five = c .before .before .before in
     let four = five .before .before in
@@ -132,7 +109,6 @@ same-lists-requires c κs = let five = c .before .before .before in
     let m = five .before .entries2 .ensures in
     (film-on _ (legal e) _ (d .before .before .before .sum-positions .ensures ∙ total-zones _ (legal e)), omega (arith, four .if4 .left), omega (arith, five .if5 .left))
 
--- src/lib.rt:178:1
 returns-6 : tie.Need-returns-6
 returns-6 c = let three = c .before .before .before .before .before .before .before .before in
     let d = three .before .before in

@@ -6,30 +6,21 @@ use Rattle.plan.proofs.Answers.{card-legal}
 use borrow.Author.Needs.{needs}
 use Rattle.plan.proofs.plan_card.Statement.{statement}
 use Rattle.plan.proofs.plan_card.Tie as tie
-use Rattle.plan.proofs.plan_card.Reads as reads
-use Rattle.plan.proofs.plan_card.Lts as lts
-use Rattle.card.proofs.read_card.Reads as read-card-reads
-use Rattle.plan.proofs.plan_figures.Reads as plan-figures-reads
 
--- src/lib.rt:158:18
 read-card-requires : tie.Need-read-card-requires
 read-card-requires c κs = search needs
 
--- src/lib.rt:158:5
 plan-figures-requires : tie.Need-plan-figures-requires
 plan-figures-requires c κs = let k = c .before .before .before .before .before in
     let s = k .before .args .card .now in
     card-legal s (bytes-fit s (k .shared-slice-known .given)) (c .before .before .read-card .result) (c .before .before .read-card .ensures)
 
--- src/lib.rt:151:1
 same-length : tie.Need-same-length
 same-length c = search needs
 
--- src/lib.rt:151:1
 same-length-2 : tie.Need-same-length-2
 same-length-2 c = search needs
 
--- src/lib.rt:151:1
 returns : tie.Need-returns
 returns c = let p = c .before .before .before .before in
     let r = p .before .before .before in

@@ -1,6 +1,5 @@
-use Prim.Native.Nat.{ℕ, _≤_}
+use Prim.Native.Nat.{_≤_}
 use mathlib.Core.Path.{_≡_, sym, ap, _∙_}
-use mathlib.Core.List.{List}
 use native.Mathlib.Omega.{arith}
 use lib.ListN.{length}
 use Rattle.card.specs.Card.{Legal}
@@ -10,13 +9,6 @@ use Rattle.plan.proofs.Answers.{by-figures, by-plan, by-none, short-pos
 use borrow.Author.Needs.{needs}
 use Rattle.plan.proofs.plan_figures.Statement.{statement}
 use Rattle.plan.proofs.plan_figures.Tie as tie
-use Rattle.plan.proofs.plan_figures.Reads as reads
-use Rattle.plan.proofs.plan_figures.Lts as lts
-use Rattle.plan.proofs.film.plan_of.Reads as plan-of-reads
-use Rattle.plan.proofs.lists.write_lists.Reads as write-lists-reads
-use Rattle.plan.proofs.refused.Reads as refused-reads
-use Rattle.plan.proofs.zones.sum_positions.Reads as sum-positions-reads
-use Rattle.words.proofs.entries.Reads as entries-reads
 
 -- past the tests of both lengths
 abbrev start : (c : tie.Else3) → tie.Start
@@ -34,33 +26,26 @@ long c =
     let d = c .before .entries2 .ensures in
     (omega (arith, c .before .before .before .if2 .left), omega (arith, c .if3 .left))
 
--- src/lib.rt:109:9
 refused-requires : tie.Need-refused-requires
 refused-requires c κs = search needs
 
--- src/lib.rt:109:9
 returns : tie.Need-returns
 returns c = let a = c .before .before .before .before .before .before .args in
     let o = by-figures (a .read) (a .positions .now) (a .leads .now) (c .before .if1 .taken) in
     (c .refused .ensures ∙ o .0, o .1, o .2)
 
--- src/lib.rt:112:18
 cast-blocks : tie.Need-cast-blocks
 cast-blocks c = search needs
 
--- src/lib.rt:113:8
 entries-requires : tie.Need-entries-requires
 entries-requires c κs = search needs
 
--- src/lib.rt:114:9
 refused-requires-2 : tie.Need-refused-requires-2
 refused-requires-2 c κs = search needs
 
--- src/lib.rt:114:9
 same-length : tie.Need-same-length
 same-length c = search needs
 
--- src/lib.rt:114:9
 returns-2 : tie.Need-returns-2
 returns-2 c = let f = c .before .before .before .before in
     let a = f .before .before .before .before .before .before .args in
@@ -68,23 +53,18 @@ returns-2 c = let f = c .before .before .before .before in
     let o = by-plan (a .read) (a .positions .now) (a .leads .now) 12 (f .before .if1 .left) (short-positions (a .read .figures) _ _ (omega (arith, c .before .if2 .taken))) in
     (c .refused2 .ensures ∙ o .0, o .1, o .2)
 
--- src/lib.rt:116:8
 entries-requires-2 : tie.Need-entries-requires-2
 entries-requires-2 c κs = search needs
 
--- src/lib.rt:117:9
 refused-requires-3 : tie.Need-refused-requires-3
 refused-requires-3 c κs = search needs
 
--- src/lib.rt:117:9
 same-length-2 : tie.Need-same-length-2
 same-length-2 c = search needs
 
--- src/lib.rt:117:9
 same-length-3 : tie.Need-same-length-3
 same-length-3 c = search needs
 
--- src/lib.rt:117:9
 returns-3 : tie.Need-returns-3
 returns-3 c = let f = c .before .before .before .before .before .before .before in
     let a = f .before .before .before .before .before .before .args in
@@ -93,28 +73,22 @@ returns-3 c = let f = c .before .before .before .before .before .before .before 
     let o = by-plan (a .read) (a .positions .now) (a .leads .now) 12 (f .before .if1 .left) (short-leads (a .read .figures) _ _ (omega (arith, c .before .before .before .before .if2 .left)) (omega (arith, c .before .if3 .taken))) in
     (c .refused3 .ensures ∙ o .0, o .1, o .2)
 
--- src/lib.rt:119:9
 sum-positions-requires : tie.Need-sum-positions-requires
 sum-positions-requires c κs = let ok = legal (c .before .before) in (legal-zoned _ ok, ok .zones .1)
 
--- src/lib.rt:120:9
 plan-of-requires : tie.Need-plan-of-requires
 plan-of-requires c κs = let e = c .before .before .before in
     (legal e, c .sum-positions .ensures ∙ total-zones _ (legal e))
 
--- src/lib.rt:122:9
 refused-requires-4 : tie.Need-refused-requires-4
 refused-requires-4 c κs = search needs
 
--- src/lib.rt:122:9
 same-length-4 : tie.Need-same-length-4
 same-length-4 c = search needs
 
--- src/lib.rt:122:9
 same-length-5 : tie.Need-same-length-5
 same-length-5 c = search needs
 
--- src/lib.rt:122:9
 returns-4 : tie.Need-returns-4
 returns-4 c = let e = c .before .before .before .before .before .before .before in
     let a = start e .args in
@@ -122,21 +96,17 @@ returns-4 c = let e = c .before .before .before .before .before .before .before 
     let o = by-plan (a .read) (a .positions .now) (a .leads .now) 11 (accepted e) (no-stream (a .read .figures) _ _ (long e .0) (long e .1) (sym (plan-streams (a .read .figures) (p .result) (p .ensures)) ∙ c .before .if4 .taken)) in
     (c .refused4 .ensures ∙ o .0, o .1, o .2)
 
--- src/lib.rt:124:5
 write-lists-requires : tie.Need-write-lists-requires
 write-lists-requires c κs = let s = c .before .before .before .before .before .before .before .before in
     let e = s .before .before .before in
     (film-on _ (legal e) _ (s .sum-positions .ensures ∙ total-zones _ (legal e)), long e .0, long e .1)
 
--- src/lib.rt:99:1
 same-length-6 : tie.Need-same-length-6
 same-length-6 c = search needs
 
--- src/lib.rt:99:1
 same-length-7 : tie.Need-same-length-7
 same-length-7 c = search needs
 
--- src/lib.rt:99:1
 returns-5 : tie.Need-returns-5
 returns-5 c = let w = c .before .before .before .before .write-lists in
     let p = c .before .before .before .before .before .before .before .before .before .before .before .before .plan-of in

@@ -6,33 +6,24 @@ use Rattle.plan.proofs.Answers.{record-fault, judged-is}
 use borrow.Author.Needs.{needs}
 use Rattle.plan.proofs.plan_record.Statement.{statement}
 use Rattle.plan.proofs.plan_record.Tie as tie
-use Rattle.plan.proofs.plan_record.Reads as reads
-use Rattle.plan.proofs.plan_record.Lts as lts
-use Rattle.card.proofs.judge_figures.Reads as judge-figures-reads
-use Rattle.plan.proofs.plan_figures.Reads as plan-figures-reads
 
 wide : (c : tie.Start) → Wide (c .args .figures)
 wide c = (search needs, search needs)
 
--- src/lib.rt:169:9
 judge-figures-requires : tie.Need-judge-figures-requires
 judge-figures-requires c κs = search needs
 
--- src/lib.rt:174:5
 plan-figures-requires : tie.Need-plan-figures-requires
 plan-figures-requires c κs = let s = c .before .before .before .before .before in
     let j = c .before .before .judge-figures in
     λ n. fault-legal (s .args .figures) (wide s) (sym (record-fault (s .args .figures) (j .result) (j .ensures)) ∙ n)
 
--- src/lib.rt:162:1
 same-length : tie.Need-same-length
 same-length c = search needs
 
--- src/lib.rt:162:1
 same-length-2 : tie.Need-same-length-2
 same-length-2 c = search needs
 
--- src/lib.rt:162:1
 returns : tie.Need-returns
 returns c = let p = c .before .before .before .before in
     let r = p .before .before .before in

@@ -1,27 +1,21 @@
 use Rattle.plan.proofs.Answers.{other-streams, other-buffer, other-worst2, same-margin}
 use Rattle.plan.proofs.same_numbers.Statement.{statement}
 use Rattle.plan.proofs.same_numbers.Tie as tie
-use Rattle.plan.proofs.same_numbers.Reads as reads
-use Rattle.plan.proofs.same_numbers.Lts as lts
 
--- src/lib.rt:139:9
 returns : tie.Need-returns
 returns c = let a = c .before .before .before .args in other-streams (a .plan) (a .own) (c .if1 .taken)
 
--- src/lib.rt:142:9
 returns-2 : tie.Need-returns-2
 returns-2 c = let e = c .before .before .before in
     let a = e .before .before .before .args in
     other-buffer (a .plan) (a .own) (e .if1 .left) (c .if2 .taken)
 
--- src/lib.rt:145:9
 returns-3 : tie.Need-returns-3
 returns-3 c = let d = c .before .before .before in
     let e = d .before .before .before in
     let a = e .before .before .before .args in
     other-worst2 (a .plan) (a .own) (e .if1 .left) (d .if2 .left) (c .if3 .taken)
 
--- src/lib.rt:135:1
 returns-4 : tie.Need-returns-4
 returns-4 c = let f = c .before .before in
     let d = f .before .before .before in
