@@ -1,26 +1,30 @@
 // The planner: from the figures of a card it lays the film and says how many streams may be fed and with what buffers.
-mod zones; // the times of positions, by cursors over the zones
+mod zones; // cursors over the zones, and the greatest time of a pair
 mod streams; // the formula of streams, and the buffer
 mod film; // the plan of legal figures
 mod lists; // the lent lists of positions and leads
+mod figures; // the answer to figures that were read or judged
 
+use crate::figures::plan_figures;
 use crate::film::plan_of;
+use crate::film::same_numbers;
 use crate::lists::same_lists;
-use crate::lists::write_lists;
 use crate::zones::sum_positions;
+use crate::zones::zone_of;
 use card::CardRead;
 use card::Figures;
 use card::Verdict;
 ghost use mathlib.Core.Path.{_≡_};
-ghost use Prim.Native.Nat.{ℕ, _+_, _*_, _≤_, _<_};
+ghost use Prim.Native.Nat.{ℕ, _*_, _≤_, _<_};
 ghost use Rattle.card.specs.declared.Figures.{Figures};
 ghost use Rattle.card.specs.Card.{Legal, totalPositions};
+ghost use Rattle.card.specs.Read.{readCard};
 ghost use Rattle.placement.specs.Placement.{Laying, worstTime};
+ghost use Rattle.placement.specs.Zones.{total, timeAt};
 ghost use Rattle.pacing.specs.Streams.{overhead, load};
 ghost use Rattle.plan.specs.Plan.{timeOn, placeOf, worst2Of, overOf, streamsOf};
-ghost use Rattle.card.specs.Read.{blankZones, readCard};
-ghost use Rattle.plan.specs.Plan.{blankPlan};
-ghost use Rattle.plan.specs.Answer.{refusal, planned, positionsAfter, leadsAfter, judged, sameNumbers, isPlan};
+ghost use Rattle.plan.specs.Answer.{planned, positionsAfter, leadsAfter, judged, isPlan};
+ghost use Rattle.plan.specs.Cursors.{Zoned};
 ghost use Rattle.plan.specs.Promise.{LeadLaws, Promise};
 
 // A plan; all zero where there is none.
@@ -40,119 +44,6 @@ pub struct Plan {
 pub struct Planned {
     pub verdict: Verdict,
     pub plan: Plan,
-}
-
-// The product of two numbers of 32 bits. Every product of a rate and a time goes through it.
-pub fn product(a: u32, b: u32) -> u64
-    ensures { λ r. ⌜ r ≡ a * b ⌝ }
-{
-    a as u64 * b as u64
-}
-
-// The overhead of a sweep that fetches `count` blocks: count × hop, plus return.
-pub fn overhead(hop: u32, back: u32, count: u32) -> u32
-    requires { ⌜ overhead hop back count < 4294967296 ⌝ }
-    ensures { λ r. ⌜ r ≡ overhead hop back count ⌝ }
-{
-    count * hop + back
-}
-
-fn blank_zones() -> [u32; 64]
-    ensures { λ r. ⌜ r ≡ blankZones ⌝ }
-{
-    [0u32; 64]
-}
-
-fn blank_plan() -> Plan
-    ensures { λ r. ⌜ r ≡ blankPlan ⌝ }
-{
-    Plan {
-        figures: Figures {
-            zones: 0,
-            positions: blank_zones(),
-            times: blank_zones(),
-            blocks: 0,
-            bytes: 0,
-            rate: 0,
-            hop: 0,
-            back: 0,
-        },
-        streams: 0,
-        buffer: 0,
-        worst2: 0,
-        margin: 0,
-    }
-}
-
-// A refusal.
-fn refused(number: u32, place: usize) -> Planned
-    ensures { λ r. ⌜ r ≡ refusal number place ⌝ }
-{
-    Planned {
-        verdict: Verdict {
-            number: number,
-            place: place,
-        },
-        plan: blank_plan(),
-    }
-}
-
-// Plans figures that were read or judged: their refusal, else 13, then 12.
-fn plan_figures(read: CardRead, positions: &mut [u8], leads: &mut [u8]) -> Planned
-    requires { ⌜ (read .verdict .number ≡ 0 → Legal (read .figures)) ⌝ }
-    ensures { λ r. ⌜ (r ≡ planned read (now (positions .entry)) (now (leads .entry)))
-        × (now (positions .exit) ≡ positionsAfter read (now (positions .entry)) (now (leads .entry)))
-        × (now (leads .exit) ≡ leadsAfter read (now (positions .entry)) (now (leads .entry))) ⌝ }
-{
-    let verdict = read.verdict;
-    if verdict.number != 0 {
-        return refused(verdict.number, verdict.place);
-    }
-    let figures = read.figures;
-    let blocks = figures.blocks as usize;
-    if words::entries(positions) < blocks {
-        return refused(13, 0);
-    }
-    if words::entries(leads) < blocks {
-        return refused(13, 0);
-    }
-    let total = sum_positions(&figures.positions, figures.zones);
-    let plan = plan_of(figures, total);
-    if plan.streams == 0 {
-        return refused(12, 0);
-    }
-    write_lists(
-        &figures.positions,
-        &figures.times,
-        total,
-        figures.blocks,
-        plan.worst2,
-        positions,
-        leads,
-    );
-    Planned {
-        verdict: Verdict {
-            number: 0,
-            place: 0,
-        },
-        plan: plan,
-    }
-}
-
-// Two plans have the same streams, buffer, worst2 and margin.
-fn same_numbers(plan: Plan, own: Plan) -> bool
-    ensures { λ r. ⌜ r ≡ sameNumbers plan own ⌝ }
-{
-    if plan.streams != own.streams {
-        return false;
-    }
-    if plan.buffer != own.buffer {
-        return false;
-    }
-    if plan.worst2 != own.worst2 {
-        return false;
-    }
-    plan.margin == own.margin
 }
 
 // Plans a card: 1 to 11 as the reader gives them, then 13, then 12. A refusal leaves both lists.
@@ -211,6 +102,31 @@ pub fn is_plan(plan: Plan, positions: &[u8], leads: &[u8]) -> bool
         positions,
         leads,
     )
+}
+
+// The product of two numbers of 32 bits. Every product of a rate and a time goes through it.
+pub fn product(a: u32, b: u32) -> u64
+    ensures { λ r. ⌜ r ≡ a * b ⌝ }
+{
+    a as u64 * b as u64
+}
+
+// The overhead of a sweep that fetches `count` blocks: count × hop, plus return.
+pub fn overhead(hop: u32, back: u32, count: u32) -> u32
+    requires { ⌜ overhead hop back count < 4294967296 ⌝ }
+    ensures { λ r. ⌜ r ≡ overhead hop back count ⌝ }
+{
+    count * hop + back
+}
+
+// The time to read a block at a position.
+pub fn time_at<'a>(positions: &'a [u32; 64], times: &'a [u32; 64], q: u32) -> u32
+    requires { ⌜ (Zoned (now positions)) × (q < total (now positions)) ⌝ }
+    ensures { λ r. ⌜ r ≡ timeAt (now (positions .entry)) (now (times .entry)) q ⌝ }
+{
+    let zone = zone_of(positions, q);
+    let index = zone.index;
+    times[index]
 }
 
 // No laying is better: every laying's worst time is at least worst2, and with it no number above the plan's streams meets the

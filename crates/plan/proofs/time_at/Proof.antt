@@ -2,8 +2,8 @@ use Prim.Native.Nat.{_<_}
 use native.Mathlib.Omega.{arith}
 use Rattle.plan.proofs.Cursors.{holds-index, time-held}
 use borrow.Author.Needs.{needs}
-use Rattle.plan.proofs.zones.time_at.Statement.{statement}
-use Rattle.plan.proofs.zones.time_at.Tie as tie
+use Rattle.plan.proofs.time_at.Statement.{statement}
+use Rattle.plan.proofs.time_at.Tie as tie
 
 index-below : (c : tie.After-zone-of) → c .zone-of .result .index < 64
 index-below c = omega (arith, holds-index (c .before .args .positions .now) (c .zone-of .result .index) (c .before .args .q) (c .zone-of .ensures .holds), c .before .pre .0 .wide)

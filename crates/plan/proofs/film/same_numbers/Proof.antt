@@ -1,6 +1,6 @@
 use Rattle.plan.proofs.Answers.{other-streams, other-buffer, other-worst2, same-margin}
-use Rattle.plan.proofs.same_numbers.Statement.{statement}
-use Rattle.plan.proofs.same_numbers.Tie as tie
+use Rattle.plan.proofs.film.same_numbers.Statement.{statement}
+use Rattle.plan.proofs.film.same_numbers.Tie as tie
 
 returns : tie.Need-returns
 returns c = let a = c .before .before .before .args in other-streams (a .plan) (a .own) (c .if1 .taken)

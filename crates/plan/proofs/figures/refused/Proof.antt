@@ -1,7 +1,7 @@
 use Rattle.plan.specs.Answer.{refusal}
 use borrow.Author.Needs.{needs}
-use Rattle.plan.proofs.refused.Statement.{statement}
-use Rattle.plan.proofs.refused.Tie as tie
+use Rattle.plan.proofs.figures.refused.Statement.{statement}
+use Rattle.plan.proofs.figures.refused.Tie as tie
 
 blank-plan-requires : tie.Need-blank-plan-requires
 blank-plan-requires c κs = search needs

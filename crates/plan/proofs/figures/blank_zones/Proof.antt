@@ -1,7 +1,7 @@
 use mathlib.Core.Path.{refl}
 use Rattle.card.specs.Read.{blankZones}
-use Rattle.plan.proofs.blank_zones.Statement.{statement}
-use Rattle.plan.proofs.blank_zones.Tie as tie
+use Rattle.plan.proofs.figures.blank_zones.Statement.{statement}
+use Rattle.plan.proofs.figures.blank_zones.Tie as tie
 
 returns : tie.Need-returns
 unfolding blankZones

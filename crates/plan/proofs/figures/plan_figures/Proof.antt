@@ -7,8 +7,8 @@ use Rattle.words.specs.Words.{wordsOf, withWords}
 use Rattle.plan.specs.Legal.{legal-zoned, total-zones}
 use Rattle.plan.proofs.Answers.{by-figures, by-plan, by-none, short-positions, short-leads, no-stream, some-stream, plan-streams, plan-worst2, film-on, positions-are, leads-are}
 use borrow.Author.Needs.{needs}
-use Rattle.plan.proofs.plan_figures.Statement.{statement}
-use Rattle.plan.proofs.plan_figures.Tie as tie
+use Rattle.plan.proofs.figures.plan_figures.Statement.{statement}
+use Rattle.plan.proofs.figures.plan_figures.Tie as tie
 
 -- past the tests of both lengths
 abbrev start : (c : tie.Else3) → tie.Start

@@ -1,8 +1,8 @@
 use Rattle.card.specs.Read.{blankFigures}
 use Rattle.plan.specs.Plan.{blankPlan}
 use borrow.Author.Needs.{needs}
-use Rattle.plan.proofs.blank_plan.Statement.{statement}
-use Rattle.plan.proofs.blank_plan.Tie as tie
+use Rattle.plan.proofs.figures.blank_plan.Statement.{statement}
+use Rattle.plan.proofs.figures.blank_plan.Tie as tie
 
 blank-zones-requires : tie.Need-blank-zones-requires
 blank-zones-requires c κs = search needs
