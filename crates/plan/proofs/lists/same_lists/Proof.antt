@@ -7,7 +7,7 @@ use lib.ListN.{getD}
 use Rattle.placement.specs.Placement.{place}
 use Rattle.words.specs.Words.{wordsOf}
 use Rattle.plan.specs.Cursors.{Climbs, Drops, leadAt}
-use Rattle.plan.proofs.Cursors.{Times, times-held, holds-index, time-held, above-here, above-next, below-here, below-next}
+use Rattle.plan.proofs.Cursors.{Times, times-held, holds-index, time-held, above-start, above-next, below-start, below-next}
 use Rattle.plan.proofs.Turns.{Same, same-none, same-more, same-all, same-not, place-low, place-high, lead-low, lead-high}
 use Rattle.plan.proofs.lists.same_lists.Statement.{statement}
 use Rattle.plan.proofs.lists.same_lists.Tie as tie
@@ -70,17 +70,12 @@ zone-from-requires c κs = let s = c .before .before .before in
     (s .pre .0 .disk .zoned, omega (arith, s .pre .0 .room, s .pre .0 .some, s .pre .0 .whole))
 
 loop-holds : tie.Need-loop-holds Inv-loop μ-loop
-loop-holds c = let s = c .before .before .before .before in
-    let a = s .args in
-    let p = a .total - a .blocks in
-    let e : p + 0 ≡ p = omega arith in
-    let q = a .total - 1 in
-    let d : q - 0 ≡ q = omega arith in (
-      omega arith,
-      rw e (above-here (a .sizes .now) _ p (c .before .zone-of .ensures)),
-      rw d (below-here (a .sizes .now) _ q (c .zone-from .ensures)),
-      same-none (place (a .total) (a .blocks)) (leadAt (a .sizes .now) (a .times .now) (a .total) (a .blocks) (a .worst2)) (a .blocks) (wordsOf (a .positions .now)) (wordsOf (a .leads .now)),
-    )
+loop-holds c = let a = c .before .before .before .before .args in (
+  omega arith,
+  above-start (a .sizes .now) _ _ (c .before .zone-of .ensures),
+  below-start (a .sizes .now) _ _ (c .zone-from .ensures),
+  same-none (place (a .total) (a .blocks)) (leadAt (a .sizes .now) (a .times .now) (a .total) (a .blocks) (a .worst2)) (a .blocks) (wordsOf (a .positions .now)) (wordsOf (a .leads .now)),
+)
 
 add-zone-up : tie.Need-add-zone-up Inv-loop μ-loop
 add-zone-up c = let s = start (c .before) in omega (arith, s .pre .0 .room, s .pre .0 .some)

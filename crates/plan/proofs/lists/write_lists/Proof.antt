@@ -7,7 +7,7 @@ use lib.ListN.{length, getD}
 use Rattle.placement.specs.Placement.{place}
 use Rattle.words.specs.Words.{wordsOf, withWord}
 use Rattle.plan.specs.Cursors.{Climbs, Drops, leadAt}
-use Rattle.plan.proofs.Cursors.{Times, times-held, holds-index, time-held, above-here, above-next, below-here, below-next}
+use Rattle.plan.proofs.Cursors.{Times, times-held, holds-index, time-held, above-start, above-next, below-start, below-next}
 use Rattle.plan.proofs.Turns.{Written, written-none, written-more, written-pair, written-entries, place-low, place-high, lead-low, lead-high}
 use Rattle.plan.proofs.lists.write_lists.Statement.{statement}
 use Rattle.plan.proofs.lists.write_lists.Tie as tie
@@ -81,18 +81,13 @@ zone-from-requires c κs = let s = c .before .before .before in
     (s .pre .0 .disk .zoned, omega (arith, s .pre .0 .room, s .pre .0 .some, s .pre .0 .whole))
 
 loop-holds : tie.Need-loop-holds Inv-loop μ-loop
-loop-holds c = let s = c .before .before .before .before in
-    let a = s .args in
-    let p = a .total - a .blocks in
-    let e : p + 0 ≡ p = omega arith in
-    let q = a .total - 1 in
-    let d : q - 0 ≡ q = omega arith in (
-      omega arith,
-      rw e (above-here (a .sizes .now) _ p (c .before .zone-of .ensures)),
-      rw d (below-here (a .sizes .now) _ q (c .zone-from .ensures)),
-      written-none (a .positions .now) (place (a .total) (a .blocks)),
-      written-none (a .leads .now) (leadAt (a .sizes .now) (a .times .now) (a .total) (a .blocks) (a .worst2)),
-    )
+loop-holds c = let a = c .before .before .before .before .args in (
+  omega arith,
+  above-start (a .sizes .now) _ _ (c .before .zone-of .ensures),
+  below-start (a .sizes .now) _ _ (c .zone-from .ensures),
+  written-none (a .positions .now) (place (a .total) (a .blocks)),
+  written-none (a .leads .now) (leadAt (a .sizes .now) (a .times .now) (a .total) (a .blocks) (a .worst2)),
+)
 
 add-zone-up : tie.Need-add-zone-up Inv-loop μ-loop
 add-zone-up c = let s = start (c .before) in omega (arith, s .pre .0 .room, s .pre .0 .some)
@@ -196,11 +191,11 @@ zone-up-requires-2 c κs = let l = c .before .before in
     let e : l .loop .i ≡ a .blocks / 2 = omega arith in
     (s .pre .0 .disk .zoned, rw e at (l .loop .inv .1), omega (arith, s .pre .0 .room, s .pre .0 .some, s .pre .0 .whole))
 
-mul-b-2 : tie.Need-mul-b-2 Inv-loop μ-loop
-mul-b-2 c = let s = start (c .before .before .before) in omega (arith, s .pre .0 .room)
+mul-tail : tie.Need-mul-tail Inv-loop μ-loop
+mul-tail c = let s = start (c .before .before .before) in omega (arith, s .pre .0 .room)
 
-cast-b-2 : tie.Need-cast-b-2 Inv-loop μ-loop
-cast-b-2 c = let s = start (c .before .before .before) in omega (arith, s .pre .0 .room)
+cast-tail : tie.Need-cast-tail Inv-loop μ-loop
+cast-tail c = let s = start (c .before .before .before) in omega (arith, s .pre .0 .room)
 
 add-put-block-3 : tie.Need-add-put-block-3 Inv-loop μ-loop
 add-put-block-3 c = let s = start (c .before .before .before .before .before) in omega (arith, s .pre .0 .room, s .pre .0 .some)
@@ -274,8 +269,8 @@ write-lists-spec =
     returns
     add-zone-up-2
     zone-up-requires-2
-    mul-b-2
-    cast-b-2
+    mul-tail
+    cast-tail
     add-put-block-3
     put-block-requires-3
     same-length-3

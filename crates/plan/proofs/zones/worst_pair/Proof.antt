@@ -5,7 +5,7 @@ use borrow.Author.Needs.{needs}
 use Rattle.laws.specs.Greatest.{greatestOf}
 use Rattle.placement.specs.Zones.{timeAt}
 use Rattle.plan.specs.Cursors.{Climbs, Drops}
-use Rattle.plan.proofs.Cursors.{Times, times-held, above-here, above-next, below-here, below-next, greatest-more}
+use Rattle.plan.proofs.Cursors.{Times, times-held, above-start, above-next, below-start, below-next, greatest-more}
 use Rattle.plan.proofs.zones.worst_pair.Statement.{statement}
 use Rattle.plan.proofs.zones.worst_pair.Tie as tie
 
@@ -35,11 +35,8 @@ zone-from-requires c κs = (c .before .pre .0 .zoned, omega arith)
 
 loop-holds : tie.Need-loop-holds Inv-loop μ-loop
 unfolding greatestOf
-loop-holds c = let s = c .before .before in
-    let ps = s .args .positions .now in
-    let e : s .args .first + 0 ≡ s .args .first = omega arith in
-    let d : s .args .last - 0 ≡ s .args .last = omega arith in
-    (omega arith, rw e (above-here ps _ (s .args .first) (c .before .zone-of .ensures)), rw d (below-here ps _ (s .args .last) (c .zone-from .ensures)), refl, omega arith)
+loop-holds c = let ps = c .before .before .args .positions .now in
+    (omega arith, above-start ps _ _ (c .before .zone-of .ensures), below-start ps _ _ (c .zone-from .ensures), refl, omega arith)
 
 add-zone-up : tie.Need-add-zone-up Inv-loop μ-loop
 add-zone-up c = omega arith
@@ -60,10 +57,10 @@ element-copy-out-greater : tie.Need-element-copy-out-greater Inv-loop μ-loop
 element-copy-out-greater c = held c .first
 
 mul-greater-2 : tie.Need-mul-greater-2 Inv-loop μ-loop
-mul-greater-2 c = omega (arith, held (c .before) .second)
+mul-greater-2 c = let h = held (c .before) in omega arith
 
 element-copy-out-greater-2 : tie.Need-element-copy-out-greater-2 Inv-loop μ-loop
-element-copy-out-greater-2 c = held (c .before) .second
+element-copy-out-greater-2 c = let h = held (c .before) in omega arith
 
 add-greater : tie.Need-add-greater Inv-loop μ-loop
 add-greater c = let h = held (c .before .before) in
