@@ -7,7 +7,7 @@ use Rattle.plan.proofs.zones.zone_up.Tie as tie
 
 next : (c : tie.Else1) → (let s = c .before .before in let a = s .args in
     Up (a .positions .now) (s .pre .0) (a .at) (a .q) (a .at .index + 1) (a .at .border + getD (a .positions .now) (a .at .index + 1) 0))
-next c = let s = c .before .before in step-up (s .args .positions .now) (s .pre .0) (s .args .at) (s .args .q) (s .pre .1) (c .if1 .left) (s .pre .2)
+next c = let s = c .before .before in step-up (s .args .positions .now) (s .pre .0) (s .args .at) (s .args .q) (s .pre .1) (omega (arith, c .if1 .left)) (s .pre .2)
 
 returns : tie.Need-returns
 returns c = let s = c .before .before in
