@@ -10,6 +10,19 @@ abbrev pub bit : Bool → ℕ
 bit true = 1
 bit false = 0
 
+-- b where a
+abbrev pub implies : Bool → Bool → Bool
+implies true b = b
+implies false b = true
+
+pub implied : (a b : Bool) → implies a b ≡ true → a ≡ true → b ≡ true
+implied true b e h = e
+implied false b e h = absurd (true≢false (sym h))
+
+pub implies-of : (a b : Bool) → (a ≡ true → b ≡ true) → implies a b ≡ true
+implies-of true b f = f refl
+implies-of false b f = refl
+
 -- nothing is true and false
 pub clash : {A : Type 0} {b : Bool} → b ≡ true → b ≡ false → A
 clash p q = absurd (true≢false (sym p ∙ q))

@@ -1,0 +1,95 @@
+-- A test at each element and its place, and the lowest place that fails; a list changed element by element (Map), seen at one place.
+-- Assumes nothing.
+use Prim.Native.Nat.{ℕ, zero, suc, _+_, _≤_, _<_}
+use mathlib.Core.Path.{_≡_, refl, sym, ap, _∙_, subst}
+use mathlib.Core.Bool.{Bool, true, false, cond, _&&_}
+use mathlib.Core.List.{List, [], _∷_, map}
+use native.Mathlib.Omega.{arith}
+use lib.ListN.{length, getD}
+use Rattle.laws.specs.Bools.{and-left, and-right, and-both}
+use Rattle.laws.specs.Map.{mapFrom}
+use Rattle.laws.specs.Each.{EachFrom}
+
+module _ {A : Type 0} (f : ℕ → A → Bool) where
+  -- each element passes with its place, counted from i
+  unfoldable pub allFrom : ℕ → List A → Bool
+  allFrom i [] = true
+  allFrom i (x ∷ xs) = f i x && allFrom (suc i) xs
+
+  -- the lowest place that fails; one past the last where none does
+  unfoldable pub lowestFrom : ℕ → List A → ℕ
+  lowestFrom i [] = i
+  lowestFrom i (x ∷ xs) = cond (f i x) (lowestFrom (suc i) xs) i
+
+  pub each-of-allFrom : (i : ℕ) (xs : List A) → allFrom i xs ≡ true → EachFrom (λ j x. f j x ≡ true) i xs
+  unfolding allFrom
+  each-of-allFrom i [] e = tt
+  each-of-allFrom i (x ∷ xs) e = (and-left (f i x) _ e, each-of-allFrom (suc i) xs (and-right (f i x) _ e))
+
+  allFrom-by : (d : A) (i : ℕ) (xs : List A) → ((j : ℕ) → j < length xs → f (i + j) (getD xs j d) ≡ true) → allFrom i xs ≡ true
+  unfolding allFrom
+  allFrom-by d i [] h = refl
+  allFrom-by d i (x ∷ xs) h =
+      and-both (subst (λ (k : ℕ). f k x ≡ true) (omega arith) (h 0 (omega arith)))
+      (allFrom-by d (suc i) xs (λ j l. subst (λ (k : ℕ). f k (getD xs j d) ≡ true) (omega arith) (h (suc j) (omega arith))))
+
+  -- a loop that goes up and meets no failure
+  pub all-passed : (d : A) (xs : List A) → ((j : ℕ) → j < length xs → f j (getD xs j d) ≡ true) → allFrom 0 xs ≡ true
+  all-passed d xs h = allFrom-by d 0 xs (λ j l. subst (λ (k : ℕ). f k (getD xs j d) ≡ true) (omega arith) (h j l))
+
+  failed-by : (d : A) (i : ℕ) (xs : List A) (j : ℕ) → j < length xs → ((k : ℕ) → k < j → f (i + k) (getD xs k d) ≡ true)
+      → f (i + j) (getD xs j d) ≡ false → (allFrom i xs ≡ false) × (lowestFrom i xs ≡ i + j)
+  unfolding allFrom lowestFrom
+  failed-by d i [] j l h e = absurd (omega arith)
+  failed-by d i (x ∷ xs) zero l h e =
+      let q : f i x ≡ false = subst (λ (k : ℕ). f k x ≡ false) (omega arith) e in (rw q, rw q (omega arith))
+  failed-by d i (x ∷ xs) (suc j) l h e =
+      let q : f i x ≡ true = subst (λ (k : ℕ). f k x ≡ true) (omega arith) (h 0 (omega arith)) in
+      let r =
+      failed-by d (suc i) xs j (omega arith)
+      (λ k u. subst (λ (m : ℕ). f m (getD xs k d) ≡ true) (omega arith) (h (suc k) (omega arith)))
+      (subst (λ (m : ℕ). f m (getD xs j d) ≡ false) (omega arith) e)
+      in
+      (rw q (r .0), rw q (omega (arith, r .1)))
+
+  -- one that stops at its first failure, place j
+  pub first-failed : (d : A) (xs : List A) (j : ℕ) → j < length xs → ((k : ℕ) → k < j → f k (getD xs k d) ≡ true)
+      → f j (getD xs j d) ≡ false → (allFrom 0 xs ≡ false) × (lowestFrom 0 xs ≡ j)
+  first-failed d xs j l h e =
+      let r =
+      failed-by d 0 xs j l (λ k u. subst (λ (m : ℕ). f m (getD xs k d) ≡ true) (omega arith) (h k u))
+      (subst (λ (m : ℕ). f m (getD xs j d) ≡ false) (omega arith) e)
+      in
+      (r .0, omega (arith, r .1))
+
+module _ {A : Type 0} (Q : ℕ → A → Type 0) (d : A) where
+  eachFrom-by : (i : ℕ) (xs : List A) (j : ℕ) → EachFrom Q i xs → j < length xs → Q (i + j) (getD xs j d)
+  eachFrom-by i [] j h l = absurd (omega arith)
+  eachFrom-by i (x ∷ xs) zero h l = subst (λ (k : ℕ). Q k x) (omega arith) (h .0)
+  eachFrom-by i (x ∷ xs) (suc j) h l = subst (λ (k : ℕ). Q k (getD xs j d)) (omega arith) (eachFrom-by (suc i) xs j (h .1) (omega arith))
+
+  pub eachFrom-at : (xs : List A) (j : ℕ) → EachFrom Q 0 xs → j < length xs → Q j (getD xs j d)
+  eachFrom-at xs j h l = subst (λ (k : ℕ). Q k (getD xs j d)) (omega arith) (eachFrom-by 0 xs j h l)
+
+-- ---- a list changed element by element
+
+module _ {A : Type 0} (f : ℕ → A → A) where
+  pub length-mapFrom : (i : ℕ) (xs : List A) → length (mapFrom f i xs) ≡ length xs
+  unfolding mapFrom
+  length-mapFrom i [] = refl
+  length-mapFrom i (x ∷ xs) = ap suc (length-mapFrom (suc i) xs)
+
+  mapFrom-by : (i : ℕ) (xs : List A) (j : ℕ) (d : A) → j < length xs → getD (mapFrom f i xs) j d ≡ f (i + j) (getD xs j d)
+  unfolding mapFrom
+  mapFrom-by i [] j d l = absurd (omega arith)
+  mapFrom-by i (x ∷ xs) zero d l = ap (λ (k : ℕ). f k x) (omega arith)
+  mapFrom-by i (x ∷ xs) (suc j) d l = mapFrom-by (suc i) xs j d (omega arith) ∙ ap (λ (k : ℕ). f k (getD xs j d)) (omega arith)
+
+  pub mapFrom-at : (xs : List A) (j : ℕ) (d : A) → j < length xs → getD (mapFrom f 0 xs) j d ≡ f j (getD xs j d)
+  mapFrom-at xs j d l = mapFrom-by 0 xs j d l ∙ ap (λ (k : ℕ). f k (getD xs j d)) (omega arith)
+
+-- where the place does not matter
+pub mapFrom-map : {A : Type 0} (f : A → A) (i : ℕ) (xs : List A) → mapFrom (λ j x. f x) i xs ≡ map f xs
+unfolding mapFrom
+mapFrom-map f i [] = refl
+mapFrom-map f i (x ∷ xs) = ap (λ r. f x ∷ r) (mapFrom-map f (suc i) xs)

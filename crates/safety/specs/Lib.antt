@@ -1,0 +1,4 @@
+pub mod Order
+pub mod Scheduler
+pub mod Sound
+pub mod Supply

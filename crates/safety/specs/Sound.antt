@@ -1,0 +1,163 @@
+-- Soundness of the scheduler's record, as a test and as facts.
+-- That the record is the plan of its figures and that the lent lists begin with its entries comes to a call as one flag (Calls.Given).
+-- Assumes nothing.
+use Prim.Native.Nat.{ℕ, zero, suc, _+_, _-_, _*_, _≤_, _<_}
+use mathlib.Core.Path.{_≡_, refl, sym, ap, _∙_, subst}
+use mathlib.Core.Bool.{Bool, true, false, _&&_}
+use mathlib.Core.List.{List, [], _∷_}
+use native.Mathlib.Omega.{arith}
+use lib.ListN.{length, getD, drop}
+use lib.Seq.{getD-drop}
+use lib.Dec.{leb, ltb, eqb}
+use borrow.Author.Tests.{leb-true, ltb-true, eqb-true, eq-eqb, lt-ltb, le-leb}
+use Rattle.laws.specs.Bools.{implies, implied, implies-of, and-left, and-right, and-both}
+use Rattle.laws.specs.Runs.{allBy}
+use Rattle.laws.specs.Each.{Each, each-map, each-at, each-of-all, all-of-each}
+use Rattle.safety.specs.Supply.{Supply, Named}
+use Rattle.safety.specs.Scheduler.{Slot, free, waiting, filling, playing, draining, freeSlot, at, leads, lowWater, holds}
+use Rattle.safety.specs.Order.{Scheduler, Order}
+
+module _ {A : Type 0} (p : Supply A) where
+  unfoldable pub isZero : Slot A → Bool
+  isZero s = eqb (s .kind) free && (p .isNone (s .next) && eqb (s .buffered) 0)
+
+  -- `each kind is 0 to 4, free slots .. are zero, asked slots hold 0, next is below N for kinds 1 to 3 and N for tail,
+  -- tail holds 1 or more, no slot holds above the buffer, and each playing slot holds at least the floor`: L is the sum of the leads
+  unfoldable pub soundSlot : ℕ → Slot A → Bool
+  soundSlot L s =
+      leb (s .kind) 4
+      && (implies (eqb (s .kind) free) (isZero s)
+      && (implies (eqb (s .kind) waiting) (eqb (s .buffered) 0)
+      && (implies (leb 1 (s .kind) && leb (s .kind) 3) (p .isBlock (s .next))
+      && (implies (eqb (s .kind) draining) (p .isEnd (s .next))
+      && (implies (eqb (s .kind) draining) (leb 1 (s .buffered))
+      && (leb (s .buffered) (p .buffer)
+      && implies (eqb (s .kind) playing) (holds p (lowWater p L) s)))))))
+
+  -- `the phase is 0 or 1`, each slot, and `all slots from n on are zero`
+  unfoldable pub sound : {Q : Type 0} → Order A Q → Scheduler A Q → Bool
+  sound o d =
+      leb (d .phase) 1
+      && (allBy (soundSlot (leads p (d .slots))) (d .slots)
+      && (allBy isZero (drop (p .n) (d .slots))
+      && o .queueSound (d .queue) (d .slots)))
+
+  -- ---- the same as facts
+
+  pub record Good (L : ℕ) (s : Slot A) : Type 0 where
+    pub kinds : s .kind ≤ 4
+    pub zeros : s .kind ≡ free → (s .next ≡ p .none) × (s .buffered ≡ 0)
+    pub empty : s .kind ≡ waiting → s .buffered ≡ 0
+    pub named : 1 ≤ s .kind → s .kind ≤ 3 → p .isBlock (s .next) ≡ true
+    pub past : s .kind ≡ draining → p .isEnd (s .next) ≡ true
+    pub some : s .kind ≡ draining → 1 ≤ s .buffered
+    pub fits : s .buffered ≤ p .buffer
+    pub floored : s .kind ≡ playing → lowWater p L ≤ 2000000 * s .buffered
+
+  -- the slots from m on are free
+  abbrev pub FreeFrom : ℕ → List (Slot A) → Type 0
+  FreeFrom m ss = (i : ℕ) → m ≤ i → at p ss i .kind ≡ free
+
+  pub record Sound {Q : Type 0} (o : Order A Q) (d : Scheduler A Q) : Type 0 where
+    pub phase : d .phase ≤ 1
+    pub slots : Each (Good (leads p (d .slots))) (d .slots)
+    pub unused : FreeFrom (p .n) (d .slots)
+    pub queue : o .queueSound (d .queue) (d .slots) ≡ true
+
+  pub good-free : (L : ℕ) → Good L (freeSlot p)
+  good-free L = record {
+    kinds = omega arith;
+    zeros = λ _. (refl, refl);
+    empty = λ _. refl;
+    named = λ z. absurd (omega arith);
+    past = λ z. absurd (omega arith);
+    some = λ z. absurd (omega arith);
+    fits = omega arith;
+    floored = λ z. absurd (omega arith);
+  }
+
+  module _ (names : Named p) where
+    zero-says : (s : Slot A) → isZero s ≡ true → (s .kind ≡ free) × (s .next ≡ p .none) × (s .buffered ≡ 0)
+    unfolding isZero
+    zero-says s e =
+        let r = and-right (eqb (s .kind) free) _ e in (
+          eqb-true (s .kind) free (and-left (eqb (s .kind) free) _ e),
+          names .none-only (s .next) (and-left (p .isNone (s .next)) _ r),
+          eqb-true (s .buffered) 0 (and-right (p .isNone (s .next)) _ r),
+        )
+
+    of-zero : (s : Slot A) → s .kind ≡ free → s .next ≡ p .none → s .buffered ≡ 0 → isZero s ≡ true
+    unfolding isZero
+    of-zero s k x b = and-both (eq-eqb (s .kind) free k) (and-both (ap (p .isNone) x ∙ names .none-passes) (eq-eqb (s .buffered) 0 b))
+
+    -- a slot that passes is good
+    pub good-of-sound : (L : ℕ) (s : Slot A) → soundSlot L s ≡ true → Good L s
+    unfolding soundSlot holds
+    good-of-sound L s e =
+        let e₁ = and-right (leb (s .kind) 4) _ e in
+        let e₂ = and-right (implies (eqb (s .kind) free) (isZero s)) _ e₁ in
+        let e₃ = and-right (implies (eqb (s .kind) waiting) (eqb (s .buffered) 0)) _ e₂ in
+        let e₄ = and-right (implies (leb 1 (s .kind) && leb (s .kind) 3) (p .isBlock (s .next))) _ e₃ in
+        let e₅ = and-right (implies (eqb (s .kind) draining) (p .isEnd (s .next))) _ e₄ in
+        let e₆ = and-right (implies (eqb (s .kind) draining) (leb 1 (s .buffered))) _ e₅ in
+        let e₇ = and-right (leb (s .buffered) (p .buffer)) _ e₆ in
+        record {
+          kinds = leb-true (s .kind) 4 (and-left (leb (s .kind) 4) _ e);
+          zeros = λ k. let z = zero-says s (implied (eqb (s .kind) free) _ (and-left (implies (eqb (s .kind) free) (isZero s)) _ e₁) (eq-eqb (s .kind) free k)) in (z .1, z .2);
+          empty = λ k. eqb-true (s .buffered) 0 (implied (eqb (s .kind) waiting) _ (and-left (implies (eqb (s .kind) waiting) (eqb (s .buffered) 0)) _ e₂) (eq-eqb (s .kind) waiting k));
+          named = λ j k. implied (leb 1 (s .kind) && leb (s .kind) 3) _ (and-left (implies (leb 1 (s .kind) && leb (s .kind) 3) (p .isBlock (s .next))) _ e₃) (and-both (le-leb 1 (s .kind) j) (le-leb (s .kind) 3 k));
+          past = λ k. implied (eqb (s .kind) draining) _ (and-left (implies (eqb (s .kind) draining) (p .isEnd (s .next))) _ e₄) (eq-eqb (s .kind) draining k);
+          some = λ k. leb-true 1 (s .buffered) (implied (eqb (s .kind) draining) _ (and-left (implies (eqb (s .kind) draining) (leb 1 (s .buffered))) _ e₅) (eq-eqb (s .kind) draining k));
+          fits = leb-true (s .buffered) (p .buffer) (and-left (leb (s .buffered) (p .buffer)) _ e₆);
+          floored = λ k. leb-true (lowWater p L) (2000000 * s .buffered) (implied (eqb (s .kind) playing) _ e₇ (eq-eqb (s .kind) playing k));
+        }
+
+    -- and a good one passes
+    pub sound-of-good : (L : ℕ) (s : Slot A) → Good L s → soundSlot L s ≡ true
+    unfolding soundSlot holds
+    sound-of-good L s g =
+        and-both (le-leb (s .kind) 4 (g .kinds))
+        (and-both (implies-of (eqb (s .kind) free) (isZero s) (λ e. let k = eqb-true (s .kind) free e in of-zero s k (g .zeros k .0) (g .zeros k .1)))
+        (and-both (implies-of (eqb (s .kind) waiting) (eqb (s .buffered) 0) (λ e. eq-eqb (s .buffered) 0 (g .empty (eqb-true (s .kind) waiting e))))
+        (and-both (implies-of (leb 1 (s .kind) && leb (s .kind) 3) (p .isBlock (s .next)) (λ e. g .named (leb-true 1 (s .kind) (and-left (leb 1 (s .kind)) _ e)) (leb-true (s .kind) 3 (and-right (leb 1 (s .kind)) _ e))))
+        (and-both (implies-of (eqb (s .kind) draining) (p .isEnd (s .next)) (λ e. g .past (eqb-true (s .kind) draining e)))
+        (and-both (implies-of (eqb (s .kind) draining) (leb 1 (s .buffered)) (λ e. le-leb 1 (s .buffered) (g .some (eqb-true (s .kind) draining e))))
+        (and-both (le-leb (s .buffered) (p .buffer) (g .fits))
+        (implies-of (eqb (s .kind) playing) (leb (lowWater p L) (2000000 * s .buffered)) (λ e. le-leb (lowWater p L) (2000000 * s .buffered) (g .floored (eqb-true (s .kind) playing e))))))))))
+
+    free-of-zero : (m : ℕ) (ss : List (Slot A)) → allBy isZero (drop m ss) ≡ true → FreeFrom m ss
+    free-of-zero m ss e i l =
+        let z = each-at (λ s. s .kind ≡ free) (drop m ss) (i - m) (freeSlot p) (each-map _ _ (drop m ss) (λ s u. zero-says s u .0) (each-of-all isZero (drop m ss) e)) refl in
+        let q : getD (drop m ss) (i - m) (freeSlot p) ≡ at p ss i = getD-drop m ss (i - m) (freeSlot p) ∙ ap (λ (k : ℕ). at p ss k) (omega arith) in
+        sym (ap (λ (s : Slot A). s .kind) q) ∙ z
+
+    zero-of-free : (L m : ℕ) (ss : List (Slot A)) → Each (Good L) ss → FreeFrom m ss → allBy isZero (drop m ss) ≡ true
+    unfolding allBy
+    zero-of-free L zero [] g u = refl
+    zero-of-free L (suc m) [] g u = refl
+    zero-of-free L zero (s ∷ ss) g u =
+        let k = u 0 (omega arith) in
+        and-both (of-zero s k (g .0 .zeros k .0) (g .0 .zeros k .1)) (zero-of-free L zero ss (g .1) (λ i l. u (suc i) (omega arith)))
+    zero-of-free L (suc m) (s ∷ ss) g u = zero-of-free L m ss (g .1) (λ i l. u (suc i) (omega arith))
+
+    -- A RECORD PASSES IF AND ONLY IF THE FACTS HOLD
+    pub sound-says : {Q : Type 0} (o : Order A Q) (d : Scheduler A Q) → sound o d ≡ true → Sound o d
+    unfolding sound
+    sound-says o d e =
+        let L = leads p (d .slots) in
+        let e₁ = and-right (leb (d .phase) 1) _ e in
+        let e₂ = and-right (allBy (soundSlot L) (d .slots)) _ e₁ in
+        record {
+          phase = leb-true (d .phase) 1 (and-left (leb (d .phase) 1) _ e);
+          slots = each-map _ _ (d .slots) (good-of-sound L) (each-of-all (soundSlot L) (d .slots) (and-left (allBy (soundSlot L) (d .slots)) _ e₁));
+          unused = free-of-zero (p .n) (d .slots) (and-left (allBy isZero (drop (p .n) (d .slots))) _ e₂);
+          queue = and-right (allBy isZero (drop (p .n) (d .slots))) _ e₂;
+        }
+
+    pub says-sound : {Q : Type 0} (o : Order A Q) (d : Scheduler A Q) → Sound o d → sound o d ≡ true
+    unfolding sound
+    says-sound o d h =
+        let L = leads p (d .slots) in
+        and-both (le-leb (d .phase) 1 (h .phase))
+        (and-both (all-of-each (soundSlot L) (d .slots) (each-map _ _ (d .slots) (sound-of-good L) (h .slots)))
+        (and-both (zero-of-free L (p .n) (d .slots) (h .slots) (h .unused)) (h .queue)))
