@@ -1,4 +1,10 @@
+pub mod BySlot
+pub mod Calls
+pub mod Floors
+pub mod Ledger
 pub mod Order
+pub mod Orderly
+pub mod Refusals
 pub mod Scheduler
 pub mod Sound
 pub mod Supply
