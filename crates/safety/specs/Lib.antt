@@ -5,6 +5,7 @@ pub mod Ledger
 pub mod Order
 pub mod Orderly
 pub mod Refusals
+pub mod Safety
 pub mod Scheduler
 pub mod Sound
 pub mod Supply
