@@ -1,3 +1,4 @@
+pub mod Accounts
 pub mod BySlot
 pub mod Calls
 pub mod Floors
