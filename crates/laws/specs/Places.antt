@@ -6,7 +6,7 @@ use mathlib.Core.Bool.{Bool, true, false, cond, _&&_}
 use mathlib.Core.List.{List, [], _∷_, map}
 use native.Mathlib.Omega.{arith}
 use lib.ListN.{length, getD}
-use Rattle.laws.specs.Bools.{and-left, and-right, and-both}
+use Rattle.laws.specs.Bools.{clash, and-left, and-right, and-both}
 use Rattle.laws.specs.Map.{mapFrom}
 use Rattle.laws.specs.Each.{EachFrom}
 
@@ -61,6 +61,48 @@ module _ {A : Type 0} (f : ℕ → A → Bool) where
       (subst (λ (m : ℕ). f m (getD xs j d) ≡ false) (omega arith) e)
       in
       (r .0, omega (arith, r .1))
+
+  -- m is the lowest place that fails, j elements after place i
+  abbrev Found : A → ℕ → List A → ℕ → Type 0
+  Found d i xs m =
+      (j : ℕ) × (m ≡ i + j) × (j < length xs) × (f (i + j) (getD xs j d) ≡ false) × ((k : ℕ) → k < j → f (i + k) (getD xs k d) ≡ true)
+
+  found-later : (d : A) (i : ℕ) (x : A) (xs : List A) (m : ℕ) → f i x ≡ true → Found d (suc i) xs m → Found d i (x ∷ xs) m
+  found-later d i x xs m q (j, e, l, u, v) =
+      (suc j, omega arith, omega arith, subst (λ (n : ℕ). f n (getD xs j d) ≡ false) (omega arith) u, below)
+    where
+      below : (k : ℕ) → k < suc j → f (i + k) (getD (x ∷ xs) k d) ≡ true
+      below zero y = subst (λ (n : ℕ). f n x ≡ true) (omega arith) q
+      below (suc k) y = subst (λ (n : ℕ). f n (getD xs k d) ≡ true) (omega arith) (v k (omega arith))
+
+  found : (d : A) (i : ℕ) (xs : List A) → allFrom i xs ≡ false → Found d i xs (lowestFrom i xs)
+  unfolding allFrom lowestFrom
+  found d i [] e = clash refl e
+  found d i (x ∷ xs) e = go (f i x) refl e (λ r. found d (suc i) xs r)
+    where
+      go : (t : Bool) → f i x ≡ t → (t && allFrom (suc i) xs) ≡ false → (allFrom (suc i) xs ≡ false → Found d (suc i) xs (lowestFrom (suc i) xs))
+          → Found d i (x ∷ xs) (cond t (lowestFrom (suc i) xs) i)
+      go true q r h = found-later d i x xs (lowestFrom (suc i) xs) q (h r)
+      go false q r h = (0, omega arith, omega arith, subst (λ (n : ℕ). f n x ≡ false) (omega arith) q, λ k l. absurd (omega arith))
+
+  pub record Lowest (d : A) (xs : List A) (i : ℕ) : Type 0 where
+    pub inside : i < length xs
+    pub fails : f i (getD xs i d) ≡ false
+    pub below : (k : ℕ) → k < i → f k (getD xs k d) ≡ true
+
+  -- where not all pass, the lowest place that fails is that place
+  pub lowest-fails : (d : A) (xs : List A) → allFrom 0 xs ≡ false → Lowest d xs (lowestFrom 0 xs)
+  lowest-fails d xs e = go (lowestFrom 0 xs) (found d 0 xs e)
+    where
+      go : (m : ℕ) → Found d 0 xs m → Lowest d xs m
+      go m (j, q, l, u, v) =
+          let r : 0 + j ≡ m = sym q in
+          let s : j ≡ m = omega arith in
+          record {
+            inside = omega arith;
+            fails = subst (λ (n : ℕ). f m (getD xs n d) ≡ false) s (subst (λ (n : ℕ). f n (getD xs j d) ≡ false) r u);
+            below = λ k y. subst (λ (n : ℕ). f n (getD xs k d) ≡ true) (omega arith) (v k (omega arith));
+          }
 
 module _ {A : Type 0} (Q : ℕ → A → Type 0) (d : A) where
   eachFrom-by : (i : ℕ) (xs : List A) (j : ℕ) → EachFrom Q i xs → j < length xs → Q (i + j) (getD xs j d)

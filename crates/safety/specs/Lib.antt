@@ -10,3 +10,4 @@ pub mod Safety
 pub mod Scheduler
 pub mod Sound
 pub mod Supply
+pub mod Verdicts

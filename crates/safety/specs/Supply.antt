@@ -3,6 +3,7 @@
 -- Assumes nothing.
 use Prim.Native.Nat.{ℕ, _+_, _*_, _/_, _≤_, _<_}
 use mathlib.Core.Path.{_≡_}
+use mathlib.Core.Logic.{_≢_}
 use mathlib.Core.Bool.{Bool, true, false, cond}
 use mathlib.Core.List.{List}
 
@@ -61,3 +62,5 @@ pub record Named {A : Type 0} (p : Supply A) : Type 0 where
   pub none-passes : p .isNone (p .none) ≡ true
   pub none-only : (a : A) → p .isNone a ≡ true → a ≡ p .none
   pub faultless : (a : A) → p .fault a ≡ 0 → p .isBlock a ≡ true
+  -- a join's fault is not taken for an unsound record
+  pub fault-own : (a : A) → p .fault a ≢ 14
