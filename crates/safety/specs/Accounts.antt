@@ -119,8 +119,12 @@ module _ {A : Type 0} (p : Supply A) where
     pub quiet : l .isOpen ≡ true → s .kind < 3 → l .consumed ≡ 0
     pub marks : l .marked ≡ (sweep && isFetched p s)
 
-  pub agree-free : Agree false (freeSlot p) blank
-  agree-free = record { opens = refl; sums = λ z. clash z refl; quiet = λ z. clash z refl; marks = refl }
+  pub agree-free : (sweep : Bool) → Agree sweep (freeSlot p) blank
+  agree-free sweep = record { opens = refl; sums = λ z. clash z refl; quiet = λ z. clash z refl; marks = go sweep }
+    where
+      go : (t : Bool) → false ≡ (t && isFetched p (freeSlot p))
+      go true = sym (free-unfetched p (freeSlot p) refl)
+      go false = refl
 
   -- ---- begin
 
@@ -156,7 +160,7 @@ module _ {A : Type 0} (p : Supply A) where
   pos-left (suc a) b h = omega arith
 
   -- a slot and its line after the sweep, before either closes
-  record Swept-line (s : Slot A) (l : Line) : Type 0 where
+  record SweptLine (s : Slot A) (l : Line) : Type 0 where
     opens : l .isOpen ≡ ltb 0 (s .kind)
     sums : l .isOpen ≡ true → s .buffered + l .consumed ≡ l .fetched * p .B
     quiet : l .isOpen ≡ true → s .kind < 3 → l .consumed ≡ 0
@@ -165,7 +169,7 @@ module _ {A : Type 0} (p : Supply A) where
 
   module _ (ok : Lawful p) where
     -- the scheduler's test for closing and the ledger's agree
-    close-same : (L : ℕ) (s : Slot A) (l : Line) → Swept p ok L s → Swept-line s l
+    close-same : (L : ℕ) (s : Slot A) (l : Line) → Swept p ok L s → SweptLine s l
         → (l .isOpen && (leb 1 (l .fetched) && eqb (l .fetched * p .B) (l .consumed))) ≡ (eqb (s .kind) draining && eqb (s .buffered) 0)
     unfolding lowWater
     close-same L s l w m = bool-ext _ _ to from
@@ -189,7 +193,7 @@ module _ {A : Type 0} (p : Supply A) where
             let o : l .isOpen ≡ true = m .opens ∙ lt-ltb 0 (s .kind) (omega arith) in
             and-both o (and-both (le-leb 1 (l .fetched) (m .once k)) (eq-eqb (l .fetched * p .B) (l .consumed) (omega (arith, m .sums o))))
 
-    settled-agrees : (L : ℕ) (s : Slot A) (l : Line) → Swept p ok L s → Swept-line s l → Agree false (released p s) (settledLine (p .B) l)
+    settled-agrees : (L : ℕ) (s : Slot A) (l : Line) → Swept p ok L s → SweptLine s l → Agree false (released p s) (settledLine (p .B) l)
     unfolding released settledLine
     settled-agrees L s l w m = rw (close-same L s l w m) (go (eqb (s .kind) draining && eqb (s .buffered) 0))
       where
@@ -198,13 +202,13 @@ module _ {A : Type 0} (p : Supply A) where
         go false = record { opens = m .opens; sums = m .sums; quiet = m .quiet; marks = m .unmarked }
 
     swept-line : (L m : ℕ) (s : Slot A) (l : Line) (d : ℕ) → Good p L s → Agree true s l → Drawable p ok m s d
-        → Swept-line (sweptBy p (isFetched p s) s d) (drawnLine l d)
+        → SweptLine (sweptBy p (isFetched p s) s d) (drawnLine l d)
     unfolding sweptBy drawnLine
     swept-line L m s l d g r w = rw (r .marks) (go (isFetched p s) refl)
       where
         last : (t : Bool) → isFetched p s ≡ true → l .isOpen ≡ true
-            → Swept-line (record { kind = cond t draining (s .kind); next = p .next (s .next); buffered = s .buffered - d + p .B })
-              (record { isOpen = true; fetched = l .fetched + 1; consumed = l .consumed + d; marked = false })
+            → SweptLine (record { kind = cond t draining (s .kind); next = p .next (s .next); buffered = s .buffered - d + p .B })
+            (record { isOpen = true; fetched = l .fetched + 1; consumed = l .consumed + d; marked = false })
         last true f o =
             let q = fetched-kind p s f in
             record {
@@ -225,7 +229,7 @@ module _ {A : Type 0} (p : Supply A) where
             }
 
         go : (f : Bool) → isFetched p s ≡ f
-            → Swept-line (sweptBy p f s d) (record { isOpen = l .isOpen; fetched = l .fetched + bit f; consumed = l .consumed + cond (l .isOpen) d 0; marked = false })
+            → SweptLine (sweptBy p f s d) (record { isOpen = l .isOpen; fetched = l .fetched + bit f; consumed = l .consumed + cond (l .isOpen) d 0; marked = false })
         go true f =
             let q = fetched-kind p s f in
             let o : l .isOpen ≡ true = r .opens ∙ lt-ltb 0 (s .kind) (omega arith) in
@@ -252,8 +256,8 @@ module _ {A : Type 0} (p : Supply A) where
       lines-ended i (s ∷ ss) (l ∷ ls) ds g b w =
           let d : ℕ = getD ds i 0 in (
             settled-agrees M (sweptBy p (isFetched p s) s d) (drawnLine l d)
-            (swept-of p ok k T L M few paid top s d (g .0) (w .0))
-            (swept-line L (p .c * (T + p .overhead k) / 1000000) s l d (g .0) (b .0) (w .0)),
+                (swept-of p ok k T L M few paid top s d (g .0) (w .0))
+                (swept-line L (p .c * (T + p .overhead k) / 1000000) s l d (g .0) (b .0) (w .0)),
             lines-ended (suc i) ss ls ds (g .1) (b .1) (w .1),
           )
 
@@ -265,7 +269,7 @@ module _ {A : Type 0} (p : Supply A) where
     -- a slot and a line are put in place of others
     lines-set : (ss : List (Slot A)) (ls : List Line) (i : ℕ) (a : Slot A) (l : Line) → Both (Agree false) ss ls
         → (Agree false (at p ss i) (lineAt ls i) → Agree false a l) → Both (Agree false) (set ss i a) (set ls i l)
-    lines-set ss ls i a l b r = both-set (Agree false) ss ls i a l b (r (both-at (Agree false) ss ls i (freeSlot p) blank b agree-free))
+    lines-set ss ls i a l b r = both-set (Agree false) ss ls i a l b (r (both-at (Agree false) ss ls i (freeSlot p) blank b (agree-free false)))
 
     module _ {Q : Type 0} (o : Order A Q) (fair : Orderly p o) where
       abbrev pub Agrees : Scheduler A Q → List Line → Type 0

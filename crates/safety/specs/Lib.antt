@@ -1,8 +1,10 @@
 pub mod Accounts
 pub mod BySlot
 pub mod Calls
+pub mod Claim
 pub mod Floors
 pub mod Ledger
+pub mod Lists
 pub mod Order
 pub mod Orderly
 pub mod Refusals

@@ -308,7 +308,7 @@ module _ {A : Type 0} (p : Supply A) where
             floored = λ z. omega (
               arith,
               full-stays (p .c) (p .pairTime) (p .B) k (p .overhead k) T L M 0 (room-of k few) paid (p .n) (p .margin) (s .buffered) d
-              (omega (arith, top)) (omega (arith, ok .buffer-holds, unfetched-full s z f)) (w .most) .1,
+                  (omega (arith, top)) (omega (arith, ok .buffer-holds, unfetched-full s z f)) (w .most) .1,
             );
           }
 
