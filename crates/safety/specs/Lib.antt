@@ -10,6 +10,7 @@ pub mod Orderly
 pub mod Refusals
 pub mod Safety
 pub mod Scheduler
+pub mod Sorting
 pub mod Sound
 pub mod Supply
 pub mod Verdicts
