@@ -10,6 +10,10 @@ abbrev pub bit : Bool → ℕ
 bit true = 1
 bit false = 0
 
+pub bit-le : (t : Bool) → bit t ≤ 1
+bit-le true = omega arith
+bit-le false = omega arith
+
 -- b where a
 abbrev pub implies : Bool → Bool → Bool
 implies true b = b

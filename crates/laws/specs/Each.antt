@@ -36,6 +36,11 @@ module _ {A : Type 0} (Q : A → Type 0) where
   each-at (x ∷ xs) zero d h q = h .0
   each-at (x ∷ xs) (suc i) d h q = each-at xs i d (h .1) q
 
+  -- from the fact at each place
+  pub each-by : (xs : List A) (d : A) → ((i : ℕ) → i < length xs → Q (getD xs i d)) → Each Q xs
+  each-by [] d h = tt
+  each-by (x ∷ xs) d h = (h 0 (omega arith), each-by xs d (λ i l. h (suc i) (omega arith)))
+
   pub each-replicate : (m : ℕ) (a : A) → Q a → Each Q (replicate m a)
   each-replicate zero a q = tt
   each-replicate (suc m) a q = (q, each-replicate m a q)

@@ -6,3 +6,4 @@ pub mod Insertion
 pub mod Map
 pub mod Places
 pub mod Runs
+pub mod Sums

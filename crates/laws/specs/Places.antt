@@ -7,7 +7,7 @@ use mathlib.Core.List.{List, [], _∷_, map}
 use native.Mathlib.Omega.{arith}
 use lib.ListN.{length, getD}
 use Rattle.laws.specs.Bools.{clash, and-left, and-right, and-both}
-use Rattle.laws.specs.Map.{mapFrom}
+use Rattle.laws.specs.Map.{mapFrom, mapTo, mapTo-none}
 use Rattle.laws.specs.Each.{EachFrom}
 
 module _ {A : Type 0} (f : ℕ → A → Bool) where
@@ -129,6 +129,20 @@ module _ {A : Type 0} (f : ℕ → A → A) where
 
   pub mapFrom-at : (xs : List A) (j : ℕ) (d : A) → j < length xs → getD (mapFrom f 0 xs) j d ≡ f j (getD xs j d)
   mapFrom-at xs j d l = mapFrom-by 0 xs j d l ∙ ap (λ (k : ℕ). f k (getD xs j d)) (omega arith)
+
+  rest-by : (d : A) (i n : ℕ) (xs : List A) → ((j : ℕ) → n ≤ j → j < length xs → f (i + j) (getD xs j d) ≡ getD xs j d) → mapTo f i n xs ≡ mapFrom f i xs
+  unfolding mapTo mapFrom
+  rest-by d i n [] h = refl
+  rest-by d i zero (x ∷ xs) h =
+      let q : f i x ≡ x = subst (λ (k : ℕ). f k x ≡ x) (omega arith) (h 0 (omega arith) (omega arith)) in
+      let r = rest-by d (suc i) zero xs (λ j l m. subst (λ (k : ℕ). f k (getD xs j d) ≡ getD xs j d) (omega arith) (h (suc j) (omega arith) (omega arith))) in
+      rw q (ap (λ t. x ∷ t) (sym (mapTo-none f (suc i) xs) ∙ r))
+  rest-by d i (suc n) (x ∷ xs) h =
+      ap (λ t. f i x ∷ t) (rest-by d (suc i) n xs (λ j l m. subst (λ (k : ℕ). f k (getD xs j d) ≡ getD xs j d) (omega arith) (h (suc j) (omega arith) (omega arith))))
+
+  -- a loop may stop where the rest stays as it is
+  pub mapTo-rest : (d : A) (n : ℕ) (xs : List A) → ((j : ℕ) → n ≤ j → j < length xs → f j (getD xs j d) ≡ getD xs j d) → mapTo f 0 n xs ≡ mapFrom f 0 xs
+  mapTo-rest d n xs h = rest-by d 0 n xs (λ j l m. subst (λ (k : ℕ). f k (getD xs j d) ≡ getD xs j d) (omega arith) (h j l m))
 
 -- where the place does not matter
 pub mapFrom-map : {A : Type 0} (f : A → A) (i : ℕ) (xs : List A) → mapFrom (λ j x. f x) i xs ≡ map f xs

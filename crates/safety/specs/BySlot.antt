@@ -13,7 +13,7 @@ use Rattle.laws.specs.Runs.{sumBy, allBy}
 use Rattle.laws.specs.Each.{Each, Both, each-map, both-refl}
 use Rattle.safety.specs.Supply.{Supply}
 use Rattle.safety.specs.Scheduler.{Slot, waiting, filling, playing, at, leadOf, leads, lowWater, holds}
-use Rattle.safety.specs.Scheduler.{startBy, startedSlot, started, playersHold, grantable, granted, grantBy, tried, tries, begun}
+use Rattle.safety.specs.Scheduler.{fillingSlot, startBy, startedSlot, started, playersHold, grantable, granted, grantBy, tried, tries, begun}
 use Rattle.safety.specs.Order.{Order, bySlot}
 use Rattle.safety.specs.Sound.{Good}
 use Rattle.safety.specs.Orderly.{Kept, kept-refl, Floored, Began, Orderly, began-then, began-none, idle-lead, reading-lead}
@@ -77,7 +77,7 @@ module _ {A : Type 0} (p : Supply A) where
   unfolding leads sumBy granted
   granted-leads [] i k = absurd (omega arith)
   granted-leads (s ∷ ss) zero k =
-      omega (arith, idle-lead p s (omega arith), reading-lead p (record { kind = filling; next = s .next; buffered = s .buffered }) (omega arith) (omega arith))
+      omega (arith, idle-lead p s (omega arith), reading-lead p (fillingSlot p s) (omega arith) (omega arith))
   granted-leads (s ∷ ss) (suc i) k = omega (arith, granted-leads ss i k)
 
   granted-kept : (ss : List (Slot A)) (i : ℕ) → at p ss i .kind ≡ waiting → Both Kept ss (granted p ss i)

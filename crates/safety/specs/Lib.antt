@@ -8,9 +8,11 @@ pub mod Lists
 pub mod Order
 pub mod Orderly
 pub mod Refusals
+pub mod Rows
 pub mod Safety
 pub mod Scheduler
 pub mod Sorting
 pub mod Sound
 pub mod Supply
+pub mod Turns
 pub mod Verdicts

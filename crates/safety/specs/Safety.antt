@@ -12,7 +12,7 @@ use lib.ListN.{length, getD, set}
 use lib.Seq.{getD-set-other}
 use lib.Dec.{leb, ltb, eqb}
 use borrow.Author.Tests.{leb-true, leb-false, eqb-true, eq-eqb, ne-eqb}
-use Rattle.laws.specs.Bools.{bit, clash, and-left, and-right, and-both, or-cases, cond-le}
+use Rattle.laws.specs.Bools.{bit, bit-le, clash, and-left, and-right, and-both, or-cases, cond-le}
 use Rattle.laws.specs.Map.{mapFrom}
 use Rattle.laws.specs.Runs.{sumBy}
 use Rattle.laws.specs.Each.{Each, EachFrom, Both, each-set, each-map, both-at}
@@ -27,10 +27,6 @@ use Rattle.safety.specs.Orderly.{Kept, kept-refl, SameWaiting, Floored, 
 use Rattle.safety.specs.Refusals.{drawAllowed, drawHeld}
 use Rattle.safety.specs.Calls.{Allowed, accepted}
 use Rattle.safety.specs.Floors.{room-of-streams, fetched-stays, full-stays, enough}
-
-pub bit-le : (t : Bool) → bit t ≤ 1
-bit-le true = omega arith
-bit-le false = omega arith
 
 module _ {A : Type 0} (p : Supply A) where
   -- ---- join and leave

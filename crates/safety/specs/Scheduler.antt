@@ -107,8 +107,11 @@ module _ {A : Type 0} (p : Supply A) where
 
   -- ---- begin
 
+  abbrev pub playingSlot : Slot A → Slot A
+  playingSlot s = record { kind = playing; next = s .next; buffered = s .buffered }
+
   abbrev pub startBy : Bool → Slot A → Slot A
-  startBy true s = record { kind = playing; next = s .next; buffered = s .buffered }
+  startBy true s = playingSlot s
   startBy false s = s
 
   -- `first, each filling slot that holds at least the floor becomes playing`: x is the floor
@@ -127,8 +130,11 @@ module _ {A : Type 0} (p : Supply A) where
   grantable ss i = eqb (at ss i .kind) waiting && playersHold (lowWater (leads ss + p .lead (at ss i .next))) ss
 
   -- slot i `becomes filling`
+  abbrev pub fillingSlot : Slot A → Slot A
+  fillingSlot s = record { kind = filling; next = s .next; buffered = s .buffered }
+
   unfoldable pub granted : List (Slot A) → ℕ → List (Slot A)
-  granted ss i = set ss i (record { kind = filling; next = at ss i .next; buffered = at ss i .buffered })
+  granted ss i = set ss i (fillingSlot (at ss i))
 
   abbrev pub grantBy : Bool → List (Slot A) → ℕ → List (Slot A)
   grantBy true ss i = granted ss i

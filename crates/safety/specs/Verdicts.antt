@@ -19,6 +19,7 @@ use Rattle.safety.specs.Order.{Scheduler, Order}
 use Rattle.safety.specs.Sound.{sound, Sound}
 use Rattle.safety.specs.Refusals.{Verdict, accept, unless, drawAllowed, drawHeld, judged, verdict}
 use Rattle.safety.specs.Calls.{Given, Allowed, Strict, refusals}
+use Rattle.safety.specs.Rows.{row-sound}
 use Rattle.safety.specs.Safety.{players-hold-draw}
 
 -- ---- one row of the table
@@ -86,11 +87,7 @@ module _ {A : Type 0} (p : Supply A) (names : Named p) where
     unfolding verdict
     accepted-was-sound d fair room c e = and-right fair _ (passed (fair && sound p o d) 14 0 _ (omega arith) e .0)
 
-    -- ---- a sound record with fair lists passes the first row
-
-    pub sound-passes : (d : Scheduler A Q) (room : ℕ) (c : Call A) → sound p o d ≡ true → verdict p o d true room c ≡ judged p d room c
-    unfolding verdict
-    sound-passes d room c e = rw e
+  -- ---- over a sound record with fair lists no row gives 14
 
   module _ {Q : Type 0} (d : Scheduler A Q) where
     other : (t : Bool) (k i : ℕ) (r : Verdict) → k ≢ 14 → r .number ≢ 14 → unless t k i r .number ≢ 14
@@ -122,7 +119,7 @@ module _ {A : Type 0} (p : Supply A) (names : Named p) where
   -- ONLY UNFAIR LISTS ARE ANSWERED 14 OVER A SOUND RECORD
   pub sound-never-unsound : {Q : Type 0} (o : Order A Q) (d : Scheduler A Q) (room : ℕ) (c : Call A) → sound p o d ≡ true
       → verdict p o d true room c .number ≢ 14
-  sound-never-unsound o d room c e q = judged-other d room c (ap (λ (v : Verdict). v .number) (sym (sound-passes o d room c e)) ∙ q)
+  sound-never-unsound o d room c e q = judged-other d room c (ap (λ (v : Verdict). v .number) (sym (row-sound p o d room c e)) ∙ q)
 
   -- ---- refusals of draws
 

@@ -1,0 +1,356 @@
+-- The scheduler's definitions in the words of loops over the slots: for each the start, one turn at slot i and the end, and what a slot
+-- comes to by its numbers.
+-- Assumes nothing.
+use Prim.Native.Nat.{ℕ, zero, suc, _+_, _-_, _*_, _≤_, _<_, min}
+use mathlib.Core.Path.{_≡_, refl, sym, ap, _∙_, subst}
+use mathlib.Core.Logic.{_≢_, by-cases}
+use mathlib.Core.Bool.{Bool, true, false, cond, _&&_, _||_, and-true}
+use mathlib.Core.List.{List, [], _∷_, _++_, map}
+use native.Mathlib.Omega.{arith}
+use native.Mathlib.Decide.{ℕ-discrete, decLt}
+use native.Mathlib.Numerals.{add-one}
+use lib.ListN.{length, getD, set, take, drop, length-set, length-map, List·getD-map}
+use lib.Seq.{getD-set-same, getD-set-other, take-length}
+use lib.Dec.{leb, ltb, eqb}
+use borrow.Author.Tests.{leb-true, leb-false, eqb-true, eqb-false, eq-eqb, ne-eqb, lt-ltb, le-ltb, le-leb, lt-leb}
+use Rattle.laws.specs.Bools.{bit, bit-le, implies, implied, implies-of, clash, is-false, bool-ext, and-left, and-right, and-both}
+use Rattle.laws.specs.Map.{mapFrom}
+use Rattle.laws.specs.Runs.{sumBy, allBy, all-at}
+use Rattle.laws.specs.Sums.{sum-none, sum-next, sum-all, sum-top}
+use Rattle.laws.specs.Places.{length-mapFrom, mapFrom-at, mapFrom-map, allFrom, lowestFrom, all-passed, first-failed}
+use Rattle.safety.specs.Supply.{Supply}
+use Rattle.safety.specs.Scheduler.{Slot, Entry, free, waiting, filling, playing, draining, freeSlot, waitingSlot, at}
+use Rattle.safety.specs.Scheduler.{reads, leadOf, leads, lowWater, holds, joined, left, playingSlot, fillingSlot, startBy, startedSlot, started, playersHold}
+use Rattle.safety.specs.Scheduler.{grantable, granted, grantBy, tried, tries, begun, isFetched, timeOf, times, fetchCount, bound}
+use Rattle.safety.specs.Scheduler.{sweptBy, releaseBy, released, endedSlot, ended, mostDrawn, drawLimit}
+use Rattle.safety.specs.Refusals.{drawAllowed, drawHeld}
+use Rattle.safety.specs.Orderly.{idle-lead, reading-lead}
+
+module _ {A : Type 0} (p : Supply A) where
+  -- ---- a slot by its numbers
+
+  -- filling and playing slots read
+  pub reads-yes : (s : Slot A) → 2 ≤ s .kind → s .kind ≤ 3 → reads p s ≡ true
+  unfolding reads
+  reads-yes s k l = by-cases (ℕ-discrete (s .kind) 2) (λ e. rw e) (λ e. let q : s .kind ≡ 3 = omega arith in rw q)
+
+  pub reads-no : (s : Slot A) → (2 ≤ s .kind → s .kind ≤ 3 → ⊥) → reads p s ≡ false
+  unfolding reads
+  reads-no s h = rw (ne-eqb (s .kind) 2 (λ e. h (omega arith) (omega arith)), ne-eqb (s .kind) 3 (λ e. h (omega arith) (omega arith)))
+
+  pub other-lead : (s : Slot A) → (2 ≤ s .kind → s .kind ≤ 3 → ⊥) → leadOf p s ≡ 0
+  unfolding leadOf
+  other-lead s h = rw (reads-no s h)
+
+  pub fetched-yes : (s : Slot A) → 2 ≤ s .kind → s .kind ≤ 3 → s .buffered + p .B ≤ p .buffer → isFetched p s ≡ true
+  unfolding isFetched
+  fetched-yes s k l r = rw (reads-yes s k l, le-leb (s .buffered + p .B) (p .buffer) r)
+
+  pub fetched-other : (s : Slot A) → (2 ≤ s .kind → s .kind ≤ 3 → ⊥) → isFetched p s ≡ false
+  unfolding isFetched
+  fetched-other s h = rw (reads-no s h)
+
+  pub fetched-full : (s : Slot A) → p .buffer < s .buffered + p .B → isFetched p s ≡ false
+  unfolding isFetched
+  fetched-full s h = rw (lt-leb (s .buffered + p .B) (p .buffer) h) (last (reads p s))
+    where
+      last : (t : Bool) → (t && false) ≡ false
+      last true = refl
+      last false = refl
+
+  pub fetched-time : (s : Slot A) → isFetched p s ≡ true → timeOf p s ≡ p .time (s .next)
+  unfolding timeOf
+  fetched-time s e = rw e
+
+  pub unfetched-time : (s : Slot A) → isFetched p s ≡ false → timeOf p s ≡ 0
+  unfolding timeOf
+  unfetched-time s e = rw e
+
+  pub holds-yes : (x : ℕ) (s : Slot A) → x ≤ 2000000 * s .buffered → holds p x s ≡ true
+  unfolding holds
+  holds-yes x s h = le-leb x (2000000 * s .buffered) h
+
+  pub holds-no : (x : ℕ) (s : Slot A) → 2000000 * s .buffered < x → holds p x s ≡ false
+  unfolding holds
+  holds-no x s h = lt-leb x (2000000 * s .buffered) h
+
+  -- ---- leads, times and count: added up from slot 0
+
+  module _ (ss : List (Slot A)) where
+    pub leads-none : leads p (take 0 ss) ≡ 0
+    unfolding leads
+    leads-none = sum-none (leadOf p) ss
+
+    pub leads-next : (i : ℕ) → i < length ss → 2 ≤ at p ss i .kind → at p ss i .kind ≤ 3
+        → leads p (take (i + 1) ss) ≡ leads p (take i ss) + p .lead (at p ss i .next)
+    unfolding leads
+    leads-next i h k l = omega (arith, sum-next (leadOf p) (freeSlot p) ss i h, reading-lead p (at p ss i) k l)
+
+    pub leads-skip : (i : ℕ) → i < length ss → (2 ≤ at p ss i .kind → at p ss i .kind ≤ 3 → ⊥) → leads p (take (i + 1) ss) ≡ leads p (take i ss)
+    unfolding leads
+    leads-skip i h k = omega (arith, sum-next (leadOf p) (freeSlot p) ss i h, other-lead (at p ss i) k)
+
+    pub leads-all : leads p (take (length ss) ss) ≡ leads p ss
+    unfolding leads
+    leads-all = sum-all (leadOf p) ss
+
+    pub times-none : times p (take 0 ss) ≡ 0
+    unfolding times
+    times-none = sum-none (timeOf p) ss
+
+    pub times-next : (i : ℕ) → i < length ss → isFetched p (at p ss i) ≡ true → times p (take (i + 1) ss) ≡ times p (take i ss) + p .time (at p ss i .next)
+    unfolding times
+    times-next i h e = omega (arith, sum-next (timeOf p) (freeSlot p) ss i h, fetched-time (at p ss i) e)
+
+    pub times-skip : (i : ℕ) → i < length ss → isFetched p (at p ss i) ≡ false → times p (take (i + 1) ss) ≡ times p (take i ss)
+    unfolding times
+    times-skip i h e = omega (arith, sum-next (timeOf p) (freeSlot p) ss i h, unfetched-time (at p ss i) e)
+
+    pub times-all : times p (take (length ss) ss) ≡ times p ss
+    unfolding times
+    times-all = sum-all (timeOf p) ss
+
+    abbrev one : Slot A → ℕ
+    one s = bit (isFetched p s)
+
+    pub count-none : fetchCount p (take 0 ss) ≡ 0
+    unfolding fetchCount
+    count-none = sum-none one ss
+
+    pub count-next : (i : ℕ) → i < length ss → isFetched p (at p ss i) ≡ true → fetchCount p (take (i + 1) ss) ≡ fetchCount p (take i ss) + 1
+    unfolding fetchCount
+    count-next i h e = sum-next one (freeSlot p) ss i h ∙ ap (λ (t : Bool). sumBy one (take i ss) + bit t) e
+
+    pub count-skip : (i : ℕ) → i < length ss → isFetched p (at p ss i) ≡ false → fetchCount p (take (i + 1) ss) ≡ fetchCount p (take i ss)
+    unfolding fetchCount
+    count-skip i h e =
+        let q : fetchCount p (take (i + 1) ss) ≡ sumBy one (take i ss) + 0 = sum-next one (freeSlot p) ss i h ∙ ap (λ (t : Bool). sumBy one (take i ss) + bit t) e in
+        omega arith
+
+    pub count-all : fetchCount p (take (length ss) ss) ≡ fetchCount p ss
+    unfolding fetchCount
+    count-all = sum-all one ss
+
+    -- at most a fetch for each slot that was seen
+    pub count-le : (i : ℕ) → fetchCount p (take i ss) ≤ i
+    unfolding fetchCount
+    count-le i = omega (arith, sum-top one 1 (λ s. bit-le (isFetched p s)) i ss)
+
+  -- ---- every playing slot holds the mark
+
+  -- the test, from a fact for each slot, or from one that fails
+  pub players-yes : (x : ℕ) (ss : List (Slot A)) → ((j : ℕ) → j < length ss → at p ss j .kind ≡ playing → x ≤ 2000000 * at p ss j .buffered)
+      → playersHold p x ss ≡ true
+  unfolding playersHold allBy
+  players-yes x [] h = refl
+  players-yes x (s ∷ ss) h =
+      and-both (implies-of (eqb (s .kind) playing) (holds p x s) (λ e. holds-yes x s (h 0 (omega arith) (eqb-true (s .kind) playing e))))
+      (players-yes x ss (λ j l. h (suc j) (omega arith)))
+
+  pub players-no : (x : ℕ) (ss : List (Slot A)) (j : ℕ) → j < length ss → at p ss j .kind ≡ playing → 2000000 * at p ss j .buffered < x
+      → playersHold p x ss ≡ false
+  unfolding playersHold
+  players-no x ss j l k h =
+      is-false (playersHold p x ss)
+      (λ e. clash (implied (eqb (at p ss j .kind) playing) _ (all-at (freeSlot p) (λ s. implies (eqb (s .kind) playing) (holds p x s)) ss j e l) (eq-eqb (at p ss j .kind) playing k)) (holds-no x (at p ss j) h))
+
+  -- the least that a playing slot holds, top where none plays
+  unfoldable pub leastHeld : ℕ → List (Slot A) → ℕ
+  leastHeld top [] = top
+  leastHeld top (s ∷ ss) = cond (eqb (s .kind) playing) (min (s .buffered) (leastHeld top ss)) (leastHeld top ss)
+
+  pub least-none : (top : ℕ) (ss : List (Slot A)) → leastHeld top (take 0 ss) ≡ top
+  unfolding leastHeld
+  least-none top ss = refl
+
+  least-turn : (top : ℕ) (ss : List (Slot A)) (i : ℕ) → i < length ss
+      → leastHeld top (take (suc i) ss) ≡ cond (eqb (at p ss i .kind) playing) (min (leastHeld top (take i ss)) (at p ss i .buffered)) (leastHeld top (take i ss))
+  unfolding leastHeld
+  least-turn top [] i l = absurd (omega arith)
+  least-turn top (s ∷ ss) zero l = go (eqb (s .kind) playing)
+    where
+      go : (t : Bool) → cond t (min (s .buffered) top) top ≡ cond t (min top (s .buffered)) top
+      go true = omega arith
+      go false = refl
+  least-turn top (s ∷ ss) (suc i) l =
+      rw (least-turn top ss i (omega arith)) (go (eqb (s .kind) playing) (eqb (at p ss i .kind) playing) (leastHeld top (take i ss)) (at p ss i .buffered))
+    where
+      go : (t x : Bool) (r h : ℕ) → cond t (min (s .buffered) (cond x (min r h) r)) (cond x (min r h) r) ≡ cond x (min (cond t (min (s .buffered) r) r) h) (cond t (min (s .buffered) r) r)
+      go true true r h = omega arith
+      go true false r h = refl
+      go false true r h = refl
+      go false false r h = refl
+
+  pub least-next : (top : ℕ) (ss : List (Slot A)) (i : ℕ) → i < length ss → at p ss i .kind ≡ playing
+      → leastHeld top (take (i + 1) ss) ≡ min (leastHeld top (take i ss)) (at p ss i .buffered)
+  least-next top ss i l k =
+      ap (λ (m : ℕ). leastHeld top (take m ss)) (add-one i) ∙ least-turn top ss i l
+      ∙ ap (λ (t : Bool). cond t (min (leastHeld top (take i ss)) (at p ss i .buffered)) (leastHeld top (take i ss))) (eq-eqb (at p ss i .kind) playing k)
+
+  pub least-skip : (top : ℕ) (ss : List (Slot A)) (i : ℕ) → i < length ss → at p ss i .kind ≢ playing
+      → leastHeld top (take (i + 1) ss) ≡ leastHeld top (take i ss)
+  least-skip top ss i l k =
+      ap (λ (m : ℕ). leastHeld top (take m ss)) (add-one i) ∙ least-turn top ss i l
+      ∙ ap (λ (t : Bool). cond t (min (leastHeld top (take i ss)) (at p ss i .buffered)) (leastHeld top (take i ss))) (ne-eqb (at p ss i .kind) playing k)
+
+  pub least-all : (top : ℕ) (ss : List (Slot A)) → leastHeld top (take (length ss) ss) ≡ leastHeld top ss
+  least-all top ss = ap (leastHeld top) (take-length ss)
+
+  -- every playing slot holds x where the least does
+  pub least-holds : (top x : ℕ) (ss : List (Slot A)) → x ≤ 2000000 * top → playersHold p x ss ≡ leb x (2000000 * leastHeld top ss)
+  unfolding playersHold allBy leastHeld holds
+  least-holds top x [] h = sym (le-leb x (2000000 * top) h)
+  least-holds top x (s ∷ ss) h = rw (least-holds top x ss h) (go (eqb (s .kind) playing) (leastHeld top ss))
+    where
+      both : (a b : ℕ) → (leb x (2000000 * a) && leb x (2000000 * b)) ≡ leb x (2000000 * min a b)
+      both a b =
+          bool-ext (leb x (2000000 * a) && leb x (2000000 * b)) (leb x (2000000 * min a b))
+          (λ e. le-leb x (2000000 * min a b) (omega (arith, leb-true x (2000000 * a) (and-left (leb x (2000000 * a)) _ e), leb-true x (2000000 * b) (and-right (leb x (2000000 * a)) _ e))))
+          (λ e. let l = leb-true x (2000000 * min a b) e in and-both (le-leb x (2000000 * a) (omega arith)) (le-leb x (2000000 * b) (omega arith)))
+
+      go : (t : Bool) (r : ℕ) → (implies t (leb x (2000000 * s .buffered)) && leb x (2000000 * r)) ≡ leb x (2000000 * cond t (min (s .buffered) r) r)
+      go true r = both (s .buffered) r
+      go false r = refl
+
+  -- ---- begin: filling slots start to play, x being the mark
+
+  pub starts-playing : (x : ℕ) (s : Slot A) → s .kind ≡ filling → x ≤ 2000000 * s .buffered
+      → startedSlot p x s ≡ playingSlot p s
+  unfolding startedSlot
+  starts-playing x s k h = rw (eq-eqb (s .kind) filling k, holds-yes x s h)
+
+  pub starts-not : (x : ℕ) (s : Slot A) → (s .kind ≡ filling → 2000000 * s .buffered < x) → startedSlot p x s ≡ s
+  unfolding startedSlot
+  starts-not x s h = go (eqb (s .kind) filling) refl
+    where
+      go : (t : Bool) → eqb (s .kind) filling ≡ t → startBy p (t && holds p x s) s ≡ s
+      go true e = rw (holds-no x s (h (eqb-true (s .kind) filling e)))
+      go false e = refl
+
+  -- slot by slot, as a loop that stores does it (Map)
+  pub started-map : (x : ℕ) (ss : List (Slot A)) → started p x ss ≡ mapFrom (λ i s. startedSlot p x s) 0 ss
+  unfolding started
+  started-map x ss = sym (mapFrom-map (startedSlot p x) 0 ss)
+
+  pub started-at : (x : ℕ) (ss : List (Slot A)) (i : ℕ) → at p (started p x ss) i ≡ startedSlot p x (at p ss i)
+  unfolding started startedSlot
+  started-at x ss i = List·getD-map (startedSlot p x) ss i (freeSlot p)
+
+  pub started-length : (x : ℕ) (ss : List (Slot A)) → length (started p x ss) ≡ length ss
+  unfolding started
+  started-length x ss = length-map ss (startedSlot p x)
+
+  -- ---- begin: asked slots are granted in slot order
+
+  pub tries-none : (ss : List (Slot A)) → tries p ss 0 0 ≡ ss
+  unfolding tries
+  tries-none ss = refl
+
+  tries-turn : (ss : List (Slot A)) (i k : ℕ) → tries p ss i (suc k) ≡ tried p (tries p ss i k) (i + k)
+  unfolding tries
+  tries-turn ss i zero = ap (tried p ss) (omega arith)
+  tries-turn ss i (suc k) = tries-turn (tried p ss i) (suc i) k ∙ ap (tried p (tries p (tried p ss i) (suc i) k)) (omega arith)
+
+  -- one turn tries slot i over what the slots before it left
+  pub tries-next : (ss : List (Slot A)) (i : ℕ) → tries p ss 0 (i + 1) ≡ tried p (tries p ss 0 i) i
+  tries-next ss i = ap (tries p ss 0) (add-one i) ∙ tries-turn ss 0 i ∙ ap (tried p (tries p ss 0 i)) (omega arith)
+
+  -- a slot that does not ask, one that has to wait, and one that is granted
+  pub tried-other : (ss : List (Slot A)) (i : ℕ) → at p ss i .kind ≢ waiting → tried p ss i ≡ ss
+  unfolding tried grantable
+  tried-other ss i k = rw (ne-eqb (at p ss i .kind) waiting k)
+
+  pub tried-waits : (ss : List (Slot A)) (i : ℕ) → playersHold p (lowWater p (leads p ss + p .lead (at p ss i .next))) ss ≡ false → tried p ss i ≡ ss
+  unfolding tried grantable
+  tried-waits ss i h = rw h (go (eqb (at p ss i .kind) waiting))
+    where
+      go : (t : Bool) → grantBy p (t && false) ss i ≡ ss
+      go true = refl
+      go false = refl
+
+  pub tried-granted : (ss : List (Slot A)) (i : ℕ) → at p ss i .kind ≡ waiting
+      → playersHold p (lowWater p (leads p ss + p .lead (at p ss i .next))) ss ≡ true → tried p ss i ≡ granted p ss i
+  unfolding tried grantable
+  tried-granted ss i k h = rw (eq-eqb (at p ss i .kind) waiting k, h)
+
+  -- a try changes its own slot alone
+  pub tried-at : (ss : List (Slot A)) (i j : ℕ) → j ≢ i → at p (tried p ss i) j ≡ at p ss j
+  unfolding tried granted
+  tried-at ss i j n = go (grantable p ss i)
+    where
+      go : (t : Bool) → at p (grantBy p t ss i) j ≡ at p ss j
+      go true = getD-set-other ss i j _ (freeSlot p) n
+      go false = refl
+
+  tries-outside : (ss : List (Slot A)) (i k j : ℕ) → (i ≤ j → i + k ≤ j) → at p (tries p ss i k) j ≡ at p ss j
+  unfolding tries
+  tries-outside ss i zero j h = refl
+  tries-outside ss i (suc k) j h = tries-outside (tried p ss i) (suc i) k j (λ l. omega (arith, h (omega arith))) ∙ tried-at ss i j (λ e. omega (arith, h (omega arith)))
+
+  -- the slots from i on are as they were
+  pub tries-past : (ss : List (Slot A)) (i j : ℕ) → i ≤ j → at p (tries p ss 0 i) j ≡ at p ss j
+  tries-past ss i j h = tries-outside ss 0 i j (λ l. omega arith)
+
+  pub tried-length : (ss : List (Slot A)) (i : ℕ) → length (tried p ss i) ≡ length ss
+  unfolding tried granted
+  tried-length ss i = go (grantable p ss i)
+    where
+      go : (t : Bool) → length (grantBy p t ss i) ≡ length ss
+      go true = length-set ss i _
+      go false = refl
+
+  pub tries-length : (ss : List (Slot A)) (i k : ℕ) → length (tries p ss i k) ≡ length ss
+  unfolding tries
+  tries-length ss i zero = refl
+  tries-length ss i (suc k) = tries-length (tried p ss i) (suc i) k ∙ tried-length ss i
+
+  -- granting changes no playing slot, so the test and the least may be taken before the loop
+  granted-players : (x : ℕ) (ss : List (Slot A)) (i : ℕ) → at p ss i .kind ≡ waiting → playersHold p x (granted p ss i) ≡ playersHold p x ss
+  unfolding playersHold allBy granted
+  granted-players x [] i k = refl
+  granted-players x (s ∷ ss) zero k = rw k
+  granted-players x (s ∷ ss) (suc i) k = ap (λ (t : Bool). implies (eqb (s .kind) playing) (holds p x s) && t) (granted-players x ss i k)
+
+  tried-players : (x : ℕ) (ss : List (Slot A)) (i : ℕ) → playersHold p x (tried p ss i) ≡ playersHold p x ss
+  unfolding tried grantable
+  tried-players x ss i = go (eqb (at p ss i .kind) waiting) refl (playersHold p (lowWater p (leads p ss + p .lead (at p ss i .next))) ss)
+    where
+      go : (t : Bool) → eqb (at p ss i .kind) waiting ≡ t → (u : Bool) → playersHold p x (grantBy p (t && u) ss i) ≡ playersHold p x ss
+      go true e true = granted-players x ss i (eqb-true (at p ss i .kind) waiting e)
+      go true e false = refl
+      go false e u = refl
+
+  pub tries-players : (x : ℕ) (ss : List (Slot A)) (i k : ℕ) → playersHold p x (tries p ss i k) ≡ playersHold p x ss
+  unfolding tries
+  tries-players x ss i zero = refl
+  tries-players x ss i (suc k) = tries-players x (tried p ss i) (suc i) k ∙ tried-players x ss i
+
+  -- slot i is granted where it asks and every playing slot holds the mark of the leads so far and its own
+  pub grantable-at : (ss : List (Slot A)) (i : ℕ)
+      → grantable p (tries p ss 0 i) i ≡ (eqb (at p ss i .kind) waiting && playersHold p (lowWater p (leads p (tries p ss 0 i) + p .lead (at p ss i .next))) ss)
+  unfolding grantable
+  grantable-at ss i = rw (tries-past ss i i (omega arith), tries-players (lowWater p (leads p (tries p ss 0 i) + p .lead (at p ss i .next))) ss 0 i)
+
+  tried-self : (ss : List (Slot A)) (i : ℕ) → i < length ss
+      → at p (tried p ss i) i ≡ cond (grantable p ss i) (fillingSlot p (at p ss i)) (at p ss i)
+  unfolding tried granted
+  tried-self ss i l = go (grantable p ss i)
+    where
+      go : (t : Bool) → at p (grantBy p t ss i) i ≡ cond t (fillingSlot p (at p ss i)) (at p ss i)
+      go true = getD-set-same ss i _ (freeSlot p) l
+      go false = refl
+
+  -- slot i after all tries
+  pub tries-at : (ss : List (Slot A)) (k i : ℕ) → i < k → i < length ss
+      → at p (tries p ss 0 k) i ≡ cond (grantable p (tries p ss 0 i) i) (fillingSlot p (at p ss i)) (at p ss i)
+  tries-at ss zero i h l = absurd (omega arith)
+  tries-at ss (suc k) i h l = ap (λ (r : List (Slot A)). at p r i) (tries-turn ss 0 k) ∙ go (ℕ-discrete i (0 + k)) (λ u. tries-at ss k i u l)
+    where
+      go : Dec (i ≡ 0 + k) → (i < k → at p (tries p ss 0 k) i ≡ cond (grantable p (tries p ss 0 i) i) (fillingSlot p (at p ss i)) (at p ss i))
+          → at p (tried p (tries p ss 0 k) (0 + k)) i ≡ cond (grantable p (tries p ss 0 i) i) (fillingSlot p (at p ss i)) (at p ss i)
+      go (yes e) ih =
+          let q : k ≡ i = omega arith in
+          rw (sym e, q)
+          (tried-self (tries p ss 0 i) i (omega (arith, tries-length ss 0 i))
+          ∙ ap (λ (s : Slot A). cond (grantable p (tries p ss 0 i) i) (fillingSlot p s) s) (tries-past ss i i (omega arith)))
+      go (no n) ih = tried-at (tries p ss 0 k) (0 + k) i n ∙ ih (omega arith)
