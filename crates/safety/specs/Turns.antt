@@ -9,22 +9,26 @@ use mathlib.Core.List.{List, [], _∷_, _++_, map}
 use native.Mathlib.Omega.{arith}
 use native.Mathlib.Decide.{ℕ-discrete, decLt}
 use native.Mathlib.Numerals.{add-one}
-use lib.ListN.{length, getD, set, take, drop, length-set, length-map, List·getD-map}
+use lib.ListN.{length, getD, set, take, drop, length-set, length-map, List·getD-map, List·getD-eq-default}
 use lib.Seq.{getD-set-same, getD-set-other, take-length}
 use lib.Dec.{leb, ltb, eqb}
 use borrow.Author.Tests.{leb-true, leb-false, eqb-true, eqb-false, eq-eqb, ne-eqb, lt-ltb, le-ltb, le-leb, lt-leb}
 use Rattle.laws.specs.Bools.{bit, bit-le, implies, implied, implies-of, clash, is-false, bool-ext, and-left, and-right, and-both}
 use Rattle.laws.specs.Map.{mapFrom}
 use Rattle.laws.specs.Runs.{sumBy, allBy, all-at}
-use Rattle.laws.specs.Sums.{sum-none, sum-next, sum-all, sum-top}
+use Rattle.laws.specs.Sums.{sum-none, sum-next, sum-all, sum-top, sum-rest}
+use Rattle.laws.specs.Each.{each-at, each-by}
 use Rattle.laws.specs.Places.{length-mapFrom, mapFrom-at, mapFrom-map, allFrom, lowestFrom, all-passed, first-failed}
-use Rattle.safety.specs.Supply.{Supply}
+use Rattle.safety.specs.Supply.{Supply, Named}
 use Rattle.safety.specs.Scheduler.{Slot, Entry, free, waiting, filling, playing, draining, freeSlot, waitingSlot, at}
 use Rattle.safety.specs.Scheduler.{reads, leadOf, leads, lowWater, holds, joined, left, playingSlot, fillingSlot, startBy, startedSlot, started, playersHold}
 use Rattle.safety.specs.Scheduler.{grantable, granted, grantBy, tried, tries, begun, isFetched, timeOf, times, fetchCount, bound}
 use Rattle.safety.specs.Scheduler.{sweptBy, releaseBy, released, endedSlot, ended, mostDrawn, drawLimit}
+use Rattle.safety.specs.Order.{Scheduler, Order}
+use Rattle.safety.specs.Sound.{soundSlot, sound, Good, good-free, FreeFrom, Sound, good-of-sound, sound-of-good, sound-says, says-sound}
 use Rattle.safety.specs.Refusals.{drawAllowed, drawHeld}
-use Rattle.safety.specs.Orderly.{idle-lead, reading-lead}
+use Rattle.safety.specs.Orderly.{reading-lead}
+use Rattle.safety.specs.BySlot.{granted-leads}
 
 module _ {A : Type 0} (p : Supply A) where
   -- ---- a slot by its numbers
@@ -212,6 +216,29 @@ module _ {A : Type 0} (p : Supply A) where
       go true r = both (s .buffered) r
       go false r = refl
 
+  -- ---- where the slots from m on are free, the loops above may stop at m
+
+  module _ (m : ℕ) (ss : List (Slot A)) (u : FreeFrom p m ss) where
+    pub leads-rest : leads p (take m ss) ≡ leads p ss
+    unfolding leads
+    leads-rest = sum-rest (leadOf p) (freeSlot p) m ss (λ j l h. other-lead (at p ss j) (λ a b. omega (arith, u j l)))
+
+    pub times-rest : times p (take m ss) ≡ times p ss
+    unfolding times
+    times-rest = sum-rest (timeOf p) (freeSlot p) m ss (λ j l h. unfetched-time (at p ss j) (fetched-other (at p ss j) (λ a b. omega (arith, u j l))))
+
+    pub count-rest : fetchCount p (take m ss) ≡ fetchCount p ss
+    unfolding fetchCount
+    count-rest = sum-rest (λ s. bit (isFetched p s)) (freeSlot p) m ss (λ j l h. ap bit (fetched-other (at p ss j) (λ a b. omega (arith, u j l))))
+
+  pub least-rest : (top m : ℕ) (ss : List (Slot A)) → FreeFrom p m ss → leastHeld top (take m ss) ≡ leastHeld top ss
+  unfolding leastHeld
+  least-rest top zero [] u = refl
+  least-rest top (suc m) [] u = refl
+  least-rest top zero (s ∷ ss) u = rw (u 0 (omega arith)) (least-rest top zero ss (λ i l. u (suc i) (omega arith)))
+  least-rest top (suc m) (s ∷ ss) u =
+      ap (λ (r : ℕ). cond (eqb (s .kind) playing) (min (s .buffered) r) r) (least-rest top m ss (λ i l. u (suc i) (omega arith)))
+
   -- ---- begin: filling slots start to play, x being the mark
 
   pub starts-playing : (x : ℕ) (s : Slot A) → s .kind ≡ filling → x ≤ 2000000 * s .buffered
@@ -354,3 +381,233 @@ module _ {A : Type 0} (p : Supply A) where
           (tried-self (tries p ss 0 i) i (omega (arith, tries-length ss 0 i))
           ∙ ap (λ (s : Slot A). cond (grantable p (tries p ss 0 i) i) (fillingSlot p s) s) (tries-past ss i i (omega arith)))
       go (no n) ih = tried-at (tries p ss 0 k) (0 + k) i n ∙ ih (omega arith)
+
+  -- one turn of the loop, over the slots as they were before it: L is the running sum of the leads
+  pub tries-other : (ss : List (Slot A)) (i : ℕ) → at p ss i .kind ≢ waiting → tries p ss 0 (i + 1) ≡ tries p ss 0 i
+  tries-other ss i k = tries-next ss i ∙ tried-other (tries p ss 0 i) i (λ e. k (ap (λ (s : Slot A). s .kind) (sym (tries-past ss i i (omega arith))) ∙ e))
+
+  pub tries-waits : (ss : List (Slot A)) (i L : ℕ) → L ≡ leads p (tries p ss 0 i) → playersHold p (lowWater p (L + p .lead (at p ss i .next))) ss ≡ false
+      → tries p ss 0 (i + 1) ≡ tries p ss 0 i
+  tries-waits ss i L q h =
+      tries-next ss i
+      ∙ tried-waits (tries p ss 0 i) i
+      (rw (tries-past ss i i (omega arith), tries-players (lowWater p (leads p (tries p ss 0 i) + p .lead (at p ss i .next))) ss 0 i) (rw q at h))
+
+  pub tries-granted : (ss : List (Slot A)) (i L : ℕ) → L ≡ leads p (tries p ss 0 i) → at p ss i .kind ≡ waiting
+      → playersHold p (lowWater p (L + p .lead (at p ss i .next))) ss ≡ true
+      → (tries p ss 0 (i + 1) ≡ set (tries p ss 0 i) i (fillingSlot p (at p ss i))) × (L + p .lead (at p ss i .next) ≡ leads p (tries p ss 0 (i + 1)))
+  unfolding granted
+  tries-granted ss i L q k h =
+      let ts = tries p ss 0 i in
+      let same = tries-past ss i i (omega arith) in
+      let asks : at p ts i .kind ≡ waiting = ap (λ (s : Slot A). s .kind) same ∙ k in
+      let e : tries p ss 0 (i + 1) ≡ granted p ts i =
+          tries-next ss i
+          ∙ tried-granted ts i asks (rw (same, tries-players (lowWater p (leads p ts + p .lead (at p ss i .next))) ss 0 i) (rw q at h))
+      in (
+        e ∙ ap (λ (s : Slot A). set ts i (fillingSlot p s)) same,
+        ap (λ (m : ℕ). m + p .lead (at p ss i .next)) q ∙ ap (λ (s : Slot A). leads p ts + p .lead (s .next)) (sym same) ∙ sym (granted-leads p ts i asks) ∙ ap (leads p) (sym e),
+      )
+
+  -- the loop may stop where nobody asks any more
+  pub tries-rest : (ss : List (Slot A)) (i k : ℕ) → ((j : ℕ) → i ≤ j → at p ss j .kind ≢ waiting) → tries p ss 0 (i + k) ≡ tries p ss 0 i
+  tries-rest ss i zero h = ap (tries p ss 0) (omega arith)
+  tries-rest ss i (suc k) h =
+      ap (tries p ss 0) (shift i k) ∙ tries-other ss (i + k) (h (i + k) (omega arith)) ∙ tries-rest ss i k h
+    where
+      shift : (a b : ℕ) → a + suc b ≡ a + b + 1
+      shift a b = omega arith
+
+  -- ---- end
+
+  pub ended-at : (ss : List (Slot A)) (ds : List ℕ) (i : ℕ) → i < length ss → at p (ended p ss ds) i ≡ endedSlot p (at p ss i) (getD ds i 0)
+  unfolding ended
+  ended-at ss ds i l = mapFrom-at (λ j s. endedSlot p s (getD ds j 0)) ss i (freeSlot p) l
+
+  pub ended-length : (ss : List (Slot A)) (ds : List ℕ) → length (ended p ss ds) ≡ length ss
+  unfolding ended
+  ended-length ss ds = length-mapFrom (λ j s. endedSlot p s (getD ds j 0)) 0 ss
+
+  -- a slot that was fetched for, with a block left or none
+  pub ended-fetched : (s : Slot A) (d : ℕ) → 2 ≤ s .kind → s .kind ≤ 3 → s .buffered + p .B ≤ p .buffer → p .isEnd (p .next (s .next)) ≡ false
+      → endedSlot p s d ≡ record { kind = s .kind; next = p .next (s .next); buffered = s .buffered - d + p .B }
+  unfolding endedSlot sweptBy released
+  ended-fetched s d k l r e = rw (fetched-yes s k l r, e, ne-eqb (s .kind) draining (λ z. omega arith))
+
+  pub ended-last : (s : Slot A) (d : ℕ) → 2 ≤ s .kind → s .kind ≤ 3 → s .buffered + p .B ≤ p .buffer → p .isEnd (p .next (s .next)) ≡ true → 0 < p .B
+      → endedSlot p s d ≡ record { kind = draining; next = p .next (s .next); buffered = s .buffered - d + p .B }
+  unfolding endedSlot sweptBy released
+  ended-last s d k l r e h = rw (fetched-yes s k l r, e, ne-eqb (s .buffered - d + p .B) 0 (λ z. omega arith))
+
+  -- one that was not: a tail that comes to 0, and any other
+  pub ended-empty : (s : Slot A) (d : ℕ) → s .kind ≡ draining → s .buffered ≤ d → endedSlot p s d ≡ freeSlot p
+  unfolding endedSlot sweptBy released
+  ended-empty s d k h = let z : s .buffered - d ≡ 0 = omega arith in rw (fetched-other s (λ a b. omega arith), k, z)
+
+  pub ended-other : (s : Slot A) (d : ℕ) → isFetched p s ≡ false → (s .kind ≡ draining → d < s .buffered)
+      → endedSlot p s d ≡ record { kind = s .kind; next = s .next; buffered = s .buffered - d }
+  unfolding endedSlot sweptBy released
+  ended-other s d f h = rw f (go (eqb (s .kind) draining) refl)
+    where
+      go : (t : Bool) → eqb (s .kind) draining ≡ t
+          → releaseBy p (t && eqb (s .buffered - d) 0) (record { kind = s .kind; next = s .next; buffered = s .buffered - d }) ≡ record { kind = s .kind; next = s .next; buffered = s .buffered - d }
+      go true e = rw (ne-eqb (s .buffered - d) 0 (λ z. omega (arith, h (eqb-true (s .kind) draining e))))
+      go false e = refl
+
+  -- a free slot with no draw stays as it is
+  pub ended-free : (s : Slot A) → s .kind ≡ free → endedSlot p s 0 ≡ s
+  ended-free s k = ended-other s 0 (fetched-other s (λ a b. omega arith)) (λ z. absurd (omega arith)) ∙ λ i. record { kind = s .kind; next = s .next; buffered = whole i }
+    where
+      whole : s .buffered - 0 ≡ s .buffered
+      whole = omega arith
+
+  -- ---- draws
+
+  pub limit-player : (m : ℕ) (s : Slot A) → 3 ≤ s .kind → s .kind ≤ 4 → drawLimit p m s ≡ m
+  unfolding drawLimit
+  limit-player m s k l = by-cases (ℕ-discrete (s .kind) 3) (λ e. rw e) (λ e. let q : s .kind ≡ 4 = omega arith in rw q)
+
+  pub limit-other : (m : ℕ) (s : Slot A) → (3 ≤ s .kind → s .kind ≤ 4 → ⊥) → drawLimit p m s ≡ 0
+  unfolding drawLimit
+  limit-other m s h = rw (ne-eqb (s .kind) playing (λ e. h (omega arith) (omega arith)), ne-eqb (s .kind) draining (λ e. h (omega arith) (omega arith)))
+
+  pub allowed-yes : (m : ℕ) (ds : List ℕ) (i : ℕ) (s : Slot A) → getD ds i 0 ≤ drawLimit p m s → drawAllowed p m ds i s ≡ true
+  unfolding drawAllowed
+  allowed-yes m ds i s h = le-leb (getD ds i 0) (drawLimit p m s) h
+
+  pub allowed-no : (m : ℕ) (ds : List ℕ) (i : ℕ) (s : Slot A) → drawLimit p m s < getD ds i 0 → drawAllowed p m ds i s ≡ false
+  unfolding drawAllowed
+  allowed-no m ds i s h = lt-leb (getD ds i 0) (drawLimit p m s) h
+
+  pub held-yes : (ds : List ℕ) (i : ℕ) (s : Slot A) → getD ds i 0 ≤ s .buffered → drawHeld p ds i s ≡ true
+  unfolding drawHeld
+  held-yes ds i s h = le-leb (getD ds i 0) (s .buffered) h
+
+  pub held-no : (ds : List ℕ) (i : ℕ) (s : Slot A) → s .buffered < getD ds i 0 → drawHeld p ds i s ≡ false
+  unfolding drawHeld
+  held-no ds i s h = lt-leb (getD ds i 0) (s .buffered) h
+
+  -- the loop over the draws, to its end or to the first that fails; past the last draw all pass
+  module _ (ss : List (Slot A)) (ds : List ℕ) (m : ℕ) where
+    past-draw : (j : ℕ) → length ds ≤ j → getD ds j 0 ≡ 0
+    past-draw j l = List·getD-eq-default ds 0 l
+
+    pub draws-allowed : ((j : ℕ) → j < length ds → getD ds j 0 ≤ drawLimit p m (at p ss j)) → allFrom (drawAllowed p m ds) 0 ss ≡ true
+    draws-allowed h =
+        all-passed (drawAllowed p m ds) (freeSlot p) ss
+        (λ j l. allowed-yes m ds j (at p ss j) (by-cases (decLt j (length ds)) (λ u. h j u) (λ u. omega (arith, past-draw j (omega arith)))))
+
+    pub draw-excess : (i : ℕ) → i < length ss → ((j : ℕ) → j < i → getD ds j 0 ≤ drawLimit p m (at p ss j)) → drawLimit p m (at p ss i) < getD ds i 0
+        → (allFrom (drawAllowed p m ds) 0 ss ≡ false) × (lowestFrom (drawAllowed p m ds) 0 ss ≡ i)
+    draw-excess i l h e = first-failed (drawAllowed p m ds) (freeSlot p) ss i l (λ j u. allowed-yes m ds j (at p ss j) (h j u)) (allowed-no m ds i (at p ss i) e)
+
+    pub draws-held : ((j : ℕ) → j < length ds → getD ds j 0 ≤ at p ss j .buffered) → allFrom (drawHeld p ds) 0 ss ≡ true
+    draws-held h =
+        all-passed (drawHeld p ds) (freeSlot p) ss
+        (λ j l. held-yes ds j (at p ss j) (by-cases (decLt j (length ds)) (λ u. h j u) (λ u. omega (arith, past-draw j (omega arith)))))
+
+    pub draw-overdrawn : (i : ℕ) → i < length ss → ((j : ℕ) → j < i → getD ds j 0 ≤ at p ss j .buffered) → at p ss i .buffered < getD ds i 0
+        → (allFrom (drawHeld p ds) 0 ss ≡ false) × (lowestFrom (drawHeld p ds) 0 ss ≡ i)
+    draw-overdrawn i l h e = first-failed (drawHeld p ds) (freeSlot p) ss i l (λ j u. held-yes ds j (at p ss j) (h j u)) (held-no ds i (at p ss i) e)
+
+  -- ---- soundness
+
+  module _ (names : Named p) where
+    -- a slot by its kind
+    pub sound-free : (L : ℕ) (s : Slot A) → s .kind ≡ free → s .next ≡ p .none → s .buffered ≡ 0 → soundSlot p L s ≡ true
+    sound-free L s k x h =
+        sound-of-good p names L s
+        (record {
+          kinds = omega arith;
+          zeros = λ _. (x, h);
+          empty = λ _. h;
+          named = λ z. absurd (omega arith);
+          past = λ z. absurd (omega arith);
+          some = λ z. absurd (omega arith);
+          fits = omega arith;
+          floored = λ z. absurd (omega arith);
+        })
+
+    pub sound-waiting : (L : ℕ) (s : Slot A) → s .kind ≡ waiting → p .isBlock (s .next) ≡ true → s .buffered ≡ 0 → soundSlot p L s ≡ true
+    sound-waiting L s k x h =
+        sound-of-good p names L s
+        (record {
+          kinds = omega arith;
+          zeros = λ z. absurd (omega arith);
+          empty = λ _. h;
+          named = λ _ _. x;
+          past = λ z. absurd (omega arith);
+          some = λ z. absurd (omega arith);
+          fits = omega arith;
+          floored = λ z. absurd (omega arith);
+        })
+
+    pub sound-filling : (L : ℕ) (s : Slot A) → s .kind ≡ filling → p .isBlock (s .next) ≡ true → s .buffered ≤ p .buffer → soundSlot p L s ≡ true
+    sound-filling L s k x h =
+        sound-of-good p names L s
+        (record {
+          kinds = omega arith;
+          zeros = λ z. absurd (omega arith);
+          empty = λ z. absurd (omega arith);
+          named = λ _ _. x;
+          past = λ z. absurd (omega arith);
+          some = λ z. absurd (omega arith);
+          fits = h;
+          floored = λ z. absurd (omega arith);
+        })
+
+    pub sound-playing : (L : ℕ) (s : Slot A) → s .kind ≡ playing → p .isBlock (s .next) ≡ true → s .buffered ≤ p .buffer
+        → lowWater p L ≤ 2000000 * s .buffered → soundSlot p L s ≡ true
+    sound-playing L s k x h f =
+        sound-of-good p names L s
+        (record {
+          kinds = omega arith;
+          zeros = λ z. absurd (omega arith);
+          empty = λ z. absurd (omega arith);
+          named = λ _ _. x;
+          past = λ z. absurd (omega arith);
+          some = λ z. absurd (omega arith);
+          fits = h;
+          floored = λ _. f;
+        })
+
+    pub sound-draining : (L : ℕ) (s : Slot A) → s .kind ≡ draining → p .isEnd (s .next) ≡ true → 1 ≤ s .buffered → s .buffered ≤ p .buffer
+        → soundSlot p L s ≡ true
+    sound-draining L s k x f h =
+        sound-of-good p names L s
+        (record {
+          kinds = omega arith;
+          zeros = λ z. absurd (omega arith);
+          empty = λ z. absurd (omega arith);
+          named = λ _ z. absurd (omega arith);
+          past = λ _. x;
+          some = λ _. f;
+          fits = h;
+          floored = λ z. absurd (omega arith);
+        })
+
+    -- a slot that breaks one of the facts
+    pub unsound-slot : (L : ℕ) (s : Slot A) → (Good p L s → ⊥) → soundSlot p L s ≡ false
+    unsound-slot L s h = is-false (soundSlot p L s) (λ e. h (good-of-sound p names L s e))
+
+    -- the loop over the slots, to its end or to one that fails
+    module _ {Q : Type 0} (o : Order A Q) (d : Scheduler A Q) where
+      pub sound-yes : d .phase ≤ 1 → ((j : ℕ) → j < length (d .slots) → soundSlot p (leads p (d .slots)) (at p (d .slots) j) ≡ true)
+          → ((j : ℕ) → p .n ≤ j → j < length (d .slots) → at p (d .slots) j .kind ≡ free) → o .queueSound (d .queue) (d .slots) ≡ true → sound p o d ≡ true
+      sound-yes h g u q =
+          let ss = d .slots in
+          let L = leads p ss in
+          says-sound p names o d
+          (record {
+            phase = h;
+            slots = each-by (Good p L) ss (freeSlot p) (λ j l. good-of-sound p names L (at p ss j) (g j l));
+            unused = λ j l. by-cases (decLt j (length ss)) (u j l) (λ z. ap (λ (s : Slot A). s .kind) (List·getD-eq-default ss (freeSlot p) {n = j} (omega arith)));
+            queue = q;
+          })
+
+      pub sound-no : (Sound p o d → ⊥) → sound p o d ≡ false
+      sound-no h = is-false (sound p o d) (λ e. h (sound-says p names o d e))
+
+    -- what soundness says of slot j
+    pub sound-at : {Q : Type 0} (o : Order A Q) (d : Scheduler A Q) → Sound p o d → (j : ℕ) → Good p (leads p (d .slots)) (at p (d .slots) j)
+    sound-at o d h j = each-at (Good p (leads p (d .slots))) (d .slots) j (freeSlot p) (h .slots) (good-free p _)
