@@ -3,7 +3,7 @@
 use Prim.Native.Nat.{ℕ, zero, suc, _+_, _≤_, _<_}
 use mathlib.Core.Path.{_≡_, refl, sym, ap, _∙_, subst}
 use mathlib.Core.Bool.{Bool, true, false, _&&_}
-use mathlib.Core.List.{List, [], _∷_}
+use mathlib.Core.List.{List, [], _∷_, _++_}
 use native.Mathlib.Omega.{arith}
 use lib.ListN.{length, getD, set, replicate}
 use Rattle.laws.specs.Bools.{and-left, and-right, and-both}
@@ -35,6 +35,10 @@ module _ {A : Type 0} (Q : A → Type 0) where
   each-at [] i d h q = q
   each-at (x ∷ xs) zero d h q = h .0
   each-at (x ∷ xs) (suc i) d h q = each-at xs i d (h .1) q
+
+  pub each-append : (xs ys : List A) → Each Q xs → Each Q ys → Each Q (xs ++ ys)
+  each-append [] ys h k = k
+  each-append (x ∷ xs) ys h k = (h .0, each-append xs ys (h .1) k)
 
   -- from the fact at each place
   pub each-by : (xs : List A) (d : A) → ((i : ℕ) → i < length xs → Q (getD xs i d)) → Each Q xs

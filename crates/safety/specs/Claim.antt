@@ -6,6 +6,7 @@ use mathlib.Core.Logic.{_≢_, _↔_}
 use mathlib.Core.Bool.{Bool, true, false}
 use mathlib.Core.List.{List, [], _∷_, _++_}
 use native.Mathlib.Omega.{arith}
+use lib.ListN.{length}
 use lib.Dec.{eqb}
 use borrow.Author.Tests.{ltb-true, lt-ltb}
 use Rattle.laws.specs.Each.{each-at, both-at}
@@ -41,6 +42,7 @@ module _ {A Q : Type 0} (p : Supply A) (o : Order A Q) where
   answerAfter xs x = answer p o (refusals p o) (stateAfter xs .scheduler) x
 
   pub record Safe (xs : List (Given A)) : Type 0 where
+    pub all-slots : length (stateAfter xs .scheduler .slots) ≡ 256
     -- `the occupied slots (kinds 1 to 4) are exactly the open ones`
     pub occupied-open : (i : ℕ) → ((1 ≤ slotAfter xs i .kind) × (slotAfter xs i .kind ≤ 4)) ↔ (lineAfter xs i .isOpen ≡ true)
     -- `for each, held + drawn equals fetched × B`
@@ -104,6 +106,7 @@ module _ {A : Type 0} (p : Supply A) (ok : Lawful p) (names : Named p) where
     -- in any orderly order
     pub orderly-list-safe : (xs : List (Given A)) → Safe p o xs
     orderly-list-safe xs = record {
+      all-slots = kept xs .long;
       occupied-open = λ i. (
         λ k. line i .opens ∙ lt-ltb 0 (slotAfter p o xs i .kind) (omega (arith, k .0)),
         λ e. (ltb-true 0 (slotAfter p o xs i .kind) (sym (line i .opens) ∙ e), slot i .kinds),

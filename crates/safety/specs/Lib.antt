@@ -3,6 +3,7 @@ pub mod BySlot
 pub mod Calls
 pub mod Claim
 pub mod Floors
+pub mod Kinds
 pub mod Ledger
 pub mod Lists
 pub mod Order

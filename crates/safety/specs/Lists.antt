@@ -6,7 +6,7 @@ use mathlib.Core.Bool.{Bool, true, false}
 use mathlib.Core.List.{List, [], _∷_, _++_}
 use native.Mathlib.Omega.{arith}
 use Rattle.laws.specs.Each.{Each, Both, each-replicate, both-replicate}
-use lib.ListN.{replicate, getD}
+use lib.ListN.{length, replicate, length-replicate}
 use Rattle.safety.specs.Supply.{Supply, Lawful}
 use Rattle.safety.specs.Scheduler.{Slot, Call, join, leave, begin, end, free, playing, freeSlot, at, leads, bound, mostDrawn}
 use Rattle.safety.specs.Order.{Scheduler, Order, opened}
@@ -14,7 +14,7 @@ use Rattle.safety.specs.Sound.{Good, good-free, Sound}
 use Rattle.safety.specs.Orderly.{Orderly}
 use Rattle.safety.specs.Ledger.{Line, blank, openedLedger, recorded}
 use Rattle.safety.specs.Calls.{State, Rules, Allowed, Strict, isAccepted, accepted, opening, answerBy, answer, turn, after}
-use Rattle.safety.specs.Safety.{accepted-keeps, players-hold-draw}
+use Rattle.safety.specs.Safety.{accepted-keeps, accepted-length, players-hold-draw}
 use Rattle.safety.specs.Accounts.{Agree, agree-free, Agrees, recorded-keeps}
 
 -- a list that ends with x
@@ -26,7 +26,7 @@ after-last p o u v (y ∷ xs) x = after-last p o u (turn p o u v y) xs x
 
 module _ {A Q X : Type 0} (p : Supply A) (o : Order A Q) (u : Rules A Q X) where
   -- an answer with number 0 is the rules' own, and any other leaves all as it was
-  accepted-zero : (d : Scheduler A Q) (c : Call A) → accepted p o d c .number ≡ 0
+  pub accepted-zero : (d : Scheduler A Q) (c : Call A) → accepted p o d c .number ≡ 0
   unfolding accepted
   accepted-zero d (join i b) = refl
   accepted-zero d (leave i) = refl
@@ -69,12 +69,14 @@ module _ {A Q X : Type 0} (p : Supply A) (o : Order A Q) (u : Rules A Q X) where
 
 module _ {A Q : Type 0} (p : Supply A) (ok : Lawful p) (o : Order A Q) (fair : Orderly p o) where
   pub record InStep (v : State A Q) : Type 0 where
+    pub long : length (v .scheduler .slots) ≡ 256
     pub sound : Sound p o (v .scheduler)
     pub agrees : Agrees p ok o fair (v .scheduler) (v .ledger)
 
   pub opening-in-step : InStep (opening p o)
   unfolding opening opened openedLedger
   opening-in-step = record {
+    long = length-replicate 256 (freeSlot p);
     sound = record {
       phase = omega arith;
       slots = each-replicate (Good p (leads p (replicate 256 (freeSlot p)))) 256 (freeSlot p) (good-free p _);
@@ -102,6 +104,7 @@ module _ {A Q : Type 0} (p : Supply A) (ok : Lawful p) (o : Order A Q) (fair : O
             let c : Call A = u .move x in
             let a = us .strict d x e in
             record {
+              long = accepted-length p ok o fair d c (h .sound) ∙ h .long;
               sound = accepted-keeps p ok o fair d c (h .sound) a;
               agrees = subst (λ (t : Bool). Agrees p ok o fair (accepted p o d c .scheduler) (recorded (p .B) (v .ledger) c t (accepted p o d c .entries)))
                   (sym (ap isAccepted (accepted-zero p o u d c))) (recorded-keeps p ok o fair d c (v .ledger) (h .sound) a (h .agrees));

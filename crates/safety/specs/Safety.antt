@@ -8,15 +8,15 @@ use mathlib.Core.List.{List, [], _∷_}
 use native.Mathlib.Omega.{arith}
 use native.Mathlib.Decide.{decLt}
 use native.Mathlib.Nat.{pos-of-ne-zero, mul-le-mul-left}
-use lib.ListN.{length, getD, set}
+use lib.ListN.{length, getD, set, length-set}
 use lib.Seq.{getD-set-other}
 use lib.Dec.{leb, ltb, eqb}
 use borrow.Author.Tests.{leb-true, leb-false, eqb-true, eq-eqb, ne-eqb}
 use Rattle.laws.specs.Bools.{bit, bit-le, clash, and-left, and-right, and-both, or-cases, cond-le}
 use Rattle.laws.specs.Map.{mapFrom}
 use Rattle.laws.specs.Runs.{sumBy}
-use Rattle.laws.specs.Each.{Each, EachFrom, Both, each-set, each-map, both-at}
-use Rattle.laws.specs.Places.{allFrom, each-of-allFrom}
+use Rattle.laws.specs.Each.{Each, EachFrom, Both, each-set, each-map, both-at, both-length}
+use Rattle.laws.specs.Places.{allFrom, length-mapFrom}
 use Rattle.safety.specs.Supply.{Supply, Lawful}
 use Rattle.safety.specs.Scheduler.{Slot, Call, join, leave, begin, end, free, waiting, filling, playing, draining, freeSlot, waitingSlot, at}
 use Rattle.safety.specs.Scheduler.{reads, leadOf, leads, lowWater, joined, left, isFetched, timeOf, times, fetchCount, bound}
@@ -392,3 +392,11 @@ module _ {A : Type 0} (p : Supply A) where
             unused = free-ended (p .n) 0 ss ds (h .unused);
             queue = fair .queue-ended (d .queue) ss (ended p ss ds) (ended-waits 0 ss ds) (h .queue);
           }
+
+      -- and all its slots
+      pub accepted-length : (d : Scheduler A Q) (c : Call A) → Sound p o d → length (accepted p o d c .scheduler .slots) ≡ length (d .slots)
+      unfolding accepted joined left ended
+      accepted-length d (join i b) h = length-set (d .slots) i (waitingSlot p b)
+      accepted-length d (leave i) h = length-set (d .slots) i (freeSlot p)
+      accepted-length d begin h = both-length Kept (d .slots) _ (fair .began (d .queue) (d .slots) (h .slots) .kept)
+      accepted-length d (end ds) h = length-mapFrom (λ j s. endedSlot p s (getD ds j 0)) 0 (d .slots)

@@ -300,6 +300,17 @@ module _ {A : Type 0} (p : Supply A) where
   unfolding tried grantable
   tried-granted ss i k h = rw (eq-eqb (at p ss i .kind) waiting k, h)
 
+  -- a grant adds the slot's lead
+  pub tried-leads : (ss : List (Slot A)) (i : ℕ) → leads p (tried p ss i) ≡ leads p ss + cond (grantable p ss i) (p .lead (at p ss i .next)) 0
+  unfolding tried grantable
+  tried-leads ss i = go (eqb (at p ss i .kind) waiting) refl (playersHold p (lowWater p (leads p ss + p .lead (at p ss i .next))) ss)
+    where
+      go : (t : Bool) → eqb (at p ss i .kind) waiting ≡ t → (u : Bool)
+          → leads p (grantBy p (t && u) ss i) ≡ leads p ss + cond (t && u) (p .lead (at p ss i .next)) 0
+      go true e true = granted-leads p ss i (eqb-true (at p ss i .kind) waiting e)
+      go true e false = omega arith
+      go false e u = omega arith
+
   -- a try changes its own slot alone
   pub tried-at : (ss : List (Slot A)) (i j : ℕ) → j ≢ i → at p (tried p ss i) j ≡ at p ss j
   unfolding tried granted
