@@ -1,32 +1,32 @@
 -- The claim of document 01 about every list of calls, for every lawful supply.
 -- Assumes nothing.
-use Prim.Native.Nat.{ℕ, _+_, _*_, _/_, _≤_, _<_}
+use Prim.Native.Nat.{ℕ, zero, suc, _+_, _*_, _/_, _≤_, _<_}
 use mathlib.Core.Path.{_≡_, refl, sym, ap, _∙_, subst}
 use mathlib.Core.Logic.{_≢_, _↔_}
-use mathlib.Core.Bool.{Bool, true, false}
+use mathlib.Core.Bool.{Bool, true, false, cond}
 use mathlib.Core.List.{List, [], _∷_, _++_}
 use native.Mathlib.Omega.{arith}
-use lib.ListN.{length}
+use lib.ListN.{length, replicate}
 use lib.Dec.{eqb}
 use borrow.Author.Tests.{ltb-true, lt-ltb}
 use Rattle.laws.specs.Each.{each-at, both-at}
 use Rattle.safety.specs.Supply.{Supply, Lawful, Named}
-use Rattle.safety.specs.Scheduler.{Slot, begin, playing, draining, freeSlot, at, leads}
-use Rattle.safety.specs.Order.{Scheduler, Order, bySlot}
+use Rattle.safety.specs.Scheduler.{Slot, Call, begin, free, playing, freeSlot, at, leads}
+use Rattle.safety.specs.Order.{Scheduler, Order, bySlot, opened}
 use Rattle.safety.specs.Sound.{sound, Good, good-free, sound-says, says-sound}
 use Rattle.safety.specs.Orderly.{Orderly}
 use Rattle.safety.specs.BySlot.{bySlot-orderly}
 use Rattle.safety.specs.Refusals.{verdict}
 use Rattle.safety.specs.Ledger.{Line, blank, lineAt}
-use Rattle.safety.specs.Calls.{Given, Answer, State, refusals, accepted, opening, answer, turn, after}
+use Rattle.safety.specs.Calls.{Given, Answer, State, isAccepted, refusals, accepted, opening, answerBy, answer, turn, after}
 use Rattle.safety.specs.Safety.{accepted-keeps}
 use Rattle.safety.specs.Accounts.{Agree, agree-free}
+use Rattle.safety.specs.Kinds.{kindAfter, kinds-by-rules}
 use Rattle.safety.specs.Verdicts.{refusals-strict, accepted-was-sound, sound-never-unsound}
-use Rattle.safety.specs.Lists.{InStep, after-last, answer-number, answer-accepted, verdict-zero, every-list-in-step, sweep-starts}
+use Rattle.safety.specs.Lists.{InStep, accepted-zero, after-last, answer-number, answer-accepted, verdict-zero, every-list-in-step, sweep-starts}
 
 module _ {A Q : Type 0} (p : Supply A) (o : Order A Q) where
-  -- the scheduler and the ledger after a list from the opening. The scheduler is the one that the rules of Scheduler give over the same
-  -- list, and so is each slot's kind (Kinds says which it is, call by call)
+  -- the scheduler and the ledger after a list from the opening
   abbrev pub stateAfter : List (Given A) → State A Q
   stateAfter xs = after p o (refusals p o) (opening p o) xs
 
@@ -41,8 +41,11 @@ module _ {A Q : Type 0} (p : Supply A) (o : Order A Q) where
   abbrev pub answerAfter : List (Given A) → Given A → Answer A Q
   answerAfter xs x = answer p o (refusals p o) (stateAfter xs .scheduler) x
 
-  pub record Safe (xs : List (Given A)) : Type 0 where
+  -- the rule gives the kind of a slot after an accepted call
+  pub record Safe (rule : Scheduler A Q → Call A → ℕ → ℕ) (xs : List (Given A)) : Type 0 where
+    -- `a desk has 256 slots, all free at the start`
     pub all-slots : length (stateAfter xs .scheduler .slots) ≡ 256
+    pub opens-free : (i : ℕ) → slotAfter [] i .kind ≡ free
     -- `the occupied slots (kinds 1 to 4) are exactly the open ones`
     pub occupied-open : (i : ℕ) → ((1 ≤ slotAfter xs i .kind) × (slotAfter xs i .kind ≤ 4)) ↔ (lineAfter xs i .isOpen ≡ true)
     -- `for each, held + drawn equals fetched × B`
@@ -54,6 +57,9 @@ module _ {A Q : Type 0} (p : Supply A) (o : Order A Q) where
     -- down, with the bound it answered`
     pub starts-full : (ys : List (Given A)) (x : Given A) → xs ≡ ys ++ (x ∷ []) → x .call ≡ begin → answerAfter ys x .number ≡ 0
         → (i : ℕ) → slotAfter xs i .kind ≡ playing → p .c * answerAfter ys x .bound / 1000000 ≤ slotAfter xs i .buffered
+    -- `each slot's kind is the one that the desk's rules give over the same list`: a refused call leaves it
+    pub ruled : (ys : List (Given A)) (x : Given A) → xs ≡ ys ++ (x ∷ []) → (i : ℕ) → i < 256
+        → slotAfter xs i .kind ≡ cond (isAccepted (answerAfter ys x .number)) (rule (stateAfter ys .scheduler) (x .call) i) (slotAfter ys i .kind)
     -- the record is sound, so that a call with fair lists is never answered 14
     pub stays-sound : sound p o (stateAfter xs .scheduler) ≡ true
     pub never-unsound : (x : Given A) → x .fair ≡ true → answerAfter xs x .number ≢ 14
@@ -103,9 +109,47 @@ module _ {A : Type 0} (p : Supply A) (ok : Lawful p) (names : Named p) where
         sound-never-unsound p names o d (x .room) (x .call) (whole xs)
         (subst (λ (t : Bool). verdict p o d t (x .room) (x .call) .number ≡ 14) f (sym (answer-number p o (refusals p o) d x) ∙ e))
 
-    -- in any orderly order
-    pub orderly-list-safe : (xs : List (Given A)) → Safe p o xs
-    orderly-list-safe xs = record {
+    abbrev Ruled : (Scheduler A Q → Call A → ℕ → ℕ) → List (Given A) → Given A → List (Given A) → Type 0
+    Ruled rule ys x xs =
+        (i : ℕ) → i < 256
+        → slotAfter p o xs i .kind ≡ cond (isAccepted (answerAfter p o ys x .number)) (rule (stateAfter p o ys .scheduler) (x .call) i) (slotAfter p o ys i .kind)
+
+    -- k is the kind of slot i if the call is accepted
+    answer-kind : (d : Scheduler A Q) (x : Given A) (i k : ℕ) → at p (accepted p o d (x .call) .scheduler .slots) i .kind ≡ k
+        → (let a = answer p o (refusals p o) d x in at p (a .scheduler .slots) i .kind ≡ cond (isAccepted (a .number)) k (at p (d .slots) i .kind))
+    unfolding answer refusals
+    answer-kind d x i k h = go (verdict p o d (x .fair) (x .room) (x .call) .number)
+      where
+        go : (m : ℕ)
+            → (let a = answerBy p o (refusals p o) m (verdict p o d (x .fair) (x .room) (x .call) .place) d x in
+               at p (a .scheduler .slots) i .kind ≡ cond (isAccepted (a .number)) k (at p (d .slots) i .kind))
+        go zero = rw (accepted-zero p o (refusals p o) d (x .call)) h
+        go (suc m) = refl
+
+    follows : (rule : Scheduler A Q → Call A → ℕ → ℕ)
+        → ((d : Scheduler A Q) (c : Call A) (i : ℕ) → i < length (d .slots) → at p (accepted p o d c .scheduler .slots) i .kind ≡ rule d c i)
+        → (ys : List (Given A)) (x : Given A) → Ruled rule ys x (ys ++ (x ∷ []))
+    unfolding turn
+    follows rule by-rule ys x i l =
+        let d = stateAfter p o ys .scheduler in
+        rw (after-last p o (refusals p o) (opening p o) ys x) (answer-kind d x i (rule d (x .call) i) (by-rule d (x .call) i (omega (arith, kept ys .long))))
+
+    all-free : (m i : ℕ) → at p (replicate m (freeSlot p)) i .kind ≡ free
+    all-free zero i = refl
+    all-free (suc m) zero = refl
+    all-free (suc m) (suc i) = all-free m i
+
+    opens : (i : ℕ) → slotAfter p o [] i .kind ≡ free
+    unfolding after opening opened
+    opens i = all-free 256 i
+
+    -- in any orderly order, with any rule that accepted calls follow
+    pub orderly-list-safe : (rule : Scheduler A Q → Call A → ℕ → ℕ)
+        → ((d : Scheduler A Q) (c : Call A) (i : ℕ) → i < length (d .slots) → at p (accepted p o d c .scheduler .slots) i .kind ≡ rule d c i)
+        → (xs : List (Given A)) → Safe p o rule xs
+    orderly-list-safe rule by-rule xs = record {
+      opens-free = opens;
+      ruled = λ ys x e. subst (Ruled rule ys x) (sym e) (follows rule by-rule ys x);
       all-slots = kept xs .long;
       occupied-open = λ i. (
         λ k. line i .opens ∙ lt-ltb 0 (slotAfter p o xs i .kind) (omega (arith, k .0)),
@@ -128,5 +172,5 @@ module _ {A : Type 0} (p : Supply A) (ok : Lawful p) (names : Named p) where
         slot i = let ss = stateAfter p o xs .scheduler .slots in each-at (Good p (leads p ss)) ss i (freeSlot p) (kept xs .sound .slots) (good-free p (leads p ss))
 
   -- EVERY LIST IS SAFE: document 01's order
-  pub every-list-safe : (xs : List (Given A)) → Safe p (bySlot p) xs
-  every-list-safe = orderly-list-safe (bySlot p) (bySlot-orderly p)
+  pub every-list-safe : (xs : List (Given A)) → Safe p (bySlot p) (kindAfter p) xs
+  every-list-safe = orderly-list-safe (bySlot p) (bySlot-orderly p) (kindAfter p) (kinds-by-rules p)

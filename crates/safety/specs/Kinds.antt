@@ -1,5 +1,4 @@
--- `Each slot's kind is the one that the desk's rules give over the same list`: the rules for one slot's kind, call by call, and that the
--- kinds after every list follow them.
+-- The kind of one slot after an accepted call, in document 01's words, and that the scheduler gives it that kind.
 -- Assumes nothing.
 use Prim.Native.Nat.{ℕ, zero, suc, _+_, _-_, _≤_, _<_}
 use mathlib.Core.Path.{_≡_, refl, sym, ap, _∙_}
@@ -15,17 +14,14 @@ use lib.Seq.{getD-set-same, getD-set-other}
 use lib.Dec.{leb, eqb}
 use borrow.Author.Tests.{eqb-true, eq-eqb, ne-eqb}
 use Rattle.laws.specs.Bools.{clash, and-left}
-use Rattle.safety.specs.Supply.{Supply, Lawful, Named}
+use Rattle.safety.specs.Supply.{Supply}
 use Rattle.safety.specs.Scheduler.{Slot, Call, join, leave, begin, end, free, waiting, filling, playing, draining, freeSlot, waitingSlot, fillingSlot, at}
 use Rattle.safety.specs.Scheduler.{leads, lowWater, holds, joined, left, startBy, startedSlot, started, playersHold, grantable, tries, begun, isFetched}
 use Rattle.safety.specs.Scheduler.{sweptBy, releaseBy, released, endedSlot, ended}
-use Rattle.safety.specs.Order.{Scheduler, bySlot, opened}
-use Rattle.safety.specs.Refusals.{verdict}
-use Rattle.safety.specs.Calls.{Given, isAccepted, refusals, accepted, opening, answerBy, answer, turn, after}
-use Rattle.safety.specs.BySlot.{started-leads, granted-leads, bySlot-orderly}
+use Rattle.safety.specs.Order.{Scheduler, bySlot}
+use Rattle.safety.specs.Calls.{accepted}
+use Rattle.safety.specs.BySlot.{started-leads}
 use Rattle.safety.specs.Turns.{started-at, started-length, tries-none, tries-next, tries-past, tries-at, tried-leads, grantable-at, ended-at}
-use Rattle.safety.specs.Lists.{accepted-zero, after-last}
-use Rattle.safety.specs.Claim.{stateAfter, slotAfter, answerAfter, every-list-safe}
 
 module _ {A : Type 0} (p : Supply A) where
   -- the slots after the first step of a begin: filling slots at the floor play
@@ -41,20 +37,27 @@ module _ {A : Type 0} (p : Supply A) where
   leadsAt ss zero = leads p ss
   leadsAt ss (suc i) = leadsAt ss i + cond (isGranted ss (leadsAt ss i) i) (p .lead (at p ss i .next)) 0
 
-  -- the kind of slot i after an accepted call
-  unfoldable pub kindAfter : List (Slot A) → Call A → ℕ → ℕ
-  kindAfter ss (join j b) i = cond (eqb i j) waiting (at p ss i .kind)
-  kindAfter ss (leave j) i = cond (eqb i j) free (at p ss i .kind)
-  kindAfter ss begin i =
+  -- a filling slot at the floor plays, an asked one that is granted fills
+  unfoldable pub begunKind : List (Slot A) → ℕ → ℕ
+  begunKind ss i =
       let s = at p ss i in
       cond (eqb (s .kind) filling && holds p (lowWater p (leads p ss)) s) playing
       (cond (isGranted ss (leadsAt ss i) i) filling
       (s .kind))
-  kindAfter ss (end ds) i =
-      let s = at p ss i in
+
+  -- d is the draw: a slot that reaches N becomes tail, and a tail that holds 0 becomes free
+  unfoldable pub endedKind : Slot A → ℕ → ℕ
+  endedKind s d =
       let kind = cond (isFetched p s && p .isEnd (p .next (s .next))) draining (s .kind) in
-      let buffered = s .buffered - getD ds i 0 + cond (isFetched p s) (p .B) 0 in
+      let buffered = s .buffered - d + cond (isFetched p s) (p .B) 0 in
       cond (eqb kind draining && eqb buffered 0) free kind
+
+  -- the kind of slot i after an accepted call
+  unfoldable pub kindAfter : Scheduler A (Unit {0}) → Call A → ℕ → ℕ
+  kindAfter d (join j b) i = cond (eqb i j) waiting (at p (d .slots) i .kind)
+  kindAfter d (leave j) i = cond (eqb i j) free (at p (d .slots) i .kind)
+  kindAfter d begin i = begunKind (d .slots) i
+  kindAfter d (end ds) i = endedKind (at p (d .slots) i) (getD ds i 0)
 
   -- ---- begin
 
@@ -99,8 +102,8 @@ module _ {A : Type 0} (p : Supply A) where
   unfolding isGranted
   filling-waits ss L i k = rw k
 
-  begin-kind : (ss : List (Slot A)) (i : ℕ) → i < length ss → at p (begun p ss) i .kind ≡ kindAfter ss begin i
-  unfolding begun kindAfter startedSlot
+  begin-kind : (ss : List (Slot A)) (i : ℕ) → i < length ss → at p (begun p ss) i .kind ≡ begunKind ss i
+  unfolding begun begunKind startedSlot
   begin-kind ss i l =
       let x : ℕ = lowWater p (leads p ss) in
       let ts = startedAll ss in
@@ -128,11 +131,8 @@ module _ {A : Type 0} (p : Supply A) where
       go true = refl
       go false = refl
 
-  end-kind : (s : Slot A) (d : ℕ)
-      → endedSlot p s d .kind
-      ≡ (let kind = cond (isFetched p s && p .isEnd (p .next (s .next))) draining (s .kind) in
-         cond (eqb kind draining && eqb (s .buffered - d + cond (isFetched p s) (p .B) 0) 0) free kind)
-  unfolding endedSlot sweptBy
+  end-kind : (s : Slot A) (d : ℕ) → endedSlot p s d .kind ≡ endedKind s d
+  unfolding endedSlot sweptBy endedKind
   end-kind s d = go (isFetched p s)
     where
       go : (f : Bool)
@@ -152,43 +152,9 @@ module _ {A : Type 0} (p : Supply A) where
       go (no n) = rw (ne-eqb i j n) (ap kindOf (getD-set-other ss j i a (freeSlot p) n))
 
   pub kinds-by-rules : (d : Scheduler A (Unit {0})) (c : Call A) (i : ℕ) → i < length (d .slots)
-      → at p (accepted p (bySlot p) d c .scheduler .slots) i .kind ≡ kindAfter (d .slots) c i
+      → at p (accepted p (bySlot p) d c .scheduler .slots) i .kind ≡ kindAfter d c i
   unfolding accepted joined left bySlot kindAfter
   kinds-by-rules d (join j b) i l = set-kind (d .slots) i j (waitingSlot p b) l
   kinds-by-rules d (leave j) i l = set-kind (d .slots) i j (freeSlot p) l
   kinds-by-rules d begin i l = begin-kind (d .slots) i l
   kinds-by-rules d (end ds) i l = ap kindOf (ended-at p (d .slots) ds i l) ∙ end-kind (at p (d .slots) i) (getD ds i 0)
-
-  -- of an answer: by the rules where it is accepted, and as before where not
-  answer-kind : (d : Scheduler A (Unit {0})) (x : Given A) (i : ℕ) → i < length (d .slots)
-      → (let a = answer p (bySlot p) (refusals p (bySlot p)) d x in
-         at p (a .scheduler .slots) i .kind ≡ cond (isAccepted (a .number)) (kindAfter (d .slots) (x .call) i) (at p (d .slots) i .kind))
-  unfolding answer refusals
-  answer-kind d x i l = go (verdict p (bySlot p) d (x .fair) (x .room) (x .call) .number)
-    where
-      go : (k : ℕ)
-          → (let a = answerBy p (bySlot p) (refusals p (bySlot p)) k (verdict p (bySlot p) d (x .fair) (x .room) (x .call) .place) d x in
-             at p (a .scheduler .slots) i .kind ≡ cond (isAccepted (a .number)) (kindAfter (d .slots) (x .call) i) (at p (d .slots) i .kind))
-      go zero = rw (accepted-zero p (bySlot p) (refusals p (bySlot p)) d (x .call)) (kinds-by-rules d (x .call) i l)
-      go (suc k) = refl
-
-  -- ---- AND SO AFTER EVERY LIST
-
-  -- all free at the opening
-  pub kinds-at-opening : (i : ℕ) → slotAfter p (bySlot p) [] i .kind ≡ free
-  unfolding after opening opened
-  kinds-at-opening i = go 256 i
-    where
-      go : (m i : ℕ) → at p (replicate m (freeSlot p)) i .kind ≡ free
-      go zero i = refl
-      go (suc m) zero = refl
-      go (suc m) (suc i) = go m i
-
-  -- after one more call: by the rules where it is accepted, and as before where not
-  pub kinds-follow : Lawful p → Named p → (xs : List (Given A)) (x : Given A) (i : ℕ) → i < 256
-      → slotAfter p (bySlot p) (xs ++ (x ∷ [])) i .kind
-      ≡ cond (isAccepted (answerAfter p (bySlot p) xs x .number)) (kindAfter (stateAfter p (bySlot p) xs .scheduler .slots) (x .call) i) (slotAfter p (bySlot p) xs i .kind)
-  unfolding turn
-  kinds-follow ok names xs x i l =
-      rw (after-last p (bySlot p) (refusals p (bySlot p)) (opening p (bySlot p)) xs x)
-      (answer-kind (stateAfter p (bySlot p) xs .scheduler) x i (omega (arith, every-list-safe p ok names xs .all-slots)))
