@@ -122,7 +122,7 @@ module _ {A : Type 0} (p : Supply A) (ok : Lawful p) (names : Named p) where
       where
         go : (m : ℕ)
             → (let a = answerBy p o (refusals p o) m (verdict p o d (x .fair) (x .room) (x .call) .place) d x in
-               at p (a .scheduler .slots) i .kind ≡ cond (isAccepted (a .number)) k (at p (d .slots) i .kind))
+            at p (a .scheduler .slots) i .kind ≡ cond (isAccepted (a .number)) k (at p (d .slots) i .kind))
         go zero = rw (accepted-zero p o (refusals p o) d (x .call)) h
         go (suc m) = refl
 

@@ -89,13 +89,13 @@ module _ {A : Type 0} (p : Supply A) where
       let rs = tries p ts 0 i in
       let ih = leads-so-far ss i in
       let same : at p rs i .next ≡ at p ss i .next =
-          ap (λ (s : Slot A). s .next) (tries-past p ts i i (omega arith) ∙ started-at p (lowWater p (leads p ss)) ss i) ∙ started-asks (lowWater p (leads p ss)) (at p ss i) .1
+      ap (λ (s : Slot A). s .next) (tries-past p ts i i (omega arith) ∙ started-at p (lowWater p (leads p ss)) ss i) ∙ started-asks (lowWater p (leads p ss)) (at p ss i) .1
       in
       sym (
-        ap (λ (k : ℕ). leads p (tries p ts 0 k)) (sym (add-one i))
-        ∙ ap (leads p) (tries-next p ts i)
-        ∙ tried-leads p rs i
-        ∙ rw (same, sym (granted-same ss i (leadsAt ss i) ih), sym ih)
+      ap (λ (k : ℕ). leads p (tries p ts 0 k)) (sym (add-one i))
+      ∙ ap (leads p) (tries-next p ts i)
+      ∙ tried-leads p rs i
+      ∙ rw (same, sym (granted-same ss i (leadsAt ss i) ih), sym ih)
       )
 
   filling-waits : (ss : List (Slot A)) (L i : ℕ) → at p ss i .kind ≡ filling → isGranted ss L i ≡ false
@@ -138,7 +138,7 @@ module _ {A : Type 0} (p : Supply A) where
       go : (f : Bool)
           → released p (sweptBy p f s d) .kind
           ≡ (let kind = cond (f && p .isEnd (p .next (s .next))) draining (s .kind) in
-             cond (eqb kind draining && eqb (s .buffered - d + cond f (p .B) 0) 0) free kind)
+          cond (eqb kind draining && eqb (s .buffered - d + cond f (p .B) 0) 0) free kind)
       go true = released-kind (sweptBy p true s d)
       go false = rw (add-zero (s .buffered - d)) (released-kind (sweptBy p false s d))
 

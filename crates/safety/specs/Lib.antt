@@ -1,4 +1,5 @@
 pub mod Accounts
+pub mod Arrays
 pub mod BySlot
 pub mod Calls
 pub mod Claim

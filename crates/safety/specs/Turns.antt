@@ -413,8 +413,8 @@ module _ {A : Type 0} (p : Supply A) where
       let same = tries-past ss i i (omega arith) in
       let asks : at p ts i .kind ≡ waiting = ap (λ (s : Slot A). s .kind) same ∙ k in
       let e : tries p ss 0 (i + 1) ≡ granted p ts i =
-          tries-next ss i
-          ∙ tried-granted ts i asks (rw (same, tries-players (lowWater p (leads p ts + p .lead (at p ss i .next))) ss 0 i) (rw q at h))
+      tries-next ss i
+      ∙ tried-granted ts i asks (rw (same, tries-players (lowWater p (leads p ts + p .lead (at p ss i .next))) ss 0 i) (rw q at h))
       in (
         e ∙ ap (λ (s : Slot A). set ts i (fillingSlot p s)) same,
         ap (λ (m : ℕ). m + p .lead (at p ss i .next)) q ∙ ap (λ (s : Slot A). leads p ts + p .lead (s .next)) (sym same) ∙ sym (granted-leads p ts i asks) ∙ ap (leads p) (sym e),
