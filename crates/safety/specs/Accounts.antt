@@ -1,7 +1,7 @@
 -- An accepted call keeps the ledger in step with the slots, line by line.
 -- Assumes nothing.
 use Prim.Native.Nat.{ℕ, zero, suc, _+_, _*_, _-_, _/_, _≤_, _<_}
-use mathlib.Core.Path.{_≡_, refl, sym, ap, _∙_}
+use mathlib.Core.Path.{_≡_, refl, sym, _∙_}
 use mathlib.Core.Logic.{by-cases}
 use mathlib.Core.Bool.{Bool, true, false, cond, _&&_, _||_, or-false}
 use mathlib.Core.List.{List, [], _∷_, _++_}
@@ -15,7 +15,7 @@ use Rattle.laws.specs.Bools.{bit, clash, and-left, and-right, and-both, bool-ex
 use Rattle.laws.specs.Map.{mapFrom}
 use Rattle.laws.specs.Each.{Each, Both, both-set, both-at}
 use Rattle.safety.specs.Supply.{Supply, Lawful}
-use Rattle.safety.specs.Scheduler.{Slot, Entry, Call, join, leave, begin, end, free, draining, freeSlot, waitingSlot, at}
+use Rattle.safety.specs.Scheduler.{Slot, Entry, Call, join, leave, begin, end, draining, freeSlot, waitingSlot, at}
 use Rattle.safety.specs.Scheduler.{before, insert, sorted, entriesAt, lowWater, joined, left, isFetched, entriesFrom, entries}
 use Rattle.safety.specs.Scheduler.{leads, times, fetchCount, bound, sweptBy, releaseBy, released, endedSlot, ended, mostDrawn}
 use Rattle.safety.specs.Order.{Scheduler, Order}
@@ -271,11 +271,11 @@ module _ {A : Type 0} (p : Supply A) where
         → (Agree false (at p ss i) (lineAt ls i) → Agree false a l) → Both (Agree false) (set ss i a) (set ls i l)
     lines-set ss ls i a l b r = both-set (Agree false) ss ls i a l b (r (both-at (Agree false) ss ls i (freeSlot p) blank b (agree-free false)))
 
-    module _ {Q : Type 0} (o : Order A Q) (fair : Orderly p o) where
+    module _ {Q : Type 0} (o : Order A Q) (orderly : Orderly p o) where
       abbrev pub Agrees : Scheduler A Q → List Line → Type 0
       Agrees d ls = Both (Agree (eqb (d .phase) 1)) (d .slots) ls
 
-      -- AN ACCEPTED CALL KEEPS THE LEDGER IN STEP
+      -- an accepted call keeps the ledger in step
       pub recorded-keeps : (d : Scheduler A Q) (c : Call A) (ls : List Line) → Sound p o d → Allowed p o d c → Agrees d ls
           → Agrees (accepted p o d c .scheduler) (recorded (p .B) ls c true (accepted p o d c .entries))
       unfolding accepted recorded joined left ended mostDrawn bound entries isFetched
@@ -288,7 +288,7 @@ module _ {A : Type 0} (p : Supply A) where
       recorded-keeps d begin ls h a r =
           let ss = d .slots in
           let ts = o .begins (d .queue) ss .slots in
-          lines-begun 0 _ ss ts ls (λ j _. named-sorted j (entriesFrom p 0 ts)) (fair .began (d .queue) ss (h .slots) .kept) (rw (between (d .phase) a) at r)
+          lines-begun 0 _ ss ts ls (λ j _. named-sorted j (entriesFrom p 0 ts)) (orderly .began (d .queue) ss (h .slots) .kept) (rw (between (d .phase) a) at r)
       recorded-keeps d (end ds) ls h a r =
           let ss = d .slots in
           let m : ℕ = mostDrawn p ss in

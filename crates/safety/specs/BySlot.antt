@@ -1,21 +1,20 @@
 -- Document 01's order, slot by slot, is orderly.
 -- Assumes nothing.
-use Prim.Native.Nat.{ℕ, zero, suc, _+_, _*_, _≤_, _<_}
-use mathlib.Core.Path.{_≡_, refl, sym, ap, _∙_}
+use Prim.Native.Nat.{ℕ, zero, suc, _+_, _*_, _≤_}
+use mathlib.Core.Path.{_≡_, refl, sym, _∙_}
 use mathlib.Core.Bool.{Bool, true, false, _&&_}
-use mathlib.Core.List.{List, [], _∷_, map}
+use mathlib.Core.List.{List, [], _∷_}
 use native.Mathlib.Omega.{arith}
-use lib.ListN.{length, getD, set}
+use lib.ListN.{length}
 use lib.Dec.{leb, eqb}
 use borrow.Author.Tests.{leb-true, eqb-true, eq-eqb}
 use Rattle.laws.specs.Bools.{implies, implied, and-left, and-right}
 use Rattle.laws.specs.Runs.{sumBy, allBy}
-use Rattle.laws.specs.Each.{Each, Both, each-map, both-refl}
+use Rattle.laws.specs.Each.{Both, each-map, both-refl}
 use Rattle.safety.specs.Supply.{Supply}
 use Rattle.safety.specs.Scheduler.{Slot, waiting, filling, playing, at, leadOf, leads, lowWater, holds}
 use Rattle.safety.specs.Scheduler.{fillingSlot, startBy, startedSlot, started, playersHold, grantable, granted, grantBy, tried, tries, begun}
-use Rattle.safety.specs.Order.{Order, bySlot}
-use Rattle.safety.specs.Sound.{Good}
+use Rattle.safety.specs.Order.{bySlot}
 use Rattle.safety.specs.Orderly.{Kept, kept-refl, Floored, Began, Orderly, began-then, began-none, idle-lead, reading-lead}
 
 module _ {A : Type 0} (p : Supply A) where

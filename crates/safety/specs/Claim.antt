@@ -1,9 +1,9 @@
 -- The claim of document 01 about every list of calls, for every lawful supply.
 -- Assumes nothing.
 use Prim.Native.Nat.{ℕ, zero, suc, _+_, _*_, _/_, _≤_, _<_}
-use mathlib.Core.Path.{_≡_, refl, sym, ap, _∙_, subst}
+use mathlib.Core.Path.{_≡_, refl, sym, _∙_, subst}
 use mathlib.Core.Logic.{_≢_, _↔_}
-use mathlib.Core.Bool.{Bool, true, false, cond}
+use mathlib.Core.Bool.{Bool, true, cond}
 use mathlib.Core.List.{List, [], _∷_, _++_}
 use native.Mathlib.Omega.{arith}
 use lib.ListN.{length, replicate}
@@ -68,7 +68,7 @@ module _ {A : Type 0} (p : Supply A) (ok : Lawful p) (names : Named p) where
   -- ---- one call on any record
 
   module _ {Q : Type 0} (o : Order A Q) (orderly : Orderly p o) where
-    -- AN ACCEPTED CALL LEAVES A SOUND RECORD, whatever record it was given: what is not sound is refused
+    -- an accepted call leaves a sound record, whatever record it was given: one that is not sound is refused
     pub accepted-stays-sound : (d : Scheduler A Q) (x : Given A) → answer p o (refusals p o) d x .number ≡ 0
         → sound p o (answer p o (refusals p o) d x .scheduler) ≡ true
     unfolding refusals
@@ -171,6 +171,6 @@ module _ {A : Type 0} (p : Supply A) (ok : Lawful p) (names : Named p) where
         slot : (i : ℕ) → Good p (leads p (stateAfter p o xs .scheduler .slots)) (slotAfter p o xs i)
         slot i = let ss = stateAfter p o xs .scheduler .slots in each-at (Good p (leads p ss)) ss i (freeSlot p) (kept xs .sound .slots) (good-free p (leads p ss))
 
-  -- EVERY LIST IS SAFE: document 01's order
+  -- every list is safe: document 01's order, and its rules for the kinds
   pub every-list-safe : (xs : List (Given A)) → Safe p (bySlot p) (kindAfter p) xs
   every-list-safe = orderly-list-safe (bySlot p) (bySlot-orderly p) (kindAfter p) (kinds-by-rules p)

@@ -21,6 +21,6 @@ module _ (c w B k o T L M E : ℕ) (room : c * (k * w + 2 * o + E) ≤ 2000000 *
       → draw ≤ c * (T + o) / 1000000 → (draw ≤ buffered) × (2000000 * B + c * (M + E) ≤ 2000000 * (buffered - draw))
   full-stays n margin buffered draw top full drawn = omega (arith, mul-le-mul-left c leads, mul-le-mul-left c top)
 
-  -- a slot at the low-water mark holds what the sweep may draw
-  pub enough : (buffered : ℕ) → 2000000 * B + c * L ≤ 2000000 * buffered → c * (T + o) / 1000000 ≤ buffered
-  enough buffered floor = omega (arith, mul-le-mul-left c leads)
+  -- what the sweep may draw is within the low-water mark
+  pub sweep-within : 2 * (c * (T + o)) ≤ 2000000 * B + c * L
+  sweep-within = omega (arith, mul-le-mul-left c leads)

@@ -1,23 +1,22 @@
 -- The kind of one slot after an accepted call, in document 01's words, and that the scheduler gives it that kind.
 -- Assumes nothing.
-use Prim.Native.Nat.{ℕ, zero, suc, _+_, _-_, _≤_, _<_}
+use Prim.Native.Nat.{ℕ, zero, suc, _+_, _-_, _<_}
 use mathlib.Core.Path.{_≡_, refl, sym, ap, _∙_}
-use mathlib.Core.Logic.{_≢_}
 use mathlib.Core.Bool.{Bool, true, false, cond, _&&_}
-use mathlib.Core.List.{List, [], _∷_, _++_}
+use mathlib.Core.List.{List}
 use native.Mathlib.Omega.{arith}
 use native.Mathlib.Decide.{ℕ-discrete}
 use native.Mathlib.Numerals.{add-one}
 use native.Mathlib.Nat.{add-zero}
-use lib.ListN.{length, getD, set, replicate}
+use lib.ListN.{length, getD, set}
 use lib.Seq.{getD-set-same, getD-set-other}
-use lib.Dec.{leb, eqb}
+use lib.Dec.{eqb}
 use borrow.Author.Tests.{eqb-true, eq-eqb, ne-eqb}
-use Rattle.laws.specs.Bools.{clash, and-left}
+use Rattle.laws.specs.Bools.{and-left}
 use Rattle.safety.specs.Supply.{Supply}
 use Rattle.safety.specs.Scheduler.{Slot, Call, join, leave, begin, end, free, waiting, filling, playing, draining, freeSlot, waitingSlot, fillingSlot, at}
 use Rattle.safety.specs.Scheduler.{leads, lowWater, holds, joined, left, startBy, startedSlot, started, playersHold, grantable, tries, begun, isFetched}
-use Rattle.safety.specs.Scheduler.{sweptBy, releaseBy, released, endedSlot, ended}
+use Rattle.safety.specs.Scheduler.{sweptBy, releaseBy, released, endedSlot}
 use Rattle.safety.specs.Order.{Scheduler, bySlot}
 use Rattle.safety.specs.Calls.{accepted}
 use Rattle.safety.specs.BySlot.{started-leads}
@@ -142,7 +141,7 @@ module _ {A : Type 0} (p : Supply A) where
       go true = released-kind (sweptBy p true s d)
       go false = rw (add-zero (s .buffered - d)) (released-kind (sweptBy p false s d))
 
-  -- ---- THE KIND OF EACH SLOT AFTER AN ACCEPTED CALL IS THE RULES'
+  -- ---- the kind of each slot after an accepted call is the rules'
 
   set-kind : (ss : List (Slot A)) (i j : ℕ) (a : Slot A) → i < length ss → at p (set ss j a) i .kind ≡ cond (eqb i j) (a .kind) (at p ss i .kind)
   set-kind ss i j a l = go (ℕ-discrete i j)

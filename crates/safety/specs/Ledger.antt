@@ -1,10 +1,10 @@
 -- The ledger (01: the book). It is fed the calls, whether each was accepted, and the entries that a begin answers; it reads nothing of the scheduler.
 -- Assumes nothing.
-use Prim.Native.Nat.{ℕ, zero, suc, _+_, _*_}
+use Prim.Native.Nat.{ℕ, _+_, _*_}
 use mathlib.Core.Bool.{Bool, true, false, cond, _&&_, _||_}
 use mathlib.Core.List.{List, [], _∷_}
 use lib.ListN.{getD, set, replicate}
-use lib.Dec.{leb, ltb, eqb}
+use lib.Dec.{leb, eqb}
 use Rattle.laws.specs.Bools.{bit}
 use Rattle.laws.specs.Map.{mapFrom}
 use Rattle.safety.specs.Scheduler.{Entry, Call, join, leave, begin, end}

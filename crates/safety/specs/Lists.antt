@@ -2,18 +2,18 @@
 -- Assumes nothing.
 use Prim.Native.Nat.{ℕ, zero, suc, _*_, _/_, _≤_, _<_}
 use mathlib.Core.Path.{_≡_, refl, sym, ap, _∙_, subst}
-use mathlib.Core.Bool.{Bool, true, false}
+use mathlib.Core.Bool.{Bool, false}
 use mathlib.Core.List.{List, [], _∷_, _++_}
 use native.Mathlib.Omega.{arith}
-use Rattle.laws.specs.Each.{Each, Both, each-replicate, both-replicate}
+use Rattle.laws.specs.Each.{Each, each-replicate, both-replicate}
 use lib.ListN.{length, replicate, length-replicate}
 use Rattle.safety.specs.Supply.{Supply, Lawful}
-use Rattle.safety.specs.Scheduler.{Slot, Call, join, leave, begin, end, free, playing, freeSlot, at, leads, bound, mostDrawn}
+use Rattle.safety.specs.Scheduler.{Call, join, leave, begin, end, free, playing, freeSlot, at, leads, bound, mostDrawn}
 use Rattle.safety.specs.Order.{Scheduler, Order, opened}
 use Rattle.safety.specs.Sound.{Good, good-free, Sound}
 use Rattle.safety.specs.Orderly.{Orderly}
-use Rattle.safety.specs.Ledger.{Line, blank, openedLedger, recorded}
-use Rattle.safety.specs.Calls.{State, Rules, Allowed, Strict, isAccepted, accepted, opening, answerBy, answer, turn, after}
+use Rattle.safety.specs.Ledger.{blank, openedLedger, recorded}
+use Rattle.safety.specs.Calls.{State, Rules, Allowed, Strict, isAccepted, accepted, refused, opening, answerBy, answer, turn, after}
 use Rattle.safety.specs.Safety.{accepted-keeps, accepted-length, players-hold-draw}
 use Rattle.safety.specs.Accounts.{Agree, agree-free, Agrees, recorded-keeps}
 
@@ -45,7 +45,15 @@ module _ {A Q X : Type 0} (p : Supply A) (o : Order A Q) (u : Rules A Q X) where
   unfolding answer
   answer-accepted d x e = rw e
 
-  -- the answer's number and place are the verdict's
+  pub answer-refused : (d : Scheduler A Q) (x : X) (k i : ℕ) → 0 < k → u .verdict d x ≡ record { number = k; place = i } → answer p o u d x ≡ refused p o d k i
+  unfolding answer
+  answer-refused d x k i h e = rw e (go k h)
+    where
+      go : (k : ℕ) → 0 < k → answerBy p o u k i d x ≡ refused p o d k i
+      go zero l = absurd (omega arith)
+      go (suc k) l = refl
+
+  -- the answer's number is the verdict's
   pub answer-number : (d : Scheduler A Q) (x : X) → answer p o u d x .number ≡ u .verdict d x .number
   unfolding answer
   answer-number d x = go (u .verdict d x .number)
@@ -54,7 +62,7 @@ module _ {A Q X : Type 0} (p : Supply A) (o : Order A Q) (u : Rules A Q X) where
       go zero = accepted-zero d (u .move x)
       go (suc k) = refl
 
-  -- A REFUSED CALL CHANGES NOTHING: neither the scheduler nor the ledger, and it answers no entries and bound 0
+  -- a refused call changes nothing, neither the scheduler nor the ledger, and it answers no entries and bound 0
   pub refused-changes-nothing : (v : State A Q) (x : X) → 0 < answer p o u (v .scheduler) x .number
       → (turn p o u v x ≡ v) × (answer p o u (v .scheduler) x .entries ≡ []) × (answer p o u (v .scheduler) x .bound ≡ 0)
   unfolding turn answer recorded
@@ -67,11 +75,11 @@ module _ {A Q X : Type 0} (p : Supply A) (o : Order A Q) (u : Rules A Q X) where
       go zero l = absurd (omega (arith, accepted-zero (v .scheduler) (u .move x)))
       go (suc k) l = (refl, refl, refl)
 
-module _ {A Q : Type 0} (p : Supply A) (ok : Lawful p) (o : Order A Q) (fair : Orderly p o) where
+module _ {A Q : Type 0} (p : Supply A) (ok : Lawful p) (o : Order A Q) (orderly : Orderly p o) where
   pub record InStep (v : State A Q) : Type 0 where
     pub long : length (v .scheduler .slots) ≡ 256
     pub sound : Sound p o (v .scheduler)
-    pub agrees : Agrees p ok o fair (v .scheduler) (v .ledger)
+    pub agrees : Agrees p ok o orderly (v .scheduler) (v .ledger)
 
   pub opening-in-step : InStep (opening p o)
   unfolding opening opened openedLedger
@@ -81,7 +89,7 @@ module _ {A Q : Type 0} (p : Supply A) (ok : Lawful p) (o : Order A Q) (fair : O
       phase = omega arith;
       slots = each-replicate (Good p (leads p (replicate 256 (freeSlot p)))) 256 (freeSlot p) (good-free p _);
       unused = λ i l. all-free 256 i;
-      queue = fair .queue-opened;
+      queue = orderly .queue-opened;
     };
     agrees = both-replicate (Agree p false) 256 (freeSlot p) blank (agree-free p false);
   }
@@ -104,10 +112,10 @@ module _ {A Q : Type 0} (p : Supply A) (ok : Lawful p) (o : Order A Q) (fair : O
             let c : Call A = u .move x in
             let a = us .strict d x e in
             record {
-              long = accepted-length p ok o fair d c (h .sound) ∙ h .long;
-              sound = accepted-keeps p ok o fair d c (h .sound) a;
-              agrees = subst (λ (t : Bool). Agrees p ok o fair (accepted p o d c .scheduler) (recorded (p .B) (v .ledger) c t (accepted p o d c .entries)))
-                  (sym (ap isAccepted (accepted-zero p o u d c))) (recorded-keeps p ok o fair d c (v .ledger) (h .sound) a (h .agrees));
+              long = accepted-length p ok o orderly d c (h .sound) ∙ h .long;
+              sound = accepted-keeps p ok o orderly d c (h .sound) a;
+              agrees = subst (λ (t : Bool). Agrees p ok o orderly (accepted p o d c .scheduler) (recorded (p .B) (v .ledger) c t (accepted p o d c .entries)))
+                  (sym (ap isAccepted (accepted-zero p o u d c))) (recorded-keeps p ok o orderly d c (v .ledger) (h .sound) a (h .agrees));
             }
         go (suc k) e = h
 
@@ -116,7 +124,7 @@ module _ {A Q : Type 0} (p : Supply A) (ok : Lawful p) (o : Order A Q) (fair : O
     after-keeps [] v h = h
     after-keeps (x ∷ xs) v h = after-keeps xs (turn p o u v x) (turn-keeps v x h)
 
-    -- AFTER EVERY LIST THE RECORD IS SOUND AND THE LEDGER IN STEP
+    -- after every list the record is sound and the ledger in step
     pub every-list-in-step : (xs : List X) → InStep (after p o u (opening p o) xs)
     every-list-in-step xs = after-keeps xs (opening p o) opening-in-step
 
@@ -127,5 +135,5 @@ module _ {A Q : Type 0} (p : Supply A) (ok : Lawful p) (o : Order A Q) (fair : O
     sweep-starts d x h m e =
         let z = verdict-zero p o u d x e in
         let a = subst (λ (c : Call A). Allowed p o d c) m (us .strict d x z) in
-        let k = accepted-keeps p ok o fair d begin h a in
+        let k = accepted-keeps p ok o orderly d begin h a in
         rw (answer-accepted p o u d x z, m) (players-hold-draw p ok (o .begins (d .queue) (d .slots) .slots) (k .unused) (k .slots))

@@ -1,7 +1,7 @@
 -- The scheduler's record, and the order in which it grants: what the rules keep beside the slots, and what a begin makes of both.
 -- Assumes nothing.
 use Prim.Native.Nat.{ℕ}
-use mathlib.Core.Bool.{Bool, true, false}
+use mathlib.Core.Bool.{Bool, true}
 use mathlib.Core.List.{List}
 use lib.ListN.{replicate}
 use Rattle.safety.specs.Supply.{Supply}

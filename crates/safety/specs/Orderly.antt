@@ -1,11 +1,11 @@
 -- What safety relies on of the order of granting: a begin moves slots from asked to filling and from filling to playing, and leaves
 -- every playing slot at the low-water mark.
 -- Assumes nothing.
-use Prim.Native.Nat.{ℕ, zero, suc, _+_, _*_, _≤_, _<_, min, max}
-use mathlib.Core.Path.{_≡_, refl, sym, ap, _∙_}
+use Prim.Native.Nat.{ℕ, _*_, _≤_, _<_, min, max}
+use mathlib.Core.Path.{_≡_, refl, _∙_}
 use mathlib.Core.Logic.{by-cases}
-use mathlib.Core.Bool.{Bool, true, false}
-use mathlib.Core.List.{List, [], _∷_}
+use mathlib.Core.Bool.{true}
+use mathlib.Core.List.{List}
 use native.Mathlib.Omega.{arith}
 use native.Mathlib.Decide.{ℕ-discrete}
 use lib.ListN.{replicate}
@@ -13,7 +13,7 @@ use lib.Dec.{eqb}
 use borrow.Author.Tests.{ne-eqb}
 use Rattle.laws.specs.Each.{Each, Both, both-refl, both-trans}
 use Rattle.safety.specs.Supply.{Supply}
-use Rattle.safety.specs.Scheduler.{Slot, free, waiting, filling, playing, freeSlot, at, reads, leadOf, leads, lowWater, joined, left}
+use Rattle.safety.specs.Scheduler.{Slot, free, waiting, playing, freeSlot, at, reads, leadOf, leads, lowWater, joined, left}
 use Rattle.safety.specs.Order.{Order}
 use Rattle.safety.specs.Sound.{Good}
 

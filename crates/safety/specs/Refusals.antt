@@ -1,6 +1,6 @@
 -- When a call is turned down: document 01's number and what it returns with it, in 01's order. The slot that is returned is the place.
 -- Assumes nothing.
-use Prim.Native.Nat.{ℕ, _+_, _*_}
+use Prim.Native.Nat.{ℕ, _*_}
 use mathlib.Core.Bool.{Bool, true, false, _&&_}
 use mathlib.Core.List.{List}
 use lib.ListN.{length, getD}

@@ -1,21 +1,19 @@
 -- The rows of the table of refusals, one law for each way that a call's code can take, on the numbers that it compares.
 -- Assumes nothing.
-use Prim.Native.Nat.{ℕ, zero, suc, _+_, _*_, _≤_, _<_}
-use mathlib.Core.Path.{_≡_, refl, sym, ap, _∙_}
+use Prim.Native.Nat.{ℕ, _*_, _≤_, _<_}
+use mathlib.Core.Path.{_≡_, refl}
 use mathlib.Core.Logic.{_≢_}
-use mathlib.Core.Bool.{Bool, true, false, _&&_}
+use mathlib.Core.Bool.{Bool, true, false}
 use mathlib.Core.List.{List}
 use native.Mathlib.Omega.{arith}
-use lib.ListN.{length, getD}
-use lib.Dec.{leb, ltb, eqb}
+use lib.ListN.{length}
 use borrow.Author.Tests.{eq-eqb, ne-eqb, lt-ltb, le-ltb, le-leb, lt-leb}
-use Rattle.laws.specs.Bools.{bit}
 use Rattle.laws.specs.Places.{allFrom, lowestFrom}
 use Rattle.safety.specs.Supply.{Supply}
-use Rattle.safety.specs.Scheduler.{Slot, Call, join, leave, begin, end, free, at, mostDrawn}
+use Rattle.safety.specs.Scheduler.{Call, join, leave, begin, end, free, at, mostDrawn}
 use Rattle.safety.specs.Order.{Scheduler, Order}
 use Rattle.safety.specs.Sound.{sound}
-use Rattle.safety.specs.Refusals.{Verdict, accept, unless, drawAllowed, drawHeld, judged, verdict}
+use Rattle.safety.specs.Refusals.{Verdict, accept, drawAllowed, drawHeld, judged, verdict}
 
 abbrev pub refuse : ℕ → ℕ → Verdict
 refuse k i = record { number = k; place = i }

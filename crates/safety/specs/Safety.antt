@@ -1,7 +1,7 @@
 -- An accepted call keeps the record sound, over any lawful supply and any orderly order.
 -- Assumes nothing.
 use Prim.Native.Nat.{ℕ, zero, suc, _+_, _*_, _-_, _/_, _≤_, _<_}
-use mathlib.Core.Path.{_≡_, refl, sym, ap, _∙_, subst}
+use mathlib.Core.Path.{_≡_, refl, sym, ap, _∙_}
 use mathlib.Core.Logic.{_⊎_, inl, inr, by-cases}
 use mathlib.Core.Bool.{Bool, true, false, cond, _&&_, _||_}
 use mathlib.Core.List.{List, [], _∷_}
@@ -10,7 +10,7 @@ use native.Mathlib.Decide.{decLt}
 use native.Mathlib.Nat.{pos-of-ne-zero, mul-le-mul-left}
 use lib.ListN.{length, getD, set, length-set}
 use lib.Seq.{getD-set-other}
-use lib.Dec.{leb, ltb, eqb}
+use lib.Dec.{eqb}
 use borrow.Author.Tests.{leb-true, leb-false, eqb-true, eq-eqb, ne-eqb}
 use Rattle.laws.specs.Bools.{bit, bit-le, clash, and-left, and-right, and-both, or-cases, cond-le}
 use Rattle.laws.specs.Map.{mapFrom}
@@ -23,10 +23,10 @@ use Rattle.safety.specs.Scheduler.{reads, leadOf, leads, lowWater, joine
 use Rattle.safety.specs.Scheduler.{sweptBy, releaseBy, released, endedSlot, ended, mostDrawn, drawLimit}
 use Rattle.safety.specs.Order.{Scheduler, Order}
 use Rattle.safety.specs.Sound.{Good, good-free, FreeFrom, Sound}
-use Rattle.safety.specs.Orderly.{Kept, kept-refl, SameWaiting, Floored, Began, Orderly, idle-lead, reading-lead}
+use Rattle.safety.specs.Orderly.{Kept, kept-refl, SameWaiting, Floored, Orderly, idle-lead, reading-lead}
 use Rattle.safety.specs.Refusals.{drawAllowed, drawHeld}
 use Rattle.safety.specs.Calls.{Allowed, accepted}
-use Rattle.safety.specs.Floors.{room-of-streams, fetched-stays, full-stays, enough}
+use Rattle.safety.specs.Floors.{room-of-streams, fetched-stays, full-stays, sweep-within}
 
 module _ {A : Type 0} (p : Supply A) where
   -- ---- join and leave
@@ -188,15 +188,19 @@ module _ {A : Type 0} (p : Supply A) where
     pub room-of : (k : ℕ) → k ≤ p .n → p .c * (k * p .pairTime + 2 * p .overhead k + 0) ≤ 2000000 * p .B
     room-of k kn = room-of-streams (p .c) (p .n) (p .pairTime) (p .overhead (p .n)) (p .B) k (p .overhead k) (ok .streams-fit) kn (ok .overhead-rises k (p .n) kn)
 
-    -- a playing slot holds what a sweep over ss may draw
+    -- a sweep over ss draws no more than its low-water mark
+    pub bound-within : (ss : List (Slot A)) → FreeFrom p (p .n) ss → Each (Good p (leads p ss)) ss → 2 * (p .c * bound p ss) ≤ lowWater p (leads p ss)
+    unfolding bound lowWater
+    bound-within ss u h =
+        let k = fetchCount p ss in
+        sweep-within (p .c) (p .pairTime) (p .B) k (p .overhead k) (times p ss) (leads p ss) (leads p (ended p ss [])) 0
+        (room-of k (fetches-le (p .n) ss u)) (leads-after (leads p ss) ss [] h)
+
+    -- so a playing slot holds what it may draw
     pub players-hold-draw : (ss : List (Slot A)) → FreeFrom p (p .n) ss → Each (Good p (leads p ss)) ss
         → Each (λ s. s .kind ≡ playing → mostDrawn p ss ≤ s .buffered) ss
-    unfolding mostDrawn bound lowWater
-    players-hold-draw ss u h =
-        let k = fetchCount p ss in
-        each-map _ _ ss
-        (λ s g e. enough (p .c) (p .pairTime) (p .B) k (p .overhead k) (times p ss) (leads p ss) (leads p (ended p ss [])) 0
-        (room-of k (fetches-le (p .n) ss u)) (leads-after (leads p ss) ss [] h) (s .buffered) (g .floored e)) h
+    unfolding mostDrawn
+    players-hold-draw ss u h = each-map _ _ ss (λ s g e. omega (arith, bound-within ss u h, g .floored e)) h
 
     -- ---- end
 
@@ -355,31 +359,31 @@ module _ {A : Type 0} (p : Supply A) where
 
     -- ---- every call
 
-    module _ {Q : Type 0} (o : Order A Q) (fair : Orderly p o) where
-      -- AN ACCEPTED CALL KEEPS THE RECORD SOUND
+    module _ {Q : Type 0} (o : Order A Q) (orderly : Orderly p o) where
+      -- an accepted call keeps the record sound
       pub accepted-keeps : (d : Scheduler A Q) (c : Call A) → Sound p o d → Allowed p o d c → Sound p o (accepted p o d c .scheduler)
       unfolding accepted joined left ended mostDrawn bound
       accepted-keeps d (join i b) h a = record {
         phase = omega arith;
         slots = goods-set (d .slots) i (waitingSlot p b) (idle-lead p (waitingSlot p b) (omega arith)) (λ L. good-waiting L b (a .3)) (h .slots);
         unused = free-set (p .n) i (d .slots) (waitingSlot p b) (a .1) (h .unused);
-        queue = fair .queue-joined (d .queue) (d .slots) i b (a .2) (h .queue);
+        queue = orderly .queue-joined (d .queue) (d .slots) i b (a .2) (h .queue);
       }
       accepted-keeps d (leave i) h a = record {
         phase = omega arith;
         slots = goods-set (d .slots) i (freeSlot p) (idle-lead p (freeSlot p) (omega arith)) (good-free p) (h .slots);
         unused = free-set (p .n) i (d .slots) (freeSlot p) (a .1) (h .unused);
-        queue = fair .queue-left (d .queue) (d .slots) i (a .2) (h .queue);
+        queue = orderly .queue-left (d .queue) (d .slots) i (a .2) (h .queue);
       }
       accepted-keeps d begin h a =
           let ss = d .slots in
           let ts = o .begins (d .queue) ss .slots in
-          let b = fair .began (d .queue) ss (h .slots) in
+          let b = orderly .began (d .queue) ss (h .slots) in
           record {
             phase = omega arith;
             slots = kept-goods (leads p ss) (leads p ts) ss ts (b .kept) (b .floored) (h .slots);
             unused = kept-free (p .n) ss ts (b .kept) (h .unused);
-            queue = fair .queue-begun (d .queue) ss (h .slots) (h .queue);
+            queue = orderly .queue-begun (d .queue) ss (h .slots) (h .queue);
           }
       accepted-keeps d (end ds) h a =
           let ss = d .slots in
@@ -390,7 +394,7 @@ module _ {A : Type 0} (p : Supply A) where
             slots = goods-ended (fetchCount p ss) (times p ss) (leads p ss) (leads p (ended p ss ds)) (fetches-le (p .n) ss (h .unused))
                 (leads-after (leads p ss) ss ds (h .slots)) (leads-le (leads p ss) (p .n) ss (h .slots) (h .unused)) 0 ss ds (h .slots) w;
             unused = free-ended (p .n) 0 ss ds (h .unused);
-            queue = fair .queue-ended (d .queue) ss (ended p ss ds) (ended-waits 0 ss ds) (h .queue);
+            queue = orderly .queue-ended (d .queue) ss (ended p ss ds) (ended-waits 0 ss ds) (h .queue);
           }
 
       -- and all its slots
@@ -398,5 +402,5 @@ module _ {A : Type 0} (p : Supply A) where
       unfolding accepted joined left ended
       accepted-length d (join i b) h = length-set (d .slots) i (waitingSlot p b)
       accepted-length d (leave i) h = length-set (d .slots) i (freeSlot p)
-      accepted-length d begin h = both-length Kept (d .slots) _ (fair .began (d .queue) (d .slots) (h .slots) .kept)
+      accepted-length d begin h = both-length Kept (d .slots) _ (orderly .began (d .queue) (d .slots) (h .slots) .kept)
       accepted-length d (end ds) h = length-mapFrom (λ j s. endedSlot p s (getD ds j 0)) 0 (d .slots)

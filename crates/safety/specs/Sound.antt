@@ -1,20 +1,20 @@
 -- Soundness of the scheduler's record, as a test and as facts.
 -- That the record is the plan of its figures and that the lent lists begin with its entries comes to a call as one flag (Calls.Given).
 -- Assumes nothing.
-use Prim.Native.Nat.{ℕ, zero, suc, _+_, _-_, _*_, _≤_, _<_}
-use mathlib.Core.Path.{_≡_, refl, sym, ap, _∙_, subst}
-use mathlib.Core.Bool.{Bool, true, false, _&&_}
+use Prim.Native.Nat.{ℕ, zero, suc, _-_, _*_, _≤_}
+use mathlib.Core.Path.{_≡_, refl, sym, ap, _∙_}
+use mathlib.Core.Bool.{Bool, true, _&&_}
 use mathlib.Core.List.{List, [], _∷_}
 use native.Mathlib.Omega.{arith}
-use lib.ListN.{length, getD, drop}
+use lib.ListN.{getD, drop}
 use lib.Seq.{getD-drop}
-use lib.Dec.{leb, ltb, eqb}
-use borrow.Author.Tests.{leb-true, ltb-true, eqb-true, eq-eqb, lt-ltb, le-leb}
+use lib.Dec.{leb, eqb}
+use borrow.Author.Tests.{leb-true, eqb-true, eq-eqb, le-leb}
 use Rattle.laws.specs.Bools.{implies, implied, implies-of, and-left, and-right, and-both}
 use Rattle.laws.specs.Runs.{allBy}
 use Rattle.laws.specs.Each.{Each, each-map, each-at, each-of-all, all-of-each}
 use Rattle.safety.specs.Supply.{Supply, Named}
-use Rattle.safety.specs.Scheduler.{Slot, free, waiting, filling, playing, draining, freeSlot, at, leads, lowWater, holds}
+use Rattle.safety.specs.Scheduler.{Slot, free, waiting, playing, draining, freeSlot, at, leads, lowWater, holds}
 use Rattle.safety.specs.Order.{Scheduler, Order}
 
 module _ {A : Type 0} (p : Supply A) where
@@ -140,7 +140,7 @@ module _ {A : Type 0} (p : Supply A) where
         and-both (of-zero s k (g .0 .zeros k .0) (g .0 .zeros k .1)) (zero-of-free L zero ss (g .1) (λ i l. u (suc i) (omega arith)))
     zero-of-free L (suc m) (s ∷ ss) g u = zero-of-free L m ss (g .1) (λ i l. u (suc i) (omega arith))
 
-    -- A RECORD PASSES IF AND ONLY IF THE FACTS HOLD
+    -- a record passes the test if and only if the facts hold
     pub sound-says : {Q : Type 0} (o : Order A Q) (d : Scheduler A Q) → sound o d ≡ true → Sound o d
     unfolding sound
     sound-says o d e =

@@ -2,17 +2,17 @@
 -- comes to by its numbers.
 -- Assumes nothing.
 use Prim.Native.Nat.{ℕ, zero, suc, _+_, _-_, _*_, _≤_, _<_, min}
-use mathlib.Core.Path.{_≡_, refl, sym, ap, _∙_, subst}
+use mathlib.Core.Path.{_≡_, refl, sym, ap, _∙_}
 use mathlib.Core.Logic.{_≢_, by-cases}
-use mathlib.Core.Bool.{Bool, true, false, cond, _&&_, _||_, and-true}
-use mathlib.Core.List.{List, [], _∷_, _++_, map}
+use mathlib.Core.Bool.{Bool, true, false, cond, _&&_}
+use mathlib.Core.List.{List, [], _∷_}
 use native.Mathlib.Omega.{arith}
 use native.Mathlib.Decide.{ℕ-discrete, decLt}
 use native.Mathlib.Numerals.{add-one}
-use lib.ListN.{length, getD, set, take, drop, length-set, length-map, List·getD-map, List·getD-eq-default}
+use lib.ListN.{length, getD, set, take, length-set, length-map, List·getD-map, List·getD-eq-default}
 use lib.Seq.{getD-set-same, getD-set-other, take-length}
-use lib.Dec.{leb, ltb, eqb}
-use borrow.Author.Tests.{leb-true, leb-false, eqb-true, eqb-false, eq-eqb, ne-eqb, lt-ltb, le-ltb, le-leb, lt-leb}
+use lib.Dec.{leb, eqb}
+use borrow.Author.Tests.{leb-true, eqb-true, eq-eqb, ne-eqb, le-leb, lt-leb}
 use Rattle.laws.specs.Bools.{bit, bit-le, implies, implied, implies-of, clash, is-false, bool-ext, and-left, and-right, and-both}
 use Rattle.laws.specs.Map.{mapFrom}
 use Rattle.laws.specs.Runs.{sumBy, allBy, all-at}
@@ -20,10 +20,10 @@ use Rattle.laws.specs.Sums.{sum-none, sum-next, sum-all, sum-top, sum-rest}
 use Rattle.laws.specs.Each.{each-at, each-by}
 use Rattle.laws.specs.Places.{length-mapFrom, mapFrom-at, mapFrom-map, allFrom, lowestFrom, all-passed, first-failed}
 use Rattle.safety.specs.Supply.{Supply, Named}
-use Rattle.safety.specs.Scheduler.{Slot, Entry, free, waiting, filling, playing, draining, freeSlot, waitingSlot, at}
-use Rattle.safety.specs.Scheduler.{reads, leadOf, leads, lowWater, holds, joined, left, playingSlot, fillingSlot, startBy, startedSlot, started, playersHold}
-use Rattle.safety.specs.Scheduler.{grantable, granted, grantBy, tried, tries, begun, isFetched, timeOf, times, fetchCount, bound}
-use Rattle.safety.specs.Scheduler.{sweptBy, releaseBy, released, endedSlot, ended, mostDrawn, drawLimit}
+use Rattle.safety.specs.Scheduler.{Slot, free, waiting, filling, playing, draining, freeSlot, at}
+use Rattle.safety.specs.Scheduler.{reads, leadOf, leads, lowWater, holds, playingSlot, fillingSlot, startBy, startedSlot, started, playersHold}
+use Rattle.safety.specs.Scheduler.{grantable, granted, grantBy, tried, tries, isFetched, timeOf, times, fetchCount}
+use Rattle.safety.specs.Scheduler.{sweptBy, releaseBy, released, endedSlot, ended, drawLimit}
 use Rattle.safety.specs.Order.{Scheduler, Order}
 use Rattle.safety.specs.Sound.{soundSlot, sound, Good, good-free, FreeFrom, Sound, good-of-sound, sound-of-good, sound-says, says-sound}
 use Rattle.safety.specs.Refusals.{drawAllowed, drawHeld}

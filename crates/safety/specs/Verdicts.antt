@@ -1,16 +1,16 @@
 -- What document 01's refusals guarantee: they accept only what the rules allow, and only over a sound record; over a sound record
 -- with fair lists nothing is answered 14, and 21 meets only a tail.
 -- Assumes nothing.
-use Prim.Native.Nat.{ℕ, zero, suc, _+_, _*_, _≤_, _<_}
+use Prim.Native.Nat.{ℕ, _*_, _≤_, _<_}
 use mathlib.Core.Path.{_≡_, refl, sym, ap, _∙_}
-use mathlib.Core.Logic.{_≢_, _⊎_, inl, inr}
+use mathlib.Core.Logic.{_≢_}
 use mathlib.Core.Bool.{Bool, true, false, cond, _&&_, _||_}
 use mathlib.Core.List.{List}
 use native.Mathlib.Omega.{arith}
 use lib.ListN.{length, getD}
 use lib.Dec.{leb, ltb, eqb}
-use borrow.Author.Tests.{leb-true, leb-false, ltb-true, eqb-true, eqb-false}
-use Rattle.laws.specs.Bools.{clash, and-left, and-right, and-both, or-cases}
+use borrow.Author.Tests.{leb-true, leb-false, ltb-true, eqb-true}
+use Rattle.laws.specs.Bools.{and-right}
 use Rattle.laws.specs.Each.{each-at}
 use Rattle.laws.specs.Places.{allFrom, lowestFrom, Lowest, lowest-fails, each-of-allFrom, eachFrom-at}
 use Rattle.safety.specs.Supply.{Supply, Lawful, Named}
@@ -18,7 +18,7 @@ use Rattle.safety.specs.Scheduler.{Slot, Call, join, leave, begin, end, 
 use Rattle.safety.specs.Order.{Scheduler, Order}
 use Rattle.safety.specs.Sound.{sound, Sound}
 use Rattle.safety.specs.Refusals.{Verdict, accept, unless, drawAllowed, drawHeld, judged, verdict}
-use Rattle.safety.specs.Calls.{Given, Allowed, Strict, refusals}
+use Rattle.safety.specs.Calls.{Allowed, Strict, refusals}
 use Rattle.safety.specs.Rows.{row-sound}
 use Rattle.safety.specs.Safety.{players-hold-draw}
 
@@ -116,7 +116,7 @@ module _ {A : Type 0} (p : Supply A) (names : Named p) where
         (other (allFrom (drawAllowed p m ds) 0 ss) 20 (lowestFrom (drawAllowed p m ds) 0 ss) _ (λ e. omega arith)
         (other (allFrom (drawHeld p ds) 0 ss) 21 (lowestFrom (drawHeld p ds) 0 ss) accept (λ e. omega arith) (λ e. omega arith))))
 
-  -- ONLY UNFAIR LISTS ARE ANSWERED 14 OVER A SOUND RECORD
+  -- only unfair lists are answered 14 over a sound record
   pub sound-never-unsound : {Q : Type 0} (o : Order A Q) (d : Scheduler A Q) (room : ℕ) (c : Call A) → sound p o d ≡ true
       → verdict p o d true room c .number ≢ 14
   sound-never-unsound o d room c e q = judged-other d room c (ap (λ (v : Verdict). v .number) (sym (row-sound p o d room c e)) ∙ q)
