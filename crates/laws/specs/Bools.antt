@@ -43,6 +43,9 @@ pub and-right : (a b : Bool) → (a && b) ≡ true → b ≡ true
 and-right true b e = e
 and-right false b e = clash e refl
 
+pub and-says : (a b : Bool) → (a && b) ≡ true → (a ≡ true) × (b ≡ true)
+and-says a b e = (and-left a b e, and-right a b e)
+
 pub and-both : {a b : Bool} → a ≡ true → b ≡ true → (a && b) ≡ true
 and-both p q = rw (p, q)
 

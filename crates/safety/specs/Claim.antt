@@ -6,14 +6,14 @@ use mathlib.Core.Logic.{_≢_, _↔_}
 use mathlib.Core.Bool.{Bool, true, cond}
 use mathlib.Core.List.{List, [], _∷_, _++_}
 use native.Mathlib.Omega.{arith}
-use lib.ListN.{length, replicate}
+use lib.ListN.{length}
 use lib.Dec.{eqb}
 use borrow.Author.Tests.{ltb-true, lt-ltb}
 use Rattle.laws.specs.Each.{each-at, both-at}
 use Rattle.safety.specs.Supply.{Supply, Lawful, Named}
 use Rattle.safety.specs.Scheduler.{Slot, Call, begin, free, playing, freeSlot, at, leads}
 use Rattle.safety.specs.Order.{Scheduler, Order, bySlot, opened}
-use Rattle.safety.specs.Sound.{sound, Good, good-free, sound-says, says-sound}
+use Rattle.safety.specs.Sound.{sound, Good, good-free, replicate-free, sound-says, says-sound}
 use Rattle.safety.specs.Orderly.{Orderly}
 use Rattle.safety.specs.BySlot.{bySlot-orderly}
 use Rattle.safety.specs.Refusals.{verdict}
@@ -134,23 +134,17 @@ module _ {A : Type 0} (p : Supply A) (ok : Lawful p) (names : Named p) where
         let d = stateAfter p o ys .scheduler in
         rw (after-last p o (refusals p o) (opening p o) ys x) (answer-kind d x i (rule d (x .call) i) (by-rule d (x .call) i (omega (arith, kept ys .long))))
 
-    all-free : (m i : ℕ) → at p (replicate m (freeSlot p)) i .kind ≡ free
-    all-free zero i = refl
-    all-free (suc m) zero = refl
-    all-free (suc m) (suc i) = all-free m i
-
     opens : (i : ℕ) → slotAfter p o [] i .kind ≡ free
     unfolding after opening opened
-    opens i = all-free 256 i
+    opens i = replicate-free p 256 i
 
     -- in any orderly order, with any rule that accepted calls follow
     pub orderly-list-safe : (rule : Scheduler A Q → Call A → ℕ → ℕ)
         → ((d : Scheduler A Q) (c : Call A) (i : ℕ) → i < length (d .slots) → at p (accepted p o d c .scheduler .slots) i .kind ≡ rule d c i)
         → (xs : List (Given A)) → Safe p o rule xs
     orderly-list-safe rule by-rule xs = record {
-      opens-free = opens;
-      ruled = λ ys x e. subst (Ruled rule ys x) (sym e) (follows rule by-rule ys x);
       all-slots = kept xs .long;
+      opens-free = opens;
       occupied-open = λ i. (
         λ k. line i .opens ∙ lt-ltb 0 (slotAfter p o xs i .kind) (omega (arith, k .0)),
         λ e. (ltb-true 0 (slotAfter p o xs i .kind) (sym (line i .opens) ∙ e), slot i .kinds),
@@ -158,6 +152,7 @@ module _ {A : Type 0} (p : Supply A) (ok : Lawful p) (names : Named p) where
       accounted = λ i. line i .sums;
       fits = λ i. slot i .fits;
       starts-full = λ ys x e. subst (Starts ys x) (sym e) (starts ys x);
+      ruled = λ ys x e. subst (Ruled rule ys x) (sym e) (follows rule by-rule ys x);
       stays-sound = whole xs;
       never-unsound = λ x. never xs x;
     }

@@ -79,23 +79,22 @@ module _ {A : Type 0} (p : Supply A) where
       let a = started-asks x (at p ss i) in
       sym (grantable-at p (startedAll ss) i ∙ rw (started-at p x ss i, a .0, a .1, sym q))
 
+  next-same : (ss : List (Slot A)) (i : ℕ) → at p (tries p (startedAll ss) 0 i) i .next ≡ at p ss i .next
+  next-same ss i =
+      let x : ℕ = lowWater p (leads p ss) in
+      ap (λ (s : Slot A). s .next) (tries-past p (startedAll ss) i i (omega arith) ∙ started-at p x ss i) ∙ started-asks x (at p ss i) .1
+
   -- the running sum is the sum of the slots so far
   leads-so-far : (ss : List (Slot A)) (i : ℕ) → leadsAt ss i ≡ leads p (tries p (startedAll ss) 0 i)
   unfolding leadsAt
   leads-so-far ss zero = sym (ap (leads p) (tries-none p (startedAll ss)) ∙ started-leads p (lowWater p (leads p ss)) ss)
-  leads-so-far ss (suc i) =
-      let ts = startedAll ss in
-      let rs = tries p ts 0 i in
-      let ih = leads-so-far ss i in
-      let same : at p rs i .next ≡ at p ss i .next =
-      ap (λ (s : Slot A). s .next) (tries-past p ts i i (omega arith) ∙ started-at p (lowWater p (leads p ss)) ss i) ∙ started-asks (lowWater p (leads p ss)) (at p ss i) .1
-      in
-      sym (
-      ap (λ (k : ℕ). leads p (tries p ts 0 k)) (sym (add-one i))
-      ∙ ap (leads p) (tries-next p ts i)
-      ∙ tried-leads p rs i
-      ∙ rw (same, sym (granted-same ss i (leadsAt ss i) ih), sym ih)
-      )
+  leads-so-far ss (suc i) = sym (one-more ∙ rw (next-same ss i, sym (granted-same ss i (leadsAt ss i) (leads-so-far ss i)), sym (leads-so-far ss i)))
+    where
+      ts : List (Slot A)
+      ts = startedAll ss
+
+      one-more : leads p (tries p ts 0 (suc i)) ≡ leads p (tries p ts 0 i) + cond (grantable p (tries p ts 0 i) i) (p .lead (at p (tries p ts 0 i) i .next)) 0
+      one-more = ap (λ (k : ℕ). leads p (tries p ts 0 k)) (sym (add-one i)) ∙ ap (leads p) (tries-next p ts i) ∙ tried-leads p (tries p ts 0 i) i
 
   filling-waits : (ss : List (Slot A)) (L i : ℕ) → at p ss i .kind ≡ filling → isGranted ss L i ≡ false
   unfolding isGranted
@@ -134,10 +133,11 @@ module _ {A : Type 0} (p : Supply A) where
   unfolding endedSlot sweptBy endedKind
   end-kind s d = go (isFetched p s)
     where
+      kind : Bool → ℕ
+      kind f = cond (f && p .isEnd (p .next (s .next))) draining (s .kind)
+
       go : (f : Bool)
-          → released p (sweptBy p f s d) .kind
-          ≡ (let kind = cond (f && p .isEnd (p .next (s .next))) draining (s .kind) in
-          cond (eqb kind draining && eqb (s .buffered - d + cond f (p .B) 0) 0) free kind)
+          → released p (sweptBy p f s d) .kind ≡ cond (eqb (kind f) draining && eqb (s .buffered - d + cond f (p .B) 0) 0) free (kind f)
       go true = released-kind (sweptBy p true s d)
       go false = rw (add-zero (s .buffered - d)) (released-kind (sweptBy p false s d))
 

@@ -8,9 +8,9 @@ use native.Mathlib.Omega.{arith}
 use Rattle.laws.specs.Each.{Each, each-replicate, both-replicate}
 use lib.ListN.{length, replicate, length-replicate}
 use Rattle.safety.specs.Supply.{Supply, Lawful}
-use Rattle.safety.specs.Scheduler.{Call, join, leave, begin, end, free, playing, freeSlot, at, leads, bound, mostDrawn}
+use Rattle.safety.specs.Scheduler.{Call, join, leave, begin, end, playing, freeSlot, leads, bound, mostDrawn}
 use Rattle.safety.specs.Order.{Scheduler, Order, opened}
-use Rattle.safety.specs.Sound.{Good, good-free, Sound}
+use Rattle.safety.specs.Sound.{Good, good-free, replicate-free, Sound}
 use Rattle.safety.specs.Orderly.{Orderly}
 use Rattle.safety.specs.Ledger.{blank, openedLedger, recorded}
 use Rattle.safety.specs.Calls.{State, Rules, Allowed, Strict, isAccepted, accepted, refused, opening, answerBy, answer, turn, after}
@@ -88,16 +88,11 @@ module _ {A Q : Type 0} (p : Supply A) (ok : Lawful p) (o : Order A Q) (orderly 
     sound = record {
       phase = omega arith;
       slots = each-replicate (Good p (leads p (replicate 256 (freeSlot p)))) 256 (freeSlot p) (good-free p _);
-      unused = λ i l. all-free 256 i;
+      unused = λ i l. replicate-free p 256 i;
       queue = orderly .queue-opened;
     };
     agrees = both-replicate (Agree p false) 256 (freeSlot p) blank (agree-free p false);
   }
-    where
-      all-free : (m i : ℕ) → at p (replicate m (freeSlot p)) i .kind ≡ free
-      all-free zero i = refl
-      all-free (suc m) zero = refl
-      all-free (suc m) (suc i) = all-free m i
 
   module _ {X : Type 0} (u : Rules A Q X) (us : Strict p o u) where
     pub turn-keeps : (v : State A Q) (x : X) → InStep v → InStep (turn p o u v x)

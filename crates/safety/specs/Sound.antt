@@ -6,11 +6,11 @@ use mathlib.Core.Path.{_≡_, refl, sym, ap, _∙_}
 use mathlib.Core.Bool.{Bool, true, _&&_}
 use mathlib.Core.List.{List, [], _∷_}
 use native.Mathlib.Omega.{arith}
-use lib.ListN.{getD, drop}
+use lib.ListN.{getD, drop, replicate}
 use lib.Seq.{getD-drop}
 use lib.Dec.{leb, eqb}
 use borrow.Author.Tests.{leb-true, eqb-true, eq-eqb, le-leb}
-use Rattle.laws.specs.Bools.{implies, implied, implies-of, and-left, and-right, and-both}
+use Rattle.laws.specs.Bools.{implies, implied, implies-of, and-says, and-both}
 use Rattle.laws.specs.Runs.{allBy}
 use Rattle.laws.specs.Each.{Each, each-map, each-at, each-of-all, all-of-each}
 use Rattle.safety.specs.Supply.{Supply, Named}
@@ -44,6 +44,7 @@ module _ {A : Type 0} (p : Supply A) where
 
   -- ---- the same as facts
 
+  -- a slot, in the order of its test; some: a tail holds something
   pub record Good (L : ℕ) (s : Slot A) : Type 0 where
     pub kinds : s .kind ≤ 4
     pub zeros : s .kind ≡ free → (s .next ≡ p .none) × (s .buffered ≡ 0)
@@ -64,6 +65,12 @@ module _ {A : Type 0} (p : Supply A) where
     pub unused : FreeFrom (p .n) (d .slots)
     pub queue : o .queueSound (d .queue) (d .slots) ≡ true
 
+  -- n slots of the opening
+  pub replicate-free : (n i : ℕ) → at p (replicate n (freeSlot p)) i .kind ≡ free
+  replicate-free zero i = refl
+  replicate-free (suc n) zero = refl
+  replicate-free (suc n) (suc i) = replicate-free n i
+
   pub good-free : (L : ℕ) → Good L (freeSlot p)
   good-free L = record {
     kinds = omega arith;
@@ -80,11 +87,9 @@ module _ {A : Type 0} (p : Supply A) where
     zero-says : (s : Slot A) → isZero s ≡ true → (s .kind ≡ free) × (s .next ≡ p .none) × (s .buffered ≡ 0)
     unfolding isZero
     zero-says s e =
-        let r = and-right (eqb (s .kind) free) _ e in (
-          eqb-true (s .kind) free (and-left (eqb (s .kind) free) _ e),
-          names .none-only (s .next) (and-left (p .isNone (s .next)) _ r),
-          eqb-true (s .buffered) 0 (and-right (p .isNone (s .next)) _ r),
-        )
+        let t = and-says (eqb (s .kind) free) _ e in
+        let t₁ = and-says (p .isNone (s .next)) _ (t .1) in
+        (eqb-true (s .kind) free (t .0), names .none-only (s .next) (t₁ .0), eqb-true (s .buffered) 0 (t₁ .1))
 
     of-zero : (s : Slot A) → s .kind ≡ free → s .next ≡ p .none → s .buffered ≡ 0 → isZero s ≡ true
     unfolding isZero
@@ -94,36 +99,39 @@ module _ {A : Type 0} (p : Supply A) where
     pub good-of-sound : (L : ℕ) (s : Slot A) → soundSlot L s ≡ true → Good L s
     unfolding soundSlot holds
     good-of-sound L s e =
-        let e₁ = and-right (leb (s .kind) 4) _ e in
-        let e₂ = and-right (implies (eqb (s .kind) free) (isZero s)) _ e₁ in
-        let e₃ = and-right (implies (eqb (s .kind) waiting) (eqb (s .buffered) 0)) _ e₂ in
-        let e₄ = and-right (implies (leb 1 (s .kind) && leb (s .kind) 3) (p .isBlock (s .next))) _ e₃ in
-        let e₅ = and-right (implies (eqb (s .kind) draining) (p .isEnd (s .next))) _ e₄ in
-        let e₆ = and-right (implies (eqb (s .kind) draining) (leb 1 (s .buffered))) _ e₅ in
-        let e₇ = and-right (leb (s .buffered) (p .buffer)) _ e₆ in
+        let k = s .kind in
+        let t = and-says (leb k 4) _ e in
+        let t₁ = and-says (implies (eqb k free) (isZero s)) _ (t .1) in
+        let t₂ = and-says (implies (eqb k waiting) (eqb (s .buffered) 0)) _ (t₁ .1) in
+        let t₃ = and-says (implies (leb 1 k && leb k 3) (p .isBlock (s .next))) _ (t₂ .1) in
+        let t₄ = and-says (implies (eqb k draining) (p .isEnd (s .next))) _ (t₃ .1) in
+        let t₅ = and-says (implies (eqb k draining) (leb 1 (s .buffered))) _ (t₄ .1) in
+        let t₆ = and-says (leb (s .buffered) (p .buffer)) _ (t₅ .1) in
         record {
-          kinds = leb-true (s .kind) 4 (and-left (leb (s .kind) 4) _ e);
-          zeros = λ k. let z = zero-says s (implied (eqb (s .kind) free) _ (and-left (implies (eqb (s .kind) free) (isZero s)) _ e₁) (eq-eqb (s .kind) free k)) in (z .1, z .2);
-          empty = λ k. eqb-true (s .buffered) 0 (implied (eqb (s .kind) waiting) _ (and-left (implies (eqb (s .kind) waiting) (eqb (s .buffered) 0)) _ e₂) (eq-eqb (s .kind) waiting k));
-          named = λ j k. implied (leb 1 (s .kind) && leb (s .kind) 3) _ (and-left (implies (leb 1 (s .kind) && leb (s .kind) 3) (p .isBlock (s .next))) _ e₃) (and-both (le-leb 1 (s .kind) j) (le-leb (s .kind) 3 k));
-          past = λ k. implied (eqb (s .kind) draining) _ (and-left (implies (eqb (s .kind) draining) (p .isEnd (s .next))) _ e₄) (eq-eqb (s .kind) draining k);
-          some = λ k. leb-true 1 (s .buffered) (implied (eqb (s .kind) draining) _ (and-left (implies (eqb (s .kind) draining) (leb 1 (s .buffered))) _ e₅) (eq-eqb (s .kind) draining k));
-          fits = leb-true (s .buffered) (p .buffer) (and-left (leb (s .buffered) (p .buffer)) _ e₆);
-          floored = λ k. leb-true (lowWater p L) (2000000 * s .buffered) (implied (eqb (s .kind) playing) _ e₇ (eq-eqb (s .kind) playing k));
+          kinds = leb-true k 4 (t .0);
+          zeros = λ h. let z = zero-says s (implied (eqb k free) _ (t₁ .0) (eq-eqb k free h)) in (z .1, z .2);
+          empty = λ h. eqb-true (s .buffered) 0 (implied (eqb k waiting) _ (t₂ .0) (eq-eqb k waiting h));
+          named = λ l h. implied (leb 1 k && leb k 3) _ (t₃ .0) (and-both (le-leb 1 k l) (le-leb k 3 h));
+          past = λ h. implied (eqb k draining) _ (t₄ .0) (eq-eqb k draining h);
+          some = λ h. leb-true 1 (s .buffered) (implied (eqb k draining) _ (t₅ .0) (eq-eqb k draining h));
+          fits = leb-true (s .buffered) (p .buffer) (t₆ .0);
+          floored = λ h. leb-true (lowWater p L) (2000000 * s .buffered) (implied (eqb k playing) _ (t₆ .1) (eq-eqb k playing h));
         }
 
     -- and a good one passes
     pub sound-of-good : (L : ℕ) (s : Slot A) → Good L s → soundSlot L s ≡ true
     unfolding soundSlot holds
     sound-of-good L s g =
-        and-both (le-leb (s .kind) 4 (g .kinds))
-        (and-both (implies-of (eqb (s .kind) free) (isZero s) (λ e. let k = eqb-true (s .kind) free e in of-zero s k (g .zeros k .0) (g .zeros k .1)))
-        (and-both (implies-of (eqb (s .kind) waiting) (eqb (s .buffered) 0) (λ e. eq-eqb (s .buffered) 0 (g .empty (eqb-true (s .kind) waiting e))))
-        (and-both (implies-of (leb 1 (s .kind) && leb (s .kind) 3) (p .isBlock (s .next)) (λ e. g .named (leb-true 1 (s .kind) (and-left (leb 1 (s .kind)) _ e)) (leb-true (s .kind) 3 (and-right (leb 1 (s .kind)) _ e))))
-        (and-both (implies-of (eqb (s .kind) draining) (p .isEnd (s .next)) (λ e. g .past (eqb-true (s .kind) draining e)))
-        (and-both (implies-of (eqb (s .kind) draining) (leb 1 (s .buffered)) (λ e. le-leb 1 (s .buffered) (g .some (eqb-true (s .kind) draining e))))
-        (and-both (le-leb (s .buffered) (p .buffer) (g .fits))
-        (implies-of (eqb (s .kind) playing) (leb (lowWater p L) (2000000 * s .buffered)) (λ e. le-leb (lowWater p L) (2000000 * s .buffered) (g .floored (eqb-true (s .kind) playing e))))))))))
+        let k = s .kind in
+        let h = s .buffered in
+        and-both (le-leb k 4 (g .kinds))
+        (and-both (implies-of (eqb k free) (isZero s) (λ e. let z = g .zeros (eqb-true k free e) in of-zero s (eqb-true k free e) (z .0) (z .1)))
+        (and-both (implies-of (eqb k waiting) (eqb h 0) (λ e. eq-eqb h 0 (g .empty (eqb-true k waiting e))))
+        (and-both (implies-of (leb 1 k && leb k 3) (p .isBlock (s .next)) (λ e. let t = and-says (leb 1 k) _ e in g .named (leb-true 1 k (t .0)) (leb-true k 3 (t .1))))
+        (and-both (implies-of (eqb k draining) (p .isEnd (s .next)) (λ e. g .past (eqb-true k draining e)))
+        (and-both (implies-of (eqb k draining) (leb 1 h) (λ e. le-leb 1 h (g .some (eqb-true k draining e))))
+        (and-both (le-leb h (p .buffer) (g .fits))
+        (implies-of (eqb k playing) (leb (lowWater p L) (2000000 * h)) (λ e. le-leb (lowWater p L) (2000000 * h) (g .floored (eqb-true k playing e))))))))))
 
     free-of-zero : (m : ℕ) (ss : List (Slot A)) → allBy isZero (drop m ss) ≡ true → FreeFrom m ss
     free-of-zero m ss e i l =
@@ -145,13 +153,14 @@ module _ {A : Type 0} (p : Supply A) where
     unfolding sound
     sound-says o d e =
         let L = leads p (d .slots) in
-        let e₁ = and-right (leb (d .phase) 1) _ e in
-        let e₂ = and-right (allBy (soundSlot L) (d .slots)) _ e₁ in
+        let t = and-says (leb (d .phase) 1) _ e in
+        let t₁ = and-says (allBy (soundSlot L) (d .slots)) _ (t .1) in
+        let t₂ = and-says (allBy isZero (drop (p .n) (d .slots))) _ (t₁ .1) in
         record {
-          phase = leb-true (d .phase) 1 (and-left (leb (d .phase) 1) _ e);
-          slots = each-map _ _ (d .slots) (good-of-sound L) (each-of-all (soundSlot L) (d .slots) (and-left (allBy (soundSlot L) (d .slots)) _ e₁));
-          unused = free-of-zero (p .n) (d .slots) (and-left (allBy isZero (drop (p .n) (d .slots))) _ e₂);
-          queue = and-right (allBy isZero (drop (p .n) (d .slots))) _ e₂;
+          phase = leb-true (d .phase) 1 (t .0);
+          slots = each-map _ _ (d .slots) (good-of-sound L) (each-of-all (soundSlot L) (d .slots) (t₁ .0));
+          unused = free-of-zero (p .n) (d .slots) (t₂ .0);
+          queue = t₂ .1;
         }
 
     pub says-sound : {Q : Type 0} (o : Order A Q) (d : Scheduler A Q) → Sound o d → sound o d ≡ true
