@@ -13,12 +13,12 @@ use lib.ListN.{length, getD, set, take, length-set, length-map, List·getD-map, 
 use lib.Seq.{getD-set-same, getD-set-other, take-length}
 use lib.Dec.{leb, eqb}
 use borrow.Author.Tests.{leb-true, eqb-true, eq-eqb, ne-eqb, le-leb, lt-leb}
-use Rattle.laws.specs.Bools.{bit, bit-le, implies, implied, implies-of, clash, is-false, bool-ext, and-left, and-right, and-both}
-use Rattle.laws.specs.Map.{mapFrom}
+use Rattle.laws.specs.Bools.{bit, bit-le, implies, implied, implies-of, clash, is-false, bool-ext, and-left, and-right, and-both, cond-le}
+use Rattle.laws.specs.Map.{mapTo, mapTo-none, mapTo-all, getD-mapTo, mapTo-store, mapTo-keep}
 use Rattle.laws.specs.Runs.{sumBy, allBy, all-at}
-use Rattle.laws.specs.Sums.{sum-none, sum-next, sum-all, sum-top, sum-rest}
+use Rattle.laws.specs.Sums.{sum-none, sum-next, sum-all, sum-part, sum-top, sum-rest}
 use Rattle.laws.specs.Each.{each-at, each-by}
-use Rattle.laws.specs.Places.{length-mapFrom, mapFrom-at, mapFrom-map, allFrom, lowestFrom, all-passed, first-failed}
+use Rattle.laws.specs.Places.{length-mapFrom, mapFrom-at, mapFrom-map, mapTo-rest, allFrom, lowestFrom, all-passed, first-failed}
 use Rattle.safety.specs.Supply.{Supply, Named}
 use Rattle.safety.specs.Scheduler.{Slot, free, waiting, filling, playing, draining, freeSlot, at}
 use Rattle.safety.specs.Scheduler.{reads, leadOf, leads, lowWater, holds, playingSlot, fillingSlot, startBy, startedSlot, started, playersHold}
@@ -94,6 +94,15 @@ module _ {A : Type 0} (p : Supply A) where
     unfolding leads
     leads-skip i h k = omega (arith, sum-next (leadOf p) (freeSlot p) ss i h, other-lead (at p ss i) k)
 
+    -- what is added up so far is at most the whole, and at most M for each slot
+    pub leads-part : (i : ℕ) → leads p (take i ss) ≤ leads p ss
+    unfolding leads
+    leads-part i = sum-part (leadOf p) i ss
+
+    pub leads-top : (M : ℕ) → ((a : A) → p .lead a ≤ M) → (i : ℕ) → leads p (take i ss) ≤ i * M
+    unfolding leads leadOf
+    leads-top M h i = sum-top (leadOf p) M (λ s. omega (arith, cond-le (reads p s) (p .lead (s .next)), h (s .next))) i ss
+
     pub leads-all : leads p (take (length ss) ss) ≡ leads p ss
     unfolding leads
     leads-all = sum-all (leadOf p) ss
@@ -109,6 +118,14 @@ module _ {A : Type 0} (p : Supply A) where
     pub times-skip : (i : ℕ) → i < length ss → isFetched p (at p ss i) ≡ false → times p (take (i + 1) ss) ≡ times p (take i ss)
     unfolding times
     times-skip i h e = omega (arith, sum-next (timeOf p) (freeSlot p) ss i h, unfetched-time (at p ss i) e)
+
+    pub times-part : (i : ℕ) → times p (take i ss) ≤ times p ss
+    unfolding times
+    times-part i = sum-part (timeOf p) i ss
+
+    pub times-top : (M : ℕ) → ((a : A) → p .time a ≤ M) → (i : ℕ) → times p (take i ss) ≤ i * M
+    unfolding times timeOf
+    times-top M h i = sum-top (timeOf p) M (λ s. omega (arith, cond-le (isFetched p s) (p .time (s .next)), h (s .next))) i ss
 
     pub times-all : times p (take (length ss) ss) ≡ times p ss
     unfolding times
@@ -254,10 +271,39 @@ module _ {A : Type 0} (p : Supply A) where
       go true e = rw (holds-no x s (h (eqb-true (s .kind) filling e)))
       go false e = refl
 
-  -- slot by slot, as a loop that stores does it (Map)
-  pub started-map : (x : ℕ) (ss : List (Slot A)) → started p x ss ≡ mapFrom (λ i s. startedSlot p x s) 0 ss
-  unfolding started
-  started-map x ss = sym (mapFrom-map (startedSlot p x) 0 ss)
+  -- the first i slots are done
+  unfoldable pub startedTo : ℕ → ℕ → List (Slot A) → List (Slot A)
+  startedTo x i ss = mapTo (λ j s. startedSlot p x s) 0 i ss
+
+  pub startedTo-none : (x : ℕ) (ss : List (Slot A)) → startedTo x 0 ss ≡ ss
+  unfolding startedTo
+  startedTo-none x ss = mapTo-none (λ j s. startedSlot p x s) 0 ss
+
+  -- slot i is still as it was
+  pub startedTo-at : (x i : ℕ) (ss : List (Slot A)) → at p (startedTo x i ss) i ≡ at p ss i
+  unfolding startedTo
+  startedTo-at x i ss = getD-mapTo (λ j s. startedSlot p x s) 0 i ss (freeSlot p)
+
+  pub startedTo-plays : (x i : ℕ) (ss : List (Slot A)) → i < length ss → at p ss i .kind ≡ filling → x ≤ 2000000 * at p ss i .buffered
+      → set (startedTo x i ss) i (playingSlot p (at p ss i)) ≡ startedTo x (i + 1) ss
+  unfolding startedTo
+  startedTo-plays x i ss l k h = mapTo-store (λ j s. startedSlot p x s) i ss (freeSlot p) (playingSlot p (at p ss i)) l (sym (starts-playing x (at p ss i) k h))
+
+  pub startedTo-stays : (x i : ℕ) (ss : List (Slot A)) → i < length ss → (at p ss i .kind ≡ filling → 2000000 * at p ss i .buffered < x)
+      → startedTo x i ss ≡ startedTo x (i + 1) ss
+  unfolding startedTo
+  startedTo-stays x i ss l h = mapTo-keep (λ j s. startedSlot p x s) i ss (freeSlot p) l (starts-not x (at p ss i) h)
+
+  -- the loop may stop where the slots from i on are free
+  pub startedTo-rest : (x i : ℕ) (ss : List (Slot A)) → FreeFrom p i ss → startedTo x i ss ≡ started p x ss
+  unfolding startedTo started
+  startedTo-rest x i ss u =
+      mapTo-rest (λ j s. startedSlot p x s) (freeSlot p) i ss (λ j l h. starts-not x (at p ss j) (λ k. absurd (omega (arith, u j l))))
+      ∙ mapFrom-map (startedSlot p x) 0 ss
+
+  pub startedTo-all : (x : ℕ) (ss : List (Slot A)) → startedTo x (length ss) ss ≡ started p x ss
+  unfolding startedTo started
+  startedTo-all x ss = mapTo-all (λ j s. startedSlot p x s) 0 (length ss) ss (omega arith) ∙ mapFrom-map (startedSlot p x) 0 ss
 
   pub started-at : (x : ℕ) (ss : List (Slot A)) (i : ℕ) → at p (started p x ss) i ≡ startedSlot p x (at p ss i)
   unfolding started startedSlot
@@ -471,6 +517,36 @@ module _ {A : Type 0} (p : Supply A) where
     where
       whole : s .buffered - 0 ≡ s .buffered
       whole = omega arith
+
+  -- the first i slots are done
+  unfoldable pub endedTo : List ℕ → ℕ → List (Slot A) → List (Slot A)
+  endedTo ds i ss = mapTo (λ j s. endedSlot p s (getD ds j 0)) 0 i ss
+
+  pub endedTo-none : (ds : List ℕ) (ss : List (Slot A)) → endedTo ds 0 ss ≡ ss
+  unfolding endedTo
+  endedTo-none ds ss = mapTo-none (λ j s. endedSlot p s (getD ds j 0)) 0 ss
+
+  -- slot i is still as it was
+  pub endedTo-at : (ds : List ℕ) (i : ℕ) (ss : List (Slot A)) → at p (endedTo ds i ss) i ≡ at p ss i
+  unfolding endedTo
+  endedTo-at ds i ss = getD-mapTo (λ j s. endedSlot p s (getD ds j 0)) 0 i ss (freeSlot p)
+
+  -- v is what the laws above say of slot i
+  pub endedTo-next : (ds : List ℕ) (i : ℕ) (ss : List (Slot A)) (v : Slot A) → i < length ss → endedSlot p (at p ss i) (getD ds i 0) ≡ v
+      → set (endedTo ds i ss) i v ≡ endedTo ds (i + 1) ss
+  unfolding endedTo
+  endedTo-next ds i ss v l e = mapTo-store (λ j s. endedSlot p s (getD ds j 0)) i ss (freeSlot p) v l (sym e)
+
+  -- the loop may stop where the slots from i on are free and without a draw
+  pub endedTo-rest : (ds : List ℕ) (i : ℕ) (ss : List (Slot A)) → FreeFrom p i ss → length ds ≤ i → endedTo ds i ss ≡ ended p ss ds
+  unfolding endedTo ended
+  endedTo-rest ds i ss u l =
+      mapTo-rest (λ j s. endedSlot p s (getD ds j 0)) (freeSlot p) i ss
+      (λ j m h. ap (endedSlot p (at p ss j)) (List·getD-eq-default ds 0 {n = j} (omega arith)) ∙ ended-free (at p ss j) (u j m))
+
+  pub endedTo-all : (ds : List ℕ) (ss : List (Slot A)) → endedTo ds (length ss) ss ≡ ended p ss ds
+  unfolding endedTo ended
+  endedTo-all ds ss = mapTo-all (λ j s. endedSlot p s (getD ds j 0)) 0 (length ss) ss (omega arith)
 
   -- ---- draws
 
