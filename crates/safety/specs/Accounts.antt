@@ -21,9 +21,10 @@ use Rattle.safety.specs.Scheduler.{leads, times, fetchCount, bound, swep
 use Rattle.safety.specs.Order.{Scheduler, Order}
 use Rattle.safety.specs.Sound.{Good, Sound}
 use Rattle.safety.specs.Orderly.{Kept, Orderly}
+use Rattle.safety.specs.Slots.{fetched-kind, fetched-other}
 use Rattle.safety.specs.Ledger.{Line, blank, lineAt, openedLine, closeBy, isNamed, markedLine, drawnLine, settledLine, recorded}
 use Rattle.safety.specs.Calls.{Allowed, accepted}
-use Rattle.safety.specs.Safety.{fetched-kind, free-unfetched, Drawable, Drawables, drawables-of, Swept, swept-of, leads-after, leads-le, fetches-le}
+use Rattle.safety.specs.Safety.{Drawable, Drawables, drawables-of, Swept, swept-of, leads-after, leads-le, fetches-le}
 
 -- ---- whom the entries name
 
@@ -123,7 +124,7 @@ module _ {A : Type 0} (p : Supply A) where
   agree-free sweep = record { opens = refl; sums = λ z. clash z refl; quiet = λ z. clash z refl; marks = go sweep }
     where
       go : (t : Bool) → false ≡ (t && isFetched p (freeSlot p))
-      go true = sym (free-unfetched p (freeSlot p) refl)
+      go true = sym (fetched-other p (freeSlot p) (λ a b. omega arith))
       go false = refl
 
   -- ---- begin
@@ -263,7 +264,7 @@ module _ {A : Type 0} (p : Supply A) where
 
     -- ---- every call
 
-    pub between : (q : ℕ) → q ≡ 0 → eqb q 1 ≡ false
+    between : (q : ℕ) → q ≡ 0 → eqb q 1 ≡ false
     between q e = ne-eqb q 1 (λ z. omega arith)
 
     -- a slot and a line are put in place of others

@@ -15,7 +15,8 @@ use Rattle.safety.specs.Supply.{Supply}
 use Rattle.safety.specs.Scheduler.{Slot, waiting, filling, playing, at, leadOf, leads, lowWater, holds}
 use Rattle.safety.specs.Scheduler.{fillingSlot, startBy, startedSlot, started, playersHold, grantable, granted, grantBy, tried, tries, begun}
 use Rattle.safety.specs.Order.{bySlot}
-use Rattle.safety.specs.Orderly.{Kept, kept-refl, Floored, Began, Orderly, began-then, began-none, idle-lead, reading-lead}
+use Rattle.safety.specs.Orderly.{Kept, kept-refl, Floored, Began, Orderly, began-then, began-none}
+use Rattle.safety.specs.Slots.{reading-lead, other-lead}
 
 module _ {A : Type 0} (p : Supply A) where
   -- ---- filling slots start to play
@@ -76,7 +77,7 @@ module _ {A : Type 0} (p : Supply A) where
   unfolding leads sumBy granted
   granted-leads [] i k = absurd (omega arith)
   granted-leads (s ∷ ss) zero k =
-      omega (arith, idle-lead p s (omega arith), reading-lead p (fillingSlot p s) (omega arith) (omega arith))
+      omega (arith, other-lead p s (λ a b. omega arith), reading-lead p (fillingSlot p s) (omega arith) (omega arith))
   granted-leads (s ∷ ss) (suc i) k = omega (arith, granted-leads ss i k)
 
   granted-kept : (ss : List (Slot A)) (i : ℕ) → at p ss i .kind ≡ waiting → Both Kept ss (granted p ss i)

@@ -5,6 +5,7 @@ pub mod Sound
 pub mod Refusals
 pub mod Ledger
 pub mod Calls
+pub mod Slots
 pub mod Floors
 pub mod Orderly
 pub mod Safety

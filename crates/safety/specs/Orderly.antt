@@ -3,17 +3,14 @@
 -- Assumes nothing.
 use Prim.Native.Nat.{ℕ, _*_, _≤_, _<_, min, max}
 use mathlib.Core.Path.{_≡_, refl, _∙_}
-use mathlib.Core.Logic.{by-cases}
 use mathlib.Core.Bool.{true}
 use mathlib.Core.List.{List}
 use native.Mathlib.Omega.{arith}
-use native.Mathlib.Decide.{ℕ-discrete}
 use lib.ListN.{replicate}
 use lib.Dec.{eqb}
-use borrow.Author.Tests.{ne-eqb}
 use Rattle.laws.specs.Each.{Each, Both, both-refl, both-trans}
 use Rattle.safety.specs.Supply.{Supply}
-use Rattle.safety.specs.Scheduler.{Slot, free, waiting, playing, freeSlot, at, reads, leadOf, leads, lowWater, joined, left}
+use Rattle.safety.specs.Scheduler.{Slot, free, waiting, playing, freeSlot, at, leads, lowWater, joined, left}
 use Rattle.safety.specs.Order.{Order}
 use Rattle.safety.specs.Sound.{Good}
 
@@ -70,13 +67,3 @@ module _ {A : Type 0} (p : Supply A) where
 
   pub began-none : (ss : List (Slot A)) → Floored (leads p ss) ss → Began ss ss
   began-none ss f = record { kept = both-refl Kept ss kept-refl; floored = f }
-
-  -- ---- the lead of a slot, by its kind
-
-  pub idle-lead : (s : Slot A) → s .kind < 2 → leadOf p s ≡ 0
-  unfolding leadOf reads
-  idle-lead s k = rw (ne-eqb (s .kind) 2 (λ e. omega arith), ne-eqb (s .kind) 3 (λ e. omega arith))
-
-  pub reading-lead : (s : Slot A) → 2 ≤ s .kind → s .kind ≤ 3 → leadOf p s ≡ p .lead (s .next)
-  unfolding leadOf reads
-  reading-lead s k l = by-cases (ℕ-discrete (s .kind) 2) (λ e. rw e) (λ e. let q : s .kind ≡ 3 = omega arith in rw q)

@@ -2,28 +2,27 @@
 -- Assumes nothing.
 use Prim.Native.Nat.{ℕ, zero, suc, _+_, _*_, _-_, _/_, _≤_, _<_}
 use mathlib.Core.Path.{_≡_, refl, sym, ap, _∙_}
-use mathlib.Core.Logic.{_⊎_, inl, inr, by-cases}
 use mathlib.Core.Bool.{Bool, true, false, cond, _&&_, _||_}
 use mathlib.Core.List.{List, [], _∷_}
 use native.Mathlib.Omega.{arith}
-use native.Mathlib.Decide.{decLt}
 use native.Mathlib.Nat.{pos-of-ne-zero, mul-le-mul-left}
 use lib.ListN.{length, getD, set, length-set}
 use lib.Seq.{getD-set-other}
 use lib.Dec.{eqb}
-use borrow.Author.Tests.{leb-true, leb-false, eqb-true, eq-eqb, ne-eqb}
-use Rattle.laws.specs.Bools.{bit, bit-le, clash, and-left, and-right, and-both, or-cases, cond-le}
+use borrow.Author.Tests.{leb-true, eqb-true, eq-eqb, ne-eqb}
+use Rattle.laws.specs.Bools.{bit, bit-le, clash, and-left, and-right, and-both, cond-le}
 use Rattle.laws.specs.Map.{mapFrom}
 use Rattle.laws.specs.Runs.{sumBy}
 use Rattle.laws.specs.Each.{Each, EachFrom, Both, each-set, each-map, both-at, both-length}
 use Rattle.laws.specs.Places.{allFrom, length-mapFrom}
 use Rattle.safety.specs.Supply.{Supply, Lawful}
-use Rattle.safety.specs.Scheduler.{Slot, Call, join, leave, begin, end, free, waiting, filling, playing, draining, freeSlot, waitingSlot, at}
+use Rattle.safety.specs.Scheduler.{Slot, Call, join, leave, begin, end, free, waiting, playing, draining, freeSlot, waitingSlot, at}
 use Rattle.safety.specs.Scheduler.{reads, leadOf, leads, lowWater, joined, left, isFetched, timeOf, times, fetchCount, bound}
 use Rattle.safety.specs.Scheduler.{sweptBy, releaseBy, released, endedSlot, ended, mostDrawn, drawLimit}
 use Rattle.safety.specs.Order.{Scheduler, Order}
-use Rattle.safety.specs.Sound.{Good, good-free, FreeFrom, Sound}
-use Rattle.safety.specs.Orderly.{Kept, kept-refl, SameWaiting, Floored, Orderly, idle-lead, reading-lead}
+use Rattle.safety.specs.Sound.{Good, good-block, good-free, FreeFrom, Sound}
+use Rattle.safety.specs.Orderly.{Kept, kept-refl, SameWaiting, Floored, Orderly}
+use Rattle.safety.specs.Slots.{reads-kind, reading-lead, other-lead, fetched-other, fetched-kind, fetched-room, unfetched-full}
 use Rattle.safety.specs.Refusals.{drawAllowed, drawHeld}
 use Rattle.safety.specs.Calls.{Allowed, accepted}
 use Rattle.safety.specs.Floors.{room-of-streams, fetched-stays, full-stays, sweep-within}
@@ -32,16 +31,7 @@ module _ {A : Type 0} (p : Supply A) where
   -- ---- join and leave
 
   pub good-waiting : (L : ℕ) (b : A) → p .isBlock b ≡ true → Good p L (waitingSlot p b)
-  good-waiting L b e = record {
-    kinds = omega arith;
-    zeros = λ z. absurd (omega arith);
-    empty = λ _. refl;
-    named = λ _ _. e;
-    past = λ z. absurd (omega arith);
-    some = λ z. absurd (omega arith);
-    fits = omega arith;
-    floored = λ z. absurd (omega arith);
-  }
+  good-waiting L b e = good-block p L (waitingSlot p b) (omega arith) (omega arith) e (λ _. refl) (omega arith) (λ z. absurd (omega arith))
 
   -- a good slot stays good where the leads fall
   pub good-lower : (L M : ℕ) → M ≤ L → (s : Slot A) → Good p L s → Good p M s
@@ -90,56 +80,30 @@ module _ {A : Type 0} (p : Supply A) where
   kept-free m ss ts k u i l =
       let q = both-at Kept ss ts i (freeSlot p) (freeSlot p) k (kept-refl (freeSlot p)) in omega (arith, q .occupied, u i l)
 
-  -- ---- which slots are fetched for
-
-  pub fetched-kind : (s : Slot A) → isFetched p s ≡ true → (2 ≤ s .kind) × (s .kind ≤ 3)
-  unfolding isFetched reads
-  fetched-kind s e = go (or-cases (eqb (s .kind) filling) (eqb (s .kind) playing) (and-left (eqb (s .kind) filling || eqb (s .kind) playing) _ e))
-    where
-      go : (eqb (s .kind) filling ≡ true) ⊎ (eqb (s .kind) playing ≡ true) → (2 ≤ s .kind) × (s .kind ≤ 3)
-      go (inl q) = omega (arith, eqb-true)
-      go (inr q) = omega (arith, eqb-true)
-
-  -- one that is has room for a block
-  pub fetched-room : (s : Slot A) → isFetched p s ≡ true → s .buffered + p .B ≤ p .buffer
-  unfolding isFetched
-  fetched-room s e = leb-true (s .buffered + p .B) (p .buffer) (and-right (reads p s) _ e)
-
-  -- a playing one that is not has none
-  pub unfetched-full : (s : Slot A) → s .kind ≡ playing → isFetched p s ≡ false → p .buffer < s .buffered + p .B
-  unfolding isFetched reads
-  unfetched-full s k e = leb-false (s .buffered + p .B) (p .buffer) (rw k at e)
-
-  -- a free one is not
-  pub free-unfetched : (s : Slot A) → s .kind ≡ free → isFetched p s ≡ false
-  unfolding isFetched reads
-  free-unfetched s k = rw k
-
   module _ (ok : Lawful p) where
     -- ---- the sums of a sweep
 
     lead-le : (L : ℕ) (s : Slot A) → Good p L s → leadOf p s ≤ p .margin
-    lead-le L s g =
-        by-cases (decLt (s .kind) 2) (λ k. omega (arith, idle-lead p s k))
-        (λ k. by-cases (decLt (s .kind) 4)
-        (λ l. omega (arith, reading-lead p s (omega arith) (omega arith), ok .lead-top (s .next) (g .named (omega arith) (omega arith))))
-        (λ l. drains (omega (arith, g .kinds))))
+    lead-le L s g = go (reads p s) refl
       where
-        drains : s .kind ≡ draining → leadOf p s ≤ p .margin
-        drains k = unfold leadOf in unfold reads in rw k (omega arith)
+        go : (t : Bool) → reads p s ≡ t → leadOf p s ≤ p .margin
+        go true e =
+            let k = reads-kind p s e in
+            omega (arith, reading-lead p s (k .0) (k .1), ok .lead-top (s .next) (g .named (omega arith) (k .1)))
+        go false e = unfold leadOf in rw e (omega arith)
 
     pub leads-le : (L m : ℕ) (ss : List (Slot A)) → Each (Good p L) ss → FreeFrom p m ss → leads p ss ≤ m * p .margin
     unfolding leads sumBy
     leads-le L m [] g u = omega arith
     leads-le L zero (s ∷ ss) g u =
-        omega (arith, idle-lead p s (omega (arith, u 0 (omega arith))), leads-le L zero ss (g .1) (λ i l. u (suc i) (omega arith)))
+        omega (arith, other-lead p s (λ a b. omega (arith, u 0 (omega arith))), leads-le L zero ss (g .1) (λ i l. u (suc i) (omega arith)))
     leads-le L (suc m) (s ∷ ss) g u = omega (arith, lead-le L s (g .0), leads-le L m ss (g .1) (λ i l. u (suc i) (omega arith)))
 
     pub fetches-le : (m : ℕ) (ss : List (Slot A)) → FreeFrom p m ss → fetchCount p ss ≤ m
     unfolding fetchCount sumBy
     fetches-le m [] u = omega arith
     fetches-le zero (s ∷ ss) u =
-        rw (free-unfetched s (u 0 (omega arith))) (omega (arith, fetches-le zero ss (λ i l. u (suc i) (omega arith))))
+        rw (fetched-other p s (λ a b. omega (arith, u 0 (omega arith)))) (omega (arith, fetches-le zero ss (λ i l. u (suc i) (omega arith))))
     fetches-le (suc m) (s ∷ ss) u = omega (arith, bit-le (isFetched p s), fetches-le m ss (λ i l. u (suc i) (omega arith)))
 
     released-lead : (s : Slot A) → leadOf p (released p s) ≤ leadOf p s
@@ -163,7 +127,7 @@ module _ {A : Type 0} (p : Supply A) where
 
         go : (f : Bool) → isFetched p s ≡ f → 2 * cond f (p .time (s .next)) 0 + leadOf p (sweptBy p f s d) ≤ leadOf p s + bit f * p .pairTime
         go true e =
-            let k = fetched-kind s e in
+            let k = fetched-kind p s e in
             omega (arith, reading-lead p s (k .0) (k .1), ok .lead-covers (s .next) (g .named (omega arith) (k .1)), last (p .isEnd (p .next (s .next))) k)
         go false e = unfold leadOf in unfold reads in omega arith
 
@@ -278,18 +242,18 @@ module _ {A : Type 0} (p : Supply A) where
             empty = λ y. absurd (omega arith);
             named = λ _ y. absurd (omega arith);
             past = λ _. e;
-            fits = omega (arith, fetched-room s f);
+            fits = omega (arith, fetched-room p s f);
             floored = λ y. absurd (omega arith);
           }
           last false e f =
-              let q = fetched-kind s f in
+              let q = fetched-kind p s f in
               record {
                 kinds = omega arith;
                 zeros = λ y. absurd (omega arith);
                 empty = λ y. absurd (omega arith);
                 named = λ _ _. ok .next-block (s .next) (g .named (omega arith) (omega arith)) e;
                 past = λ y. absurd (omega arith);
-                fits = omega (arith, fetched-room s f);
+                fits = omega (arith, fetched-room p s f);
                 floored = λ y. omega (
                   arith,
                   fetched-stays (p .c) (p .pairTime) (p .B) k (p .overhead k) T L M 0 (room-of k few) paid (s .buffered) d (g .floored y) (w .most) .1,
@@ -308,7 +272,7 @@ module _ {A : Type 0} (p : Supply A) where
             floored = λ z. omega (
               arith,
               full-stays (p .c) (p .pairTime) (p .B) k (p .overhead k) T L M 0 (room-of k few) paid (p .n) (p .margin) (s .buffered) d
-                  (omega (arith, top)) (omega (arith, ok .buffer-holds, unfetched-full s z f)) (w .most) .1,
+                  (omega (arith, top)) (omega (arith, ok .buffer-holds, unfetched-full p s z f)) (w .most) .1,
             );
           }
 
@@ -324,7 +288,7 @@ module _ {A : Type 0} (p : Supply A) where
     free-ended : (m i : ℕ) (ss : List (Slot A)) (ds : List ℕ) → FreeFrom p m ss → FreeFrom p m (mapFrom (λ j s. endedSlot p s (getD ds j 0)) i ss)
     unfolding mapFrom endedSlot
     free-ended m i [] ds u j l = refl
-    free-ended m i (s ∷ ss) ds u zero l = let k = u 0 l in unfold sweptBy in unfold released in rw (free-unfetched s k, k)
+    free-ended m i (s ∷ ss) ds u zero l = let k = u 0 l in unfold sweptBy in unfold released in rw (fetched-other p s (λ a b. omega arith), k)
     free-ended zero i (s ∷ ss) ds u (suc j) l = free-ended zero (suc i) ss ds (λ x y. u (suc x) (omega arith)) j (omega arith)
     free-ended (suc m) i (s ∷ ss) ds u (suc j) l = free-ended m (suc i) ss ds (λ x y. u (suc x) (omega arith)) j (omega arith)
 
@@ -346,7 +310,7 @@ module _ {A : Type 0} (p : Supply A) where
         last false k = refl
 
         go : (f : Bool) → isFetched p s ≡ f → SameWaiting s (sweptBy p f s d)
-        go true e = last (p .isEnd (p .next (s .next))) (fetched-kind s e .0)
+        go true e = last (p .isEnd (p .next (s .next))) (fetched-kind p s e .0)
         go false e = refl
 
     ended-waits : (i : ℕ) (ss : List (Slot A)) (ds : List ℕ) → Both SameWaiting ss (mapFrom (λ j s. endedSlot p s (getD ds j 0)) i ss)
@@ -365,13 +329,13 @@ module _ {A : Type 0} (p : Supply A) where
       unfolding accepted joined left ended mostDrawn bound
       accepted-keeps d (join i b) h a = record {
         phase = omega arith;
-        slots = goods-set (d .slots) i (waitingSlot p b) (idle-lead p (waitingSlot p b) (omega arith)) (λ L. good-waiting L b (a .3)) (h .slots);
+        slots = goods-set (d .slots) i (waitingSlot p b) (other-lead p (waitingSlot p b) (λ x y. omega arith)) (λ L. good-waiting L b (a .3)) (h .slots);
         unused = free-set (p .n) i (d .slots) (waitingSlot p b) (a .1) (h .unused);
         queue = orderly .queue-joined (d .queue) (d .slots) i b (a .2) (h .queue);
       }
       accepted-keeps d (leave i) h a = record {
         phase = omega arith;
-        slots = goods-set (d .slots) i (freeSlot p) (idle-lead p (freeSlot p) (omega arith)) (good-free p) (h .slots);
+        slots = goods-set (d .slots) i (freeSlot p) (other-lead p (freeSlot p) (λ x y. omega arith)) (good-free p) (h .slots);
         unused = free-set (p .n) i (d .slots) (freeSlot p) (a .1) (h .unused);
         queue = orderly .queue-left (d .queue) (d .slots) i (a .2) (h .queue);
       }

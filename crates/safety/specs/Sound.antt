@@ -71,17 +71,46 @@ module _ {A : Type 0} (p : Supply A) where
   replicate-free (suc n) zero = refl
   replicate-free (suc n) (suc i) = replicate-free n i
 
-  pub good-free : (L : ℕ) → Good L (freeSlot p)
-  good-free L = record {
+  -- a good slot by its kind
+  pub good-zero : (L : ℕ) (s : Slot A) → s .kind ≡ free → s .next ≡ p .none → s .buffered ≡ 0 → Good L s
+  good-zero L s k x h = record {
     kinds = omega arith;
-    zeros = λ _. (refl, refl);
-    empty = λ _. refl;
+    zeros = λ _. (x, h);
+    empty = λ _. h;
     named = λ z. absurd (omega arith);
     past = λ z. absurd (omega arith);
     some = λ z. absurd (omega arith);
     fits = omega arith;
     floored = λ z. absurd (omega arith);
   }
+
+  pub good-block : (L : ℕ) (s : Slot A) → 1 ≤ s .kind → s .kind ≤ 3 → p .isBlock (s .next) ≡ true → (s .kind ≡ waiting → s .buffered ≡ 0)
+      → s .buffered ≤ p .buffer → (s .kind ≡ playing → lowWater p L ≤ 2000000 * s .buffered) → Good L s
+  good-block L s k l x e h f = record {
+    kinds = omega arith;
+    zeros = λ z. absurd (omega arith);
+    empty = e;
+    named = λ _ _. x;
+    past = λ z. absurd (omega arith);
+    some = λ z. absurd (omega arith);
+    fits = h;
+    floored = f;
+  }
+
+  pub good-draining : (L : ℕ) (s : Slot A) → s .kind ≡ draining → p .isEnd (s .next) ≡ true → 1 ≤ s .buffered → s .buffered ≤ p .buffer → Good L s
+  good-draining L s k x m h = record {
+    kinds = omega arith;
+    zeros = λ z. absurd (omega arith);
+    empty = λ z. absurd (omega arith);
+    named = λ _ z. absurd (omega arith);
+    past = λ _. x;
+    some = λ _. m;
+    fits = h;
+    floored = λ z. absurd (omega arith);
+  }
+
+  pub good-free : (L : ℕ) → Good L (freeSlot p)
+  good-free L = good-zero L (freeSlot p) refl refl refl
 
   module _ (names : Named p) where
     zero-says : (s : Slot A) → isZero s ≡ true → (s .kind ≡ free) × (s .next ≡ p .none) × (s .buffered ≡ 0)

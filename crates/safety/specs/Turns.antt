@@ -25,59 +25,12 @@ use Rattle.safety.specs.Scheduler.{reads, leadOf, leads, lowWater, holds
 use Rattle.safety.specs.Scheduler.{grantable, granted, grantBy, tried, tries, isFetched, timeOf, times, fetchCount}
 use Rattle.safety.specs.Scheduler.{sweptBy, releaseBy, released, endedSlot, ended, drawLimit}
 use Rattle.safety.specs.Order.{Scheduler, Order}
-use Rattle.safety.specs.Sound.{soundSlot, sound, Good, good-free, FreeFrom, Sound, good-of-sound, sound-of-good, sound-says, says-sound}
+use Rattle.safety.specs.Sound.{soundSlot, sound, Good, good-zero, good-block, good-draining, good-free, FreeFrom, Sound, good-of-sound, sound-of-good, sound-says, says-sound}
 use Rattle.safety.specs.Refusals.{drawAllowed, drawHeld}
-use Rattle.safety.specs.Orderly.{reading-lead}
+use Rattle.safety.specs.Slots.{reading-lead, other-lead, fetched-yes, fetched-other, fetched-time, unfetched-time, holds-yes, holds-no}
 use Rattle.safety.specs.BySlot.{granted-leads}
 
 module _ {A : Type 0} (p : Supply A) where
-  -- ---- a slot by its numbers
-
-  -- filling and playing slots read
-  pub reads-yes : (s : Slot A) → 2 ≤ s .kind → s .kind ≤ 3 → reads p s ≡ true
-  unfolding reads
-  reads-yes s k l = by-cases (ℕ-discrete (s .kind) 2) (λ e. rw e) (λ e. let q : s .kind ≡ 3 = omega arith in rw q)
-
-  pub reads-no : (s : Slot A) → (2 ≤ s .kind → s .kind ≤ 3 → ⊥) → reads p s ≡ false
-  unfolding reads
-  reads-no s h = rw (ne-eqb (s .kind) 2 (λ e. h (omega arith) (omega arith)), ne-eqb (s .kind) 3 (λ e. h (omega arith) (omega arith)))
-
-  pub other-lead : (s : Slot A) → (2 ≤ s .kind → s .kind ≤ 3 → ⊥) → leadOf p s ≡ 0
-  unfolding leadOf
-  other-lead s h = rw (reads-no s h)
-
-  pub fetched-yes : (s : Slot A) → 2 ≤ s .kind → s .kind ≤ 3 → s .buffered + p .B ≤ p .buffer → isFetched p s ≡ true
-  unfolding isFetched
-  fetched-yes s k l r = rw (reads-yes s k l, le-leb (s .buffered + p .B) (p .buffer) r)
-
-  pub fetched-other : (s : Slot A) → (2 ≤ s .kind → s .kind ≤ 3 → ⊥) → isFetched p s ≡ false
-  unfolding isFetched
-  fetched-other s h = rw (reads-no s h)
-
-  pub fetched-full : (s : Slot A) → p .buffer < s .buffered + p .B → isFetched p s ≡ false
-  unfolding isFetched
-  fetched-full s h = rw (lt-leb (s .buffered + p .B) (p .buffer) h) (last (reads p s))
-    where
-      last : (t : Bool) → (t && false) ≡ false
-      last true = refl
-      last false = refl
-
-  pub fetched-time : (s : Slot A) → isFetched p s ≡ true → timeOf p s ≡ p .time (s .next)
-  unfolding timeOf
-  fetched-time s e = rw e
-
-  pub unfetched-time : (s : Slot A) → isFetched p s ≡ false → timeOf p s ≡ 0
-  unfolding timeOf
-  unfetched-time s e = rw e
-
-  pub holds-yes : (x : ℕ) (s : Slot A) → x ≤ 2000000 * s .buffered → holds p x s ≡ true
-  unfolding holds
-  holds-yes x s h = le-leb x (2000000 * s .buffered) h
-
-  pub holds-no : (x : ℕ) (s : Slot A) → 2000000 * s .buffered < x → holds p x s ≡ false
-  unfolding holds
-  holds-no x s h = lt-leb x (2000000 * s .buffered) h
-
   -- ---- leads, times and count: added up from slot 0
 
   module _ (ss : List (Slot A)) where
@@ -92,7 +45,7 @@ module _ {A : Type 0} (p : Supply A) where
 
     pub leads-skip : (i : ℕ) → i < length ss → (2 ≤ at p ss i .kind → at p ss i .kind ≤ 3 → ⊥) → leads p (take (i + 1) ss) ≡ leads p (take i ss)
     unfolding leads
-    leads-skip i h k = omega (arith, sum-next (leadOf p) (freeSlot p) ss i h, other-lead (at p ss i) k)
+    leads-skip i h k = omega (arith, sum-next (leadOf p) (freeSlot p) ss i h, other-lead p (at p ss i) k)
 
     -- what is added up so far is at most the whole, and at most M for each slot
     pub leads-part : (i : ℕ) → leads p (take i ss) ≤ leads p ss
@@ -113,11 +66,11 @@ module _ {A : Type 0} (p : Supply A) where
 
     pub times-next : (i : ℕ) → i < length ss → isFetched p (at p ss i) ≡ true → times p (take (i + 1) ss) ≡ times p (take i ss) + p .time (at p ss i .next)
     unfolding times
-    times-next i h e = omega (arith, sum-next (timeOf p) (freeSlot p) ss i h, fetched-time (at p ss i) e)
+    times-next i h e = omega (arith, sum-next (timeOf p) (freeSlot p) ss i h, fetched-time p (at p ss i) e)
 
     pub times-skip : (i : ℕ) → i < length ss → isFetched p (at p ss i) ≡ false → times p (take (i + 1) ss) ≡ times p (take i ss)
     unfolding times
-    times-skip i h e = omega (arith, sum-next (timeOf p) (freeSlot p) ss i h, unfetched-time (at p ss i) e)
+    times-skip i h e = omega (arith, sum-next (timeOf p) (freeSlot p) ss i h, unfetched-time p (at p ss i) e)
 
     pub times-part : (i : ℕ) → times p (take i ss) ≤ times p ss
     unfolding times
@@ -165,7 +118,7 @@ module _ {A : Type 0} (p : Supply A) where
   unfolding playersHold allBy
   players-yes x [] h = refl
   players-yes x (s ∷ ss) h =
-      and-both (implies-of (eqb (s .kind) playing) (holds p x s) (λ e. holds-yes x s (h 0 (omega arith) (eqb-true (s .kind) playing e))))
+      and-both (implies-of (eqb (s .kind) playing) (holds p x s) (λ e. holds-yes p x s (h 0 (omega arith) (eqb-true (s .kind) playing e))))
       (players-yes x ss (λ j l. h (suc j) (omega arith)))
 
   pub players-no : (x : ℕ) (ss : List (Slot A)) (j : ℕ) → j < length ss → at p ss j .kind ≡ playing → 2000000 * at p ss j .buffered < x
@@ -173,7 +126,7 @@ module _ {A : Type 0} (p : Supply A) where
   unfolding playersHold
   players-no x ss j l k h =
       is-false (playersHold p x ss)
-      (λ e. clash (implied (eqb (at p ss j .kind) playing) _ (all-at (freeSlot p) (λ s. implies (eqb (s .kind) playing) (holds p x s)) ss j e l) (eq-eqb (at p ss j .kind) playing k)) (holds-no x (at p ss j) h))
+      (λ e. clash (implied (eqb (at p ss j .kind) playing) _ (all-at (freeSlot p) (λ s. implies (eqb (s .kind) playing) (holds p x s)) ss j e l) (eq-eqb (at p ss j .kind) playing k)) (holds-no p x (at p ss j) h))
 
   -- the least that a playing slot holds, top where none plays
   unfoldable pub leastHeld : ℕ → List (Slot A) → ℕ
@@ -238,15 +191,15 @@ module _ {A : Type 0} (p : Supply A) where
   module _ (m : ℕ) (ss : List (Slot A)) (u : FreeFrom p m ss) where
     pub leads-rest : leads p (take m ss) ≡ leads p ss
     unfolding leads
-    leads-rest = sum-rest (leadOf p) (freeSlot p) m ss (λ j l h. other-lead (at p ss j) (λ a b. omega (arith, u j l)))
+    leads-rest = sum-rest (leadOf p) (freeSlot p) m ss (λ j l h. other-lead p (at p ss j) (λ a b. omega (arith, u j l)))
 
     pub times-rest : times p (take m ss) ≡ times p ss
     unfolding times
-    times-rest = sum-rest (timeOf p) (freeSlot p) m ss (λ j l h. unfetched-time (at p ss j) (fetched-other (at p ss j) (λ a b. omega (arith, u j l))))
+    times-rest = sum-rest (timeOf p) (freeSlot p) m ss (λ j l h. unfetched-time p (at p ss j) (fetched-other p (at p ss j) (λ a b. omega (arith, u j l))))
 
     pub count-rest : fetchCount p (take m ss) ≡ fetchCount p ss
     unfolding fetchCount
-    count-rest = sum-rest (λ s. bit (isFetched p s)) (freeSlot p) m ss (λ j l h. ap bit (fetched-other (at p ss j) (λ a b. omega (arith, u j l))))
+    count-rest = sum-rest (λ s. bit (isFetched p s)) (freeSlot p) m ss (λ j l h. ap bit (fetched-other p (at p ss j) (λ a b. omega (arith, u j l))))
 
   pub least-rest : (top m : ℕ) (ss : List (Slot A)) → FreeFrom p m ss → leastHeld top (take m ss) ≡ leastHeld top ss
   unfolding leastHeld
@@ -261,14 +214,14 @@ module _ {A : Type 0} (p : Supply A) where
   pub starts-playing : (x : ℕ) (s : Slot A) → s .kind ≡ filling → x ≤ 2000000 * s .buffered
       → startedSlot p x s ≡ playingSlot p s
   unfolding startedSlot
-  starts-playing x s k h = rw (eq-eqb (s .kind) filling k, holds-yes x s h)
+  starts-playing x s k h = rw (eq-eqb (s .kind) filling k, holds-yes p x s h)
 
   pub starts-not : (x : ℕ) (s : Slot A) → (s .kind ≡ filling → 2000000 * s .buffered < x) → startedSlot p x s ≡ s
   unfolding startedSlot
   starts-not x s h = go (eqb (s .kind) filling) refl
     where
       go : (t : Bool) → eqb (s .kind) filling ≡ t → startBy p (t && holds p x s) s ≡ s
-      go true e = rw (holds-no x s (h (eqb-true (s .kind) filling e)))
+      go true e = rw (holds-no p x s (h (eqb-true (s .kind) filling e)))
       go false e = refl
 
   -- the first i slots are done
@@ -454,17 +407,22 @@ module _ {A : Type 0} (p : Supply A) where
       → playersHold p (lowWater p (L + p .lead (at p ss i .next))) ss ≡ true
       → (tries p ss 0 (i + 1) ≡ set (tries p ss 0 i) i (fillingSlot p (at p ss i))) × (L + p .lead (at p ss i .next) ≡ leads p (tries p ss 0 (i + 1)))
   unfolding granted
-  tries-granted ss i L q k h =
-      let ts = tries p ss 0 i in
-      let same = tries-past ss i i (omega arith) in
-      let asks : at p ts i .kind ≡ waiting = ap (λ (s : Slot A). s .kind) same ∙ k in
-      let e : tries p ss 0 (i + 1) ≡ granted p ts i =
-      tries-next ss i
-      ∙ tried-granted ts i asks (rw (same, tries-players (lowWater p (leads p ts + p .lead (at p ss i .next))) ss 0 i) (rw q at h))
-      in (
-        e ∙ ap (λ (s : Slot A). set ts i (fillingSlot p s)) same,
-        ap (λ (m : ℕ). m + p .lead (at p ss i .next)) q ∙ ap (λ (s : Slot A). leads p ts + p .lead (s .next)) (sym same) ∙ sym (granted-leads p ts i asks) ∙ ap (leads p) (sym e),
-      )
+  tries-granted ss i L q k h = (
+    turn ∙ ap (λ (s : Slot A). set ts i (fillingSlot p s)) same,
+    ap (λ (m : ℕ). m + p .lead (at p ss i .next)) q ∙ ap (λ (s : Slot A). leads p ts + p .lead (s .next)) (sym same) ∙ sym (granted-leads p ts i asks) ∙ ap (leads p) (sym turn),
+  )
+    where
+      ts : List (Slot A)
+      ts = tries p ss 0 i
+
+      same : at p ts i ≡ at p ss i
+      same = tries-past ss i i (omega arith)
+
+      asks : at p ts i .kind ≡ waiting
+      asks = ap (λ (s : Slot A). s .kind) same ∙ k
+
+      turn : tries p ss 0 (i + 1) ≡ granted p ts i
+      turn = tries-next ss i ∙ tried-granted ts i asks (rw (same, tries-players (lowWater p (leads p ts + p .lead (at p ss i .next))) ss 0 i) (rw q at h))
 
   -- the loop may stop where nobody asks any more
   pub tries-rest : (ss : List (Slot A)) (i k : ℕ) → ((j : ℕ) → i ≤ j → at p ss j .kind ≢ waiting) → tries p ss 0 (i + k) ≡ tries p ss 0 i
@@ -489,17 +447,17 @@ module _ {A : Type 0} (p : Supply A) where
   pub ended-fetched : (s : Slot A) (d : ℕ) → 2 ≤ s .kind → s .kind ≤ 3 → s .buffered + p .B ≤ p .buffer → p .isEnd (p .next (s .next)) ≡ false
       → endedSlot p s d ≡ record { kind = s .kind; next = p .next (s .next); buffered = s .buffered - d + p .B }
   unfolding endedSlot sweptBy released
-  ended-fetched s d k l r e = rw (fetched-yes s k l r, e, ne-eqb (s .kind) draining (λ z. omega arith))
+  ended-fetched s d k l r e = rw (fetched-yes p s k l r, e, ne-eqb (s .kind) draining (λ z. omega arith))
 
   pub ended-last : (s : Slot A) (d : ℕ) → 2 ≤ s .kind → s .kind ≤ 3 → s .buffered + p .B ≤ p .buffer → p .isEnd (p .next (s .next)) ≡ true → 0 < p .B
       → endedSlot p s d ≡ record { kind = draining; next = p .next (s .next); buffered = s .buffered - d + p .B }
   unfolding endedSlot sweptBy released
-  ended-last s d k l r e h = rw (fetched-yes s k l r, e, ne-eqb (s .buffered - d + p .B) 0 (λ z. omega arith))
+  ended-last s d k l r e h = rw (fetched-yes p s k l r, e, ne-eqb (s .buffered - d + p .B) 0 (λ z. omega arith))
 
   -- one that was not: a tail that comes to 0, and any other
   pub ended-empty : (s : Slot A) (d : ℕ) → s .kind ≡ draining → s .buffered ≤ d → endedSlot p s d ≡ freeSlot p
   unfolding endedSlot sweptBy released
-  ended-empty s d k h = let z : s .buffered - d ≡ 0 = omega arith in rw (fetched-other s (λ a b. omega arith), k, z)
+  ended-empty s d k h = let z : s .buffered - d ≡ 0 = omega arith in rw (fetched-other p s (λ a b. omega arith), k, z)
 
   pub ended-other : (s : Slot A) (d : ℕ) → isFetched p s ≡ false → (s .kind ≡ draining → d < s .buffered)
       → endedSlot p s d ≡ record { kind = s .kind; next = s .next; buffered = s .buffered - d }
@@ -513,7 +471,7 @@ module _ {A : Type 0} (p : Supply A) where
 
   -- a free slot with no draw stays as it is
   pub ended-free : (s : Slot A) → s .kind ≡ free → endedSlot p s 0 ≡ s
-  ended-free s k = ended-other s 0 (fetched-other s (λ a b. omega arith)) (λ z. absurd (omega arith)) ∙ λ i. record { kind = s .kind; next = s .next; buffered = whole i }
+  ended-free s k = ended-other s 0 (fetched-other p s (λ a b. omega arith)) (λ z. absurd (omega arith)) ∙ λ i. record { kind = s .kind; next = s .next; buffered = whole i }
     where
       whole : s .buffered - 0 ≡ s .buffered
       whole = omega arith
@@ -602,76 +560,23 @@ module _ {A : Type 0} (p : Supply A) where
   module _ (names : Named p) where
     -- a slot by its kind
     pub sound-free : (L : ℕ) (s : Slot A) → s .kind ≡ free → s .next ≡ p .none → s .buffered ≡ 0 → soundSlot p L s ≡ true
-    sound-free L s k x h =
-        sound-of-good p names L s
-        (record {
-          kinds = omega arith;
-          zeros = λ _. (x, h);
-          empty = λ _. h;
-          named = λ z. absurd (omega arith);
-          past = λ z. absurd (omega arith);
-          some = λ z. absurd (omega arith);
-          fits = omega arith;
-          floored = λ z. absurd (omega arith);
-        })
+    sound-free L s k x h = sound-of-good p names L s (good-zero p L s k x h)
 
     pub sound-waiting : (L : ℕ) (s : Slot A) → s .kind ≡ waiting → p .isBlock (s .next) ≡ true → s .buffered ≡ 0 → soundSlot p L s ≡ true
     sound-waiting L s k x h =
-        sound-of-good p names L s
-        (record {
-          kinds = omega arith;
-          zeros = λ z. absurd (omega arith);
-          empty = λ _. h;
-          named = λ _ _. x;
-          past = λ z. absurd (omega arith);
-          some = λ z. absurd (omega arith);
-          fits = omega arith;
-          floored = λ z. absurd (omega arith);
-        })
+        sound-of-good p names L s (good-block p L s (omega arith) (omega arith) x (λ _. h) (omega arith) (λ z. absurd (omega arith)))
 
     pub sound-filling : (L : ℕ) (s : Slot A) → s .kind ≡ filling → p .isBlock (s .next) ≡ true → s .buffered ≤ p .buffer → soundSlot p L s ≡ true
     sound-filling L s k x h =
-        sound-of-good p names L s
-        (record {
-          kinds = omega arith;
-          zeros = λ z. absurd (omega arith);
-          empty = λ z. absurd (omega arith);
-          named = λ _ _. x;
-          past = λ z. absurd (omega arith);
-          some = λ z. absurd (omega arith);
-          fits = h;
-          floored = λ z. absurd (omega arith);
-        })
+        sound-of-good p names L s (good-block p L s (omega arith) (omega arith) x (λ z. absurd (omega arith)) h (λ z. absurd (omega arith)))
 
     pub sound-playing : (L : ℕ) (s : Slot A) → s .kind ≡ playing → p .isBlock (s .next) ≡ true → s .buffered ≤ p .buffer
         → lowWater p L ≤ 2000000 * s .buffered → soundSlot p L s ≡ true
-    sound-playing L s k x h f =
-        sound-of-good p names L s
-        (record {
-          kinds = omega arith;
-          zeros = λ z. absurd (omega arith);
-          empty = λ z. absurd (omega arith);
-          named = λ _ _. x;
-          past = λ z. absurd (omega arith);
-          some = λ z. absurd (omega arith);
-          fits = h;
-          floored = λ _. f;
-        })
+    sound-playing L s k x h f = sound-of-good p names L s (good-block p L s (omega arith) (omega arith) x (λ z. absurd (omega arith)) h (λ _. f))
 
     pub sound-draining : (L : ℕ) (s : Slot A) → s .kind ≡ draining → p .isEnd (s .next) ≡ true → 1 ≤ s .buffered → s .buffered ≤ p .buffer
         → soundSlot p L s ≡ true
-    sound-draining L s k x f h =
-        sound-of-good p names L s
-        (record {
-          kinds = omega arith;
-          zeros = λ z. absurd (omega arith);
-          empty = λ z. absurd (omega arith);
-          named = λ _ z. absurd (omega arith);
-          past = λ _. x;
-          some = λ _. f;
-          fits = h;
-          floored = λ z. absurd (omega arith);
-        })
+    sound-draining L s k x f h = sound-of-good p names L s (good-draining p L s k x f h)
 
     -- a slot that breaks one of the facts
     pub unsound-slot : (L : ℕ) (s : Slot A) → (Good p L s → ⊥) → soundSlot p L s ≡ false
