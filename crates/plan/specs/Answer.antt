@@ -1,0 +1,70 @@
+-- The answers of the planner, the later contents of both lists, and the test that a record is the plan of its figures.
+use Prim.Native.Nat.{ℕ, zero, suc}
+use mathlib.Core.List.{List, [], _∷_}
+use mathlib.Core.Bool.{Bool, true, false, cond, _&&_, _||_}
+use lib.ListN.{length}
+use lib.Dec.{ltb, eqb}
+use Rattle.card.specs.declared.Figures.{Figures}
+use Rattle.card.specs.declared.CardRead.{CardRead}
+use Rattle.card.specs.Card.{recordFault, judgeRecord}
+use Rattle.card.specs.Read.{readCard}
+use Rattle.words.specs.Words.{wordsOf, withWords}
+use Rattle.plan.specs.declared.Plan.{Plan}
+use Rattle.plan.specs.declared.Planned.{Planned}
+use Rattle.plan.specs.Plan.{streamsOf, bufferSize, worst2Of, marginOf, planOf, blankPlan, positionsOf, leadsOf}
+
+-- ---- the answer
+
+-- after the figures are accepted: 13 where a lent list, of np or nl entries, is too short, then 12 where 'not even one stream fits'
+unfoldable pub planFault : Figures → ℕ → ℕ → ℕ
+planFault f np nl = cond (ltb np (f .blocks) || ltb nl (f .blocks)) 13 (cond (eqb (streamsOf f) 0) 12 0)
+
+abbrev pub faultAfter : CardRead → List ℕ → List ℕ → ℕ
+faultAfter r ps ls = planFault (r .figures) (length (wordsOf ps)) (length (wordsOf ls))
+
+-- the answer by the number of the refusal of the figures and by that of 13 and 12. A refusal of the figures keeps its place; 13 and 12
+-- answer with 0. 'A plan .. in a refused answer is all zero'
+abbrev pub answer : ℕ → ℕ → CardRead → Planned
+answer zero zero r = record { verdict = record { number = 0; place = 0 }; plan = planOf (r .figures) }
+answer zero (suc k) r = record { verdict = record { number = suc k; place = 0 }; plan = blankPlan }
+answer (suc j) k r = record { verdict = r .verdict; plan = blankPlan }
+
+-- a list by the same two numbers: its first entries are written, or it is left as it was
+abbrev pub filled : ℕ → ℕ → List ℕ → List ℕ → List ℕ
+filled zero zero s vs = withWords s 0 vs
+filled zero (suc k) s vs = s
+filled (suc j) k s vs = s
+
+-- THE ANSWER, and both lists after the call, for figures as they were read or judged
+unfoldable pub planned : CardRead → List ℕ → List ℕ → Planned
+planned r ps ls = answer (r .verdict .number) (faultAfter r ps ls) r
+
+unfoldable pub positionsAfter : CardRead → List ℕ → List ℕ → List ℕ
+positionsAfter r ps ls = filled (r .verdict .number) (faultAfter r ps ls) ps (positionsOf (r .figures))
+
+unfoldable pub leadsAfter : CardRead → List ℕ → List ℕ → List ℕ
+leadsAfter r ps ls = filled (r .verdict .number) (faultAfter r ps ls) ls (leadsOf (r .figures))
+
+-- a record's figures, judged: 4 to 10, offset 0
+unfoldable pub judged : Figures → CardRead
+judged f = record { verdict = judgeRecord f; figures = f }
+
+-- ---- is this the plan of its figures
+
+-- a list begins with the given entries (a shorter list does not)
+unfoldable pub begins : List ℕ → List ℕ → Bool
+begins [] ws = true
+begins (v ∷ vs) [] = false
+begins (v ∷ vs) (w ∷ ws) = eqb w v && begins vs ws
+
+-- 'it is the plan of its figures, both lists begin with its N entries'
+unfoldable pub isPlan : Plan → List ℕ → List ℕ → Bool
+isPlan p ps ls =
+    eqb (recordFault (p .figures)) 0
+    && (ltb 0 (streamsOf (p .figures))
+    && (eqb (p .streams) (streamsOf (p .figures))
+    && (eqb (p .buffer) (bufferSize (p .figures))
+    && (eqb (p .worst2) (worst2Of (p .figures))
+    && (eqb (p .margin) (marginOf (p .figures))
+    && (begins (positionsOf (p .figures)) (wordsOf ps)
+    && begins (leadsOf (p .figures)) (wordsOf ls)))))))

@@ -1,0 +1,6 @@
+pub mod Answer
+pub mod Cursors
+pub mod Legal
+pub mod Plan
+pub mod Promise
+pub mod Ranges

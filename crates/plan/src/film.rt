@@ -1,0 +1,28 @@
+// The plan of legal figures.
+use crate::Plan;
+use crate::streams::{buffer_size, count_streams};
+use crate::zones::{time_at, worst_pair};
+use card::Figures;
+
+ghost use mathlib.Core.Path.{_≡_};
+ghost use Rattle.card.specs.Card.{Legal, totalPositions};
+ghost use Rattle.plan.specs.Plan.{planOf};
+
+// The plan of legal figures, `total` being P. The film's innermost position is its slowest.
+pub fn plan_of(figures: Figures, total: u32) -> Plan
+    requires { ⌜ (Legal figures) × (total ≡ totalPositions figures) ⌝ }
+    ensures { λ r. ⌜ r ≡ planOf figures ⌝ }
+{
+    let first = total - figures.blocks;
+    let worst2 = worst_pair(&figures.positions, &figures.times, first, total - 1, figures.blocks / 2);
+    let margin = 2 * time_at(&figures.positions, &figures.times, first) - worst2;
+    let streams = count_streams(figures.rate, worst2, figures.hop, figures.back, figures.bytes);
+    let buffer = buffer_size(figures.rate, streams, margin, figures.bytes);
+    Plan {
+        figures: figures,
+        streams: streams,
+        buffer: buffer,
+        worst2: worst2,
+        margin: margin,
+    }
+}
