@@ -92,9 +92,10 @@ module _ (ps : List ℕ) (ok : Zoned ps) (at : Zone) (q : ℕ) where
           let room : k < length ps = zone-left ps k (omega (arith, d .some, total-take ps (suc (at .index)), total-mono k)) in
           let turn : total (take (suc k) ps) ≡ total (take k ps) + getD ps k 0 = total-turn ps k room in
           let more : 0 < getD ps k 0 = ok .solid k (omega (arith, d .some, total-take ps (suc (at .index)))) in
-          rw e′
-          (omega arith,
-          record { room = room; enough = omega arith; first = omega arith; from = omega (arith, d .from); to = omega arith })
+          rw e′ (
+            omega arith,
+            record { room = room; enough = omega arith; first = omega arith; from = omega (arith, d .from); to = omega arith },
+          )
         where
           total-mono : (k : ℕ) → total (take k ps) ≤ total (take (suc k) ps)
           total-mono k = by-cases (decLt k (length ps)) (λ u. omega (arith, total-turn ps k u)) (λ u. omega (arith, total-past ps k (omega arith), total-past ps (suc k) (omega arith)))

@@ -108,9 +108,10 @@ module _ (g h : ℕ → ℕ) (n : ℕ) (ps ls : List ℕ) where
 
   pub same-more : (m b v w : ℕ) → b ≡ m → v ≡ g m → w ≡ h m → (eqb (getD ps b 0) v && eqb (getD ls b 0) w) ≡ true → Same m → Same (suc m)
   same-more m b v w e p q t s k u = by-cases (ℕ-discrete k m)
-      (λ d. let eb : b ≡ k = omega arith in
-      (rw eb at (eqb-true (getD ps b 0) v (and-left (eqb (getD ps b 0) v) _ t)) ∙ p ∙ ap g (sym d),
-      rw eb at (eqb-true (getD ls b 0) w (and-right (eqb (getD ps b 0) v) _ t)) ∙ q ∙ ap h (sym d)))
+      (λ d. let eb : b ≡ k = omega arith in (
+        rw eb at (eqb-true (getD ps b 0) v (and-left (eqb (getD ps b 0) v) _ t)) ∙ p ∙ ap g (sym d),
+        rw eb at (eqb-true (getD ls b 0) w (and-right (eqb (getD ps b 0) v) _ t)) ∙ q ∙ ap h (sym d),
+      ))
       (λ d. s k (omega arith))
 
   pub same-all : n ≤ length ps → n ≤ length ls → Same n → both ≡ true

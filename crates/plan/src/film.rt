@@ -1,9 +1,10 @@
 // The plan of legal figures.
 use crate::Plan;
-use crate::streams::{buffer_size, count_streams};
-use crate::zones::{time_at, worst_pair};
+use crate::streams::buffer_size;
+use crate::streams::count_streams;
+use crate::zones::time_at;
+use crate::zones::worst_pair;
 use card::Figures;
-
 ghost use mathlib.Core.Path.{_≡_};
 ghost use Rattle.card.specs.Card.{Legal, totalPositions};
 ghost use Rattle.plan.specs.Plan.{planOf};
@@ -14,9 +15,21 @@ pub fn plan_of(figures: Figures, total: u32) -> Plan
     ensures { λ r. ⌜ r ≡ planOf figures ⌝ }
 {
     let first = total - figures.blocks;
-    let worst2 = worst_pair(&figures.positions, &figures.times, first, total - 1, figures.blocks / 2);
+    let worst2 = worst_pair(
+        &figures.positions,
+        &figures.times,
+        first,
+        total - 1,
+        figures.blocks / 2,
+    );
     let margin = 2 * time_at(&figures.positions, &figures.times, first) - worst2;
-    let streams = count_streams(figures.rate, worst2, figures.hop, figures.back, figures.bytes);
+    let streams = count_streams(
+        figures.rate,
+        worst2,
+        figures.hop,
+        figures.back,
+        figures.bytes,
+    );
     let buffer = buffer_size(figures.rate, streams, margin, figures.bytes);
     Plan {
         figures: figures,

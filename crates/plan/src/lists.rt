@@ -1,7 +1,10 @@
 // The two lent lists: the positions and the leads of the film's blocks.
-use crate::zones::{zone_down, zone_from, zone_of, zone_up};
-use words::{put_word, word_at};
-
+use crate::zones::zone_down;
+use crate::zones::zone_from;
+use crate::zones::zone_of;
+use crate::zones::zone_up;
+use words::put_word;
+use words::word_at;
 ghost use mathlib.Core.Path.{_≡_};
 ghost use mathlib.Core.Bool.{_&&_};
 ghost use Prim.Native.Nat.{_+_, _-_, _*_, _≤_, _<_};
@@ -26,7 +29,15 @@ fn lead(time: u32, worst2: u32) -> u32
 }
 
 // Writes the position q and the lead of block b, which lies in a zone.
-fn put_block(times: &[u32; 64], zone: usize, worst2: u32, positions: &mut [u8], leads: &mut [u8], b: usize, q: u32)
+fn put_block(
+    times: &[u32; 64],
+    zone: usize,
+    worst2: u32,
+    positions: &mut [u8],
+    leads: &mut [u8],
+    b: usize,
+    q: u32,
+)
     requires { ⌜ (zone < 64) × (getD (now times) zone 0 ≤ 4000000) × (b < length (wordsOf (now positions))) × (b < length (wordsOf (now leads))) ⌝ }
     ensures { λ _. ⌜ (now (positions .exit) ≡ withWord (now (positions .entry)) b q) × (now (leads .exit) ≡ withWord (now (leads .entry)) b (2 * getD (now (times .entry)) zone 0 - worst2)) ⌝ }
 {
@@ -35,7 +46,15 @@ fn put_block(times: &[u32; 64], zone: usize, worst2: u32, positions: &mut [u8], 
 }
 
 // Writes the first `blocks` entries of both lists; `total` is P.
-pub fn write_lists<'a>(sizes: &'a [u32; 64], times: &'a [u32; 64], total: u32, blocks: u32, worst2: u32, positions: &mut [u8], leads: &mut [u8])
+pub fn write_lists<'a>(
+    sizes: &'a [u32; 64],
+    times: &'a [u32; 64],
+    total: u32,
+    blocks: u32,
+    worst2: u32,
+    positions: &mut [u8],
+    leads: &mut [u8],
+)
     requires { ⌜ (Film (now sizes) (now times) total blocks) × (blocks ≤ length (wordsOf (now positions))) × (blocks ≤ length (wordsOf (now leads))) ⌝ }
     ensures { λ _. ⌜ (now (positions .exit) ≡ withWords (now (positions .entry)) 0 (row (place total blocks) 0 blocks)) × (now (leads .exit) ≡ withWords (now (leads .entry)) 0 (row (leadAt (now (sizes .entry)) (now (times .entry)) total blocks worst2) 0 blocks)) ⌝ }
 {
@@ -65,7 +84,15 @@ pub fn write_lists<'a>(sizes: &'a [u32; 64], times: &'a [u32; 64], total: u32, b
 }
 
 // The lists have the position q and the lead of block b, which lies in a zone.
-fn same_block(times: &[u32; 64], zone: usize, worst2: u32, positions: &[u8], leads: &[u8], b: usize, q: u32) -> bool
+fn same_block(
+    times: &[u32; 64],
+    zone: usize,
+    worst2: u32,
+    positions: &[u8],
+    leads: &[u8],
+    b: usize,
+    q: u32,
+) -> bool
     requires { ⌜ (zone < 64) × (getD (now times) zone 0 ≤ 4000000) × (b < length (wordsOf (now positions))) × (b < length (wordsOf (now leads))) ⌝ }
     ensures { λ r. ⌜ r ≡ (eqb (getD (wordsOf (now (positions .entry))) b 0) q && eqb (getD (wordsOf (now (leads .entry))) b 0) (2 * getD (now (times .entry)) zone 0 - worst2)) ⌝ }
 {
@@ -76,7 +103,15 @@ fn same_block(times: &[u32; 64], zone: usize, worst2: u32, positions: &[u8], lea
 }
 
 // Both lists begin with the `blocks` entries of the film; `total` is P.
-pub fn same_lists<'a>(sizes: &'a [u32; 64], times: &'a [u32; 64], total: u32, blocks: u32, worst2: u32, positions: &[u8], leads: &[u8]) -> bool
+pub fn same_lists<'a>(
+    sizes: &'a [u32; 64],
+    times: &'a [u32; 64],
+    total: u32,
+    blocks: u32,
+    worst2: u32,
+    positions: &[u8],
+    leads: &[u8],
+) -> bool
     requires { ⌜ (Film (now sizes) (now times) total blocks) × (blocks ≤ length (wordsOf (now positions))) × (blocks ≤ length (wordsOf (now leads))) ⌝ }
     ensures { λ r. ⌜ r ≡ (begins (row (place total blocks) 0 blocks) (wordsOf (now (positions .entry))) && begins (row (leadAt (now (sizes .entry)) (now (times .entry)) total blocks worst2) 0 blocks) (wordsOf (now (leads .entry)))) ⌝ }
 {

@@ -1,6 +1,6 @@
 // The formula of streams, and the buffer.
-use crate::{overhead, product};
-
+use crate::overhead;
+use crate::product;
 ghost use mathlib.Core.Path.{_≡_};
 ghost use Prim.Native.Nat.{_+_, _-_, _*_, _≤_, _<_};
 ghost use Rattle.pacing.specs.Streams.{overhead, load, streams, bufferOf};

@@ -108,7 +108,13 @@ fn greater(a: u32, b: u32) -> u32
 }
 
 // The greatest time of a pair of positions: the i-th from `first` upward and the i-th from `last` downward.
-pub fn worst_pair<'a>(positions: &'a [u32; 64], times: &'a [u32; 64], first: u32, last: u32, pairs: u32) -> u32
+pub fn worst_pair<'a>(
+    positions: &'a [u32; 64],
+    times: &'a [u32; 64],
+    first: u32,
+    last: u32,
+    pairs: u32,
+) -> u32
     requires { ⌜ (Disk (now positions) (now times)) × (last < total (now positions)) × (first ≤ last) × (first + 2 * pairs ≤ last + 1) ⌝ }
     ensures { λ r. ⌜ (r ≡ greatestOf (λ i. timeAt (now (positions .entry)) (now (times .entry)) (first + i) + timeAt (now (positions .entry)) (now (times .entry)) (last - i)) pairs) × (r ≤ 8000000) ⌝ }
 {

@@ -94,10 +94,11 @@ buffer-size-requires : tie.Need-buffer-size-requires
 buffer-size-requires c κs = let s = start (c .before) in
     let f = s .args .t1 in
     let w = found (c .before) in
-    let n = c .count-streams .ensures ∙ streams-are (c .before) in
-    (omega (arith, streams-few f (s .pre .0)),
-    omega (arith, w .margin, margin-less f (s .pre .0), worst2-small f (s .pre .0)),
-    omega (arith, ap₂ (λ (n m : ℕ). bufferOf (f .rate) n m (f .bytes)) n (w .margin), buffer-are f, buffer-small f (s .pre .0), s .pre .0 .bytes .1))
+    let n = c .count-streams .ensures ∙ streams-are (c .before) in (
+      omega (arith, streams-few f (s .pre .0)),
+      omega (arith, w .margin, margin-less f (s .pre .0), worst2-small f (s .pre .0)),
+      omega (arith, ap₂ (λ (n m : ℕ). bufferOf (f .rate) n m (f .bytes)) n (w .margin), buffer-are f, buffer-small f (s .pre .0), s .pre .0 .bytes .1),
+    )
 
 -- src/film.rt:12:1
 returns : tie.Need-returns

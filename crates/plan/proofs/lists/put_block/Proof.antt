@@ -39,9 +39,10 @@ same-length-2 c = search needs
 
 -- src/lists.rt:29:1
 returns : tie.Need-returns
-returns c = let a = c .before .before .before .before .before .before .before .before .before .before .before .before .args in
-    (c .before .before .before .before .before .before .before .before .put-word .ensures,
-    c .before .before .put-word2 .ensures ∙ ap (λ (v : ℕ). withWord (a .leads .now) (a .b) v) (c .before .before .before .lead .ensures))
+returns c = let a = c .before .before .before .before .before .before .before .before .before .before .before .before .args in (
+  c .before .before .before .before .before .before .before .before .put-word .ensures,
+  c .before .before .put-word2 .ensures ∙ ap (λ (v : ℕ). withWord (a .leads .now) (a .b) v) (c .before .before .before .lead .ensures),
+)
 
 pub put-block-spec : {M : Type 1} → statement M
 put-block-spec =

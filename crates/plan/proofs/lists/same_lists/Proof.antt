@@ -50,11 +50,12 @@ placed : (c : tie.After-zone-down Inv-loop μ-loop) → (let a = start (c .befor
     × (2 * getD (a .times .now) (c .zone-down .result .index) 0 - a .worst2 ≡ leadAt (a .sizes .now) (a .times .now) (a .total) (a .blocks) (a .worst2) (2 * i + 1)))
 placed c =
     let a = start (c .before .before .before) .args in
-    let i = c .before .before .before .loop .i in
-    (place-low (a .sizes .now) (a .times .now) (a .total) (a .blocks) (a .worst2) i 0,
-    place-high (a .sizes .now) (a .times .now) (a .total) (a .blocks) (a .worst2) i 0,
-    lead-low (a .sizes .now) (a .times .now) (a .total) (a .blocks) (a .worst2) i _ (held c .low),
-    lead-high (a .sizes .now) (a .times .now) (a .total) (a .blocks) (a .worst2) i _ (held c .high))
+    let i = c .before .before .before .loop .i in (
+      place-low (a .sizes .now) (a .times .now) (a .total) (a .blocks) (a .worst2) i 0,
+      place-high (a .sizes .now) (a .times .now) (a .total) (a .blocks) (a .worst2) i 0,
+      lead-low (a .sizes .now) (a .times .now) (a .total) (a .blocks) (a .worst2) i _ (held c .low),
+      lead-high (a .sizes .now) (a .times .now) (a .total) (a .blocks) (a .worst2) i _ (held c .high),
+    )
 
 -- those of the last block of an odd film
 last : (c : tie.After-zone-up2 Inv-loop μ-loop) → (let a = start (c .before .before .before) .args in let k = a .blocks / 2 in
@@ -62,9 +63,10 @@ last : (c : tie.After-zone-up2 Inv-loop μ-loop) → (let a = start (c .before .
     × (2 * getD (a .times .now) (c .zone-up2 .result .index) 0 - a .worst2 ≡ leadAt (a .sizes .now) (a .times .now) (a .total) (a .blocks) (a .worst2) (2 * k)))
 last c =
     let a = start (c .before .before .before) .args in
-    let k = a .blocks / 2 in
-    (place-low (a .sizes .now) (a .times .now) (a .total) (a .blocks) (a .worst2) k 0,
-    lead-low (a .sizes .now) (a .times .now) (a .total) (a .blocks) (a .worst2) k _ (time-held (a .sizes .now) (a .times .now) _ (a .total - a .blocks + k) (c .zone-up2 .ensures .holds)))
+    let k = a .blocks / 2 in (
+      place-low (a .sizes .now) (a .times .now) (a .total) (a .blocks) (a .worst2) k 0,
+      lead-low (a .sizes .now) (a .times .now) (a .total) (a .blocks) (a .worst2) k _ (time-held (a .sizes .now) (a .times .now) _ (a .total - a .blocks + k) (c .zone-up2 .ensures .holds)),
+    )
 
 -- src/lists.rt:83:17
 sub-first : tie.Need-sub-first Inv-loop μ-loop
@@ -91,9 +93,12 @@ loop-holds c = let s = c .before .before .before .before in
     let p = a .total - a .blocks in
     let e : p + 0 ≡ p = omega arith in
     let q = a .total - 1 in
-    let d : q - 0 ≡ q = omega arith in
-    (omega arith, rw e (above-here (a .sizes .now) _ p (c .before .zone-of .ensures)), rw d (below-here (a .sizes .now) _ q (c .zone-from .ensures)),
-    same-none (place (a .total) (a .blocks)) (leadAt (a .sizes .now) (a .times .now) (a .total) (a .blocks) (a .worst2)) (a .blocks) (wordsOf (a .positions .now)) (wordsOf (a .leads .now)))
+    let d : q - 0 ≡ q = omega arith in (
+      omega arith,
+      rw e (above-here (a .sizes .now) _ p (c .before .zone-of .ensures)),
+      rw d (below-here (a .sizes .now) _ q (c .zone-from .ensures)),
+      same-none (place (a .total) (a .blocks)) (leadAt (a .sizes .now) (a .times .now) (a .total) (a .blocks) (a .worst2)) (a .blocks) (wordsOf (a .positions .now)) (wordsOf (a .leads .now)),
+    )
 
 -- src/lists.rt:90:35
 add-zone-up : tie.Need-add-zone-up Inv-loop μ-loop
@@ -186,11 +191,12 @@ loop-again c = let z = c .before .before .before .before in
     let one : Same g h (a .blocks) ps ls (suc (2 * i)) =
     same-more g h (a .blocks) ps ls (2 * i) (2 * i) _ _ refl (placed z .0) (placed z .2) (sym (c .before .before .before .same-block .ensures) ∙ not-false _ (c .before .before .if1 .left)) (l .loop .inv .3) in
     let two : Same g h (a .blocks) ps ls (suc (suc (2 * i))) =
-    same-more g h (a .blocks) ps ls (suc (2 * i)) (2 * i + 1) _ _ e (placed z .1 ∙ ap g e) (placed z .3 ∙ ap h e) (sym (c .before .same-block2 .ensures) ∙ not-false _ (c .if2 .left)) one in
-    (omega arith,
-    above-next (a .sizes .now) _ (a .total - a .blocks + i) (a .total - a .blocks + (i + 1)) (omega arith) (z .before .zone-up .ensures),
-    below-next (a .sizes .now) _ (a .total - 1 - i) (a .total - 1 - (i + 1)) (omega (arith, s .pre .0 .room)) (z .zone-down .ensures),
-    rw d at two)
+    same-more g h (a .blocks) ps ls (suc (2 * i)) (2 * i + 1) _ _ e (placed z .1 ∙ ap g e) (placed z .3 ∙ ap h e) (sym (c .before .same-block2 .ensures) ∙ not-false _ (c .if2 .left)) one in (
+      omega arith,
+      above-next (a .sizes .now) _ (a .total - a .blocks + i) (a .total - a .blocks + (i + 1)) (omega arith) (z .before .zone-up .ensures),
+      below-next (a .sizes .now) _ (a .total - 1 - i) (a .total - 1 - (i + 1)) (omega (arith, s .pre .0 .room)) (z .zone-down .ensures),
+      rw d at two,
+    )
 
 -- src/lists.rt:103:18
 mul-if3 : tie.Need-mul-if3 Inv-loop μ-loop

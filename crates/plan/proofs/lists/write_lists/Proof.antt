@@ -57,11 +57,12 @@ placed : (c : tie.After-zone-down Inv-loop μ-loop) → (let a = start (c .befor
     × (2 * getD (a .times .now) (c .zone-down .result .index) 0 - a .worst2 ≡ leadAt (a .sizes .now) (a .times .now) (a .total) (a .blocks) (a .worst2) (2 * i + 1)))
 placed c =
     let a = start (c .before .before .before) .args in
-    let i = c .before .before .before .loop .i in
-    (place-low (a .sizes .now) (a .times .now) (a .total) (a .blocks) (a .worst2) i 0,
-    place-high (a .sizes .now) (a .times .now) (a .total) (a .blocks) (a .worst2) i 0,
-    lead-low (a .sizes .now) (a .times .now) (a .total) (a .blocks) (a .worst2) i _ (held c .low),
-    lead-high (a .sizes .now) (a .times .now) (a .total) (a .blocks) (a .worst2) i _ (held c .high))
+    let i = c .before .before .before .loop .i in (
+      place-low (a .sizes .now) (a .times .now) (a .total) (a .blocks) (a .worst2) i 0,
+      place-high (a .sizes .now) (a .times .now) (a .total) (a .blocks) (a .worst2) i 0,
+      lead-low (a .sizes .now) (a .times .now) (a .total) (a .blocks) (a .worst2) i _ (held c .low),
+      lead-high (a .sizes .now) (a .times .now) (a .total) (a .blocks) (a .worst2) i _ (held c .high),
+    )
 
 -- those of the last block of an odd film
 last : (c : tie.After-zone-up2 Inv-loop μ-loop) → (let a = start (c .before .before .before) .args in let k = a .blocks / 2 in
@@ -69,9 +70,10 @@ last : (c : tie.After-zone-up2 Inv-loop μ-loop) → (let a = start (c .before .
     × (2 * getD (a .times .now) (c .zone-up2 .result .index) 0 - a .worst2 ≡ leadAt (a .sizes .now) (a .times .now) (a .total) (a .blocks) (a .worst2) (2 * k)))
 last c =
     let a = start (c .before .before .before) .args in
-    let k = a .blocks / 2 in
-    (place-low (a .sizes .now) (a .times .now) (a .total) (a .blocks) (a .worst2) k 0,
-    lead-low (a .sizes .now) (a .times .now) (a .total) (a .blocks) (a .worst2) k _ (time-held (a .sizes .now) (a .times .now) _ (a .total - a .blocks + k) (c .zone-up2 .ensures .holds)))
+    let k = a .blocks / 2 in (
+      place-low (a .sizes .now) (a .times .now) (a .total) (a .blocks) (a .worst2) k 0,
+      lead-low (a .sizes .now) (a .times .now) (a .total) (a .blocks) (a .worst2) k _ (time-held (a .sizes .now) (a .times .now) _ (a .total - a .blocks + k) (c .zone-up2 .ensures .holds)),
+    )
 
 -- src/lists.rt:42:17
 sub-first : tie.Need-sub-first Inv-loop μ-loop
@@ -98,9 +100,13 @@ loop-holds c = let s = c .before .before .before .before in
     let p = a .total - a .blocks in
     let e : p + 0 ≡ p = omega arith in
     let q = a .total - 1 in
-    let d : q - 0 ≡ q = omega arith in
-    (omega arith, rw e (above-here (a .sizes .now) _ p (c .before .zone-of .ensures)), rw d (below-here (a .sizes .now) _ q (c .zone-from .ensures)),
-    written-none (a .positions .now) (place (a .total) (a .blocks)), written-none (a .leads .now) (leadAt (a .sizes .now) (a .times .now) (a .total) (a .blocks) (a .worst2)))
+    let d : q - 0 ≡ q = omega arith in (
+      omega arith,
+      rw e (above-here (a .sizes .now) _ p (c .before .zone-of .ensures)),
+      rw d (below-here (a .sizes .now) _ q (c .zone-from .ensures)),
+      written-none (a .positions .now) (place (a .total) (a .blocks)),
+      written-none (a .leads .now) (leadAt (a .sizes .now) (a .times .now) (a .total) (a .blocks) (a .worst2)),
+    )
 
 -- src/lists.rt:49:35
 add-zone-up : tie.Need-add-zone-up Inv-loop μ-loop
@@ -174,17 +180,18 @@ loop-again c = let z = c .before .before .before .before .before .before .before
     let i = l .loop .i in
     let h = held z in
     let put = c .before .before .before .before .before .before .before .before .before .before .before .put-block in
-    let put2 = c .before .before .before .before .put-block2 in
-    (omega arith,
-    above-next (a .sizes .now) _ (a .total - a .blocks + i) (a .total - a .blocks + (i + 1)) (omega arith) (z .before .zone-up .ensures),
-    below-next (a .sizes .now) _ (a .total - 1 - i) (a .total - 1 - (i + 1)) (omega (arith, s .pre .0 .room)) (z .zone-down .ensures),
-    put2 .ensures .0
-    ∙ ap (λ (t : List ℕ). withWord t (2 * i + 1) (a .total - 1 - i)) (put .ensures .0 ∙ ap (λ (t : List ℕ). withWord t (2 * i) (a .total - a .blocks + i)) (l .loop .inv .3))
-    ∙ written-pair (a .positions .now) (place (a .total) (a .blocks)) i _ _ (placed z .0) (placed z .1),
-    put2 .ensures .1
-    ∙ ap (λ (t : List ℕ). withWord t (2 * i + 1) (2 * getD (a .times .now) (z .zone-down .result .index) 0 - a .worst2))
-    (put .ensures .1 ∙ ap (λ (t : List ℕ). withWord t (2 * i) (2 * getD (a .times .now) (z .before .zone-up .result .index) 0 - a .worst2)) (l .loop .inv .4))
-    ∙ written-pair (a .leads .now) (leadAt (a .sizes .now) (a .times .now) (a .total) (a .blocks) (a .worst2)) i _ _ (placed z .2) (placed z .3))
+    let put2 = c .before .before .before .before .put-block2 in (
+      omega arith,
+      above-next (a .sizes .now) _ (a .total - a .blocks + i) (a .total - a .blocks + (i + 1)) (omega arith) (z .before .zone-up .ensures),
+      below-next (a .sizes .now) _ (a .total - 1 - i) (a .total - 1 - (i + 1)) (omega (arith, s .pre .0 .room)) (z .zone-down .ensures),
+      put2 .ensures .0
+          ∙ ap (λ (t : List ℕ). withWord t (2 * i + 1) (a .total - 1 - i)) (put .ensures .0 ∙ ap (λ (t : List ℕ). withWord t (2 * i) (a .total - a .blocks + i)) (l .loop .inv .3))
+          ∙ written-pair (a .positions .now) (place (a .total) (a .blocks)) i _ _ (placed z .0) (placed z .1),
+      put2 .ensures .1
+          ∙ ap (λ (t : List ℕ). withWord t (2 * i + 1) (2 * getD (a .times .now) (z .zone-down .result .index) 0 - a .worst2))
+          (put .ensures .1 ∙ ap (λ (t : List ℕ). withWord t (2 * i) (2 * getD (a .times .now) (z .before .zone-up .result .index) 0 - a .worst2)) (l .loop .inv .4))
+          ∙ written-pair (a .leads .now) (leadAt (a .sizes .now) (a .times .now) (a .total) (a .blocks) (a .worst2)) i _ _ (placed z .2) (placed z .3),
+    )
 
 -- src/lists.rt:58:18
 mul-if1 : tie.Need-mul-if1 Inv-loop μ-loop
@@ -206,9 +213,10 @@ same-length-2 c = let l = c .before .before in
 returns : tie.Need-returns Inv-loop μ-loop
 returns c = let l = c .before .before in
     let a = start l .args in
-    let e : 2 * l .loop .i ≡ a .blocks = omega arith in
-    (l .loop .inv .3 ∙ ap (Written (a .positions .now) (place (a .total) (a .blocks))) e,
-    l .loop .inv .4 ∙ ap (Written (a .leads .now) (leadAt (a .sizes .now) (a .times .now) (a .total) (a .blocks) (a .worst2))) e)
+    let e : 2 * l .loop .i ≡ a .blocks = omega arith in (
+      l .loop .inv .3 ∙ ap (Written (a .positions .now) (place (a .total) (a .blocks))) e,
+      l .loop .inv .4 ∙ ap (Written (a .leads .now) (leadAt (a .sizes .now) (a .times .now) (a .total) (a .blocks) (a .worst2))) e,
+    )
 
 -- src/lists.rt:61:31
 add-zone-up-2 : tie.Need-add-zone-up-2 Inv-loop μ-loop
@@ -265,15 +273,16 @@ returns-2 c = let put = c .before .before .before .before .put-block3 in
     let e : l .loop .i ≡ k = omega arith in
     let f : 2 * k ≡ 2 * l .loop .i = omega arith in
     let d : suc (2 * l .loop .i) ≡ a .blocks = omega (arith, u .before .if1 .left) in
-    let g = leadAt (a .sizes .now) (a .times .now) (a .total) (a .blocks) (a .worst2) in
-    (put .ensures .0
-    ∙ ap (λ (t : List ℕ). withWord t (2 * k) (a .total - a .blocks + k)) (l .loop .inv .3)
-    ∙ written-more (a .positions .now) (place (a .total) (a .blocks)) (2 * l .loop .i) (2 * k) _ f (last u .0 ∙ ap (place (a .total) (a .blocks)) f)
-    ∙ ap (Written (a .positions .now) (place (a .total) (a .blocks))) d,
-    put .ensures .1
-    ∙ ap (λ (t : List ℕ). withWord t (2 * k) (2 * getD (a .times .now) (u .zone-up2 .result .index) 0 - a .worst2)) (l .loop .inv .4)
-    ∙ written-more (a .leads .now) g (2 * l .loop .i) (2 * k) _ f (last u .1 ∙ ap g f)
-    ∙ ap (Written (a .leads .now) g) d)
+    let g = leadAt (a .sizes .now) (a .times .now) (a .total) (a .blocks) (a .worst2) in (
+      put .ensures .0
+          ∙ ap (λ (t : List ℕ). withWord t (2 * k) (a .total - a .blocks + k)) (l .loop .inv .3)
+          ∙ written-more (a .positions .now) (place (a .total) (a .blocks)) (2 * l .loop .i) (2 * k) _ f (last u .0 ∙ ap (place (a .total) (a .blocks)) f)
+          ∙ ap (Written (a .positions .now) (place (a .total) (a .blocks))) d,
+      put .ensures .1
+          ∙ ap (λ (t : List ℕ). withWord t (2 * k) (2 * getD (a .times .now) (u .zone-up2 .result .index) 0 - a .worst2)) (l .loop .inv .4)
+          ∙ written-more (a .leads .now) g (2 * l .loop .i) (2 * k) _ f (last u .1 ∙ ap g f)
+          ∙ ap (Written (a .leads .now) g) d,
+    )
 
 pub write-lists-spec : {M : Type 1} → statement M
 write-lists-spec =

@@ -109,12 +109,13 @@ loop-again c = let d = c .before .before .before in
     let l = d .before .before .before .loop in
     let a = start d .args in
     let h = held d in
-    let q = start d .pre .0 .quick in
-    (omega arith,
-    above-next (a .positions .now) _ (a .first + l .i) (a .first + (l .i + 1)) (omega arith) (d .before .zone-up .ensures),
-    below-next (a .positions .now) _ (a .last - l .i) (a .last - (l .i + 1)) (omega arith) (d .zone-down .ensures),
-    c .greater .ensures ∙ greatest-more (λ k. timeAt (a .positions .now) (a .times .now) (a .first + k) + timeAt (a .positions .now) (a .times .now) (a .last - k)) (l .i) (l .worst) _ (l .inv .3) (ap₂ (λ (x y : ℕ). x + y) (h .low) (h .high)),
-    omega (arith, c .greater .ensures, q (d .before .zone-up .result .index), q (d .zone-down .result .index)))
+    let q = start d .pre .0 .quick in (
+      omega arith,
+      above-next (a .positions .now) _ (a .first + l .i) (a .first + (l .i + 1)) (omega arith) (d .before .zone-up .ensures),
+      below-next (a .positions .now) _ (a .last - l .i) (a .last - (l .i + 1)) (omega arith) (d .zone-down .ensures),
+      c .greater .ensures ∙ greatest-more (λ k. timeAt (a .positions .now) (a .times .now) (a .first + k) + timeAt (a .positions .now) (a .times .now) (a .last - k)) (l .i) (l .worst) _ (l .inv .3) (ap₂ (λ (x y : ℕ). x + y) (h .low) (h .high)),
+      omega (arith, c .greater .ensures, q (d .before .zone-up .result .index), q (d .zone-down .result .index)),
+    )
 
 -- src/zones.rt:111:1
 returns : tie.Need-returns Inv-loop μ-loop
