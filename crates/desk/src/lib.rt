@@ -42,3 +42,10 @@ pub struct Fetch {
     pub slot: u32,
     pub block: u32,
 }
+
+// What is gathered of the lent lists and the zones for each slot: time, lead and position of its next block (kinds 1 to 3).
+pub struct Gathered {
+    pub times: [u32; 256],
+    pub leads: [u32; 256],
+    pub positions: [u32; 256],
+}
