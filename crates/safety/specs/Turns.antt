@@ -124,9 +124,13 @@ module _ {A : Type 0} (p : Supply A) where
   pub players-no : (x : ℕ) (ss : List (Slot A)) (j : ℕ) → j < length ss → at p ss j .kind ≡ playing → 2000000 * at p ss j .buffered < x
       → playersHold p x ss ≡ false
   unfolding playersHold
-  players-no x ss j l k h =
-      is-false (playersHold p x ss)
-      (λ e. clash (implied (eqb (at p ss j .kind) playing) _ (all-at (freeSlot p) (λ s. implies (eqb (s .kind) playing) (holds p x s)) ss j e l) (eq-eqb (at p ss j .kind) playing k)) (holds-no p x (at p ss j) h))
+  players-no x ss j l k h = is-false (playersHold p x ss) (λ e. clash (implied (eqb (s .kind) playing) (holds p x s) (here e) (eq-eqb (s .kind) playing k)) (holds-no p x s h))
+    where
+      s : Slot A
+      s = at p ss j
+
+      here : playersHold p x ss ≡ true → implies (eqb (s .kind) playing) (holds p x s) ≡ true
+      here e = all-at (freeSlot p) (λ s. implies (eqb (s .kind) playing) (holds p x s)) ss j e l
 
   -- the least that a playing slot holds, top where none plays
   unfoldable pub leastHeld : ℕ → List (Slot A) → ℕ
@@ -464,8 +468,10 @@ module _ {A : Type 0} (p : Supply A) where
   unfolding endedSlot sweptBy released
   ended-other s d f h = rw f (go (eqb (s .kind) draining) refl)
     where
-      go : (t : Bool) → eqb (s .kind) draining ≡ t
-          → releaseBy p (t && eqb (s .buffered - d) 0) (record { kind = s .kind; next = s .next; buffered = s .buffered - d }) ≡ record { kind = s .kind; next = s .next; buffered = s .buffered - d }
+      t : Slot A
+      t = record { kind = s .kind; next = s .next; buffered = s .buffered - d }
+
+      go : (x : Bool) → eqb (s .kind) draining ≡ x → releaseBy p (x && eqb (s .buffered - d) 0) t ≡ t
       go true e = rw (ne-eqb (s .buffered - d) 0 (λ z. omega (arith, h (eqb-true (s .kind) draining e))))
       go false e = refl
 
