@@ -87,28 +87,28 @@ module _ {A : Type 0} (p : Supply A) where
     abbrev one : Slot A → ℕ
     one s = bit (isFetched p s)
 
-    pub count-none : fetchCount p (take 0 ss) ≡ 0
+    pub fetches-none : fetchCount p (take 0 ss) ≡ 0
     unfolding fetchCount
-    count-none = sum-none one ss
+    fetches-none = sum-none one ss
 
-    pub count-next : (i : ℕ) → i < length ss → isFetched p (at p ss i) ≡ true → fetchCount p (take (i + 1) ss) ≡ fetchCount p (take i ss) + 1
+    pub fetches-next : (i : ℕ) → i < length ss → isFetched p (at p ss i) ≡ true → fetchCount p (take (i + 1) ss) ≡ fetchCount p (take i ss) + 1
     unfolding fetchCount
-    count-next i h e = sum-next one (freeSlot p) ss i h ∙ ap (λ (t : Bool). sumBy one (take i ss) + bit t) e
+    fetches-next i h e = sum-next one (freeSlot p) ss i h ∙ ap (λ (t : Bool). sumBy one (take i ss) + bit t) e
 
-    pub count-skip : (i : ℕ) → i < length ss → isFetched p (at p ss i) ≡ false → fetchCount p (take (i + 1) ss) ≡ fetchCount p (take i ss)
+    pub fetches-skip : (i : ℕ) → i < length ss → isFetched p (at p ss i) ≡ false → fetchCount p (take (i + 1) ss) ≡ fetchCount p (take i ss)
     unfolding fetchCount
-    count-skip i h e =
+    fetches-skip i h e =
         let q : fetchCount p (take (i + 1) ss) ≡ sumBy one (take i ss) + 0 = sum-next one (freeSlot p) ss i h ∙ ap (λ (t : Bool). sumBy one (take i ss) + bit t) e in
         omega arith
 
-    pub count-all : fetchCount p (take (length ss) ss) ≡ fetchCount p ss
+    pub fetches-all : fetchCount p (take (length ss) ss) ≡ fetchCount p ss
     unfolding fetchCount
-    count-all = sum-all one ss
+    fetches-all = sum-all one ss
 
     -- at most a fetch for each slot that was seen
-    pub count-le : (i : ℕ) → fetchCount p (take i ss) ≤ i
+    pub fetches-top : (i : ℕ) → fetchCount p (take i ss) ≤ i
     unfolding fetchCount
-    count-le i = omega (arith, sum-top one 1 (λ s. bit-le (isFetched p s)) i ss)
+    fetches-top i = omega (arith, sum-top one 1 (λ s. bit-le (isFetched p s)) i ss)
 
   -- ---- every playing slot holds the mark
 
@@ -201,9 +201,9 @@ module _ {A : Type 0} (p : Supply A) where
     unfolding times
     times-rest = sum-rest (timeOf p) (freeSlot p) m ss (λ j l h. unfetched-time p (at p ss j) (fetched-other p (at p ss j) (λ a b. omega (arith, u j l))))
 
-    pub count-rest : fetchCount p (take m ss) ≡ fetchCount p ss
+    pub fetches-rest : fetchCount p (take m ss) ≡ fetchCount p ss
     unfolding fetchCount
-    count-rest = sum-rest (λ s. bit (isFetched p s)) (freeSlot p) m ss (λ j l h. ap bit (fetched-other p (at p ss j) (λ a b. omega (arith, u j l))))
+    fetches-rest = sum-rest (λ s. bit (isFetched p s)) (freeSlot p) m ss (λ j l h. ap bit (fetched-other p (at p ss j) (λ a b. omega (arith, u j l))))
 
   pub least-rest : (top m : ℕ) (ss : List (Slot A)) → FreeFrom p m ss → leastHeld top (take m ss) ≡ leastHeld top ss
   unfolding leastHeld
