@@ -83,12 +83,6 @@ module _ {A C : Type 0} (R : A → C → Type 0) where
   both-replicate zero a b r = tt
   both-replicate (suc m) a b r = (r, both-replicate m a b r)
 
-pub both-map : {A C : Type 0} (R S : A → C → Type 0) (xs : List A) (ys : List C) → ((x : A) (y : C) → R x y → S x y) → Both R xs ys → Both S xs ys
-both-map R S [] [] f h = tt
-both-map R S [] (y ∷ ys) f h = h
-both-map R S (x ∷ xs) [] f h = h
-both-map R S (x ∷ xs) (y ∷ ys) f h = (f x y (h .0), both-map R S xs ys f (h .1))
-
 module _ {A : Type 0} (R : A → A → Type 0) where
   pub both-refl : (xs : List A) → ((x : A) → R x x) → Both R xs xs
   both-refl [] r = tt

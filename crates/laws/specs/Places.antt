@@ -44,23 +44,24 @@ module _ {A : Type 0} (f : ℕ → A → Bool) where
   failed-by d i (x ∷ xs) zero l h e =
       let q : f i x ≡ false = subst (λ (k : ℕ). f k x ≡ false) (omega arith) e in (rw q, rw q (omega arith))
   failed-by d i (x ∷ xs) (suc j) l h e =
-      let q : f i x ≡ true = subst (λ (k : ℕ). f k x ≡ true) (omega arith) (h 0 (omega arith)) in
-      let r =
-      failed-by d (suc i) xs j (omega arith)
-      (λ k u. subst (λ (m : ℕ). f m (getD xs k d) ≡ true) (omega arith) (h (suc k) (omega arith)))
-      (subst (λ (m : ℕ). f m (getD xs j d) ≡ false) (omega arith) e)
-      in
-      (rw q (r .0), rw q (omega (arith, r .1)))
+      later (failed-by d (suc i) xs j (omega arith) (λ k u. subst (λ (m : ℕ). f m (getD xs k d) ≡ true) (omega arith) (h (suc k) (omega arith)))
+      (subst (λ (m : ℕ). f m (getD xs j d) ≡ false) (omega arith) e))
+    where
+      q : f i x ≡ true
+      q = subst (λ (k : ℕ). f k x ≡ true) (omega arith) (h 0 (omega arith))
+
+      later : (allFrom (suc i) xs ≡ false) × (lowestFrom (suc i) xs ≡ suc i + j) → (allFrom i (x ∷ xs) ≡ false) × (lowestFrom i (x ∷ xs) ≡ i + suc j)
+      later r = (rw q (r .0), rw q (omega (arith, r .1)))
 
   -- one that stops at its first failure, place j
   pub first-failed : (d : A) (xs : List A) (j : ℕ) → j < length xs → ((k : ℕ) → k < j → f k (getD xs k d) ≡ true)
       → f j (getD xs j d) ≡ false → (allFrom 0 xs ≡ false) × (lowestFrom 0 xs ≡ j)
   first-failed d xs j l h e =
-      let r =
-      failed-by d 0 xs j l (λ k u. subst (λ (m : ℕ). f m (getD xs k d) ≡ true) (omega arith) (h k u))
-      (subst (λ (m : ℕ). f m (getD xs j d) ≡ false) (omega arith) e)
-      in
-      (r .0, omega (arith, r .1))
+      whole (failed-by d 0 xs j l (λ k u. subst (λ (m : ℕ). f m (getD xs k d) ≡ true) (omega arith) (h k u))
+      (subst (λ (m : ℕ). f m (getD xs j d) ≡ false) (omega arith) e))
+    where
+      whole : (allFrom 0 xs ≡ false) × (lowestFrom 0 xs ≡ 0 + j) → (allFrom 0 xs ≡ false) × (lowestFrom 0 xs ≡ j)
+      whole r = (r .0, omega (arith, r .1))
 
   -- m is the lowest place that fails, j elements after place i
   abbrev Found : A → ℕ → List A → ℕ → Type 0

@@ -5,8 +5,8 @@ use mathlib.Core.Path.{_≡_, refl, sym, ap, _∙_, subst}
 use mathlib.Core.Bool.{Bool, false}
 use mathlib.Core.List.{List, [], _∷_, _++_}
 use native.Mathlib.Omega.{arith}
-use Rattle.laws.specs.Each.{Each, each-replicate, both-replicate}
 use lib.ListN.{length, replicate, length-replicate}
+use Rattle.laws.specs.Each.{Each, each-replicate, both-replicate}
 use Rattle.safety.specs.Supply.{Supply, Lawful}
 use Rattle.safety.specs.Scheduler.{Call, join, leave, begin, end, playing, freeSlot, leads, bound, mostDrawn}
 use Rattle.safety.specs.Order.{Scheduler, Order, opened}
@@ -17,15 +17,17 @@ use Rattle.safety.specs.Calls.{State, Rules, Allowed, Strict, isAccepted
 use Rattle.safety.specs.Safety.{accepted-keeps, accepted-length, players-hold-draw}
 use Rattle.safety.specs.Accounts.{Agree, agree-free, Agrees, recorded-keeps}
 
--- a list that ends with x
-pub after-last : {A Q X : Type 0} (p : Supply A) (o : Order A Q) (u : Rules A Q X) (v : State A Q) (xs : List X) (x : X)
-    → after p o u v (xs ++ (x ∷ [])) ≡ turn p o u (after p o u v xs) x
-unfolding after
-after-last p o u v [] x = refl
-after-last p o u v (y ∷ xs) x = after-last p o u (turn p o u v y) xs x
-
 module _ {A Q X : Type 0} (p : Supply A) (o : Order A Q) (u : Rules A Q X) where
-  -- an answer with number 0 is the rules' own, and any other leaves all as it was
+  -- one list after the other, and a list that ends with x
+  pub after-append : (v : State A Q) (xs ys : List X) → after p o u v (xs ++ ys) ≡ after p o u (after p o u v xs) ys
+  unfolding after
+  after-append v [] ys = refl
+  after-append v (x ∷ xs) ys = after-append (turn p o u v x) xs ys
+
+  pub after-last : (v : State A Q) (xs : List X) (x : X) → after p o u v (xs ++ (x ∷ [])) ≡ turn p o u (after p o u v xs) x
+  unfolding after
+  after-last v xs x = after-append v xs (x ∷ [])
+
   pub accepted-zero : (d : Scheduler A Q) (c : Call A) → accepted p o d c .number ≡ 0
   unfolding accepted
   accepted-zero d (join i b) = refl
@@ -33,6 +35,7 @@ module _ {A Q X : Type 0} (p : Supply A) (o : Order A Q) (u : Rules A Q X) where
   accepted-zero d begin = refl
   accepted-zero d (end ds) = refl
 
+  -- an answer with number 0 is what the rules make of an accepted call; any other carries the scheduler that was given
   pub verdict-zero : (d : Scheduler A Q) (x : X) → answer p o u d x .number ≡ 0 → u .verdict d x .number ≡ 0
   unfolding answer
   verdict-zero d x e = go (u .verdict d x .number) e

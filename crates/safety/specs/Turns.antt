@@ -87,28 +87,28 @@ module _ {A : Type 0} (p : Supply A) where
     abbrev one : Slot A → ℕ
     one s = bit (isFetched p s)
 
-    pub count-none : fetchCount p (take 0 ss) ≡ 0
+    pub fetches-none : fetchCount p (take 0 ss) ≡ 0
     unfolding fetchCount
-    count-none = sum-none one ss
+    fetches-none = sum-none one ss
 
-    pub count-next : (i : ℕ) → i < length ss → isFetched p (at p ss i) ≡ true → fetchCount p (take (i + 1) ss) ≡ fetchCount p (take i ss) + 1
+    pub fetches-next : (i : ℕ) → i < length ss → isFetched p (at p ss i) ≡ true → fetchCount p (take (i + 1) ss) ≡ fetchCount p (take i ss) + 1
     unfolding fetchCount
-    count-next i h e = sum-next one (freeSlot p) ss i h ∙ ap (λ (t : Bool). sumBy one (take i ss) + bit t) e
+    fetches-next i h e = sum-next one (freeSlot p) ss i h ∙ ap (λ (t : Bool). sumBy one (take i ss) + bit t) e
 
-    pub count-skip : (i : ℕ) → i < length ss → isFetched p (at p ss i) ≡ false → fetchCount p (take (i + 1) ss) ≡ fetchCount p (take i ss)
+    pub fetches-skip : (i : ℕ) → i < length ss → isFetched p (at p ss i) ≡ false → fetchCount p (take (i + 1) ss) ≡ fetchCount p (take i ss)
     unfolding fetchCount
-    count-skip i h e =
+    fetches-skip i h e =
         let q : fetchCount p (take (i + 1) ss) ≡ sumBy one (take i ss) + 0 = sum-next one (freeSlot p) ss i h ∙ ap (λ (t : Bool). sumBy one (take i ss) + bit t) e in
         omega arith
 
-    pub count-all : fetchCount p (take (length ss) ss) ≡ fetchCount p ss
+    pub fetches-all : fetchCount p (take (length ss) ss) ≡ fetchCount p ss
     unfolding fetchCount
-    count-all = sum-all one ss
+    fetches-all = sum-all one ss
 
     -- at most a fetch for each slot that was seen
-    pub count-le : (i : ℕ) → fetchCount p (take i ss) ≤ i
+    pub fetches-top : (i : ℕ) → fetchCount p (take i ss) ≤ i
     unfolding fetchCount
-    count-le i = omega (arith, sum-top one 1 (λ s. bit-le (isFetched p s)) i ss)
+    fetches-top i = omega (arith, sum-top one 1 (λ s. bit-le (isFetched p s)) i ss)
 
   -- ---- every playing slot holds the mark
 
@@ -124,9 +124,13 @@ module _ {A : Type 0} (p : Supply A) where
   pub players-no : (x : ℕ) (ss : List (Slot A)) (j : ℕ) → j < length ss → at p ss j .kind ≡ playing → 2000000 * at p ss j .buffered < x
       → playersHold p x ss ≡ false
   unfolding playersHold
-  players-no x ss j l k h =
-      is-false (playersHold p x ss)
-      (λ e. clash (implied (eqb (at p ss j .kind) playing) _ (all-at (freeSlot p) (λ s. implies (eqb (s .kind) playing) (holds p x s)) ss j e l) (eq-eqb (at p ss j .kind) playing k)) (holds-no p x (at p ss j) h))
+  players-no x ss j l k h = is-false (playersHold p x ss) (λ e. clash (implied (eqb (s .kind) playing) (holds p x s) (here e) (eq-eqb (s .kind) playing k)) (holds-no p x s h))
+    where
+      s : Slot A
+      s = at p ss j
+
+      here : playersHold p x ss ≡ true → implies (eqb (s .kind) playing) (holds p x s) ≡ true
+      here e = all-at (freeSlot p) (λ s. implies (eqb (s .kind) playing) (holds p x s)) ss j e l
 
   -- the least that a playing slot holds, top where none plays
   unfoldable pub leastHeld : ℕ → List (Slot A) → ℕ
@@ -197,9 +201,9 @@ module _ {A : Type 0} (p : Supply A) where
     unfolding times
     times-rest = sum-rest (timeOf p) (freeSlot p) m ss (λ j l h. unfetched-time p (at p ss j) (fetched-other p (at p ss j) (λ a b. omega (arith, u j l))))
 
-    pub count-rest : fetchCount p (take m ss) ≡ fetchCount p ss
+    pub fetches-rest : fetchCount p (take m ss) ≡ fetchCount p ss
     unfolding fetchCount
-    count-rest = sum-rest (λ s. bit (isFetched p s)) (freeSlot p) m ss (λ j l h. ap bit (fetched-other p (at p ss j) (λ a b. omega (arith, u j l))))
+    fetches-rest = sum-rest (λ s. bit (isFetched p s)) (freeSlot p) m ss (λ j l h. ap bit (fetched-other p (at p ss j) (λ a b. omega (arith, u j l))))
 
   pub least-rest : (top m : ℕ) (ss : List (Slot A)) → FreeFrom p m ss → leastHeld top (take m ss) ≡ leastHeld top ss
   unfolding leastHeld
@@ -464,8 +468,10 @@ module _ {A : Type 0} (p : Supply A) where
   unfolding endedSlot sweptBy released
   ended-other s d f h = rw f (go (eqb (s .kind) draining) refl)
     where
-      go : (t : Bool) → eqb (s .kind) draining ≡ t
-          → releaseBy p (t && eqb (s .buffered - d) 0) (record { kind = s .kind; next = s .next; buffered = s .buffered - d }) ≡ record { kind = s .kind; next = s .next; buffered = s .buffered - d }
+      t : Slot A
+      t = record { kind = s .kind; next = s .next; buffered = s .buffered - d }
+
+      go : (x : Bool) → eqb (s .kind) draining ≡ x → releaseBy p (x && eqb (s .buffered - d) 0) t ≡ t
       go true e = rw (ne-eqb (s .buffered - d) 0 (λ z. omega (arith, h (eqb-true (s .kind) draining e))))
       go false e = refl
 

@@ -179,11 +179,17 @@ module _ {A : Type 0} (p : Supply A) (names : Named p) where
         → at p (d .slots) (judged p d room (end ds) .place) .kind ≡ draining
     overdrawn-drains ok o h e = go (judged p d room (end ds) .place) (overdrawn-says e)
       where
+        m : ℕ
+        m = mostDrawn p (d .slots)
+
+        rich : (i : ℕ) → at p (d .slots) i .kind ≡ playing → m ≤ at p (d .slots) i .buffered
+        rich i =
+            each-at (λ s. s .kind ≡ playing → m ≤ s .buffered) (d .slots) i (freeSlot p) (players-hold-draw p ok (d .slots) (h .unused) (h .slots))
+            (λ z. absurd (omega arith))
+
+        few : (i : ℕ) → allFrom (drawAllowed p m ds) 0 (d .slots) ≡ true → i < length (d .slots) → drawAllowed p m ds i (at p (d .slots) i) ≡ true
+        few i t l =
+            eachFrom-at (λ j s. drawAllowed p m ds j s ≡ true) (freeSlot p) (d .slots) i (each-of-allFrom (drawAllowed p m ds) 0 (d .slots) t) l
+
         go : (i : ℕ) → Overdrawn i → at p (d .slots) i .kind ≡ draining
-        go i q =
-            let ss = d .slots in
-            let m : ℕ = mostDrawn p ss in
-            let s : Slot A = at p ss i in
-            let few : drawAllowed p m ds i s ≡ true = eachFrom-at (λ j s. drawAllowed p m ds j s ≡ true) (freeSlot p) ss i (each-of-allFrom (drawAllowed p m ds) 0 ss (q .0)) (q .1 .inside) in
-            let rich : s .kind ≡ playing → m ≤ s .buffered = each-at (λ s. s .kind ≡ playing → m ≤ s .buffered) ss i (freeSlot p) (players-hold-draw p ok ss (h .unused) (h .slots)) (λ z. absurd (omega arith)) in
-            short-drains m i s rich few (q .1 .fails)
+        go i q = short-drains m i (at p (d .slots) i) (rich i) (few i (q .0) (q .1 .inside)) (q .1 .fails)
