@@ -1,0 +1,1 @@
+// Demand 3: one claim about every list of calls.
