@@ -146,6 +146,12 @@ own-rules d x = go (x .request)
 by-rules : (p : Plan) (d : Desk) (x : Lent) → d .plan ≡ p → Ruled p d x
 by-rules p d x e = subst (λ (q : Plan). Ruled q d x) e (own-rules d x)
 
+-- what a call leaves, as the rules say it
+pub called-ruled : (d : Desk) (x : Lent)
+    → (called d x .number ≡ C.answer (supplyOf (d .plan)) (bySlot (supplyOf (d .plan))) (C.refusals (supplyOf (d .plan)) (bySlot (supplyOf (d .plan)))) (viewOf d) (givenOf (d .plan) x) .number)
+    × (viewOf (called d x .desk) ≡ C.answer (supplyOf (d .plan)) (bySlot (supplyOf (d .plan))) (C.refusals (supplyOf (d .plan)) (bySlot (supplyOf (d .plan)))) (viewOf d) (givenOf (d .plan) x) .scheduler)
+called-ruled d x = let r = own-rules d x in (r .number, ap viewOf (r .desk) ∙ view-of-desk (d .plan) _)
+
 -- ---- call by call
 
 -- the desk and the book are the rules' scheduler and ledger
@@ -279,7 +285,7 @@ module _ (p : Plan) where
   unfolding viewOf
   slot-same v u s i =
       let e : slotsOf (supplyOf p) (v .desk .kinds) (v .desk .next) (v .desk .held) ≡ u .scheduler .slots =
-          ap (λ (q : Plan). slotsOf (supplyOf q) (v .desk .kinds) (v .desk .next) (v .desk .held)) (sym (s .plan)) ∙ ap (λ (w : Scheduler ℕ (Unit {0})). w .slots) (s .view) in
+      ap (λ (q : Plan). slotsOf (supplyOf q) (v .desk .kinds) (v .desk .next) (v .desk .held)) (sym (s .plan)) ∙ ap (λ (w : Scheduler ℕ (Unit {0})). w .slots) (s .view) in
       ap (λ (ss : List (Slot ℕ)). at (supplyOf p) ss i) (sym e)
       ∙ slot-at (supplyOf p) (v .desk .kinds) (v .desk .next) (v .desk .held) (s .wide) i
       ∙ none i
