@@ -2,7 +2,7 @@
 use Prim.Native.Nat.{ℕ, zero, suc, _+_, _≤_, _<_}
 use mathlib.Core.Path.{_≡_}
 use mathlib.Core.List.{List, [], _∷_, _++_}
-use mathlib.Core.Bool.{Bool, true, false, cond, _&&_}
+use mathlib.Core.Bool.{Bool, cond, _&&_}
 use lib.ListN.{length, getD, take, drop}
 use lib.Dec.{leb, eqb}
 use Rattle.laws.specs.Runs.{allBy, sumBy}
@@ -10,8 +10,7 @@ use Rattle.leb128.specs.Number.{groups}
 use Rattle.card.specs.declared.Figures.{Figures}
 use Rattle.card.specs.declared.Verdict.{Verdict}
 use Rattle.card.specs.declared.CardWritten.{CardWritten}
-use Rattle.card.specs.declared.fields.Rule.{Rule}
-use Rattle.card.specs.declared.fields.Rule.the-variants.{Kind, Zones, Positions, Time, Blocks, Measure}
+use Rattle.card.specs.declared.fields.Rule.the-variants.{Zones, Positions, Time, Blocks, Measure}
 use Rattle.card.specs.Ranges.{first, faultOf}
 
 -- ---- legal figures: document 01's table of ranges, as plain facts

@@ -22,7 +22,7 @@ fn print_verdict(v: Verdict) {
 
 // The answer of the reader; of an accepted card its figures, and whether it is the card that the writer makes of them.
 fn show(bytes: &[u8]) {
-    let r = card::read_card(bytes);
+    let r = card_reader::read_card(bytes);
     let v = r.verdict;
     if v.number != 0 {
         print_verdict(v);
@@ -59,7 +59,7 @@ fn same(a: &[u8], b: &[u8], n: usize) -> bool {
 
 fn show_same(f: Figures, bytes: &[u8]) {
     let mut buffer = io::buffer();
-    let w = card::write_card(f, &mut buffer);
+    let w = card_writer::write_card(f, &mut buffer);
     print_number(w.length as u64);
     if w.length == bytes.len() {
         if same(&buffer, bytes, w.length) {
@@ -310,7 +310,7 @@ fn write(f: Figures, size: usize) {
     if 4096 < size {
         return;
     }
-    let w = card::write_card(f, &mut buffer[..size]);
+    let w = card_writer::write_card(f, &mut buffer[..size]);
     let v = w.verdict;
     io::write_all(STDOUT_FILENO, b"length");
     print_number(w.length as u64);

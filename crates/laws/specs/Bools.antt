@@ -10,6 +10,23 @@ abbrev pub bit : Bool → ℕ
 bit true = 1
 bit false = 0
 
+pub bit-le : (t : Bool) → bit t ≤ 1
+bit-le true = omega arith
+bit-le false = omega arith
+
+-- b where a
+abbrev pub implies : Bool → Bool → Bool
+implies true b = b
+implies false b = true
+
+pub implied : (a b : Bool) → implies a b ≡ true → a ≡ true → b ≡ true
+implied true b e h = e
+implied false b e h = absurd (true≢false (sym h))
+
+pub implies-of : (a b : Bool) → (a ≡ true → b ≡ true) → implies a b ≡ true
+implies-of true b f = f refl
+implies-of false b f = refl
+
 -- nothing is true and false
 pub clash : {A : Type 0} {b : Bool} → b ≡ true → b ≡ false → A
 clash p q = absurd (true≢false (sym p ∙ q))
@@ -25,6 +42,9 @@ and-left false b e = e
 pub and-right : (a b : Bool) → (a && b) ≡ true → b ≡ true
 and-right true b e = e
 and-right false b e = clash e refl
+
+pub and-says : (a b : Bool) → (a && b) ≡ true → (a ≡ true) × (b ≡ true)
+and-says a b e = (and-left a b e, and-right a b e)
 
 pub and-both : {a b : Bool} → a ≡ true → b ≡ true → (a && b) ≡ true
 and-both p q = rw (p, q)

@@ -1,6 +1,10 @@
 pub mod Bools
 pub mod Count
+pub mod Each
 pub mod Greatest
+pub mod Insertion
 pub mod Map
 pub mod Overwrite
+pub mod Places
 pub mod Runs
+pub mod Sums

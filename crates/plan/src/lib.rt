@@ -52,7 +52,7 @@ pub fn plan_card(card: &[u8], positions: &mut [u8], leads: &mut [u8]) -> Planned
         × (now (positions .exit) ≡ positionsAfter (readCard (now (card .entry))) (now (positions .entry)) (now (leads .entry)))
         × (now (leads .exit) ≡ leadsAfter (readCard (now (card .entry))) (now (positions .entry)) (now (leads .entry))) ⌝ }
 {
-    plan_figures(card::read_card(card), positions, leads)
+    plan_figures(card_reader::read_card(card), positions, leads)
 }
 
 // Plans a record of figures: 4 to 10, then 13, then 12, place 0. A refusal leaves both lists.

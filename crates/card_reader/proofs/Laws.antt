@@ -1,0 +1,90 @@
+-- Each way that the reader can take.
+-- Assumes nothing.
+use Prim.Native.Nat.{ℕ, zero, suc, _+_, _≤_, _<_}
+use mathlib.Core.Path.{_≡_, refl, sym, ap, _∙_}
+use mathlib.Core.List.{List}
+use native.Mathlib.Omega.{arith}
+use lib.ListN.{length}
+use borrow.Author.Tests.{lt-ltb, le-ltb}
+use Rattle.leb128.specs.declared.Number.{Number}
+use Rattle.leb128.specs.declared.Number.the-variants as number
+use Rattle.leb128.specs.Number.{numberAt}
+use Rattle.card.specs.declared.Figures.{Figures}
+use Rattle.card.specs.declared.CardRead.{CardRead}
+use Rattle.card.specs.declared.fields.Rule.{Rule}
+use Rattle.card.specs.declared.fields.Rule.the-variants.{Zones, Positions, Time}
+use Rattle.card.specs.declared.fields.Field.{Field}
+use Rattle.card.specs.declared.fields.Field.the-variants.{Value, Refused}
+use Rattle.card.specs.Laws.{positions-range, zones-range}
+use Rattle.card.specs.Ranges.{faultOf}
+use Rattle.card.specs.Read.{onFault, onNumber, fieldAt, thenField, refusedCard, cardEnd, accepted, filmFrom, zonesFrom, withZone}
+
+module _ {F G : Field} (same : F ≡ G) where
+  pub card-stops : (go go′ : ℕ → ℕ → CardRead) {k o : ℕ} → F ≡ Refused k o → thenField F go′ ≡ thenField G go
+  unfolding thenField
+  card-stops go go′ e = ap (λ (x : Field). thenField x go′) e ∙ ap (λ (x : Field). thenField x go) (sym e ∙ same)
+
+  pub card-goes : (go : ℕ → ℕ → CardRead) {v next : ℕ} → F ≡ Value v next → go v next ≡ thenField G go
+  unfolding thenField
+  card-goes go e = ap (λ (x : Field). thenField x go) (sym e ∙ same)
+
+module _ (s : List ℕ) (at : ℕ) (f : Figures) where
+  pub end-left : at < length s → refusedCard 11 at ≡ cardEnd s at f
+  unfolding cardEnd
+  end-left h = rw (lt-ltb _ _ h)
+
+  pub end-none : length s ≤ at → _≡_ {A = CardRead} (record { verdict = accepted; figures = f }) (cardEnd s at f)
+  unfolding cardEnd
+  end-none h = rw (le-ltb _ _ h)
+
+module _ (s : List ℕ) (at i : ℕ) (f : Figures) (total before : ℕ) where
+  pub read-done : (left : ℕ) → left ≤ 0 → filmFrom s at f total ≡ zonesFrom left s at i f total before
+  unfolding zonesFrom
+  read-done zero h = refl
+  read-done (suc left) h = absurd (omega arith)
+
+  module _ (left : ℕ) {F : Field} (positions : F ≡ fieldAt Positions total s at) where
+    pub read-few : 0 < left → (go : ℕ → ℕ → CardRead) {k o : ℕ} → F ≡ Refused k o → thenField F go ≡ zonesFrom left s at i f total before
+    read-few h go e = by left h
+      where
+        by : (left : ℕ) → 0 < left → thenField F go ≡ zonesFrom left s at i f total before
+        by zero h = absurd (omega arith)
+        by (suc left) h = unfold zonesFrom in card-stops positions _ go e
+
+    module _ {p middle : ℕ} (read : F ≡ Value p middle) {G : Field} (time : G ≡ fieldAt Time before s middle) where
+      pub read-slow : 0 < left → (go : ℕ → ℕ → CardRead) {k o : ℕ} → G ≡ Refused k o → thenField G go ≡ zonesFrom left s at i f total before
+      read-slow h go e = by left h
+        where
+          by : (left : ℕ) → 0 < left → thenField G go ≡ zonesFrom left s at i f total before
+          by zero h = absurd (omega arith)
+          by (suc left) h = unfold zonesFrom in card-stops time _ go e ∙ card-goes positions _ read
+
+      pub read-more : (k : ℕ) → left ≡ k + 1 → {t next : ℕ} → G ≡ Value t next
+          → zonesFrom k s next (i + 1) (withZone f i p t) (total + p) t ≡ zonesFrom left s at i f total before
+      read-more k h {t} {next} e = by left h
+        where
+          by : (left : ℕ) → left ≡ k + 1 → zonesFrom k s next (i + 1) (withZone f i p t) (total + p) t ≡ zonesFrom left s at i f total before
+          by zero h = absurd (omega arith)
+          by (suc left) h =
+              let q : k ≡ left = omega arith in
+              ap (λ (x : ℕ). zonesFrom x s next (i + 1) (withZone f i p t) (total + p) t) q ∙ (unfold zonesFrom in card-goes time _ e ∙ card-goes positions _ read)
+
+-- the value of a figure that is read is not refused
+pub field-judged : (rule : Rule) (bound : ℕ) (s : List ℕ) (at : ℕ) {v next : ℕ} {F : Field} → F ≡ fieldAt rule bound s at → F ≡ Value v next → faultOf rule bound v ≡ 0
+unfolding fieldAt onNumber onFault
+field-judged rule bound s at {v} {next} e h = go (numberAt s at) (sym e ∙ h)
+  where
+    on : (k w m : ℕ) → faultOf rule bound w ≡ k → onFault k at w m ≡ Value v next → faultOf rule bound v ≡ 0
+    on zero w m q e = let same : w ≡ v = cc in rw same at q
+    on (suc k) w m q e = absurd (let z : _≡_ {A = ℕ} 0 1 = cc in omega arith)
+
+    go : (n : Number) → onNumber (faultOf rule bound) at n ≡ Value v next → faultOf rule bound v ≡ 0
+    go (number.Value w m) e = on (faultOf rule bound w) w m refl e
+    go (number.CutOff size) e = absurd (let z : _≡_ {A = ℕ} 0 1 = cc in omega arith)
+    go (number.Malformed start) e = absurd (let z : _≡_ {A = ℕ} 0 1 = cc in omega arith)
+
+pub field-fits : (total : ℕ) (s : List ℕ) (at : ℕ) {v next : ℕ} {F : Field} → F ≡ fieldAt Positions total s at → F ≡ Value v next → total + v ≤ 1048576
+field-fits total s at e h = positions-range total _ (field-judged Positions total s at e h) .1
+
+pub zones-bound : (bound : ℕ) (s : List ℕ) (at : ℕ) {v next : ℕ} {F : Field} → F ≡ fieldAt Zones bound s at → F ≡ Value v next → v ≤ 64
+zones-bound bound s at e h = zones-range bound _ (field-judged Zones bound s at e h) .1

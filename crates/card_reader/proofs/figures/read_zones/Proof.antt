@@ -1,0 +1,125 @@
+use Prim.Native.Nat.{ℕ, _-_, _≤_}
+use mathlib.Core.Path.{_≡_, ap₂, _∙_}
+use native.Mathlib.Omega.{arith}
+use borrow.Author.Needs.{needs}
+use Rattle.card.specs.declared.Figures.{Figures}
+use Rattle.card_reader.proofs.Laws.{field-fits, read-done, read-few, read-slow, read-more}
+use Rattle.card.specs.Read.{zonesFrom, withZones}
+use Rattle.card_reader.proofs.figures.read_zones.Statement.{statement}
+use Rattle.card_reader.proofs.figures.read_zones.Tie as tie
+
+abbrev Inv-loop : tie.InvT-loop
+Inv-loop card start zones f₀ at₀ total₀ before₀ i₀ f at total before i =
+    (i ≤ zones) × (total ≤ 1048576) × (zonesFrom (zones - i) card at i f total before ≡ zonesFrom zones card start 0 (withZones zones) 0 4000000)
+
+abbrev μ-loop : tie.MeasureT-loop
+μ-loop card start zones f₀ at₀ total₀ before₀ i₀ f at total before i = zones - i
+
+with-zones-requires : tie.Need-with-zones-requires Inv-loop μ-loop
+with-zones-requires c κs = search needs
+
+loop-holds : tie.Need-loop-holds Inv-loop μ-loop
+loop-holds c =
+    let a = c .before .before .args in
+    let e : a .zones - 0 ≡ a .zones = omega arith in
+    (omega arith, omega arith, ap₂ (λ (n : ℕ) (f : Figures). zonesFrom n (a .card .now) (a .start) 0 f 0 4000000) e (c .with-zones .ensures))
+
+read-field-requires : tie.Need-read-field-requires Inv-loop μ-loop
+read-field-requires c κs = search needs
+
+enum-known-first : tie.Need-enum-known-first Inv-loop μ-loop
+enum-known-first c = search needs
+
+enum-told : tie.Need-enum-told Inv-loop μ-loop
+enum-told c = search needs
+
+refused-field-requires : tie.Need-refused-field-requires Inv-loop μ-loop
+refused-field-requires c κs = search needs
+
+returns : tie.Need-returns Inv-loop μ-loop
+returns c =
+    let l = c .before .before .before .before .before .loop in
+    c .refused-field .ensures ∙ read-few _ (l .at) (l .i) (l .f) (l .total) (l .before) _ (c .before .before .before .read-field .ensures) (omega arith) _ (c .before .enum-told .given .1) ∙ l .inv .2
+
+read-field-requires-2 : tie.Need-read-field-requires-2 Inv-loop μ-loop
+read-field-requires-2 c κs = search needs
+
+enum-known-second : tie.Need-enum-known-second Inv-loop μ-loop
+enum-known-second c = search needs
+
+enum-told-2 : tie.Need-enum-told-2 Inv-loop μ-loop
+enum-told-2 c = search needs
+
+refused-field-requires-2 : tie.Need-refused-field-requires-2 Inv-loop μ-loop
+refused-field-requires-2 c κs = search needs
+
+returns-2 : tie.Need-returns-2 Inv-loop μ-loop
+returns-2 c =
+    let l = c .before .before .before .before .before .before .before .before .before .loop in
+    c .refused-field2 .ensures
+    ∙ read-slow _ (l .at) (l .i) (l .f) (l .total) (l .before) _ (c .before .before .before .before .before .before .before .read-field .ensures) (c .before .before .before .before .before .first .given .1) (c .before .before .before .read-field2 .ensures) (omega arith) _ (c .before .enum-told2 .given .1)
+    ∙ l .inv .2
+
+mul-f : tie.Need-mul-f Inv-loop μ-loop
+mul-f c = search needs
+
+element-write-f : tie.Need-element-write-f Inv-loop μ-loop
+element-write-f c = search needs
+
+mul-f-2 : tie.Need-mul-f-2 Inv-loop μ-loop
+mul-f-2 c = search needs
+
+element-write-f-2 : tie.Need-element-write-f-2 Inv-loop μ-loop
+element-write-f-2 c = search needs
+
+add-total : tie.Need-add-total Inv-loop μ-loop
+add-total c = omega (arith, field-fits _ _ _ (c .before .before .before .before .before .before .before .read-field .ensures) (c .before .before .before .before .before .first .given .1))
+
+add-i : tie.Need-add-i Inv-loop μ-loop
+add-i c = search needs
+
+loop-less : tie.Need-loop-less Inv-loop μ-loop
+loop-less c = search needs
+
+loop-again : tie.Need-loop-again Inv-loop μ-loop
+loop-again c =
+    let l = c .before .before .before .before .before .before .before .before .before .loop in (
+      omega arith,
+      field-fits _ _ _ (c .before .before .before .before .before .before .before .read-field .ensures) (c .before .before .before .before .before .first .given .1),
+      read-more _ (l .at) (l .i) (l .f) (l .total) (l .before) _ (c .before .before .before .before .before .before .before .read-field .ensures) (c .before .before .before .before .before .first .given .1) (c .before .before .before .read-field2 .ensures) _ (omega arith) (c .before .second .given .1) ∙ l .inv .2,
+    )
+
+read-film-requires : tie.Need-read-film-requires Inv-loop μ-loop
+read-film-requires c κs = search needs
+
+returns-3 : tie.Need-returns-3 Inv-loop μ-loop
+returns-3 c = let l = c .before .before .loop in c .read-film .ensures ∙ read-done _ _ _ _ _ _ _ (omega arith) ∙ l .inv .2
+
+pub read-zones-spec : {M : Type 1} → statement M
+read-zones-spec =
+    tie.close
+    (tie.spec
+    Inv-loop
+    μ-loop
+    with-zones-requires
+    loop-holds
+    read-field-requires
+    enum-known-first
+    enum-told
+    refused-field-requires
+    returns
+    read-field-requires-2
+    enum-known-second
+    enum-told-2
+    refused-field-requires-2
+    returns-2
+    mul-f
+    element-write-f
+    mul-f-2
+    element-write-f-2
+    add-total
+    add-i
+    loop-less
+    loop-again
+    read-film-requires
+    returns-3)

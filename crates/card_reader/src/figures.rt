@@ -1,0 +1,133 @@
+// The numbers of a card, in their order; the first fault ends it.
+use card::CardRead;
+use card::Figures;
+use card::Verdict;
+use card::fields::Field;
+use card::fields::Rule;
+use card::fields::read_field;
+ghost use mathlib.Core.Path.{_≡_};
+ghost use Prim.Native.Nat.{_≤_};
+ghost use Rattle.card.specs.Read.{blankZones, withZones, refusedCard, thenField, cardEnd, filmFrom, zonesFrom};
+
+fn blank_zones() -> [u32; 64]
+    ensures { λ r. ⌜ r ≡ blankZones ⌝ }
+{
+    [0u32; 64]
+}
+
+// Figures of which only the zone count is known.
+fn with_zones(zones: u32) -> Figures
+    ensures { λ r. ⌜ r ≡ withZones zones ⌝ }
+{
+    Figures {
+        zones: zones,
+        positions: blank_zones(),
+        times: blank_zones(),
+        blocks: 0,
+        bytes: 0,
+        rate: 0,
+        hop: 0,
+        back: 0,
+    }
+}
+
+// A refused card.
+fn refused_card(number: u32, place: usize) -> CardRead
+    ensures { λ r. ⌜ r ≡ refusedCard number place ⌝ }
+{
+    CardRead {
+        verdict: Verdict {
+            number: number,
+            place: place,
+        },
+        figures: with_zones(0),
+    }
+}
+
+// The card that a refused figure ends. (A value is none; no caller hands one over.)
+pub fn refused_field(f: Field) -> CardRead
+    ensures { λ r. ⌜ r ≡ thenField f (λ v next. refusedCard 0 0) ⌝ }
+{
+    match f {
+        Field::Refused(number, at) => refused_card(number, at),
+        Field::Value(_, _) => refused_card(0, 0),
+    }
+}
+
+// After the last figure no byte is left over.
+fn end_card(card: &[u8], at: usize, figures: Figures) -> CardRead
+    ensures { λ r. ⌜ r ≡ cardEnd (now (card .entry)) at figures ⌝ }
+{
+    if at < card.len() {
+        return refused_card(11, at);
+    }
+    CardRead {
+        verdict: Verdict {
+            number: 0,
+            place: 0,
+        },
+        figures: figures,
+    }
+}
+
+// The film's figures: N, B, c, hop, return.
+fn read_film(card: &[u8], at: usize, figures: Figures, total: u32) -> CardRead
+    ensures { λ r. ⌜ r ≡ filmFrom (now (card .entry)) at figures total ⌝ }
+{
+    let first = read_field(card, at, Rule::Blocks, total);
+    let Field::Value(blocks, at1) = first else {
+        return refused_field(first);
+    };
+    let second = read_field(card, at1, Rule::Measure, 4194304);
+    let Field::Value(bytes, at2) = second else {
+        return refused_field(second);
+    };
+    let third = read_field(card, at2, Rule::Measure, 10000000);
+    let Field::Value(rate, at3) = third else {
+        return refused_field(third);
+    };
+    let fourth = read_field(card, at3, Rule::Measure, 1000000);
+    let Field::Value(hop, at4) = fourth else {
+        return refused_field(fourth);
+    };
+    let fifth = read_field(card, at4, Rule::Measure, 1000000);
+    let Field::Value(back, at5) = fifth else {
+        return refused_field(fifth);
+    };
+    let mut f = figures;
+    f.blocks = blocks;
+    f.bytes = bytes;
+    f.rate = rate;
+    f.hop = hop;
+    f.back = back;
+    end_card(card, at5, f)
+}
+
+// The zones, innermost first, each its positions and its time; then the film.
+pub fn read_zones(card: &[u8], start: usize, zones: u32) -> CardRead
+    requires { ⌜ zones ≤ 64 ⌝ }
+    ensures { λ r. ⌜ r ≡ zonesFrom zones (now (card .entry)) start 0 (withZones zones) 0 4000000 ⌝ }
+{
+    let mut f = with_zones(zones);
+    let mut at = start;
+    let mut total: u32 = 0;
+    let mut before: u32 = 4000000;
+    let mut i: usize = 0;
+    while i < zones as usize {
+        let first = read_field(card, at, Rule::Positions, total);
+        let Field::Value(positions, middle) = first else {
+            return refused_field(first);
+        };
+        let second = read_field(card, middle, Rule::Time, before);
+        let Field::Value(time, next) = second else {
+            return refused_field(second);
+        };
+        f.positions[i] = positions;
+        f.times[i] = time;
+        total += positions;
+        before = time;
+        at = next;
+        i += 1;
+    }
+    read_film(card, at, f, total)
+}

@@ -1,0 +1,31 @@
+// The card's writer: figures to bytes in a lent buffer.
+mod numbers; // the numbers of a card, one after the other
+
+use card::CardWritten;
+use card::Figures;
+use card::Verdict;
+use card::judge::fault_of_record;
+ghost use mathlib.Core.Path.{_≡_};
+ghost use Rattle.card.specs.Card.{writtenCard, bufferAfter};
+
+// Writes the card of figures into a lent buffer: refusals 4 to 10, then 13.
+pub fn write_card(figures: Figures, out: &mut [u8]) -> CardWritten
+    ensures { λ r. ⌜ (r ≡ writtenCard figures (now (out .entry))) × (now (out .exit) ≡ bufferAfter figures (now (out .entry))) ⌝ }
+{
+    let number = fault_of_record(figures);
+    if number != 0 {
+        return numbers::not_written(number);
+    }
+    let length = numbers::card_length(figures);
+    if out.len() < length {
+        return numbers::not_written(13);
+    }
+    numbers::write_numbers(figures, out);
+    CardWritten {
+        verdict: Verdict {
+            number: 0,
+            place: 0,
+        },
+        length: length,
+    }
+}

@@ -1,0 +1,146 @@
+-- The calls of the desk on its record: each is the abstract scheduler's answer (crate safety, where document 01's rules stand) over the
+-- supply of the record's plan.
+use Prim.Native.Nat.{ℕ, zero, suc, _+_, _-_}
+use mathlib.Core.List.{List, [], _∷_, _++_, map}
+use mathlib.Core.Bool.{Bool, true, false, cond}
+use lib.ListN.{length, replicate}
+use lib.Dec.{ltb, eqb}
+use Rattle.card.specs.declared.Verdict.{Verdict}
+use Rattle.words.specs.Words.{wordsOf, withWords}
+use Rattle.plan.specs.declared.Plan.{Plan}
+use Rattle.plan.specs.Plan.{placeOf, timeOf, leadOf, overOf, blankPlan}
+use Rattle.plan.specs.Answer.{isPlan}
+use Rattle.safety.specs.Supply.{Supply}
+use Rattle.safety.specs.Scheduler.{Slot, Entry, Call, join, leave, begin, end}
+use Rattle.safety.specs.Order.{Scheduler, bySlot, opened}
+use Rattle.safety.specs.Calls as C
+use Rattle.safety.specs.Calls.{Given}
+use Rattle.safety.specs.Arrays.{slotsOf}
+use Rattle.desk.specs.declared.Desk.{Desk}
+use Rattle.desk.specs.declared.Answer.{Answer}
+use Rattle.desk.specs.declared.Fetches.{Fetches}
+use Rattle.desk.specs.declared.Begun.{Begun}
+
+-- what a plan record tells the desk of its film. Start block 0 is ordinary; a join at N or above is 18
+unfoldable pub supplyOf : Plan → Supply ℕ
+supplyOf p = record {
+  none = 0;
+  isNone = λ b. eqb b 0;
+  isBlock = λ b. ltb b (p .figures .blocks);
+  fault = λ b. cond (ltb b (p .figures .blocks)) 0 18;
+  isEnd = λ b. eqb b (p .figures .blocks);
+  next = suc;
+  number = λ b. b;
+  position = placeOf (p .figures);
+  others = λ b. [];
+  time = timeOf (p .figures);
+  lead = leadOf (p .figures);
+  overhead = overOf (p .figures);
+  visits = 1;
+  B = p .figures .bytes;
+  c = p .figures .rate;
+  n = p .streams;
+  pairTime = p .worst2;
+  margin = p .margin;
+  buffer = p .buffer;
+}
+
+-- ---- the record as the rules see it
+
+-- its slots, and the whole of it
+abbrev pub slotsIn : Desk → List (Slot ℕ)
+slotsIn d = slotsOf (supplyOf (d .plan)) (d .kinds) (d .next) (d .held)
+
+unfoldable pub viewOf : Desk → Scheduler ℕ (Unit {0})
+viewOf d = record { phase = d .phase; slots = slotsIn d; queue = tt }
+
+-- the record of a plan with the phase and the slots that the rules give
+unfoldable pub deskOf : Plan → Scheduler ℕ (Unit {0}) → Desk
+deskOf p s = record {
+  plan = p;
+  phase = s .phase;
+  kinds = map (λ x. x .kind) (s .slots);
+  next = map (λ x. x .next) (s .slots);
+  held = map (λ x. x .buffered) (s .slots);
+}
+
+-- ---- open
+
+-- 256 zeros: an array made by a repeat expression
+unfoldable pub zeros : List ℕ
+zeros = replicate 256 0
+
+-- a desk of a plan, between sweeps, all slots free
+unfoldable pub freshDesk : Plan → Desk
+freshDesk p = record { plan = p; phase = 0; kinds = zeros; next = zeros; held = zeros }
+
+-- `the new desk all zero when refused`
+unfoldable pub blankDesk : Desk
+blankDesk = freshDesk blankPlan
+
+abbrev pub verdict : ℕ → ℕ → Verdict
+verdict k i = record { number = k; place = i }
+
+-- `it opens between sweeps, from a plan and its lists; if these are not the plan of its figures, 14`
+abbrev pub openBy : Bool → Plan → Answer
+openBy true p = record { verdict = verdict 0 0; desk = freshDesk p }
+openBy false p = record { verdict = verdict 14 0; desk = blankDesk }
+
+unfoldable pub openDesk : Plan → List ℕ → List ℕ → Answer
+openDesk p ps ls = openBy (isPlan p ps ls) p
+
+-- ---- join, leave, begin, end
+
+-- the rules' answer to a call with two lent lists, and room for so many fetch entries
+unfoldable pub answerOf : Desk → List ℕ → List ℕ → ℕ → Call ℕ → C.Answer ℕ (Unit {0})
+answerOf d ps ls room call =
+    let s = supplyOf (d .plan) in
+    C.answer s (bySlot s) (C.refusals s (bySlot s)) (viewOf d) (record { call = call; fair = isPlan (d .plan) ps ls; room = room })
+
+unfoldable pub answered : Desk → C.Answer ℕ (Unit {0}) → Answer
+answered d a = record { verdict = verdict (a .number) (a .place); desk = deskOf (d .plan) (a .scheduler) }
+
+unfoldable pub joinDesk : Desk → List ℕ → List ℕ → ℕ → ℕ → Answer
+joinDesk d ps ls slot block = answered d (answerOf d ps ls 0 (join slot block))
+
+unfoldable pub leaveDesk : Desk → List ℕ → List ℕ → ℕ → Answer
+leaveDesk d ps ls slot = answered d (answerOf d ps ls 0 (leave slot))
+
+-- the draws are the whole entries of a lent byte string
+unfoldable pub endDesk : Desk → List ℕ → List ℕ → List ℕ → Answer
+endDesk d ps ls draws = answered d (answerOf d ps ls 0 (end (wordsOf draws)))
+
+-- numbers in an array of 256, and zeros past them
+unfoldable pub array : List ℕ → List ℕ
+array xs = xs ++ replicate (256 - length xs) 0
+
+unfoldable pub fetchesOf : List Entry → Fetches
+fetchesOf es = record {
+  count = length es;
+  positions = array (map (λ e. e .position) es);
+  slots = array (map (λ e. e .slot) es);
+  blocks = array (map (λ e. e .block) es);
+}
+
+-- room is the number of entries that the lent fetch list has
+unfoldable pub beginDesk : Desk → List ℕ → List ℕ → ℕ → Begun
+beginDesk d ps ls room =
+    let a = answerOf d ps ls room begin in
+    record {
+      verdict = verdict (a .number) (a .place);
+      desk = deskOf (d .plan) (a .scheduler);
+      bound = a .bound;
+      fetches = fetchesOf (a .entries);
+    }
+
+-- the entries that a begin answers, and as numbers: position, slot and block of each
+abbrev pub entriesOf : Desk → List ℕ → List ℕ → ℕ → List Entry
+entriesOf d ps ls room = answerOf d ps ls room begin .entries
+
+unfoldable pub entryWords : List Entry → List ℕ
+entryWords [] = []
+entryWords (e ∷ es) = e .position ∷ e .slot ∷ e .block ∷ entryWords es
+
+-- a lent fetch list of bytes after a begin: its first entries are written, the others and the spare bytes stay
+unfoldable pub fetchListAfter : Desk → List ℕ → List ℕ → ℕ → List ℕ → List ℕ
+fetchListAfter d ps ls room out = withWords out 0 (entryWords (entriesOf d ps ls room))

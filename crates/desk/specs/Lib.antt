@@ -1,0 +1,4 @@
+pub mod Desk
+pub mod Promise
+pub mod Ready
+pub mod View

@@ -1,0 +1,26 @@
+-- The arithmetic of one sweep: it leaves each playing slot at the low-water mark or above.
+-- The sweep fetches k blocks that take T; its overhead is o, and O that of n blocks. L are the leads before it, M those after it.
+-- E is a lead that is to have room as well; in document 01 it is 0.
+-- Assumes nothing.
+use Prim.Native.Nat.{ℕ, _+_, _*_, _-_, _/_, _≤_, _<_}
+use native.Mathlib.Omega.{arith}
+use native.Mathlib.Nat.{mul-le-mul-left, mul-le-mul-right}
+
+-- the formula of streams leaves room for k fetches
+pub room-of-streams : (c n w O B k o : ℕ) → c * (n * w + 2 * O) ≤ 2000000 * B → k ≤ n → o ≤ O → c * (k * w + 2 * o + 0) ≤ 2000000 * B
+room-of-streams c n w O B k o fit kn less = omega (arith, mul-le-mul-right (c * w) kn, mul-le-mul-left c less)
+
+module _ (c w B k o T L M E : ℕ) (room : c * (k * w + 2 * o + E) ≤ 2000000 * B) (leads : 2 * T + M ≤ L + k * w) where
+  -- a playing slot that is fetched for
+  pub fetched-stays : (buffered draw : ℕ) → 2000000 * B + c * L ≤ 2000000 * buffered → draw ≤ c * (T + o) / 1000000
+      → (draw ≤ buffered) × (2000000 * B + c * (M + E) ≤ 2000000 * (buffered - draw + B))
+  fetched-stays buffered draw floor drawn = omega (arith, mul-le-mul-left c leads)
+
+  -- one that is not, its buffer being too full
+  pub full-stays : (n margin buffered draw : ℕ) → L + E ≤ n * margin → 3 * B + (c * n * margin + 1999999) / 2000000 < buffered + B
+      → draw ≤ c * (T + o) / 1000000 → (draw ≤ buffered) × (2000000 * B + c * (M + E) ≤ 2000000 * (buffered - draw))
+  full-stays n margin buffered draw top full drawn = omega (arith, mul-le-mul-left c leads, mul-le-mul-left c top)
+
+  -- what the sweep may draw is within the low-water mark
+  pub sweep-within : 2 * (c * (T + o)) ≤ 2000000 * B + c * L
+  sweep-within = omega (arith, mul-le-mul-left c leads)

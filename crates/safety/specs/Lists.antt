@@ -1,0 +1,137 @@
+-- What every list of calls keeps, over any lawful supply, any orderly order and any strict rules.
+-- Assumes nothing.
+use Prim.Native.Nat.{ℕ, zero, suc, _*_, _/_, _≤_, _<_}
+use mathlib.Core.Path.{_≡_, refl, sym, ap, _∙_, subst}
+use mathlib.Core.Bool.{Bool, false}
+use mathlib.Core.List.{List, [], _∷_, _++_}
+use native.Mathlib.Omega.{arith}
+use lib.ListN.{length, replicate, length-replicate}
+use Rattle.laws.specs.Each.{Each, each-replicate, both-replicate}
+use Rattle.safety.specs.Supply.{Supply, Lawful}
+use Rattle.safety.specs.Scheduler.{Call, join, leave, begin, end, playing, freeSlot, leads, bound, mostDrawn}
+use Rattle.safety.specs.Order.{Scheduler, Order, opened}
+use Rattle.safety.specs.Sound.{Good, good-free, replicate-free, Sound}
+use Rattle.safety.specs.Orderly.{Orderly}
+use Rattle.safety.specs.Ledger.{blank, openedLedger, recorded}
+use Rattle.safety.specs.Calls.{State, Rules, Allowed, Strict, isAccepted, accepted, refused, opening, answerBy, answer, turn, after}
+use Rattle.safety.specs.Safety.{accepted-keeps, accepted-length, players-hold-draw}
+use Rattle.safety.specs.Accounts.{Agree, agree-free, Agrees, recorded-keeps}
+
+module _ {A Q X : Type 0} (p : Supply A) (o : Order A Q) (u : Rules A Q X) where
+  -- one list after the other, and a list that ends with x
+  pub after-append : (v : State A Q) (xs ys : List X) → after p o u v (xs ++ ys) ≡ after p o u (after p o u v xs) ys
+  unfolding after
+  after-append v [] ys = refl
+  after-append v (x ∷ xs) ys = after-append (turn p o u v x) xs ys
+
+  pub after-last : (v : State A Q) (xs : List X) (x : X) → after p o u v (xs ++ (x ∷ [])) ≡ turn p o u (after p o u v xs) x
+  unfolding after
+  after-last v xs x = after-append v xs (x ∷ [])
+
+  pub accepted-zero : (d : Scheduler A Q) (c : Call A) → accepted p o d c .number ≡ 0
+  unfolding accepted
+  accepted-zero d (join i b) = refl
+  accepted-zero d (leave i) = refl
+  accepted-zero d begin = refl
+  accepted-zero d (end ds) = refl
+
+  -- an answer with number 0 is what the rules make of an accepted call; any other carries the scheduler that was given
+  pub verdict-zero : (d : Scheduler A Q) (x : X) → answer p o u d x .number ≡ 0 → u .verdict d x .number ≡ 0
+  unfolding answer
+  verdict-zero d x e = go (u .verdict d x .number) e
+    where
+      go : (k : ℕ) → answerBy p o u k (u .verdict d x .place) d x .number ≡ 0 → k ≡ 0
+      go zero e = refl
+      go (suc k) e = absurd (omega arith)
+
+  pub answer-accepted : (d : Scheduler A Q) (x : X) → u .verdict d x .number ≡ 0 → answer p o u d x ≡ accepted p o d (u .move x)
+  unfolding answer
+  answer-accepted d x e = rw e
+
+  pub answer-refused : (d : Scheduler A Q) (x : X) (k i : ℕ) → 0 < k → u .verdict d x ≡ record { number = k; place = i } → answer p o u d x ≡ refused p o d k i
+  unfolding answer
+  answer-refused d x k i h e = rw e (go k h)
+    where
+      go : (k : ℕ) → 0 < k → answerBy p o u k i d x ≡ refused p o d k i
+      go zero l = absurd (omega arith)
+      go (suc k) l = refl
+
+  -- the answer's number is the verdict's
+  pub answer-number : (d : Scheduler A Q) (x : X) → answer p o u d x .number ≡ u .verdict d x .number
+  unfolding answer
+  answer-number d x = go (u .verdict d x .number)
+    where
+      go : (k : ℕ) → answerBy p o u k (u .verdict d x .place) d x .number ≡ k
+      go zero = accepted-zero d (u .move x)
+      go (suc k) = refl
+
+  -- a refused call changes nothing, neither the scheduler nor the ledger, and it answers no entries and bound 0
+  pub refused-changes-nothing : (v : State A Q) (x : X) → 0 < answer p o u (v .scheduler) x .number
+      → (turn p o u v x ≡ v) × (answer p o u (v .scheduler) x .entries ≡ []) × (answer p o u (v .scheduler) x .bound ≡ 0)
+  unfolding turn answer recorded
+  refused-changes-nothing v x h = go (u .verdict (v .scheduler) x .number) h
+    where
+      go : (k : ℕ) → 0 < answerBy p o u k (u .verdict (v .scheduler) x .place) (v .scheduler) x .number
+          → (let a = answerBy p o u k (u .verdict (v .scheduler) x .place) (v .scheduler) x in
+          (_≡_ {A = State A Q} (record { scheduler = a .scheduler; ledger = recorded (p .B) (v .ledger) (u .move x) (isAccepted (a .number)) (a .entries) }) v)
+          × (a .entries ≡ []) × (a .bound ≡ 0))
+      go zero l = absurd (omega (arith, accepted-zero (v .scheduler) (u .move x)))
+      go (suc k) l = (refl, refl, refl)
+
+module _ {A Q : Type 0} (p : Supply A) (ok : Lawful p) (o : Order A Q) (orderly : Orderly p o) where
+  pub record InStep (v : State A Q) : Type 0 where
+    pub long : length (v .scheduler .slots) ≡ 256
+    pub sound : Sound p o (v .scheduler)
+    pub agrees : Agrees p ok o orderly (v .scheduler) (v .ledger)
+
+  pub opening-in-step : InStep (opening p o)
+  unfolding opening opened openedLedger
+  opening-in-step = record {
+    long = length-replicate 256 (freeSlot p);
+    sound = record {
+      phase = omega arith;
+      slots = each-replicate (Good p (leads p (replicate 256 (freeSlot p)))) 256 (freeSlot p) (good-free p _);
+      unused = λ i l. replicate-free p 256 i;
+      queue = orderly .queue-opened;
+    };
+    agrees = both-replicate (Agree p false) 256 (freeSlot p) blank (agree-free p false);
+  }
+
+  module _ {X : Type 0} (u : Rules A Q X) (us : Strict p o u) where
+    pub turn-keeps : (v : State A Q) (x : X) → InStep v → InStep (turn p o u v x)
+    unfolding turn answer recorded
+    turn-keeps v x h = go (u .verdict (v .scheduler) x .number) refl
+      where
+        go : (k : ℕ) → u .verdict (v .scheduler) x .number ≡ k
+            → (let a = answerBy p o u k (u .verdict (v .scheduler) x .place) (v .scheduler) x in
+            InStep (record { scheduler = a .scheduler; ledger = recorded (p .B) (v .ledger) (u .move x) (isAccepted (a .number)) (a .entries) }))
+        go zero e =
+            let d = v .scheduler in
+            let c : Call A = u .move x in
+            let a = us .strict d x e in
+            record {
+              long = accepted-length p ok o orderly d c (h .sound) ∙ h .long;
+              sound = accepted-keeps p ok o orderly d c (h .sound) a;
+              agrees = subst (λ (t : Bool). Agrees p ok o orderly (accepted p o d c .scheduler) (recorded (p .B) (v .ledger) c t (accepted p o d c .entries)))
+                  (sym (ap isAccepted (accepted-zero p o u d c))) (recorded-keeps p ok o orderly d c (v .ledger) (h .sound) a (h .agrees));
+            }
+        go (suc k) e = h
+
+    pub after-keeps : (xs : List X) (v : State A Q) → InStep v → InStep (after p o u v xs)
+    unfolding after
+    after-keeps [] v h = h
+    after-keeps (x ∷ xs) v h = after-keeps xs (turn p o u v x) (turn-keeps v x h)
+
+    -- after every list the record is sound and the ledger in step
+    pub every-list-in-step : (xs : List X) → InStep (after p o u (opening p o) xs)
+    every-list-in-step xs = after-keeps xs (opening p o) opening-in-step
+
+    -- after an accepted begin each playing slot holds what the sweep may draw
+    pub sweep-starts : (d : Scheduler A Q) (x : X) → Sound p o d → u .move x ≡ begin → answer p o u d x .number ≡ 0
+        → Each (λ s. s .kind ≡ playing → p .c * answer p o u d x .bound / 1000000 ≤ s .buffered) (answer p o u d x .scheduler .slots)
+    unfolding accepted mostDrawn
+    sweep-starts d x h m e =
+        let z = verdict-zero p o u d x e in
+        let a = subst (λ (c : Call A). Allowed p o d c) m (us .strict d x z) in
+        let k = accepted-keeps p ok o orderly d begin h a in
+        rw (answer-accepted p o u d x z, m) (players-hold-draw p ok (o .begins (d .queue) (d .slots) .slots) (k .unused) (k .slots))

@@ -1,0 +1,66 @@
+-- What the scheduler is told of the film, and all that it relies on: the planner's promise.
+-- A is what a slot names. In document 01 that is ℕ: a block's number, N past the last one, 0 in a free slot.
+-- Assumes nothing.
+use Prim.Native.Nat.{ℕ, _+_, _*_, _/_, _≤_, _<_}
+use mathlib.Core.Path.{_≡_}
+use mathlib.Core.Logic.{_≢_}
+use mathlib.Core.Bool.{Bool, true, false, cond}
+use mathlib.Core.List.{List}
+
+pub record Supply (A : Type 0) : Type 0 where
+  -- the name that stands in a free slot, and its test
+  pub none : A
+  pub isNone : A → Bool
+  -- it names a block: 01's `below N`
+  pub isBlock : A → Bool
+  -- the number that refuses a join there, 0 where none does: 01's 18 from N on
+  pub fault : A → ℕ
+  -- it stands past the last block: 01's `N`
+  pub isEnd : A → Bool
+  -- the name after it: 01's `rises by one`
+  pub next : A → A
+  -- its block in a fetch entry
+  pub number : A → ℕ
+  -- the position of its first visit, and those of the further visits that it takes: none in 01
+  pub position : A → ℕ
+  pub others : A → List ℕ
+  -- 01's time(b)
+  pub time : A → ℕ
+  -- 01's lead(b), in half microseconds
+  pub lead : A → ℕ
+  -- what a sweep of k blocks takes beside the times: 01's k × hop + return
+  pub overhead : ℕ → ℕ
+  -- how many entries a block gives: 1 in 01
+  pub visits : ℕ
+  -- 01's B, c and streams n
+  pub B : ℕ
+  pub c : ℕ
+  pub n : ℕ
+  -- 01's worst2: the worst time of two successive blocks
+  pub pairTime : ℕ
+  pub margin : ℕ
+  pub buffer : ℕ
+
+-- the planner's promise: safety relies on nothing else
+pub record Lawful {A : Type 0} (p : Supply A) : Type 0 where
+  pub some-bytes : 0 < p .B
+  -- a sweep of more blocks has no less overhead
+  pub overhead-rises : (j k : ℕ) → j ≤ k → p .overhead j ≤ p .overhead k
+  -- the formula of streams
+  pub streams-fit : p .c * (p .n * p .pairTime + 2 * p .overhead (p .n)) ≤ 2000000 * p .B
+  -- the formula of the buffer, rounded up
+  pub buffer-holds : 3 * p .B + (p .c * p .n * p .margin + 1999999) / 2000000 ≤ p .buffer
+  -- after a block comes a block or the end
+  pub next-block : (a : A) → p .isBlock a ≡ true → p .isEnd (p .next a) ≡ false → p .isBlock (p .next a) ≡ true
+  -- a lead covers what reading its block takes beyond half of worst2, and the lead after it. lead(N) is 0
+  pub lead-covers : (a : A) → p .isBlock a ≡ true
+      → 2 * p .time a + cond (p .isEnd (p .next a)) 0 (p .lead (p .next a)) ≤ p .lead a + p .pairTime
+  pub lead-top : (a : A) → p .isBlock a ≡ true → p .lead a ≤ p .margin
+
+-- the tests of names say what they should; soundness and refusals rely on it
+pub record Named {A : Type 0} (p : Supply A) : Type 0 where
+  pub none-passes : p .isNone (p .none) ≡ true
+  pub none-only : (a : A) → p .isNone a ≡ true → a ≡ p .none
+  pub faultless : (a : A) → p .fault a ≡ 0 → p .isBlock a ≡ true
+  -- a join's fault is not taken for an unsound record
+  pub fault-own : (a : A) → p .fault a ≢ 14

@@ -1,0 +1,611 @@
+-- The scheduler's definitions in the words of loops over the slots: for each the start, one turn at slot i and the end, and what a slot
+-- comes to by its numbers.
+-- Assumes nothing.
+use Prim.Native.Nat.{ℕ, zero, suc, _+_, _-_, _*_, _≤_, _<_, min}
+use mathlib.Core.Path.{_≡_, refl, sym, ap, _∙_}
+use mathlib.Core.Logic.{_≢_, by-cases}
+use mathlib.Core.Bool.{Bool, true, false, cond, _&&_}
+use mathlib.Core.List.{List, [], _∷_}
+use native.Mathlib.Omega.{arith}
+use native.Mathlib.Decide.{ℕ-discrete, decLt}
+use native.Mathlib.Numerals.{add-one}
+use lib.ListN.{length, getD, set, take, length-set, length-map, List·getD-map, List·getD-eq-default}
+use lib.Seq.{getD-set-same, getD-set-other, take-length}
+use lib.Dec.{leb, eqb}
+use borrow.Author.Tests.{leb-true, eqb-true, eq-eqb, ne-eqb, le-leb, lt-leb}
+use Rattle.laws.specs.Bools.{bit, bit-le, implies, implied, implies-of, clash, is-false, bool-ext, and-left, and-right, and-both, cond-le}
+use Rattle.laws.specs.Map.{mapTo, mapTo-none, mapTo-all, getD-mapTo, mapTo-store, mapTo-keep}
+use Rattle.laws.specs.Runs.{sumBy, allBy, all-at}
+use Rattle.laws.specs.Sums.{sum-none, sum-next, sum-all, sum-part, sum-top, sum-rest}
+use Rattle.laws.specs.Each.{each-at, each-by}
+use Rattle.laws.specs.Places.{length-mapFrom, mapFrom-at, mapFrom-map, mapTo-rest, allFrom, lowestFrom, all-passed, first-failed}
+use Rattle.safety.specs.Supply.{Supply, Named}
+use Rattle.safety.specs.Scheduler.{Slot, free, waiting, filling, playing, draining, freeSlot, at}
+use Rattle.safety.specs.Scheduler.{reads, leadOf, leads, lowWater, holds, playingSlot, fillingSlot, startBy, startedSlot, started, playersHold}
+use Rattle.safety.specs.Scheduler.{grantable, granted, grantBy, tried, tries, isFetched, timeOf, times, fetchCount}
+use Rattle.safety.specs.Scheduler.{sweptBy, releaseBy, released, endedSlot, ended, drawLimit}
+use Rattle.safety.specs.Order.{Scheduler, Order}
+use Rattle.safety.specs.Sound.{soundSlot, sound, Good, good-zero, good-block, good-draining, good-free, FreeFrom, Sound, good-of-sound, sound-of-good, sound-says, says-sound}
+use Rattle.safety.specs.Refusals.{drawAllowed, drawHeld}
+use Rattle.safety.specs.Slots.{reading-lead, other-lead, fetched-yes, fetched-other, fetched-time, unfetched-time, holds-yes, holds-no}
+use Rattle.safety.specs.BySlot.{granted-leads}
+
+module _ {A : Type 0} (p : Supply A) where
+  -- ---- leads, times and count: added up from slot 0
+
+  module _ (ss : List (Slot A)) where
+    pub leads-none : leads p (take 0 ss) ≡ 0
+    unfolding leads
+    leads-none = sum-none (leadOf p) ss
+
+    pub leads-next : (i : ℕ) → i < length ss → 2 ≤ at p ss i .kind → at p ss i .kind ≤ 3
+        → leads p (take (i + 1) ss) ≡ leads p (take i ss) + p .lead (at p ss i .next)
+    unfolding leads
+    leads-next i h k l = omega (arith, sum-next (leadOf p) (freeSlot p) ss i h, reading-lead p (at p ss i) k l)
+
+    pub leads-skip : (i : ℕ) → i < length ss → (2 ≤ at p ss i .kind → at p ss i .kind ≤ 3 → ⊥) → leads p (take (i + 1) ss) ≡ leads p (take i ss)
+    unfolding leads
+    leads-skip i h k = omega (arith, sum-next (leadOf p) (freeSlot p) ss i h, other-lead p (at p ss i) k)
+
+    -- what is added up so far is at most the whole, and at most M for each slot
+    pub leads-part : (i : ℕ) → leads p (take i ss) ≤ leads p ss
+    unfolding leads
+    leads-part i = sum-part (leadOf p) i ss
+
+    pub leads-top : (M : ℕ) → ((a : A) → p .lead a ≤ M) → (i : ℕ) → leads p (take i ss) ≤ i * M
+    unfolding leads leadOf
+    leads-top M h i = sum-top (leadOf p) M (λ s. omega (arith, cond-le (reads p s) (p .lead (s .next)), h (s .next))) i ss
+
+    pub leads-all : leads p (take (length ss) ss) ≡ leads p ss
+    unfolding leads
+    leads-all = sum-all (leadOf p) ss
+
+    pub times-none : times p (take 0 ss) ≡ 0
+    unfolding times
+    times-none = sum-none (timeOf p) ss
+
+    pub times-next : (i : ℕ) → i < length ss → isFetched p (at p ss i) ≡ true → times p (take (i + 1) ss) ≡ times p (take i ss) + p .time (at p ss i .next)
+    unfolding times
+    times-next i h e = omega (arith, sum-next (timeOf p) (freeSlot p) ss i h, fetched-time p (at p ss i) e)
+
+    pub times-skip : (i : ℕ) → i < length ss → isFetched p (at p ss i) ≡ false → times p (take (i + 1) ss) ≡ times p (take i ss)
+    unfolding times
+    times-skip i h e = omega (arith, sum-next (timeOf p) (freeSlot p) ss i h, unfetched-time p (at p ss i) e)
+
+    pub times-part : (i : ℕ) → times p (take i ss) ≤ times p ss
+    unfolding times
+    times-part i = sum-part (timeOf p) i ss
+
+    pub times-top : (M : ℕ) → ((a : A) → p .time a ≤ M) → (i : ℕ) → times p (take i ss) ≤ i * M
+    unfolding times timeOf
+    times-top M h i = sum-top (timeOf p) M (λ s. omega (arith, cond-le (isFetched p s) (p .time (s .next)), h (s .next))) i ss
+
+    pub times-all : times p (take (length ss) ss) ≡ times p ss
+    unfolding times
+    times-all = sum-all (timeOf p) ss
+
+    abbrev one : Slot A → ℕ
+    one s = bit (isFetched p s)
+
+    pub fetches-none : fetchCount p (take 0 ss) ≡ 0
+    unfolding fetchCount
+    fetches-none = sum-none one ss
+
+    pub fetches-next : (i : ℕ) → i < length ss → isFetched p (at p ss i) ≡ true → fetchCount p (take (i + 1) ss) ≡ fetchCount p (take i ss) + 1
+    unfolding fetchCount
+    fetches-next i h e = sum-next one (freeSlot p) ss i h ∙ ap (λ (t : Bool). sumBy one (take i ss) + bit t) e
+
+    pub fetches-skip : (i : ℕ) → i < length ss → isFetched p (at p ss i) ≡ false → fetchCount p (take (i + 1) ss) ≡ fetchCount p (take i ss)
+    unfolding fetchCount
+    fetches-skip i h e =
+        let q : fetchCount p (take (i + 1) ss) ≡ sumBy one (take i ss) + 0 = sum-next one (freeSlot p) ss i h ∙ ap (λ (t : Bool). sumBy one (take i ss) + bit t) e in
+        omega arith
+
+    pub fetches-all : fetchCount p (take (length ss) ss) ≡ fetchCount p ss
+    unfolding fetchCount
+    fetches-all = sum-all one ss
+
+    -- at most a fetch for each slot that was seen
+    pub fetches-top : (i : ℕ) → fetchCount p (take i ss) ≤ i
+    unfolding fetchCount
+    fetches-top i = omega (arith, sum-top one 1 (λ s. bit-le (isFetched p s)) i ss)
+
+  -- ---- every playing slot holds the mark
+
+  -- the test, from a fact for each slot, or from one that fails
+  pub players-yes : (x : ℕ) (ss : List (Slot A)) → ((j : ℕ) → j < length ss → at p ss j .kind ≡ playing → x ≤ 2000000 * at p ss j .buffered)
+      → playersHold p x ss ≡ true
+  unfolding playersHold allBy
+  players-yes x [] h = refl
+  players-yes x (s ∷ ss) h =
+      and-both (implies-of (eqb (s .kind) playing) (holds p x s) (λ e. holds-yes p x s (h 0 (omega arith) (eqb-true (s .kind) playing e))))
+      (players-yes x ss (λ j l. h (suc j) (omega arith)))
+
+  pub players-no : (x : ℕ) (ss : List (Slot A)) (j : ℕ) → j < length ss → at p ss j .kind ≡ playing → 2000000 * at p ss j .buffered < x
+      → playersHold p x ss ≡ false
+  unfolding playersHold
+  players-no x ss j l k h = is-false (playersHold p x ss) (λ e. clash (implied (eqb (s .kind) playing) (holds p x s) (here e) (eq-eqb (s .kind) playing k)) (holds-no p x s h))
+    where
+      s : Slot A
+      s = at p ss j
+
+      here : playersHold p x ss ≡ true → implies (eqb (s .kind) playing) (holds p x s) ≡ true
+      here e = all-at (freeSlot p) (λ s. implies (eqb (s .kind) playing) (holds p x s)) ss j e l
+
+  -- the least that a playing slot holds, top where none plays
+  unfoldable pub leastHeld : ℕ → List (Slot A) → ℕ
+  leastHeld top [] = top
+  leastHeld top (s ∷ ss) = cond (eqb (s .kind) playing) (min (s .buffered) (leastHeld top ss)) (leastHeld top ss)
+
+  pub least-none : (top : ℕ) (ss : List (Slot A)) → leastHeld top (take 0 ss) ≡ top
+  unfolding leastHeld
+  least-none top ss = refl
+
+  least-turn : (top : ℕ) (ss : List (Slot A)) (i : ℕ) → i < length ss
+      → leastHeld top (take (suc i) ss) ≡ cond (eqb (at p ss i .kind) playing) (min (leastHeld top (take i ss)) (at p ss i .buffered)) (leastHeld top (take i ss))
+  unfolding leastHeld
+  least-turn top [] i l = absurd (omega arith)
+  least-turn top (s ∷ ss) zero l = go (eqb (s .kind) playing)
+    where
+      go : (t : Bool) → cond t (min (s .buffered) top) top ≡ cond t (min top (s .buffered)) top
+      go true = omega arith
+      go false = refl
+  least-turn top (s ∷ ss) (suc i) l =
+      rw (least-turn top ss i (omega arith)) (go (eqb (s .kind) playing) (eqb (at p ss i .kind) playing) (leastHeld top (take i ss)) (at p ss i .buffered))
+    where
+      go : (t x : Bool) (r h : ℕ) → cond t (min (s .buffered) (cond x (min r h) r)) (cond x (min r h) r) ≡ cond x (min (cond t (min (s .buffered) r) r) h) (cond t (min (s .buffered) r) r)
+      go true true r h = omega arith
+      go true false r h = refl
+      go false true r h = refl
+      go false false r h = refl
+
+  pub least-next : (top : ℕ) (ss : List (Slot A)) (i : ℕ) → i < length ss → at p ss i .kind ≡ playing
+      → leastHeld top (take (i + 1) ss) ≡ min (leastHeld top (take i ss)) (at p ss i .buffered)
+  least-next top ss i l k =
+      ap (λ (m : ℕ). leastHeld top (take m ss)) (add-one i) ∙ least-turn top ss i l
+      ∙ ap (λ (t : Bool). cond t (min (leastHeld top (take i ss)) (at p ss i .buffered)) (leastHeld top (take i ss))) (eq-eqb (at p ss i .kind) playing k)
+
+  pub least-skip : (top : ℕ) (ss : List (Slot A)) (i : ℕ) → i < length ss → at p ss i .kind ≢ playing
+      → leastHeld top (take (i + 1) ss) ≡ leastHeld top (take i ss)
+  least-skip top ss i l k =
+      ap (λ (m : ℕ). leastHeld top (take m ss)) (add-one i) ∙ least-turn top ss i l
+      ∙ ap (λ (t : Bool). cond t (min (leastHeld top (take i ss)) (at p ss i .buffered)) (leastHeld top (take i ss))) (ne-eqb (at p ss i .kind) playing k)
+
+  pub least-all : (top : ℕ) (ss : List (Slot A)) → leastHeld top (take (length ss) ss) ≡ leastHeld top ss
+  least-all top ss = ap (leastHeld top) (take-length ss)
+
+  -- every playing slot holds x where the least does
+  pub least-holds : (top x : ℕ) (ss : List (Slot A)) → x ≤ 2000000 * top → playersHold p x ss ≡ leb x (2000000 * leastHeld top ss)
+  unfolding playersHold allBy leastHeld holds
+  least-holds top x [] h = sym (le-leb x (2000000 * top) h)
+  least-holds top x (s ∷ ss) h = rw (least-holds top x ss h) (go (eqb (s .kind) playing) (leastHeld top ss))
+    where
+      both : (a b : ℕ) → (leb x (2000000 * a) && leb x (2000000 * b)) ≡ leb x (2000000 * min a b)
+      both a b =
+          bool-ext (leb x (2000000 * a) && leb x (2000000 * b)) (leb x (2000000 * min a b))
+          (λ e. le-leb x (2000000 * min a b) (omega (arith, leb-true x (2000000 * a) (and-left (leb x (2000000 * a)) _ e), leb-true x (2000000 * b) (and-right (leb x (2000000 * a)) _ e))))
+          (λ e. let l = leb-true x (2000000 * min a b) e in and-both (le-leb x (2000000 * a) (omega arith)) (le-leb x (2000000 * b) (omega arith)))
+
+      go : (t : Bool) (r : ℕ) → (implies t (leb x (2000000 * s .buffered)) && leb x (2000000 * r)) ≡ leb x (2000000 * cond t (min (s .buffered) r) r)
+      go true r = both (s .buffered) r
+      go false r = refl
+
+  -- ---- where the slots from m on are free, the loops above may stop at m
+
+  module _ (m : ℕ) (ss : List (Slot A)) (u : FreeFrom p m ss) where
+    pub leads-rest : leads p (take m ss) ≡ leads p ss
+    unfolding leads
+    leads-rest = sum-rest (leadOf p) (freeSlot p) m ss (λ j l h. other-lead p (at p ss j) (λ a b. omega (arith, u j l)))
+
+    pub times-rest : times p (take m ss) ≡ times p ss
+    unfolding times
+    times-rest = sum-rest (timeOf p) (freeSlot p) m ss (λ j l h. unfetched-time p (at p ss j) (fetched-other p (at p ss j) (λ a b. omega (arith, u j l))))
+
+    pub fetches-rest : fetchCount p (take m ss) ≡ fetchCount p ss
+    unfolding fetchCount
+    fetches-rest = sum-rest (λ s. bit (isFetched p s)) (freeSlot p) m ss (λ j l h. ap bit (fetched-other p (at p ss j) (λ a b. omega (arith, u j l))))
+
+  pub least-rest : (top m : ℕ) (ss : List (Slot A)) → FreeFrom p m ss → leastHeld top (take m ss) ≡ leastHeld top ss
+  unfolding leastHeld
+  least-rest top zero [] u = refl
+  least-rest top (suc m) [] u = refl
+  least-rest top zero (s ∷ ss) u = rw (u 0 (omega arith)) (least-rest top zero ss (λ i l. u (suc i) (omega arith)))
+  least-rest top (suc m) (s ∷ ss) u =
+      ap (λ (r : ℕ). cond (eqb (s .kind) playing) (min (s .buffered) r) r) (least-rest top m ss (λ i l. u (suc i) (omega arith)))
+
+  -- ---- begin: filling slots start to play, x being the mark
+
+  pub starts-playing : (x : ℕ) (s : Slot A) → s .kind ≡ filling → x ≤ 2000000 * s .buffered
+      → startedSlot p x s ≡ playingSlot p s
+  unfolding startedSlot
+  starts-playing x s k h = rw (eq-eqb (s .kind) filling k, holds-yes p x s h)
+
+  pub starts-not : (x : ℕ) (s : Slot A) → (s .kind ≡ filling → 2000000 * s .buffered < x) → startedSlot p x s ≡ s
+  unfolding startedSlot
+  starts-not x s h = go (eqb (s .kind) filling) refl
+    where
+      go : (t : Bool) → eqb (s .kind) filling ≡ t → startBy p (t && holds p x s) s ≡ s
+      go true e = rw (holds-no p x s (h (eqb-true (s .kind) filling e)))
+      go false e = refl
+
+  -- the first i slots are done
+  unfoldable pub startedTo : ℕ → ℕ → List (Slot A) → List (Slot A)
+  startedTo x i ss = mapTo (λ j s. startedSlot p x s) 0 i ss
+
+  pub startedTo-none : (x : ℕ) (ss : List (Slot A)) → startedTo x 0 ss ≡ ss
+  unfolding startedTo
+  startedTo-none x ss = mapTo-none (λ j s. startedSlot p x s) 0 ss
+
+  -- slot i is still as it was
+  pub startedTo-at : (x i : ℕ) (ss : List (Slot A)) → at p (startedTo x i ss) i ≡ at p ss i
+  unfolding startedTo
+  startedTo-at x i ss = getD-mapTo (λ j s. startedSlot p x s) 0 i ss (freeSlot p)
+
+  pub startedTo-plays : (x i : ℕ) (ss : List (Slot A)) → i < length ss → at p ss i .kind ≡ filling → x ≤ 2000000 * at p ss i .buffered
+      → set (startedTo x i ss) i (playingSlot p (at p ss i)) ≡ startedTo x (i + 1) ss
+  unfolding startedTo
+  startedTo-plays x i ss l k h = mapTo-store (λ j s. startedSlot p x s) i ss (freeSlot p) (playingSlot p (at p ss i)) l (sym (starts-playing x (at p ss i) k h))
+
+  pub startedTo-stays : (x i : ℕ) (ss : List (Slot A)) → i < length ss → (at p ss i .kind ≡ filling → 2000000 * at p ss i .buffered < x)
+      → startedTo x i ss ≡ startedTo x (i + 1) ss
+  unfolding startedTo
+  startedTo-stays x i ss l h = mapTo-keep (λ j s. startedSlot p x s) i ss (freeSlot p) l (starts-not x (at p ss i) h)
+
+  -- the loop may stop where the slots from i on are free
+  pub startedTo-rest : (x i : ℕ) (ss : List (Slot A)) → FreeFrom p i ss → startedTo x i ss ≡ started p x ss
+  unfolding startedTo started
+  startedTo-rest x i ss u =
+      mapTo-rest (λ j s. startedSlot p x s) (freeSlot p) i ss (λ j l h. starts-not x (at p ss j) (λ k. absurd (omega (arith, u j l))))
+      ∙ mapFrom-map (startedSlot p x) 0 ss
+
+  pub startedTo-all : (x : ℕ) (ss : List (Slot A)) → startedTo x (length ss) ss ≡ started p x ss
+  unfolding startedTo started
+  startedTo-all x ss = mapTo-all (λ j s. startedSlot p x s) 0 (length ss) ss (omega arith) ∙ mapFrom-map (startedSlot p x) 0 ss
+
+  pub started-at : (x : ℕ) (ss : List (Slot A)) (i : ℕ) → at p (started p x ss) i ≡ startedSlot p x (at p ss i)
+  unfolding started startedSlot
+  started-at x ss i = List·getD-map (startedSlot p x) ss i (freeSlot p)
+
+  pub started-length : (x : ℕ) (ss : List (Slot A)) → length (started p x ss) ≡ length ss
+  unfolding started
+  started-length x ss = length-map ss (startedSlot p x)
+
+  -- ---- begin: asked slots are granted in slot order
+
+  pub tries-none : (ss : List (Slot A)) → tries p ss 0 0 ≡ ss
+  unfolding tries
+  tries-none ss = refl
+
+  tries-turn : (ss : List (Slot A)) (i k : ℕ) → tries p ss i (suc k) ≡ tried p (tries p ss i k) (i + k)
+  unfolding tries
+  tries-turn ss i zero = ap (tried p ss) (omega arith)
+  tries-turn ss i (suc k) = tries-turn (tried p ss i) (suc i) k ∙ ap (tried p (tries p (tried p ss i) (suc i) k)) (omega arith)
+
+  -- one turn tries slot i over what the slots before it left
+  pub tries-next : (ss : List (Slot A)) (i : ℕ) → tries p ss 0 (i + 1) ≡ tried p (tries p ss 0 i) i
+  tries-next ss i = ap (tries p ss 0) (add-one i) ∙ tries-turn ss 0 i ∙ ap (tried p (tries p ss 0 i)) (omega arith)
+
+  -- a slot that does not ask, one that has to wait, and one that is granted
+  pub tried-other : (ss : List (Slot A)) (i : ℕ) → at p ss i .kind ≢ waiting → tried p ss i ≡ ss
+  unfolding tried grantable
+  tried-other ss i k = rw (ne-eqb (at p ss i .kind) waiting k)
+
+  pub tried-waits : (ss : List (Slot A)) (i : ℕ) → playersHold p (lowWater p (leads p ss + p .lead (at p ss i .next))) ss ≡ false → tried p ss i ≡ ss
+  unfolding tried grantable
+  tried-waits ss i h = rw h (go (eqb (at p ss i .kind) waiting))
+    where
+      go : (t : Bool) → grantBy p (t && false) ss i ≡ ss
+      go true = refl
+      go false = refl
+
+  pub tried-granted : (ss : List (Slot A)) (i : ℕ) → at p ss i .kind ≡ waiting
+      → playersHold p (lowWater p (leads p ss + p .lead (at p ss i .next))) ss ≡ true → tried p ss i ≡ granted p ss i
+  unfolding tried grantable
+  tried-granted ss i k h = rw (eq-eqb (at p ss i .kind) waiting k, h)
+
+  -- a grant adds the slot's lead
+  pub tried-leads : (ss : List (Slot A)) (i : ℕ) → leads p (tried p ss i) ≡ leads p ss + cond (grantable p ss i) (p .lead (at p ss i .next)) 0
+  unfolding tried grantable
+  tried-leads ss i = go (eqb (at p ss i .kind) waiting) refl (playersHold p (lowWater p (leads p ss + p .lead (at p ss i .next))) ss)
+    where
+      go : (t : Bool) → eqb (at p ss i .kind) waiting ≡ t → (u : Bool)
+          → leads p (grantBy p (t && u) ss i) ≡ leads p ss + cond (t && u) (p .lead (at p ss i .next)) 0
+      go true e true = granted-leads p ss i (eqb-true (at p ss i .kind) waiting e)
+      go true e false = omega arith
+      go false e u = omega arith
+
+  -- a try changes its own slot alone
+  pub tried-at : (ss : List (Slot A)) (i j : ℕ) → j ≢ i → at p (tried p ss i) j ≡ at p ss j
+  unfolding tried granted
+  tried-at ss i j n = go (grantable p ss i)
+    where
+      go : (t : Bool) → at p (grantBy p t ss i) j ≡ at p ss j
+      go true = getD-set-other ss i j _ (freeSlot p) n
+      go false = refl
+
+  tries-outside : (ss : List (Slot A)) (i k j : ℕ) → (i ≤ j → i + k ≤ j) → at p (tries p ss i k) j ≡ at p ss j
+  unfolding tries
+  tries-outside ss i zero j h = refl
+  tries-outside ss i (suc k) j h = tries-outside (tried p ss i) (suc i) k j (λ l. omega (arith, h (omega arith))) ∙ tried-at ss i j (λ e. omega (arith, h (omega arith)))
+
+  -- the slots from i on are as they were
+  pub tries-past : (ss : List (Slot A)) (i j : ℕ) → i ≤ j → at p (tries p ss 0 i) j ≡ at p ss j
+  tries-past ss i j h = tries-outside ss 0 i j (λ l. omega arith)
+
+  pub tried-length : (ss : List (Slot A)) (i : ℕ) → length (tried p ss i) ≡ length ss
+  unfolding tried granted
+  tried-length ss i = go (grantable p ss i)
+    where
+      go : (t : Bool) → length (grantBy p t ss i) ≡ length ss
+      go true = length-set ss i _
+      go false = refl
+
+  pub tries-length : (ss : List (Slot A)) (i k : ℕ) → length (tries p ss i k) ≡ length ss
+  unfolding tries
+  tries-length ss i zero = refl
+  tries-length ss i (suc k) = tries-length (tried p ss i) (suc i) k ∙ tried-length ss i
+
+  -- granting changes no playing slot, so the test and the least may be taken before the loop
+  granted-players : (x : ℕ) (ss : List (Slot A)) (i : ℕ) → at p ss i .kind ≡ waiting → playersHold p x (granted p ss i) ≡ playersHold p x ss
+  unfolding playersHold allBy granted
+  granted-players x [] i k = refl
+  granted-players x (s ∷ ss) zero k = rw k
+  granted-players x (s ∷ ss) (suc i) k = ap (λ (t : Bool). implies (eqb (s .kind) playing) (holds p x s) && t) (granted-players x ss i k)
+
+  tried-players : (x : ℕ) (ss : List (Slot A)) (i : ℕ) → playersHold p x (tried p ss i) ≡ playersHold p x ss
+  unfolding tried grantable
+  tried-players x ss i = go (eqb (at p ss i .kind) waiting) refl (playersHold p (lowWater p (leads p ss + p .lead (at p ss i .next))) ss)
+    where
+      go : (t : Bool) → eqb (at p ss i .kind) waiting ≡ t → (u : Bool) → playersHold p x (grantBy p (t && u) ss i) ≡ playersHold p x ss
+      go true e true = granted-players x ss i (eqb-true (at p ss i .kind) waiting e)
+      go true e false = refl
+      go false e u = refl
+
+  pub tries-players : (x : ℕ) (ss : List (Slot A)) (i k : ℕ) → playersHold p x (tries p ss i k) ≡ playersHold p x ss
+  unfolding tries
+  tries-players x ss i zero = refl
+  tries-players x ss i (suc k) = tries-players x (tried p ss i) (suc i) k ∙ tried-players x ss i
+
+  -- slot i is granted where it asks and every playing slot holds the mark of the leads so far and its own
+  pub grantable-at : (ss : List (Slot A)) (i : ℕ)
+      → grantable p (tries p ss 0 i) i ≡ (eqb (at p ss i .kind) waiting && playersHold p (lowWater p (leads p (tries p ss 0 i) + p .lead (at p ss i .next))) ss)
+  unfolding grantable
+  grantable-at ss i = rw (tries-past ss i i (omega arith), tries-players (lowWater p (leads p (tries p ss 0 i) + p .lead (at p ss i .next))) ss 0 i)
+
+  tried-self : (ss : List (Slot A)) (i : ℕ) → i < length ss
+      → at p (tried p ss i) i ≡ cond (grantable p ss i) (fillingSlot p (at p ss i)) (at p ss i)
+  unfolding tried granted
+  tried-self ss i l = go (grantable p ss i)
+    where
+      go : (t : Bool) → at p (grantBy p t ss i) i ≡ cond t (fillingSlot p (at p ss i)) (at p ss i)
+      go true = getD-set-same ss i _ (freeSlot p) l
+      go false = refl
+
+  -- slot i after all tries
+  pub tries-at : (ss : List (Slot A)) (k i : ℕ) → i < k → i < length ss
+      → at p (tries p ss 0 k) i ≡ cond (grantable p (tries p ss 0 i) i) (fillingSlot p (at p ss i)) (at p ss i)
+  tries-at ss zero i h l = absurd (omega arith)
+  tries-at ss (suc k) i h l = ap (λ (r : List (Slot A)). at p r i) (tries-turn ss 0 k) ∙ go (ℕ-discrete i (0 + k)) (λ u. tries-at ss k i u l)
+    where
+      go : Dec (i ≡ 0 + k) → (i < k → at p (tries p ss 0 k) i ≡ cond (grantable p (tries p ss 0 i) i) (fillingSlot p (at p ss i)) (at p ss i))
+          → at p (tried p (tries p ss 0 k) (0 + k)) i ≡ cond (grantable p (tries p ss 0 i) i) (fillingSlot p (at p ss i)) (at p ss i)
+      go (yes e) ih =
+          let q : k ≡ i = omega arith in
+          rw (sym e, q)
+          (tried-self (tries p ss 0 i) i (omega (arith, tries-length ss 0 i))
+          ∙ ap (λ (s : Slot A). cond (grantable p (tries p ss 0 i) i) (fillingSlot p s) s) (tries-past ss i i (omega arith)))
+      go (no n) ih = tried-at (tries p ss 0 k) (0 + k) i n ∙ ih (omega arith)
+
+  -- one turn of the loop, over the slots as they were before it: L is the running sum of the leads
+  pub tries-other : (ss : List (Slot A)) (i : ℕ) → at p ss i .kind ≢ waiting → tries p ss 0 (i + 1) ≡ tries p ss 0 i
+  tries-other ss i k = tries-next ss i ∙ tried-other (tries p ss 0 i) i (λ e. k (ap (λ (s : Slot A). s .kind) (sym (tries-past ss i i (omega arith))) ∙ e))
+
+  pub tries-waits : (ss : List (Slot A)) (i L : ℕ) → L ≡ leads p (tries p ss 0 i) → playersHold p (lowWater p (L + p .lead (at p ss i .next))) ss ≡ false
+      → tries p ss 0 (i + 1) ≡ tries p ss 0 i
+  tries-waits ss i L q h =
+      tries-next ss i
+      ∙ tried-waits (tries p ss 0 i) i
+      (rw (tries-past ss i i (omega arith), tries-players (lowWater p (leads p (tries p ss 0 i) + p .lead (at p ss i .next))) ss 0 i) (rw q at h))
+
+  pub tries-granted : (ss : List (Slot A)) (i L : ℕ) → L ≡ leads p (tries p ss 0 i) → at p ss i .kind ≡ waiting
+      → playersHold p (lowWater p (L + p .lead (at p ss i .next))) ss ≡ true
+      → (tries p ss 0 (i + 1) ≡ set (tries p ss 0 i) i (fillingSlot p (at p ss i))) × (L + p .lead (at p ss i .next) ≡ leads p (tries p ss 0 (i + 1)))
+  unfolding granted
+  tries-granted ss i L q k h = (
+    turn ∙ ap (λ (s : Slot A). set ts i (fillingSlot p s)) same,
+    ap (λ (m : ℕ). m + p .lead (at p ss i .next)) q ∙ ap (λ (s : Slot A). leads p ts + p .lead (s .next)) (sym same) ∙ sym (granted-leads p ts i asks) ∙ ap (leads p) (sym turn),
+  )
+    where
+      ts : List (Slot A)
+      ts = tries p ss 0 i
+
+      same : at p ts i ≡ at p ss i
+      same = tries-past ss i i (omega arith)
+
+      asks : at p ts i .kind ≡ waiting
+      asks = ap (λ (s : Slot A). s .kind) same ∙ k
+
+      turn : tries p ss 0 (i + 1) ≡ granted p ts i
+      turn = tries-next ss i ∙ tried-granted ts i asks (rw (same, tries-players (lowWater p (leads p ts + p .lead (at p ss i .next))) ss 0 i) (rw q at h))
+
+  -- the loop may stop where nobody asks any more
+  pub tries-rest : (ss : List (Slot A)) (i k : ℕ) → ((j : ℕ) → i ≤ j → at p ss j .kind ≢ waiting) → tries p ss 0 (i + k) ≡ tries p ss 0 i
+  tries-rest ss i zero h = ap (tries p ss 0) (omega arith)
+  tries-rest ss i (suc k) h =
+      ap (tries p ss 0) (shift i k) ∙ tries-other ss (i + k) (h (i + k) (omega arith)) ∙ tries-rest ss i k h
+    where
+      shift : (a b : ℕ) → a + suc b ≡ a + b + 1
+      shift a b = omega arith
+
+  -- ---- end
+
+  pub ended-at : (ss : List (Slot A)) (ds : List ℕ) (i : ℕ) → i < length ss → at p (ended p ss ds) i ≡ endedSlot p (at p ss i) (getD ds i 0)
+  unfolding ended
+  ended-at ss ds i l = mapFrom-at (λ j s. endedSlot p s (getD ds j 0)) ss i (freeSlot p) l
+
+  pub ended-length : (ss : List (Slot A)) (ds : List ℕ) → length (ended p ss ds) ≡ length ss
+  unfolding ended
+  ended-length ss ds = length-mapFrom (λ j s. endedSlot p s (getD ds j 0)) 0 ss
+
+  -- a slot that was fetched for, with a block left or none
+  pub ended-fetched : (s : Slot A) (d : ℕ) → 2 ≤ s .kind → s .kind ≤ 3 → s .buffered + p .B ≤ p .buffer → p .isEnd (p .next (s .next)) ≡ false
+      → endedSlot p s d ≡ record { kind = s .kind; next = p .next (s .next); buffered = s .buffered - d + p .B }
+  unfolding endedSlot sweptBy released
+  ended-fetched s d k l r e = rw (fetched-yes p s k l r, e, ne-eqb (s .kind) draining (λ z. omega arith))
+
+  pub ended-last : (s : Slot A) (d : ℕ) → 2 ≤ s .kind → s .kind ≤ 3 → s .buffered + p .B ≤ p .buffer → p .isEnd (p .next (s .next)) ≡ true → 0 < p .B
+      → endedSlot p s d ≡ record { kind = draining; next = p .next (s .next); buffered = s .buffered - d + p .B }
+  unfolding endedSlot sweptBy released
+  ended-last s d k l r e h = rw (fetched-yes p s k l r, e, ne-eqb (s .buffered - d + p .B) 0 (λ z. omega arith))
+
+  -- one that was not: a tail that comes to 0, and any other
+  pub ended-empty : (s : Slot A) (d : ℕ) → s .kind ≡ draining → s .buffered ≤ d → endedSlot p s d ≡ freeSlot p
+  unfolding endedSlot sweptBy released
+  ended-empty s d k h = let z : s .buffered - d ≡ 0 = omega arith in rw (fetched-other p s (λ a b. omega arith), k, z)
+
+  pub ended-other : (s : Slot A) (d : ℕ) → isFetched p s ≡ false → (s .kind ≡ draining → d < s .buffered)
+      → endedSlot p s d ≡ record { kind = s .kind; next = s .next; buffered = s .buffered - d }
+  unfolding endedSlot sweptBy released
+  ended-other s d f h = rw f (go (eqb (s .kind) draining) refl)
+    where
+      t : Slot A
+      t = record { kind = s .kind; next = s .next; buffered = s .buffered - d }
+
+      go : (x : Bool) → eqb (s .kind) draining ≡ x → releaseBy p (x && eqb (s .buffered - d) 0) t ≡ t
+      go true e = rw (ne-eqb (s .buffered - d) 0 (λ z. omega (arith, h (eqb-true (s .kind) draining e))))
+      go false e = refl
+
+  -- a free slot with no draw stays as it is
+  pub ended-free : (s : Slot A) → s .kind ≡ free → endedSlot p s 0 ≡ s
+  ended-free s k = ended-other s 0 (fetched-other p s (λ a b. omega arith)) (λ z. absurd (omega arith)) ∙ λ i. record { kind = s .kind; next = s .next; buffered = whole i }
+    where
+      whole : s .buffered - 0 ≡ s .buffered
+      whole = omega arith
+
+  -- the first i slots are done
+  unfoldable pub endedTo : List ℕ → ℕ → List (Slot A) → List (Slot A)
+  endedTo ds i ss = mapTo (λ j s. endedSlot p s (getD ds j 0)) 0 i ss
+
+  pub endedTo-none : (ds : List ℕ) (ss : List (Slot A)) → endedTo ds 0 ss ≡ ss
+  unfolding endedTo
+  endedTo-none ds ss = mapTo-none (λ j s. endedSlot p s (getD ds j 0)) 0 ss
+
+  -- slot i is still as it was
+  pub endedTo-at : (ds : List ℕ) (i : ℕ) (ss : List (Slot A)) → at p (endedTo ds i ss) i ≡ at p ss i
+  unfolding endedTo
+  endedTo-at ds i ss = getD-mapTo (λ j s. endedSlot p s (getD ds j 0)) 0 i ss (freeSlot p)
+
+  -- v is what the laws above say of slot i
+  pub endedTo-next : (ds : List ℕ) (i : ℕ) (ss : List (Slot A)) (v : Slot A) → i < length ss → endedSlot p (at p ss i) (getD ds i 0) ≡ v
+      → set (endedTo ds i ss) i v ≡ endedTo ds (i + 1) ss
+  unfolding endedTo
+  endedTo-next ds i ss v l e = mapTo-store (λ j s. endedSlot p s (getD ds j 0)) i ss (freeSlot p) v l (sym e)
+
+  -- the loop may stop where the slots from i on are free and without a draw
+  pub endedTo-rest : (ds : List ℕ) (i : ℕ) (ss : List (Slot A)) → FreeFrom p i ss → length ds ≤ i → endedTo ds i ss ≡ ended p ss ds
+  unfolding endedTo ended
+  endedTo-rest ds i ss u l =
+      mapTo-rest (λ j s. endedSlot p s (getD ds j 0)) (freeSlot p) i ss
+      (λ j m h. ap (endedSlot p (at p ss j)) (List·getD-eq-default ds 0 {n = j} (omega arith)) ∙ ended-free (at p ss j) (u j m))
+
+  pub endedTo-all : (ds : List ℕ) (ss : List (Slot A)) → endedTo ds (length ss) ss ≡ ended p ss ds
+  unfolding endedTo ended
+  endedTo-all ds ss = mapTo-all (λ j s. endedSlot p s (getD ds j 0)) 0 (length ss) ss (omega arith)
+
+  -- ---- draws
+
+  pub limit-player : (m : ℕ) (s : Slot A) → 3 ≤ s .kind → s .kind ≤ 4 → drawLimit p m s ≡ m
+  unfolding drawLimit
+  limit-player m s k l = by-cases (ℕ-discrete (s .kind) 3) (λ e. rw e) (λ e. let q : s .kind ≡ 4 = omega arith in rw q)
+
+  pub limit-other : (m : ℕ) (s : Slot A) → (3 ≤ s .kind → s .kind ≤ 4 → ⊥) → drawLimit p m s ≡ 0
+  unfolding drawLimit
+  limit-other m s h = rw (ne-eqb (s .kind) playing (λ e. h (omega arith) (omega arith)), ne-eqb (s .kind) draining (λ e. h (omega arith) (omega arith)))
+
+  pub allowed-yes : (m : ℕ) (ds : List ℕ) (i : ℕ) (s : Slot A) → getD ds i 0 ≤ drawLimit p m s → drawAllowed p m ds i s ≡ true
+  unfolding drawAllowed
+  allowed-yes m ds i s h = le-leb (getD ds i 0) (drawLimit p m s) h
+
+  pub allowed-no : (m : ℕ) (ds : List ℕ) (i : ℕ) (s : Slot A) → drawLimit p m s < getD ds i 0 → drawAllowed p m ds i s ≡ false
+  unfolding drawAllowed
+  allowed-no m ds i s h = lt-leb (getD ds i 0) (drawLimit p m s) h
+
+  pub held-yes : (ds : List ℕ) (i : ℕ) (s : Slot A) → getD ds i 0 ≤ s .buffered → drawHeld p ds i s ≡ true
+  unfolding drawHeld
+  held-yes ds i s h = le-leb (getD ds i 0) (s .buffered) h
+
+  pub held-no : (ds : List ℕ) (i : ℕ) (s : Slot A) → s .buffered < getD ds i 0 → drawHeld p ds i s ≡ false
+  unfolding drawHeld
+  held-no ds i s h = lt-leb (getD ds i 0) (s .buffered) h
+
+  -- the loop over the draws, to its end or to the first that fails; past the last draw all pass
+  module _ (ss : List (Slot A)) (ds : List ℕ) (m : ℕ) where
+    past-draw : (j : ℕ) → length ds ≤ j → getD ds j 0 ≡ 0
+    past-draw j l = List·getD-eq-default ds 0 l
+
+    pub draws-allowed : ((j : ℕ) → j < length ds → getD ds j 0 ≤ drawLimit p m (at p ss j)) → allFrom (drawAllowed p m ds) 0 ss ≡ true
+    draws-allowed h =
+        all-passed (drawAllowed p m ds) (freeSlot p) ss
+        (λ j l. allowed-yes m ds j (at p ss j) (by-cases (decLt j (length ds)) (λ u. h j u) (λ u. omega (arith, past-draw j (omega arith)))))
+
+    pub draw-excess : (i : ℕ) → i < length ss → ((j : ℕ) → j < i → getD ds j 0 ≤ drawLimit p m (at p ss j)) → drawLimit p m (at p ss i) < getD ds i 0
+        → (allFrom (drawAllowed p m ds) 0 ss ≡ false) × (lowestFrom (drawAllowed p m ds) 0 ss ≡ i)
+    draw-excess i l h e = first-failed (drawAllowed p m ds) (freeSlot p) ss i l (λ j u. allowed-yes m ds j (at p ss j) (h j u)) (allowed-no m ds i (at p ss i) e)
+
+    pub draws-held : ((j : ℕ) → j < length ds → getD ds j 0 ≤ at p ss j .buffered) → allFrom (drawHeld p ds) 0 ss ≡ true
+    draws-held h =
+        all-passed (drawHeld p ds) (freeSlot p) ss
+        (λ j l. held-yes ds j (at p ss j) (by-cases (decLt j (length ds)) (λ u. h j u) (λ u. omega (arith, past-draw j (omega arith)))))
+
+    pub draw-overdrawn : (i : ℕ) → i < length ss → ((j : ℕ) → j < i → getD ds j 0 ≤ at p ss j .buffered) → at p ss i .buffered < getD ds i 0
+        → (allFrom (drawHeld p ds) 0 ss ≡ false) × (lowestFrom (drawHeld p ds) 0 ss ≡ i)
+    draw-overdrawn i l h e = first-failed (drawHeld p ds) (freeSlot p) ss i l (λ j u. held-yes ds j (at p ss j) (h j u)) (held-no ds i (at p ss i) e)
+
+  -- ---- soundness
+
+  module _ (names : Named p) where
+    -- a slot by its kind
+    pub sound-free : (L : ℕ) (s : Slot A) → s .kind ≡ free → s .next ≡ p .none → s .buffered ≡ 0 → soundSlot p L s ≡ true
+    sound-free L s k x h = sound-of-good p names L s (good-zero p L s k x h)
+
+    pub sound-waiting : (L : ℕ) (s : Slot A) → s .kind ≡ waiting → p .isBlock (s .next) ≡ true → s .buffered ≡ 0 → soundSlot p L s ≡ true
+    sound-waiting L s k x h =
+        sound-of-good p names L s (good-block p L s (omega arith) (omega arith) x (λ _. h) (omega arith) (λ z. absurd (omega arith)))
+
+    pub sound-filling : (L : ℕ) (s : Slot A) → s .kind ≡ filling → p .isBlock (s .next) ≡ true → s .buffered ≤ p .buffer → soundSlot p L s ≡ true
+    sound-filling L s k x h =
+        sound-of-good p names L s (good-block p L s (omega arith) (omega arith) x (λ z. absurd (omega arith)) h (λ z. absurd (omega arith)))
+
+    pub sound-playing : (L : ℕ) (s : Slot A) → s .kind ≡ playing → p .isBlock (s .next) ≡ true → s .buffered ≤ p .buffer
+        → lowWater p L ≤ 2000000 * s .buffered → soundSlot p L s ≡ true
+    sound-playing L s k x h f = sound-of-good p names L s (good-block p L s (omega arith) (omega arith) x (λ z. absurd (omega arith)) h (λ _. f))
+
+    pub sound-draining : (L : ℕ) (s : Slot A) → s .kind ≡ draining → p .isEnd (s .next) ≡ true → 1 ≤ s .buffered → s .buffered ≤ p .buffer
+        → soundSlot p L s ≡ true
+    sound-draining L s k x f h = sound-of-good p names L s (good-draining p L s k x f h)
+
+    -- a slot that breaks one of the facts
+    pub unsound-slot : (L : ℕ) (s : Slot A) → (Good p L s → ⊥) → soundSlot p L s ≡ false
+    unsound-slot L s h = is-false (soundSlot p L s) (λ e. h (good-of-sound p names L s e))
+
+    -- the loop over the slots, to its end or to one that fails
+    module _ {Q : Type 0} (o : Order A Q) (d : Scheduler A Q) where
+      pub sound-yes : d .phase ≤ 1 → ((j : ℕ) → j < length (d .slots) → soundSlot p (leads p (d .slots)) (at p (d .slots) j) ≡ true)
+          → ((j : ℕ) → p .n ≤ j → j < length (d .slots) → at p (d .slots) j .kind ≡ free) → o .queueSound (d .queue) (d .slots) ≡ true → sound p o d ≡ true
+      sound-yes h g u q =
+          let ss = d .slots in
+          let L = leads p ss in
+          says-sound p names o d
+          (record {
+            phase = h;
+            slots = each-by (Good p L) ss (freeSlot p) (λ j l. good-of-sound p names L (at p ss j) (g j l));
+            unused = λ j l. by-cases (decLt j (length ss)) (u j l) (λ z. ap (λ (s : Slot A). s .kind) (List·getD-eq-default ss (freeSlot p) {n = j} (omega arith)));
+            queue = q;
+          })
+
+      pub sound-no : (Sound p o d → ⊥) → sound p o d ≡ false
+      sound-no h = is-false (sound p o d) (λ e. h (sound-says p names o d e))
+
+    -- what soundness says of slot j
+    pub sound-at : {Q : Type 0} (o : Order A Q) (d : Scheduler A Q) → Sound p o d → (j : ℕ) → Good p (leads p (d .slots)) (at p (d .slots) j)
+    sound-at o d h j = each-at (Good p (leads p (d .slots))) (d .slots) j (freeSlot p) (h .slots) (good-free p _)

@@ -1,0 +1,88 @@
+-- The list and the book of document 01's demand 3, over the calls of the desk as their contracts say them.
+use Prim.Native.Nat.{ℕ, zero, suc, _+_}
+use mathlib.Core.List.{List, [], _∷_}
+use mathlib.Core.Bool.{Bool, true, false}
+use lib.ListN.{getD}
+use Rattle.words.specs.Words.{wordsOf}
+use Rattle.safety.specs.Scheduler.{Entry, Call, join, leave, begin, end}
+use Rattle.safety.specs.Ledger.{Line, openedLedger, recorded}
+use Rattle.safety.specs.Calls.{isAccepted}
+use Rattle.desk.specs.declared.Desk.{Desk}
+use Rattle.desk.specs.declared.Answer.{Answer}
+use Rattle.desk.specs.declared.Begun.{Begun}
+use Rattle.desk.specs.declared.Fetches.{Fetches}
+use Rattle.desk.specs.Desk.{joinDesk, leaveDesk, beginDesk, endDesk}
+
+-- a call of the playout process. Slots, blocks, draws and the room of the fetch list may be anything
+pub data Request : Type 0 where
+  joins : ℕ → ℕ → Request
+  leaves : ℕ → Request
+  -- with the number of entries that the lent fetch list has
+  begins : ℕ → Request
+  -- with a lent byte string of draws
+  ends : List ℕ → Request
+
+-- a request with the two lists that are lent to it, which may be anything too
+pub record Lent : Type 0 where
+  pub request : Request
+  pub positions : List ℕ
+  pub leads : List ℕ
+
+-- the move that the book is told of
+abbrev pub moveOf : Request → Call ℕ
+moveOf (joins slot block) = join slot block
+moveOf (leaves slot) = leave slot
+moveOf (begins room) = begin
+moveOf (ends draws) = end (wordsOf draws)
+
+-- ---- what a call answers
+
+-- the fetches of an answer as entries: n of them from the i-th on
+unfoldable pub entriesFrom : ℕ → ℕ → Fetches → List Entry
+entriesFrom i zero f = []
+entriesFrom i (suc n) f = record { position = getD (f .positions) i 0; slot = getD (f .slots) i 0; block = getD (f .blocks) i 0 } ∷ entriesFrom (suc i) n f
+
+-- `the fetch entries that a begin answers`: the first of the list, as many as it counts
+unfoldable pub entriesIn : Fetches → List Entry
+entriesIn f = entriesFrom 0 (f .count) f
+
+pub record Answered : Type 0 where
+  pub number : ℕ
+  pub desk : Desk
+  pub entries : List Entry
+  pub bound : ℕ
+
+abbrev pub plainly : Answer → Answered
+plainly a = record { number = a .verdict .number; desk = a .desk; entries = []; bound = 0 }
+
+abbrev pub begunly : Begun → Answered
+begunly b = record { number = b .verdict .number; desk = b .desk; entries = entriesIn (b .fetches); bound = b .bound }
+
+unfoldable pub answerTo : Desk → Lent → Request → Answered
+answerTo d x (joins slot block) = plainly (joinDesk d (x .positions) (x .leads) slot block)
+answerTo d x (leaves slot) = plainly (leaveDesk d (x .positions) (x .leads) slot)
+answerTo d x (begins room) = begunly (beginDesk d (x .positions) (x .leads) room)
+answerTo d x (ends draws) = plainly (endDesk d (x .positions) (x .leads) draws)
+
+abbrev pub called : Desk → Lent → Answered
+called d x = answerTo d x (x .request)
+
+-- ---- the list, with the book beside the desk
+
+pub record World : Type 0 where
+  pub desk : Desk
+  pub book : List Line
+
+-- `each call gets the desk that the last one left`; the book is fed the call, whether it was accepted, and the entries that it answered
+unfoldable pub turn : World → Lent → World
+turn v x =
+    let a = called (v .desk) x in
+    record { desk = a .desk; book = recorded (v .desk .plan .figures .bytes) (v .book) (moveOf (x .request)) (isAccepted (a .number)) (a .entries) }
+
+unfoldable pub after : World → List Lent → World
+after v [] = v
+after v (x ∷ xs) = after (turn v x) xs
+
+-- from an opening: `at the opening all are closed, 0 and unmarked`
+abbrev pub opened : Desk → World
+opened d = record { desk = d; book = openedLedger }

@@ -1,0 +1,63 @@
+-- An accepted opening: its plan is the plan of legal figures, so that the planner's promise holds and every list is safe.
+-- Assumes nothing.
+use Prim.Native.Nat.{ℕ}
+use mathlib.Core.Path.{_≡_, refl, sym, ap, _∙_, subst}
+use mathlib.Core.Bool.{Bool, true, false}
+use mathlib.Core.List.{List}
+use native.Mathlib.Omega.{arith}
+use Rattle.round_trip.specs.Legality.{Wide}
+use Rattle.plan.specs.declared.Plan.{Plan}
+use Rattle.plan.specs.Answer.{isPlan}
+use Rattle.plan.specs.Check.{checked, checked-legal}
+use Rattle.safety.specs.Supply.{Lawful}
+use Rattle.safety.specs.Order.{Scheduler, bySlot}
+use Rattle.safety.specs.BySlot.{bySlot-orderly}
+use Rattle.safety.specs.Sound.{sound}
+use Rattle.safety.specs.Refusals.{Verdict, verdict}
+use Rattle.safety.specs.Rows.{row-unfair}
+use Rattle.safety.specs.Calls.{Given}
+use Rattle.safety.specs.Calls as C
+use Rattle.safety.specs.Lists.{verdict-zero}
+use Rattle.safety.specs.Claim as K
+use Rattle.desk.specs.declared.Desk.{Desk}
+use Rattle.desk.specs.Desk.{supplyOf, viewOf, openBy, openDesk, freshDesk}
+use Rattle.desk.specs.Promise.{supply-named, plan-lawful}
+use Rattle.trace.specs.List.{Lent, called}
+use Rattle.trace.specs.Safe.{Safe, list-safe, givenOf, called-ruled}
+
+-- a record that passes the check has a lawful supply
+pub checked-lawful : (p : Plan) (ps ls : List ℕ) → Wide (p .figures) → isPlan p ps ls ≡ true → Lawful (supplyOf p)
+checked-lawful p ps ls w e =
+    let c = checked p ps ls e in
+    subst (λ (q : Plan). Lawful (supplyOf q)) (sym (c .plan)) (plan-lawful (p .figures) (checked-legal p ps ls w e) (c .fed))
+
+-- EVERY LIST FROM AN ACCEPTED OPENING
+pub opening-safe : (p : Plan) (ps ls : List ℕ) → Wide (p .figures) → openDesk p ps ls .verdict .number ≡ 0
+    → (openDesk p ps ls .desk ≡ freshDesk p) × ((xs : List Lent) → Safe p xs)
+unfolding openDesk
+opening-safe p ps ls w e = go (isPlan p ps ls) refl e
+  where
+    go : (t : Bool) → isPlan p ps ls ≡ t → openBy t p .verdict .number ≡ 0 → (openBy t p .desk ≡ freshDesk p) × ((xs : List Lent) → Safe p xs)
+    go true q e = (refl, list-safe p (checked-lawful p ps ls w q))
+    go false q e = absurd (omega arith)
+
+-- a call is accepted only with the plan's own lists
+fair-of : (p : Plan) (s : Scheduler ℕ (Unit {0})) (g : Given ℕ) → C.refusals (supplyOf p) (bySlot (supplyOf p)) .verdict s g .number ≡ 0 → g .fair ≡ true
+unfolding C.refusals
+fair-of p s g e = go (g .fair) e
+  where
+    go : (t : Bool) → verdict (supplyOf p) (bySlot (supplyOf p)) s t (g .room) (g .call) .number ≡ 0 → t ≡ true
+    go true e = refl
+    go false e = absurd (omega (arith, ap (λ (v : Verdict). v .number) (row-unfair (supplyOf p) (bySlot (supplyOf p)) s (g .room) (g .call))))
+
+-- ANY RECORD: an accepted call leaves a sound one
+pub accepted-sound : (d : Desk) (x : Lent) → Wide (d .plan .figures) → called d x .number ≡ 0
+    → sound (supplyOf (d .plan)) (bySlot (supplyOf (d .plan))) (viewOf (called d x .desk)) ≡ true
+accepted-sound d x w e =
+    let p = supplyOf (d .plan) in
+    let g : Given ℕ = givenOf (d .plan) x in
+    let r = called-ruled d x in
+    let n = sym (r .0) ∙ e in
+    let f = fair-of (d .plan) (viewOf d) g (verdict-zero p (bySlot p) (C.refusals p (bySlot p)) (viewOf d) g n) in
+    ap (sound p (bySlot p)) (r .1)
+    ∙ K.accepted-stays-sound p (checked-lawful (d .plan) (x .positions) (x .leads) w f) (supply-named (d .plan)) (bySlot p) (bySlot-orderly p) (viewOf d) g n
