@@ -1,4 +1,5 @@
 pub mod Desk
+pub mod Entries
 pub mod Promise
 pub mod Ready
 pub mod View

@@ -1,8 +1,6 @@
 -- The list and the book of document 01's demand 3, over the calls of the desk as their contracts say them.
-use Prim.Native.Nat.{ℕ, zero, suc, _+_}
+use Prim.Native.Nat.{ℕ}
 use mathlib.Core.List.{List, [], _∷_}
-use mathlib.Core.Bool.{Bool, true, false}
-use lib.ListN.{getD}
 use Rattle.words.specs.Words.{wordsOf}
 use Rattle.safety.specs.Scheduler.{Entry, Call, join, leave, begin, end}
 use Rattle.safety.specs.Ledger.{Line, openedLedger, recorded}
@@ -10,8 +8,8 @@ use Rattle.safety.specs.Calls.{isAccepted}
 use Rattle.desk.specs.declared.Desk.{Desk}
 use Rattle.desk.specs.declared.Answer.{Answer}
 use Rattle.desk.specs.declared.Begun.{Begun}
-use Rattle.desk.specs.declared.Fetches.{Fetches}
 use Rattle.desk.specs.Desk.{joinDesk, leaveDesk, beginDesk, endDesk}
+use Rattle.desk.specs.Entries.{entriesIn}
 
 -- a call of the playout process. Slots, blocks, draws and the room of the fetch list may be anything
 pub data Request : Type 0 where
@@ -36,15 +34,6 @@ moveOf (begins room) = begin
 moveOf (ends draws) = end (wordsOf draws)
 
 -- ---- what a call answers
-
--- the fetches of an answer as entries: n of them from the i-th on
-unfoldable pub entriesFrom : ℕ → ℕ → Fetches → List Entry
-entriesFrom i zero f = []
-entriesFrom i (suc n) f = record { position = getD (f .positions) i 0; slot = getD (f .slots) i 0; block = getD (f .blocks) i 0 } ∷ entriesFrom (suc i) n f
-
--- `the fetch entries that a begin answers`: the first of the list, as many as it counts
-unfoldable pub entriesIn : Fetches → List Entry
-entriesIn f = entriesFrom 0 (f .count) f
 
 pub record Answered : Type 0 where
   pub number : ℕ

@@ -1,87 +1,32 @@
 -- The claim of demand 3, and its proof: the desk of a list is the rules' scheduler of the same list, call by call.
 -- Assumes nothing.
-use Prim.Native.Nat.{ℕ, zero, suc, _+_, _*_, _-_, _/_, _≤_, _<_}
-use mathlib.Core.Path.{_≡_, refl, sym, ap, ap₂, _∙_, subst}
+use Prim.Native.Nat.{ℕ, zero, suc, _+_, _*_, _/_, _≤_, _<_}
+use mathlib.Core.Path.{_≡_, refl, sym, ap, _∙_, subst}
 use mathlib.Core.Logic.{_↔_, _≢_}
-use mathlib.Core.Bool.{Bool, true, false, cond}
-use mathlib.Core.List.{List, [], _∷_, _++_, map}
+use mathlib.Core.Bool.{true, cond}
+use mathlib.Core.List.{List, [], _∷_, _++_}
 use native.Mathlib.Omega.{arith}
-use lib.ListN.{length, getD, replicate, length-map, length-append, length-replicate, List·getD-append, List·getD-map}
+use lib.ListN.{getD, length-map}
 use Rattle.words.specs.Words.{wordsOf}
 use Rattle.plan.specs.declared.Plan.{Plan}
 use Rattle.plan.specs.Answer.{isPlan}
-use Rattle.safety.specs.Supply.{Supply, Lawful, Named}
-use Rattle.safety.specs.Scheduler.{Slot, Entry, Call, join, leave, begin, end, at, freeSlot}
+use Rattle.safety.specs.Supply.{Supply, Lawful}
+use Rattle.safety.specs.Scheduler.{Slot, join, leave, begin, end, at}
 use Rattle.safety.specs.Order.{Scheduler, Order, bySlot}
 use Rattle.safety.specs.Order as A
 use Rattle.safety.specs.Sound.{sound}
-use Rattle.safety.specs.Kinds.{kindAfter, kinds-by-rules}
+use Rattle.safety.specs.Kinds.{kindAfter}
 use Rattle.safety.specs.Arrays.{SameLength, slotOf, slotsOf, slot-at, slots-free}
-use Rattle.safety.specs.Ledger.{Line, lineAt, recorded, openedLedger}
+use Rattle.safety.specs.Ledger.{Line, lineAt, recorded}
 use Rattle.safety.specs.Calls as C
 use Rattle.safety.specs.Calls.{Given, isAccepted}
 use Rattle.safety.specs.Claim as K
 use Rattle.desk.specs.declared.Desk.{Desk}
-use Rattle.desk.specs.declared.Fetches.{Fetches}
-use Rattle.desk.specs.Desk.{supplyOf, viewOf, deskOf, answerOf, answered, joinDesk, leaveDesk, beginDesk, endDesk, fetchesOf, array, zeros, freshDesk, slotsIn}
+use Rattle.desk.specs.Desk.{supplyOf, viewOf, deskOf, answerOf, answered, joinDesk, leaveDesk, beginDesk, endDesk, zeros, freshDesk}
+use Rattle.desk.specs.Entries.{entries-in}
 use Rattle.desk.specs.View.{view-of-desk}
 use Rattle.desk.specs.Promise.{supply-named}
-use Rattle.trace.specs.List.{Request, joins, leaves, begins, ends, Lent, moveOf, entriesFrom, entriesIn, Answered, answerTo, called, World, turn, after, opened}
-
--- ---- the entries of an answer
-
-abbrev blankEntry : Entry
-blankEntry = record { position = 0; slot = 0; block = 0 }
-
--- the arrays hold the entries from the i-th place on
-record Held (f : Fetches) (i : ℕ) (es : List Entry) : Type 0 where
-  positions : (j : ℕ) → j < length es → getD (f .positions) (i + j) 0 ≡ getD es j blankEntry .position
-  slots : (j : ℕ) → j < length es → getD (f .slots) (i + j) 0 ≡ getD es j blankEntry .slot
-  blocks : (j : ℕ) → j < length es → getD (f .blocks) (i + j) 0 ≡ getD es j blankEntry .block
-
-held-back : (f : Fetches) (i : ℕ) (es : List Entry) → Held f i es → entriesFrom i (length es) f ≡ es
-unfolding entriesFrom
-held-back f i [] h = refl
-held-back f i (e ∷ es) h = ap₂ (λ (x : Entry) (xs : List Entry). x ∷ xs) first (held-back f (suc i) es rest)
-  where
-    here : i + 0 ≡ i
-    here = omega arith
-
-    first : _≡_ {A = Entry} (record { position = getD (f .positions) i 0; slot = getD (f .slots) i 0; block = getD (f .blocks) i 0 }) e
-    first = λ t. record {
-      position = (rw here at (h .positions 0 (omega arith))) t;
-      slot = (rw here at (h .slots 0 (omega arith))) t;
-      block = (rw here at (h .blocks 0 (omega arith))) t;
-    }
-
-    next : (j : ℕ) → i + suc j ≡ suc i + j
-    next j = omega arith
-
-    rest : Held f (suc i) es
-    rest = record {
-      positions = λ j u. rw (next j) at (h .positions (suc j) (omega arith));
-      slots = λ j u. rw (next j) at (h .slots (suc j) (omega arith));
-      blocks = λ j u. rw (next j) at (h .blocks (suc j) (omega arith));
-    }
-
--- a field of the entries in an array of 256
-array-at : (g : Entry → ℕ) → g blankEntry ≡ 0 → (es : List Entry) (j : ℕ) → j < length es → getD (array (map g es)) (0 + j) 0 ≡ g (getD es j blankEntry)
-unfolding array
-array-at g z es j u =
-    let here : 0 + j ≡ j = omega arith in
-    rw here
-    (List·getD-append (map g es) (replicate (256 - length (map g es)) 0) 0 j (omega (arith, length-map es g))
-    ∙ ap (getD (map g es) j) (sym z)
-    ∙ List·getD-map g es j blankEntry)
-
--- the entries of an answer are those that the rules gave
-pub entries-in : (es : List Entry) → entriesIn (fetchesOf es) ≡ es
-unfolding entriesIn fetchesOf
-entries-in es = held-back (fetchesOf es) 0 es (unfold fetchesOf in record {
-  positions = array-at (λ e. e .position) refl es;
-  slots = array-at (λ e. e .slot) refl es;
-  blocks = array-at (λ e. e .block) refl es;
-})
+use Rattle.trace.specs.List.{Request, joins, leaves, begins, ends, Lent, moveOf, Answered, answerTo, called, World, turn, after, opened}
 
 -- ---- the same list for the rules
 
