@@ -109,14 +109,20 @@ module _ (ps : List ℕ) (ok : Zoned ps) (at : Zone) (q : ℕ) where
 -- ---- from one position to the next
 
 module _ (ps : List ℕ) (at : Zone) (q : ℕ) where
-  pub above-here : Above ps at q → Climbs ps at q
-  above-here a = record { border = a .border; from = a .holds .from; to = omega (arith, a .border, a .holds .to) }
+  -- the first turn
+  pub above-start : Above ps at q → Climbs ps at (q + 0)
+  above-start a = record { border = a .border; from = omega (arith, a .holds .from); to = omega (arith, a .border, a .holds .to) }
 
   pub above-next : (r : ℕ) → r ≡ q + 1 → Above ps at q → Climbs ps at r
   above-next r e a = record { border = a .border; from = omega (arith, a .holds .from); to = omega (arith, a .border, a .holds .to) }
 
-  pub below-here : Below ps at q → Drops ps at q
-  below-here b = record { border = b .border; from = omega (arith, b .border, b .holds .from); some = omega (arith, b .border, b .holds .from, b .holds .to); to = b .holds .to }
+  pub below-start : Below ps at q → Drops ps at (q - 0)
+  below-start b = record {
+    border = b .border;
+    from = omega (arith, b .border, b .holds .from);
+    some = omega (arith, b .border, b .holds .from, b .holds .to);
+    to = omega (arith, b .holds .to);
+  }
 
   pub below-next : (r : ℕ) → q ≡ r + 1 → Below ps at q → Drops ps at r
   below-next r e b = record { border = b .border; from = omega (arith, b .border, b .holds .from); some = omega (arith, b .border, b .holds .from, b .holds .to); to = omega (arith, b .holds .to) }

@@ -1,2 +1,3 @@
+pub mod Answers
 pub mod Cursors
-pub mod Rows
+pub mod Turns

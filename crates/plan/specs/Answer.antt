@@ -11,7 +11,7 @@ use Rattle.card.specs.Read.{readCard}
 use Rattle.words.specs.Words.{wordsOf, withWords}
 use Rattle.plan.specs.declared.Plan.{Plan}
 use Rattle.plan.specs.declared.Planned.{Planned}
-use Rattle.plan.specs.Plan.{streamsOf, bufferSize, worst2Of, marginOf, planOf, blankPlan, positionsOf, leadsOf}
+use Rattle.plan.specs.Plan.{streamsOf, planOf, blankPlan, positionsOf, leadsOf}
 
 -- ---- the answer
 
@@ -22,12 +22,16 @@ planFault f np nl = cond (ltb np (f .blocks) || ltb nl (f .blocks)) 13 (cond (eq
 abbrev pub faultAfter : CardRead → List ℕ → List ℕ → ℕ
 faultAfter r ps ls = planFault (r .figures) (length (wordsOf ps)) (length (wordsOf ls))
 
+-- a refusal; 'A plan .. in a refused answer is all zero'
+unfoldable pub refusal : ℕ → ℕ → Planned
+refusal k at = record { verdict = record { number = k; place = at }; plan = blankPlan }
+
 -- the answer by the number of the refusal of the figures and by that of 13 and 12. A refusal of the figures keeps its place; 13 and 12
--- answer with 0. 'A plan .. in a refused answer is all zero'
+-- answer with 0
 abbrev pub answer : ℕ → ℕ → CardRead → Planned
 answer zero zero r = record { verdict = record { number = 0; place = 0 }; plan = planOf (r .figures) }
-answer zero (suc k) r = record { verdict = record { number = suc k; place = 0 }; plan = blankPlan }
-answer (suc j) k r = record { verdict = r .verdict; plan = blankPlan }
+answer zero (suc k) r = refusal (suc k) 0
+answer (suc j) k r = refusal (suc j) (r .verdict .place)
 
 -- a list by the same two numbers: its first entries are written, or it is left as it was
 abbrev pub filled : ℕ → ℕ → List ℕ → List ℕ → List ℕ
@@ -57,14 +61,15 @@ begins [] ws = true
 begins (v ∷ vs) [] = false
 begins (v ∷ vs) (w ∷ ws) = eqb w v && begins vs ws
 
--- 'it is the plan of its figures, both lists begin with its N entries'
+-- two plans have the same streams, buffer, worst2 and margin
+unfoldable pub sameNumbers : Plan → Plan → Bool
+sameNumbers p q = eqb (p .streams) (q .streams) && (eqb (p .buffer) (q .buffer) && (eqb (p .worst2) (q .worst2) && eqb (p .margin) (q .margin)))
+
+-- 'it is the plan of its figures, both lists begin with its N entries': the figures are legal and feed a stream
 unfoldable pub isPlan : Plan → List ℕ → List ℕ → Bool
 isPlan p ps ls =
     eqb (recordFault (p .figures)) 0
     && (ltb 0 (streamsOf (p .figures))
-    && (eqb (p .streams) (streamsOf (p .figures))
-    && (eqb (p .buffer) (bufferSize (p .figures))
-    && (eqb (p .worst2) (worst2Of (p .figures))
-    && (eqb (p .margin) (marginOf (p .figures))
+    && (sameNumbers p (planOf (p .figures))
     && (begins (positionsOf (p .figures)) (wordsOf ps)
-    && begins (leadsOf (p .figures)) (wordsOf ls)))))))
+    && begins (leadsOf (p .figures)) (wordsOf ls))))

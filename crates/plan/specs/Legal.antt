@@ -60,16 +60,16 @@ module _ (f : Figures) (ok : Legal f) where
   pub time-small : (q : ℕ) → q < totalPositions f → timeOn f q ≤ 4000000
   time-small q h = timeAt-within (f .positions) (f .times) (f .zones) q 4000000 (λ i u. ok .times i u .1) (omega (arith, total-zones))
 
+  -- worst2 from one pair of positions for every two blocks
+  pub worst2-quick : worst2Of f ≡ greatestOf (λ i. timeOn f (totalPositions f - f .blocks + i) + timeOn f (totalPositions f - 1 - i)) (f .blocks / 2)
+  unfolding worst2Of
+  worst2-quick = worst-quick (totalPositions f) (f .blocks) (ok .room) (timeOn f) legal-falling
+
   pub worst2-small : worst2Of f ≤ 8000000
   unfolding worst2Of worstTime
   worst2-small =
       greatestOf-least (λ b. timeOf f b + timeOf f (suc b)) (f .blocks - 1) 8000000
       (λ b u. omega (arith, time-small (placeOf f b) (place-below b (omega arith)), time-small (placeOf f (suc b)) (place-below (suc b) (omega arith))))
-
-  -- worst2 from one pair of positions for every two blocks
-  pub worst2-quick : worst2Of f ≡ greatestOf (λ i. timeOn f (totalPositions f - f .blocks + i) + timeOn f (totalPositions f - 1 - i)) (f .blocks / 2)
-  unfolding worst2Of
-  worst2-quick = worst-quick (totalPositions f) (f .blocks) (ok .room) (timeOn f) legal-falling
 
   -- the margin from the innermost position of the film
   pub margin-is : marginOf f ≡ 2 * timeOn f (totalPositions f - f .blocks) - worst2Of f

@@ -1,6 +1,8 @@
 pub mod Answer
+pub mod Check
 pub mod Cursors
 pub mod Legal
 pub mod Plan
 pub mod Promise
 pub mod Ranges
+pub mod Rows

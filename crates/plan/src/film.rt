@@ -2,12 +2,13 @@
 use crate::Plan;
 use crate::streams::buffer_size;
 use crate::streams::count_streams;
-use crate::zones::time_at;
+use crate::time_at;
 use crate::zones::worst_pair;
 use card::Figures;
 ghost use mathlib.Core.Path.{_≡_};
 ghost use Rattle.card.specs.Card.{Legal, totalPositions};
 ghost use Rattle.plan.specs.Plan.{planOf};
+ghost use Rattle.plan.specs.Answer.{sameNumbers};
 
 // The plan of legal figures, `total` being P. The film's innermost position is its slowest.
 pub fn plan_of(figures: Figures, total: u32) -> Plan
@@ -38,4 +39,20 @@ pub fn plan_of(figures: Figures, total: u32) -> Plan
         worst2: worst2,
         margin: margin,
     }
+}
+
+// Two plans have the same streams, buffer, worst2 and margin.
+pub fn same_numbers(plan: Plan, own: Plan) -> bool
+    ensures { λ r. ⌜ r ≡ sameNumbers plan own ⌝ }
+{
+    if plan.streams != own.streams {
+        return false;
+    }
+    if plan.buffer != own.buffer {
+        return false;
+    }
+    if plan.worst2 != own.worst2 {
+        return false;
+    }
+    plan.margin == own.margin
 }

@@ -79,8 +79,8 @@ pub fn write_lists<'a>(
     }
     low = zone_up(sizes, low, first + pairs);
     let inner = low.index;
-    let b = (2 * pairs) as usize;
-    put_block(times, inner, worst2, positions, leads, b, first + pairs);
+    let tail = (2 * pairs) as usize;
+    put_block(times, inner, worst2, positions, leads, tail, first + pairs);
 }
 
 // The lists have the position q and the lead of block b, which lies in a zone.

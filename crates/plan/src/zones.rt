@@ -45,16 +45,6 @@ pub fn zone_of(positions: &[u32; 64], q: u32) -> Zone
     }
 }
 
-// The time to read a block at a position.
-pub fn time_at<'a>(positions: &'a [u32; 64], times: &'a [u32; 64], q: u32) -> u32
-    requires { ⌜ (Zoned (now positions)) × (q < total (now positions)) ⌝ }
-    ensures { λ r. ⌜ r ≡ timeAt (now (positions .entry)) (now (times .entry)) q ⌝ }
-{
-    let zone = zone_of(positions, q);
-    let index = zone.index;
-    times[index]
-}
-
 // The zone of a position, with its first position.
 pub fn zone_from(positions: &[u32; 64], q: u32) -> Zone
     requires { ⌜ (Zoned (now positions)) × (q < total (now positions)) ⌝ }

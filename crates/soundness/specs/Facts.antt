@@ -7,7 +7,7 @@ use mathlib.Core.List.{List}
 use lib.ListN.{length, getD}
 use Rattle.card.specs.declared.Figures.{Figures}
 use Rattle.words.specs.Words.{wordsOf}
-use Rattle.plan.specs.Plan.{placeOf, leadOf}
+use Rattle.plan.specs.Plan.{leadOf}
 use Rattle.desk.specs.declared.Desk.{Desk}
 
 -- a test tells whether a fact holds
@@ -39,7 +39,13 @@ pub record AllTidy (d : Desk) : Type 0 where
 abbrev pub PlayersHold : Desk → ℕ → Type 0
 PlayersHold d x = (i : ℕ) → i < 256 → getD (d .kinds) i 0 ≡ 3 → x ≤ 2000000 * getD (d .held) i 0
 
--- `both lists begin with its N entries`
-pub record Listed (f : Figures) (ps ls : List ℕ) : Type 0 where
-  pub positions : (b : ℕ) → b < f .blocks → (b < length (wordsOf ps)) × (getD (wordsOf ps) b 0 ≡ placeOf f b)
-  pub leads : (b : ℕ) → b < f .blocks → (b < length (wordsOf ls)) × (getD (wordsOf ls) b 0 ≡ leadOf f b)
+-- a list of leads that begins with the film's: long enough, each entry the lead of its block and in its range
+pub record LeadList (f : Figures) (ls : List ℕ) : Type 0 where
+  pub long : f .blocks ≤ length (wordsOf ls)
+  pub here : (b : ℕ) → b < f .blocks → getD (wordsOf ls) b 0 ≡ leadOf f b
+  pub small : (b : ℕ) → b < f .blocks → leadOf f b ≤ 3999999
+
+-- what a slot of kind k with next block x adds to the leads: the lead at x where it is filling or playing
+pub record LeadIs (ls : List ℕ) (k x r : ℕ) : Type 0 where
+  pub reading : 2 ≤ k → k ≤ 3 → r ≡ getD (wordsOf ls) x 0
+  pub other : (2 ≤ k → k ≤ 3 → ⊥) → r ≡ 0

@@ -1,10 +1,7 @@
 use Rattle.plan.specs.Promise.{lead-laws, promise}
 use Rattle.plan.proofs.lead_promise.Statement.{statement}
 use Rattle.plan.proofs.lead_promise.Tie as tie
-use Rattle.plan.proofs.lead_promise.Reads as reads
-use Rattle.plan.proofs.lead_promise.Lts as lts
 
--- src/lib.rt:60:1
 returns : tie.Need-returns
 returns c = (lead-laws, promise)
 

@@ -3,20 +3,15 @@ use native.Mathlib.Omega.{arith}
 use Rattle.pacing.specs.Streams.{overhead}
 use Rattle.plan.proofs.overhead.Statement.{statement}
 use Rattle.plan.proofs.overhead.Tie as tie
-use Rattle.plan.proofs.overhead.Reads as reads
-use Rattle.plan.proofs.overhead.Lts as lts
 
--- src/lib.rt:21:5
 mul-result : tie.Need-mul-result
 unfolding overhead
 mul-result c = omega (arith, c .pre)
 
--- src/lib.rt:21:5
 add-result : tie.Need-add-result
 unfolding overhead
 add-result c = omega (arith, c .pre)
 
--- src/lib.rt:17:1
 returns : tie.Need-returns
 unfolding overhead
 returns c = refl

@@ -2,10 +2,7 @@ use Rattle.plan.specs.Legal.{legal-laying}
 use Rattle.plan.specs.Promise.{best-time, best-streams, own-time}
 use Rattle.plan.proofs.placement_best.Statement.{statement}
 use Rattle.plan.proofs.placement_best.Tie as tie
-use Rattle.plan.proofs.placement_best.Reads as reads
-use Rattle.plan.proofs.placement_best.Lts as lts
 
--- src/lib.rt:47:1
 returns : tie.Need-returns
 returns c = (λ f ok l lay. (best-time f ok l lay, best-streams f ok l lay), λ f ok. (legal-laying f ok, own-time f))
 

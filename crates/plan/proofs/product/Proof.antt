@@ -4,17 +4,13 @@ use native.Mathlib.Nat.{mul-le-mul}
 use borrow.Author.Needs.{needs}
 use Rattle.plan.proofs.product.Statement.{statement}
 use Rattle.plan.proofs.product.Tie as tie
-use Rattle.plan.proofs.product.Reads as reads
-use Rattle.plan.proofs.product.Lts as lts
 
--- src/lib.rt:13:5
 mul-result : tie.Need-mul-result
 mul-result c = let x : c .args .a ≤ 4294967295 = omega arith in
     let y : c .args .b ≤ 4294967295 = omega arith in
     let p : c .args .a * c .args .b ≤ 4294967295 * 4294967295 = mul-le-mul x y in
     omega arith
 
--- src/lib.rt:10:1
 returns : tie.Need-returns
 returns c = search needs
 

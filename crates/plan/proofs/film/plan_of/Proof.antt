@@ -1,22 +1,15 @@
-use Prim.Native.Nat.{ℕ, _+_, _-_, _*_, _/_, _≤_, _<_}
+use Prim.Native.Nat.{ℕ, _+_, _-_, _*_, _/_, _≤_}
 use mathlib.Core.Path.{_≡_, refl, sym, ap, ap₂, _∙_}
 use native.Mathlib.Omega.{arith}
 use Rattle.laws.specs.Greatest.{greatestOf}
 use Rattle.card.specs.declared.Figures.{Figures}
 use Rattle.card.specs.Card.{totalPositions}
-use Rattle.placement.specs.Zones.{total}
 use Rattle.pacing.specs.Streams.{streams, bufferOf}
 use Rattle.plan.specs.Plan.{timeOn, overOf, worst2Of, marginOf, streamsOf, bufferSize, planOf}
 use Rattle.plan.specs.Legal.{total-is, legal-zoned, legal-disk, worst2-small, worst2-quick, time-small, margin-is, margin-exact, margin-less, streams-few, buffer-small}
 use borrow.Author.Needs.{needs}
 use Rattle.plan.proofs.film.plan_of.Statement.{statement}
 use Rattle.plan.proofs.film.plan_of.Tie as tie
-use Rattle.plan.proofs.film.plan_of.Reads as reads
-use Rattle.plan.proofs.film.plan_of.Lts as lts
-use Rattle.plan.proofs.streams.buffer_size.Reads as buffer-size-reads
-use Rattle.plan.proofs.streams.count_streams.Reads as count-streams-reads
-use Rattle.plan.proofs.zones.time_at.Reads as time-at-reads
-use Rattle.plan.proofs.zones.worst_pair.Reads as worst-pair-reads
 
 abbrev start : (c : tie.After-time-at) → tie.Start
 start c = c .before .before .before .before .before .before .before .before
@@ -54,42 +47,34 @@ buffer-are : (f : Figures) → bufferOf (f .rate) (streamsOf f) (marginOf f) (f 
 unfolding bufferSize
 buffer-are f = refl
 
--- src/film.rt:16:17
 sub-first : tie.Need-sub-first
 sub-first c = search needs
 
--- src/film.rt:17:72
 sub-worst-pair : tie.Need-sub-worst-pair
 sub-worst-pair c = search needs
 
--- src/film.rt:17:9
 worst-pair-requires : tie.Need-worst-pair-requires
 worst-pair-requires c κs = let s = c .before .before .before in
     let f = s .args .t1 in
     let e = total-is f (s .pre .0) in
     (legal-disk f (s .pre .0), omega (arith, s .pre .0 .room, s .pre .0 .blocks, s .pre .1), omega (arith, s .pre .0 .room, s .pre .0 .blocks, s .pre .1), omega (arith, s .pre .0 .room, s .pre .0 .blocks, s .pre .1))
 
--- src/film.rt:18:22
 time-at-requires : tie.Need-time-at-requires
 time-at-requires c κs = let s = c .before .before .before .before .before .before .before in
     let f = s .args .t1 in
     let e = total-is f (s .pre .0) in
     (legal-zoned f (s .pre .0), omega (arith, s .pre .0 .room, s .pre .0 .blocks, s .pre .1))
 
--- src/film.rt:18:18
 mul-margin : tie.Need-mul-margin
 mul-margin c = omega (arith, found c .time)
 
--- src/film.rt:18:18
 sub-margin : tie.Need-sub-margin
 sub-margin c = omega (arith, found c .exact)
 
--- src/film.rt:19:9
 count-streams-requires : tie.Need-count-streams-requires
 count-streams-requires c κs = let s = start c in
     record { pair = omega (arith, found c .pair, worst2-small (s .args .t1) (s .pre .0)); hops = s .pre .0 .hop .1; backs = s .pre .0 .back .1 }
 
--- src/film.rt:20:9
 buffer-size-requires : tie.Need-buffer-size-requires
 buffer-size-requires c κs = let s = start (c .before) in
     let f = s .args .t1 in
@@ -100,7 +85,6 @@ buffer-size-requires c κs = let s = start (c .before) in
       omega (arith, ap₂ (λ (n m : ℕ). bufferOf (f .rate) n m (f .bytes)) n (w .margin), buffer-are f, buffer-small f (s .pre .0), s .pre .0 .bytes .1),
     )
 
--- src/film.rt:12:1
 returns : tie.Need-returns
 unfolding planOf
 returns c = let t = c .before .before in

@@ -4,40 +4,28 @@ use Rattle.words.specs.Words.{withWord}
 use borrow.Author.Needs.{needs}
 use Rattle.plan.proofs.lists.put_block.Statement.{statement}
 use Rattle.plan.proofs.lists.put_block.Tie as tie
-use Rattle.plan.proofs.lists.put_block.Reads as reads
-use Rattle.plan.proofs.lists.put_block.Lts as lts
-use Rattle.plan.proofs.lists.lead.Reads as lead-reads
-use Rattle.words.proofs.put_word.Reads as put-word-reads
 
--- src/lists.rt:33:5
 put-word-requires : tie.Need-put-word-requires
 put-word-requires c κs = search needs
 
--- src/lists.rt:34:29
 mul-lead : tie.Need-mul-lead
 mul-lead c = search needs
 
--- src/lists.rt:34:29
 element-copy-out-lead : tie.Need-element-copy-out-lead
 element-copy-out-lead c = search needs
 
--- src/lists.rt:34:24
 lead-requires : tie.Need-lead-requires
 lead-requires c κs = search needs
 
--- src/lists.rt:34:5
 put-word-requires-2 : tie.Need-put-word-requires-2
 put-word-requires-2 c κs = search needs
 
--- src/lists.rt:29:1
 same-length : tie.Need-same-length
 same-length c = search needs
 
--- src/lists.rt:29:1
 same-length-2 : tie.Need-same-length-2
 same-length-2 c = search needs
 
--- src/lists.rt:29:1
 returns : tie.Need-returns
 returns c = let a = c .before .before .before .before .before .before .before .before .before .before .before .before .args in (
   c .before .before .before .before .before .before .before .before .put-word .ensures,

@@ -1,6 +1,5 @@
-use Prim.Native.Nat.{ℕ, _*_, _-_}
-use mathlib.Core.Path.{_≡_, ap, ap₂, sym, _∙_}
-use mathlib.Core.Bool.{Bool, true, false, _&&_}
+use mathlib.Core.Path.{_≡_, ap₂, sym, _∙_}
+use mathlib.Core.Bool.{true, false}
 use lib.ListN.{getD}
 use lib.Dec.{eqb}
 use borrow.Author.Tests.{eq-eqb, ne-eqb}
@@ -8,38 +7,27 @@ use Rattle.words.specs.Words.{wordsOf}
 use borrow.Author.Needs.{needs}
 use Rattle.plan.proofs.lists.same_block.Statement.{statement}
 use Rattle.plan.proofs.lists.same_block.Tie as tie
-use Rattle.plan.proofs.lists.same_block.Reads as reads
-use Rattle.plan.proofs.lists.same_block.Lts as lts
-use Rattle.plan.proofs.lists.lead.Reads as lead-reads
-use Rattle.words.proofs.word_at.Reads as word-at-reads
 
--- src/lists.rt:72:8
 word-at-requires : tie.Need-word-at-requires
 word-at-requires c κs = search needs
 
--- src/lists.rt:73:9
 returns : tie.Need-returns
 returns c = let a = c .before .before .before .before .args in
     let e : eqb (getD (wordsOf (a .positions .now)) (a .b) 0) (a .q) ≡ false = ne-eqb _ _ (λ x. c .if1 .taken (c .before .word-at .ensures ∙ x)) in
     rw e
 
--- src/lists.rt:75:5
 word-at-requires-2 : tie.Need-word-at-requires-2
 word-at-requires-2 c κs = search needs
 
--- src/lists.rt:75:31
 mul-lead : tie.Need-mul-lead
 mul-lead c = search needs
 
--- src/lists.rt:75:31
 element-copy-out-lead : tie.Need-element-copy-out-lead
 element-copy-out-lead c = search needs
 
--- src/lists.rt:75:26
 lead-requires : tie.Need-lead-requires
 lead-requires c κs = search needs
 
--- src/lists.rt:68:1
 returns-2 : tie.Need-returns-2
 returns-2 c = let a = c .before .before .before .before .before .before .before .args in
     let e : eqb (getD (wordsOf (a .positions .now)) (a .b) 0) (a .q) ≡ true = eq-eqb _ _ (sym (c .before .before .before .before .word-at .ensures) ∙ c .before .before .before .if1 .left) in

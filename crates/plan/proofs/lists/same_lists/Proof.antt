@@ -1,29 +1,16 @@
 use borrow.Author.Tests.{not-true, not-false}
-use Rattle.plan.proofs.Rows.{same-last}
-use Prim.Native.Nat.{ℕ, suc, _+_, _-_, _*_, _/_, _≤_, _<_}
-use mathlib.Core.Path.{_≡_, refl, sym, ap, ap₂, _∙_}
-use mathlib.Core.List.{List}
+use Rattle.plan.proofs.Turns.{same-last}
+use Prim.Native.Nat.{suc, _+_, _-_, _*_, _/_, _≤_}
+use mathlib.Core.Path.{_≡_, refl, sym, ap, _∙_}
 use native.Mathlib.Omega.{arith}
-use lib.ListN.{length, getD}
+use lib.ListN.{getD}
 use Rattle.placement.specs.Placement.{place}
-use Rattle.words.specs.Words.{wordsOf, withWord, withWords}
-use Rattle.words.specs.Laws.{withWord-entries, withWords-length}
-use Rattle.plan.specs.Plan.{row}
+use Rattle.words.specs.Words.{wordsOf}
 use Rattle.plan.specs.Cursors.{Climbs, Drops, leadAt}
-use Rattle.plan.proofs.Cursors.{Times, times-held, holds-index, time-held, above-here, above-next, below-here, below-next}
-use mathlib.Core.Bool.{Bool, true, false, not, _&&_}
-use lib.Dec.{eqb}
-use Rattle.laws.specs.Bools.{clash}
-use Rattle.plan.proofs.Rows.{Same, both, same-none, same-more, same-all, same-not, place-low, place-high, lead-low, lead-high}
+use Rattle.plan.proofs.Cursors.{Times, times-held, holds-index, time-held, above-start, above-next, below-start, below-next}
+use Rattle.plan.proofs.Turns.{Same, same-none, same-more, same-all, same-not, place-low, place-high, lead-low, lead-high}
 use Rattle.plan.proofs.lists.same_lists.Statement.{statement}
 use Rattle.plan.proofs.lists.same_lists.Tie as tie
-use Rattle.plan.proofs.lists.same_lists.Reads as reads
-use Rattle.plan.proofs.lists.same_lists.Lts as lts
-use Rattle.plan.proofs.lists.same_block.Reads as same-block-reads
-use Rattle.plan.proofs.zones.zone_down.Reads as zone-down-reads
-use Rattle.plan.proofs.zones.zone_from.Reads as zone-from-reads
-use Rattle.plan.proofs.zones.zone_of.Reads as zone-of-reads
-use Rattle.plan.proofs.zones.zone_up.Reads as zone-up-reads
 
 abbrev Inv-loop : tie.InvT-loop
 Inv-loop sizes times total blocks worst2 positions leads first last pairs low₀ high₀ i₀ low high i = (i ≤ pairs) × Climbs sizes low (first + i) × Drops sizes high (last - i)
@@ -68,72 +55,53 @@ last c =
       lead-low (a .sizes .now) (a .times .now) (a .total) (a .blocks) (a .worst2) k _ (time-held (a .sizes .now) (a .times .now) _ (a .total - a .blocks + k) (c .zone-up2 .ensures .holds)),
     )
 
--- src/lists.rt:83:17
 sub-first : tie.Need-sub-first Inv-loop μ-loop
 sub-first c = omega (arith, c .before .before .pre .0 .room)
 
--- src/lists.rt:84:16
 sub-last : tie.Need-sub-last Inv-loop μ-loop
 sub-last c = omega (arith, c .before .before .pre .0 .room, c .before .before .pre .0 .some)
 
--- src/lists.rt:86:9
 zone-of-requires : tie.Need-zone-of-requires Inv-loop μ-loop
 zone-of-requires c κs = let s = c .before .before in
     (s .pre .0 .disk .zoned, omega (arith, s .pre .0 .room, s .pre .0 .some, s .pre .0 .whole))
 
--- src/lists.rt:87:9
 zone-from-requires : tie.Need-zone-from-requires Inv-loop μ-loop
 zone-from-requires c κs = let s = c .before .before .before in
     (s .pre .0 .disk .zoned, omega (arith, s .pre .0 .room, s .pre .0 .some, s .pre .0 .whole))
 
--- src/lists.rt:89:5
 loop-holds : tie.Need-loop-holds Inv-loop μ-loop
-loop-holds c = let s = c .before .before .before .before in
-    let a = s .args in
-    let p = a .total - a .blocks in
-    let e : p + 0 ≡ p = omega arith in
-    let q = a .total - 1 in
-    let d : q - 0 ≡ q = omega arith in (
-      omega arith,
-      rw e (above-here (a .sizes .now) _ p (c .before .zone-of .ensures)),
-      rw d (below-here (a .sizes .now) _ q (c .zone-from .ensures)),
-      same-none (place (a .total) (a .blocks)) (leadAt (a .sizes .now) (a .times .now) (a .total) (a .blocks) (a .worst2)) (a .blocks) (wordsOf (a .positions .now)) (wordsOf (a .leads .now)),
-    )
+loop-holds c = let a = c .before .before .before .before .args in (
+  omega arith,
+  above-start (a .sizes .now) _ _ (c .before .zone-of .ensures),
+  below-start (a .sizes .now) _ _ (c .zone-from .ensures),
+  same-none (place (a .total) (a .blocks)) (leadAt (a .sizes .now) (a .times .now) (a .total) (a .blocks) (a .worst2)) (a .blocks) (wordsOf (a .positions .now)) (wordsOf (a .leads .now)),
+)
 
--- src/lists.rt:90:35
 add-zone-up : tie.Need-add-zone-up Inv-loop μ-loop
 add-zone-up c = let s = start (c .before) in omega (arith, s .pre .0 .room, s .pre .0 .some)
 
--- src/lists.rt:90:9
 zone-up-requires : tie.Need-zone-up-requires Inv-loop μ-loop
 zone-up-requires c κs = let s = start (c .before) in (s .pre .0 .disk .zoned, c .before .loop .inv .1, omega (arith, s .pre .0 .room, s .pre .0 .some, s .pre .0 .whole))
 
--- src/lists.rt:91:39
 sub-zone-down : tie.Need-sub-zone-down Inv-loop μ-loop
 sub-zone-down c = let s = start (c .before .before) in omega (arith, s .pre .0 .room, s .pre .0 .some)
 
--- src/lists.rt:91:9
 zone-down-requires : tie.Need-zone-down-requires Inv-loop μ-loop
 zone-down-requires c κs = let s = start (c .before .before) in (s .pre .0 .disk .zoned, c .before .before .loop .inv .2)
 
--- src/lists.rt:94:18
 mul-b : tie.Need-mul-b Inv-loop μ-loop
 mul-b c = let s = start (c .before .before .before) in omega (arith, s .pre .0 .room)
 
--- src/lists.rt:94:17
 cast-b : tie.Need-cast-b Inv-loop μ-loop
 cast-b c = let s = start (c .before .before .before) in omega (arith, s .pre .0 .room)
 
--- src/lists.rt:95:67
 add-same-block : tie.Need-add-same-block Inv-loop μ-loop
 add-same-block c = let s = start (c .before .before .before) in omega (arith, s .pre .0 .room, s .pre .0 .some)
 
--- src/lists.rt:95:13
 same-block-requires : tie.Need-same-block-requires Inv-loop μ-loop
 same-block-requires c κs = let s = start (c .before .before .before) in
     (held c .first, s .pre .0 .disk .quick _, omega (arith, s .pre .1), omega (arith, s .pre .2))
 
--- src/lists.rt:96:13
 returns : tie.Need-returns Inv-loop μ-loop
 returns c = let z = c .before .before in
     let l = z .before .before .before in
@@ -143,21 +111,17 @@ returns c = let z = c .before .before in
     sym (same-not (place (a .total) (a .blocks)) (leadAt (a .sizes .now) (a .times .now) (a .total) (a .blocks) (a .worst2)) (a .blocks) (wordsOf (a .positions .now)) (wordsOf (a .leads .now))
     (2 * i) (2 * i) _ _ (omega arith) refl (placed z .0) (placed z .2) (sym (c .before .same-block .ensures) ∙ not-true _ (c .if1 .taken)))
 
--- src/lists.rt:98:64
 add-same-block-2 : tie.Need-add-same-block-2 Inv-loop μ-loop
 add-same-block-2 c = omega arith
 
--- src/lists.rt:98:71
 sub-same-block : tie.Need-sub-same-block Inv-loop μ-loop
 sub-same-block c = let s = start (c .before .before .before .before .before) in omega (arith, s .pre .0 .room, s .pre .0 .some)
 
--- src/lists.rt:98:13
 same-block-requires-2 : tie.Need-same-block-requires-2 Inv-loop μ-loop
 same-block-requires-2 c κs = let z = c .before .before in
     let s = start (z .before .before .before) in
     (held z .second, s .pre .0 .disk .quick _, omega (arith, s .pre .1), omega (arith, s .pre .2))
 
--- src/lists.rt:99:13
 returns-2 : tie.Need-returns-2 Inv-loop μ-loop
 returns-2 c = let z = c .before .before .before .before in
     let l = z .before .before .before in
@@ -167,15 +131,12 @@ returns-2 c = let z = c .before .before .before .before in
     sym (same-not (place (a .total) (a .blocks)) (leadAt (a .sizes .now) (a .times .now) (a .total) (a .blocks) (a .worst2)) (a .blocks) (wordsOf (a .positions .now)) (wordsOf (a .leads .now))
     (2 * i + 1) (2 * i + 1) _ _ (omega arith) refl (placed z .1) (placed z .3) (sym (c .before .same-block2 .ensures) ∙ not-true _ (c .if2 .taken)))
 
--- src/lists.rt:101:9
 add-i : tie.Need-add-i Inv-loop μ-loop
 add-i c = let s = start (c .before .before .before .before .before .before .before) in omega (arith, s .pre .0 .room)
 
--- src/lists.rt:89:5
 loop-less : tie.Need-loop-less Inv-loop μ-loop
 loop-less c = omega arith
 
--- src/lists.rt:89:5
 loop-again : tie.Need-loop-again Inv-loop μ-loop
 loop-again c = let z = c .before .before .before .before in
     let l = z .before .before .before in
@@ -198,11 +159,9 @@ loop-again c = let z = c .before .before .before .before in
       rw d at two,
     )
 
--- src/lists.rt:103:18
 mul-if3 : tie.Need-mul-if3 Inv-loop μ-loop
 mul-if3 c = let s = start (c .before) in omega (arith, s .pre .0 .room)
 
--- src/lists.rt:104:9
 returns-3 : tie.Need-returns-3 Inv-loop μ-loop
 returns-3 c = let l = c .before .before in
     let s = start l in
@@ -211,11 +170,9 @@ returns-3 c = let l = c .before .before in
     sym (same-all (place (a .total) (a .blocks)) (leadAt (a .sizes .now) (a .times .now) (a .total) (a .blocks) (a .worst2)) (a .blocks) (wordsOf (a .positions .now)) (wordsOf (a .leads .now)) (s .pre .1) (s .pre .2)
     (rw e at (l .loop .inv .3)))
 
--- src/lists.rt:106:31
 add-zone-up-2 : tie.Need-add-zone-up-2 Inv-loop μ-loop
 add-zone-up-2 c = let s = start (c .before .before) in omega (arith, s .pre .0 .room, s .pre .0 .some)
 
--- src/lists.rt:106:5
 zone-up-requires-2 : tie.Need-zone-up-requires-2 Inv-loop μ-loop
 zone-up-requires-2 c κs = let l = c .before .before in
     let s = start l in
@@ -223,25 +180,20 @@ zone-up-requires-2 c κs = let l = c .before .before in
     let e : l .loop .i ≡ a .blocks / 2 = omega arith in
     (s .pre .0 .disk .zoned, rw e at (l .loop .inv .1), omega (arith, s .pre .0 .room, s .pre .0 .some, s .pre .0 .whole))
 
--- src/lists.rt:108:14
 mul-b-2 : tie.Need-mul-b-2 Inv-loop μ-loop
 mul-b-2 c = let s = start (c .before .before .before) in omega (arith, s .pre .0 .room)
 
--- src/lists.rt:108:13
 cast-b-2 : tie.Need-cast-b-2 Inv-loop μ-loop
 cast-b-2 c = let s = start (c .before .before .before) in omega (arith, s .pre .0 .room)
 
--- src/lists.rt:109:59
 add-same-block-3 : tie.Need-add-same-block-3 Inv-loop μ-loop
 add-same-block-3 c = let s = start (c .before .before .before) in omega (arith, s .pre .0 .room, s .pre .0 .some)
 
--- src/lists.rt:109:5
 same-block-requires-3 : tie.Need-same-block-requires-3 Inv-loop μ-loop
 same-block-requires-3 c κs = let l = c .before .before .before in
     let s = start l in
     (omega (arith, holds-index (s .args .sizes .now) _ _ (c .zone-up2 .ensures .holds), s .pre .0 .disk .zoned .wide), s .pre .0 .disk .quick _, omega (arith, s .pre .1, c .before .if3 .left), omega (arith, s .pre .2, c .before .if3 .left))
 
--- src/lists.rt:79:1
 returns-4 : tie.Need-returns-4 Inv-loop μ-loop
 returns-4 c = let u = c .before in
     let l = u .before .before .before in

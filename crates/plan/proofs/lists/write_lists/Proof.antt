@@ -1,25 +1,16 @@
-use Rattle.plan.proofs.Rows.{store-entries, store-length, written-length}
-use Prim.Native.Nat.{ℕ, suc, _+_, _-_, _*_, _/_, _≤_, _<_}
-use mathlib.Core.Path.{_≡_, refl, sym, ap, ap₂, _∙_}
+use Rattle.plan.proofs.Turns.{store-entries, store-length, written-length}
+use Prim.Native.Nat.{ℕ, suc, _+_, _-_, _*_, _/_, _≤_}
+use mathlib.Core.Path.{_≡_, ap, _∙_}
 use mathlib.Core.List.{List}
 use native.Mathlib.Omega.{arith}
 use lib.ListN.{length, getD}
 use Rattle.placement.specs.Placement.{place}
-use Rattle.words.specs.Words.{wordsOf, withWord, withWords}
-use Rattle.words.specs.Laws.{withWord-entries, withWords-length}
-use Rattle.plan.specs.Plan.{row}
+use Rattle.words.specs.Words.{wordsOf, withWord}
 use Rattle.plan.specs.Cursors.{Climbs, Drops, leadAt}
-use Rattle.plan.proofs.Cursors.{Times, times-held, holds-index, time-held, above-here, above-next, below-here, below-next}
-use Rattle.plan.proofs.Rows.{Written, written-none, written-more, written-pair, written-entries, place-low, place-high, lead-low, lead-high}
+use Rattle.plan.proofs.Cursors.{Times, times-held, holds-index, time-held, above-start, above-next, below-start, below-next}
+use Rattle.plan.proofs.Turns.{Written, written-none, written-more, written-pair, written-entries, place-low, place-high, lead-low, lead-high}
 use Rattle.plan.proofs.lists.write_lists.Statement.{statement}
 use Rattle.plan.proofs.lists.write_lists.Tie as tie
-use Rattle.plan.proofs.lists.write_lists.Reads as reads
-use Rattle.plan.proofs.lists.write_lists.Lts as lts
-use Rattle.plan.proofs.lists.put_block.Reads as put-block-reads
-use Rattle.plan.proofs.zones.zone_down.Reads as zone-down-reads
-use Rattle.plan.proofs.zones.zone_from.Reads as zone-from-reads
-use Rattle.plan.proofs.zones.zone_of.Reads as zone-of-reads
-use Rattle.plan.proofs.zones.zone_up.Reads as zone-up-reads
 
 abbrev Inv-loop : tie.InvT-loop
 Inv-loop sizes times total blocks worst2 positions₀ leads₀ first last pairs low₀ high₀ i₀ positions leads low high i = (i ≤ pairs) × Climbs sizes low (first + i) × Drops sizes high (last - i)
@@ -75,68 +66,50 @@ last c =
       lead-low (a .sizes .now) (a .times .now) (a .total) (a .blocks) (a .worst2) k _ (time-held (a .sizes .now) (a .times .now) _ (a .total - a .blocks + k) (c .zone-up2 .ensures .holds)),
     )
 
--- src/lists.rt:42:17
 sub-first : tie.Need-sub-first Inv-loop μ-loop
 sub-first c = omega (arith, c .before .before .pre .0 .room)
 
--- src/lists.rt:43:16
 sub-last : tie.Need-sub-last Inv-loop μ-loop
 sub-last c = omega (arith, c .before .before .pre .0 .room, c .before .before .pre .0 .some)
 
--- src/lists.rt:45:9
 zone-of-requires : tie.Need-zone-of-requires Inv-loop μ-loop
 zone-of-requires c κs = let s = c .before .before in
     (s .pre .0 .disk .zoned, omega (arith, s .pre .0 .room, s .pre .0 .some, s .pre .0 .whole))
 
--- src/lists.rt:46:9
 zone-from-requires : tie.Need-zone-from-requires Inv-loop μ-loop
 zone-from-requires c κs = let s = c .before .before .before in
     (s .pre .0 .disk .zoned, omega (arith, s .pre .0 .room, s .pre .0 .some, s .pre .0 .whole))
 
--- src/lists.rt:48:5
 loop-holds : tie.Need-loop-holds Inv-loop μ-loop
-loop-holds c = let s = c .before .before .before .before in
-    let a = s .args in
-    let p = a .total - a .blocks in
-    let e : p + 0 ≡ p = omega arith in
-    let q = a .total - 1 in
-    let d : q - 0 ≡ q = omega arith in (
-      omega arith,
-      rw e (above-here (a .sizes .now) _ p (c .before .zone-of .ensures)),
-      rw d (below-here (a .sizes .now) _ q (c .zone-from .ensures)),
-      written-none (a .positions .now) (place (a .total) (a .blocks)),
-      written-none (a .leads .now) (leadAt (a .sizes .now) (a .times .now) (a .total) (a .blocks) (a .worst2)),
-    )
+loop-holds c = let a = c .before .before .before .before .args in (
+  omega arith,
+  above-start (a .sizes .now) _ _ (c .before .zone-of .ensures),
+  below-start (a .sizes .now) _ _ (c .zone-from .ensures),
+  written-none (a .positions .now) (place (a .total) (a .blocks)),
+  written-none (a .leads .now) (leadAt (a .sizes .now) (a .times .now) (a .total) (a .blocks) (a .worst2)),
+)
 
--- src/lists.rt:49:35
 add-zone-up : tie.Need-add-zone-up Inv-loop μ-loop
 add-zone-up c = let s = start (c .before) in omega (arith, s .pre .0 .room, s .pre .0 .some)
 
--- src/lists.rt:49:9
 zone-up-requires : tie.Need-zone-up-requires Inv-loop μ-loop
 zone-up-requires c κs = let s = start (c .before) in (s .pre .0 .disk .zoned, c .before .loop .inv .1, omega (arith, s .pre .0 .room, s .pre .0 .some, s .pre .0 .whole))
 
--- src/lists.rt:50:39
 sub-zone-down : tie.Need-sub-zone-down Inv-loop μ-loop
 sub-zone-down c = let s = start (c .before .before) in omega (arith, s .pre .0 .room, s .pre .0 .some)
 
--- src/lists.rt:50:9
 zone-down-requires : tie.Need-zone-down-requires Inv-loop μ-loop
 zone-down-requires c κs = let s = start (c .before .before) in (s .pre .0 .disk .zoned, c .before .before .loop .inv .2)
 
--- src/lists.rt:53:18
 mul-b : tie.Need-mul-b Inv-loop μ-loop
 mul-b c = let s = start (c .before .before .before) in omega (arith, s .pre .0 .room)
 
--- src/lists.rt:53:17
 cast-b : tie.Need-cast-b Inv-loop μ-loop
 cast-b c = let s = start (c .before .before .before) in omega (arith, s .pre .0 .room)
 
--- src/lists.rt:54:62
 add-put-block : tie.Need-add-put-block Inv-loop μ-loop
 add-put-block c = let s = start (c .before .before .before .before .before) in omega (arith, s .pre .0 .room, s .pre .0 .some)
 
--- src/lists.rt:54:9
 put-block-requires : tie.Need-put-block-requires Inv-loop μ-loop
 put-block-requires c κs = let z = c .before .before in
     let l = z .before .before .before in
@@ -144,15 +117,12 @@ put-block-requires c κs = let z = c .before .before in
     let n = enough l in
     (held z .first, s .pre .0 .disk .quick _, omega (arith, n .0), omega (arith, n .1))
 
--- src/lists.rt:55:59
 add-put-block-2 : tie.Need-add-put-block-2 Inv-loop μ-loop
 add-put-block-2 c = omega arith
 
--- src/lists.rt:55:66
 sub-put-block : tie.Need-sub-put-block Inv-loop μ-loop
 sub-put-block c = let s = start (c .before .before .before .before .before .before .before .before .before .before .before .before) in omega (arith, s .pre .0 .room, s .pre .0 .some)
 
--- src/lists.rt:55:9
 put-block-requires-2 : tie.Need-put-block-requires-2 Inv-loop μ-loop
 put-block-requires-2 c κs = let z = c .before .before .before .before .before .before .before .before .before in
     let put = c .before .before .before .before .before .before .put-block in
@@ -163,15 +133,12 @@ put-block-requires-2 c κs = let z = c .before .before .before .before .before .
     let q = store-entries _ (l .loop .leads) _ _ (put .ensures .1) in
     (held z .second, s .pre .0 .disk .quick _, omega (arith, n .0), omega (arith, n .1))
 
--- src/lists.rt:56:9
 add-i : tie.Need-add-i Inv-loop μ-loop
 add-i c = let s = start (c .before .before .before .before .before .before .before .before .before .before .before .before .before .before .before .before .before) in omega (arith, s .pre .0 .room)
 
--- src/lists.rt:48:5
 loop-less : tie.Need-loop-less Inv-loop μ-loop
 loop-less c = omega arith
 
--- src/lists.rt:48:5
 loop-again : tie.Need-loop-again Inv-loop μ-loop
 loop-again c = let z = c .before .before .before .before .before .before .before .before .before .before .before .before .before .before in
     let l = z .before .before .before in
@@ -193,23 +160,19 @@ loop-again c = let z = c .before .before .before .before .before .before .before
           ∙ written-pair (a .leads .now) (leadAt (a .sizes .now) (a .times .now) (a .total) (a .blocks) (a .worst2)) i _ _ (placed z .2) (placed z .3),
     )
 
--- src/lists.rt:58:18
 mul-if1 : tie.Need-mul-if1 Inv-loop μ-loop
 mul-if1 c = let s = start (c .before) in omega (arith, s .pre .0 .room)
 
--- src/lists.rt:59:9
 same-length : tie.Need-same-length Inv-loop μ-loop
 same-length c = let l = c .before .before in
     let a = start l .args in
     written-length _ (a .positions .now) (place (a .total) (a .blocks)) (2 * l .loop .i) (l .loop .inv .3)
 
--- src/lists.rt:59:9
 same-length-2 : tie.Need-same-length-2 Inv-loop μ-loop
 same-length-2 c = let l = c .before .before in
     let a = start l .args in
     written-length _ (a .leads .now) (leadAt (a .sizes .now) (a .times .now) (a .total) (a .blocks) (a .worst2)) (2 * l .loop .i) (l .loop .inv .4)
 
--- src/lists.rt:59:9
 returns : tie.Need-returns Inv-loop μ-loop
 returns c = let l = c .before .before in
     let a = start l .args in
@@ -218,11 +181,9 @@ returns c = let l = c .before .before in
       l .loop .inv .4 ∙ ap (Written (a .leads .now) (leadAt (a .sizes .now) (a .times .now) (a .total) (a .blocks) (a .worst2))) e,
     )
 
--- src/lists.rt:61:31
 add-zone-up-2 : tie.Need-add-zone-up-2 Inv-loop μ-loop
 add-zone-up-2 c = let s = start (c .before .before) in omega (arith, s .pre .0 .room, s .pre .0 .some)
 
--- src/lists.rt:61:5
 zone-up-requires-2 : tie.Need-zone-up-requires-2 Inv-loop μ-loop
 zone-up-requires-2 c κs = let l = c .before .before in
     let s = start l in
@@ -230,19 +191,15 @@ zone-up-requires-2 c κs = let l = c .before .before in
     let e : l .loop .i ≡ a .blocks / 2 = omega arith in
     (s .pre .0 .disk .zoned, rw e at (l .loop .inv .1), omega (arith, s .pre .0 .room, s .pre .0 .some, s .pre .0 .whole))
 
--- src/lists.rt:63:14
-mul-b-2 : tie.Need-mul-b-2 Inv-loop μ-loop
-mul-b-2 c = let s = start (c .before .before .before) in omega (arith, s .pre .0 .room)
+mul-tail : tie.Need-mul-tail Inv-loop μ-loop
+mul-tail c = let s = start (c .before .before .before) in omega (arith, s .pre .0 .room)
 
--- src/lists.rt:63:13
-cast-b-2 : tie.Need-cast-b-2 Inv-loop μ-loop
-cast-b-2 c = let s = start (c .before .before .before) in omega (arith, s .pre .0 .room)
+cast-tail : tie.Need-cast-tail Inv-loop μ-loop
+cast-tail c = let s = start (c .before .before .before) in omega (arith, s .pre .0 .room)
 
--- src/lists.rt:64:58
 add-put-block-3 : tie.Need-add-put-block-3 Inv-loop μ-loop
 add-put-block-3 c = let s = start (c .before .before .before .before .before) in omega (arith, s .pre .0 .room, s .pre .0 .some)
 
--- src/lists.rt:64:5
 put-block-requires-3 : tie.Need-put-block-requires-3 Inv-loop μ-loop
 put-block-requires-3 c κs = let u = c .before .before in
     let l = u .before .before .before in
@@ -250,19 +207,16 @@ put-block-requires-3 c κs = let u = c .before .before in
     let n = enough l in
     (omega (arith, holds-index (s .args .sizes .now) _ _ (u .zone-up2 .ensures .holds), s .pre .0 .disk .zoned .wide), s .pre .0 .disk .quick _, omega (arith, n .0, c .before .before .before .if1 .left), omega (arith, n .1, c .before .before .before .if1 .left))
 
--- src/lists.rt:38:1
 same-length-3 : tie.Need-same-length-3 Inv-loop μ-loop
 same-length-3 c = let l = c .before .before .before .before .before .before .before .before .before .before in
     let a = start l .args in
     store-length _ (l .loop .positions) _ _ (c .before .before .before .before .put-block3 .ensures .0) ∙ written-length _ (a .positions .now) (place (a .total) (a .blocks)) (2 * l .loop .i) (l .loop .inv .3)
 
--- src/lists.rt:38:1
 same-length-4 : tie.Need-same-length-4 Inv-loop μ-loop
 same-length-4 c = let l = c .before .before .before .before .before .before .before .before .before .before in
     let a = start l .args in
     store-length _ (l .loop .leads) _ _ (c .before .before .before .before .put-block3 .ensures .1) ∙ written-length _ (a .leads .now) (leadAt (a .sizes .now) (a .times .now) (a .total) (a .blocks) (a .worst2)) (2 * l .loop .i) (l .loop .inv .4)
 
--- src/lists.rt:38:1
 returns-2 : tie.Need-returns-2 Inv-loop μ-loop
 returns-2 c = let put = c .before .before .before .before .put-block3 in
     let u = c .before .before .before .before .before .before .before in
@@ -315,8 +269,8 @@ write-lists-spec =
     returns
     add-zone-up-2
     zone-up-requires-2
-    mul-b-2
-    cast-b-2
+    mul-tail
+    cast-tail
     add-put-block-3
     put-block-requires-3
     same-length-3

@@ -1,29 +1,21 @@
 use Prim.Native.Nat.{_*_, _≤_}
-use mathlib.Core.Path.{refl, _∙_, ap}
 use native.Mathlib.Omega.{arith}
 use native.Mathlib.Nat.{mul-le-mul}
 use Rattle.pacing.specs.Streams.{bufferOf}
 use borrow.Author.Needs.{needs}
 use Rattle.plan.proofs.streams.buffer_size.Statement.{statement}
 use Rattle.plan.proofs.streams.buffer_size.Tie as tie
-use Rattle.plan.proofs.streams.buffer_size.Reads as reads
-use Rattle.plan.proofs.streams.buffer_size.Lts as lts
-use Rattle.plan.proofs.product.Reads as product-reads
 
--- src/streams.rt:40:5
 mul-result : tie.Need-mul-result
 unfolding bufferOf
 mul-result c = omega (arith, c .pre .2)
 
--- src/streams.rt:40:33
 mul-product : tie.Need-mul-product
 mul-product c = let p : c .args .n * c .args .margin ≤ 256 * 8000000 = mul-le-mul (c .pre .0) (c .pre .1) in omega arith
 
--- src/streams.rt:40:19
 product-requires : tie.Need-product-requires
 product-requires c κs = search needs
 
--- src/streams.rt:40:19
 add-result : tie.Need-add-result
 add-result c = let a = c .before .args in
     let q : a .n * a .margin ≤ 256 * 8000000 = mul-le-mul (c .before .pre .0) (c .before .pre .1) in
@@ -31,17 +23,14 @@ add-result c = let a = c .before .args in
     let p : a .rate * (a .n * a .margin) ≤ 4294967295 * (256 * 8000000) = mul-le-mul r q in
     omega (arith, c .product .ensures)
 
--- src/streams.rt:40:17
 cast-result : tie.Need-cast-result
 unfolding bufferOf
 cast-result c = omega (arith, c .before .pre .2, c .product .ensures)
 
--- src/streams.rt:40:5
 add-result-2 : tie.Need-add-result-2
 unfolding bufferOf
 add-result-2 c = omega (arith, c .before .pre .2, c .product .ensures)
 
--- src/streams.rt:36:1
 returns : tie.Need-returns
 unfolding bufferOf
 returns c = omega (arith, c .product .ensures)

@@ -1,14 +1,10 @@
-use Prim.Native.Nat.{_*_, _-_, _≤_, _<_}
-use mathlib.Core.Path.{_≡_, refl, sym, _∙_, ap}
+use Prim.Native.Nat.{_≤_}
+use mathlib.Core.Path.{_≡_, sym, _∙_}
 use native.Mathlib.Omega.{arith}
 use borrow.Author.Needs.{needs}
 use Rattle.pacing.specs.Streams.{overhead, load, streams, tried, tried-all, tried-hit, tried-down, tried-none}
 use Rattle.plan.proofs.streams.count_streams.Statement.{statement}
 use Rattle.plan.proofs.streams.count_streams.Tie as tie
-use Rattle.plan.proofs.streams.count_streams.Reads as reads
-use Rattle.plan.proofs.streams.count_streams.Lts as lts
-use Rattle.plan.proofs.product.Reads as product-reads
-use Rattle.plan.proofs.streams.load.Reads as load-reads
 
 abbrev Inv-loop : tie.InvT-loop
 Inv-loop rate worst2 hop back bytes room n₀ n = (n ≤ 256) × (tried rate worst2 (overhead hop back) bytes n ≡ streams rate worst2 (overhead hop back) bytes)
@@ -16,37 +12,29 @@ Inv-loop rate worst2 hop back bytes room n₀ n = (n ≤ 256) × (tried rate wor
 abbrev μ-loop : tie.MeasureT-loop
 μ-loop rate worst2 hop back bytes room n₀ n = n
 
--- src/streams.rt:22:9
 product-requires : tie.Need-product-requires Inv-loop μ-loop
 product-requires c κs = search needs
 
--- src/streams.rt:24:5
 loop-holds : tie.Need-loop-holds Inv-loop μ-loop
 loop-holds c = let a = c .before .args in (omega arith, tried-all (a .rate) (a .worst2) (overhead (a .hop) (a .back)) (a .bytes))
 
--- src/streams.rt:28:12
 load-requires : tie.Need-load-requires Inv-loop μ-loop
 load-requires c κs = (c .before .before .before .pre, omega arith)
 
--- src/streams.rt:31:9
 sub-n : tie.Need-sub-n Inv-loop μ-loop
 sub-n c = omega arith
 
--- src/streams.rt:24:5
 loop-less : tie.Need-loop-less Inv-loop μ-loop
 loop-less c = omega arith
 
--- src/streams.rt:24:5
 loop-again : tie.Need-loop-again Inv-loop μ-loop
 loop-again c = let a = c .before .before .before .before .before .args in let l = c .before .before .before .loop in
     (omega arith, sym (tried-down (a .rate) (a .worst2) (overhead (a .hop) (a .back)) (a .bytes) (l .n) (omega arith) (omega (arith, c .before .before .before .before .product .ensures, c .before .load .ensures))) ∙ l .inv .1)
 
--- src/streams.rt:18:1
 returns : tie.Need-returns Inv-loop μ-loop
 returns c = let a = c .before .before .before .args in let l = c .before .loop in
     sym (tried-none (a .rate) (a .worst2) (overhead (a .hop) (a .back)) (a .bytes) (l .n) (c .if1 .taken)) ∙ l .inv .1
 
--- src/streams.rt:18:1
 returns-2 : tie.Need-returns-2 Inv-loop μ-loop
 returns-2 c = let a = c .before .before .before .before .before .args in let l = c .before .before .before .loop in
     sym (tried-hit (a .rate) (a .worst2) (overhead (a .hop) (a .back)) (a .bytes) (l .n) (omega arith) (omega (arith, c .before .before .before .before .product .ensures, c .before .load .ensures))) ∙ l .inv .1

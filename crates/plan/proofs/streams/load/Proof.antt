@@ -1,33 +1,25 @@
 use Prim.Native.Nat.{ℕ, _+_, _*_, _≤_}
-use mathlib.Core.Path.{refl, _∙_, ap}
+use mathlib.Core.Path.{_∙_, ap}
 use native.Mathlib.Omega.{arith}
 use native.Mathlib.Nat.{mul-le-mul}
 use Rattle.pacing.specs.Streams.{overhead, load}
 use borrow.Author.Needs.{needs}
 use Rattle.plan.proofs.streams.load.Statement.{statement}
 use Rattle.plan.proofs.streams.load.Tie as tie
-use Rattle.plan.proofs.streams.load.Reads as reads
-use Rattle.plan.proofs.streams.load.Lts as lts
-use Rattle.plan.proofs.overhead.Reads as overhead-reads
-use Rattle.plan.proofs.product.Reads as product-reads
 
--- src/streams.rt:14:19
 mul-product : tie.Need-mul-product
 mul-product c = let p : c .args .n * c .args .worst2 ≤ 256 * 8000000 = mul-le-mul (c .pre .1) (c .pre .0 .pair) in omega arith
 
--- src/streams.rt:14:36
 overhead-requires : tie.Need-overhead-requires
 unfolding overhead
 overhead-requires c κs = let p : c .args .n * c .args .hop ≤ 256 * 1000000 = mul-le-mul (c .pre .1) (c .pre .0 .hops) in omega (arith, c .pre .0 .backs)
 
--- src/streams.rt:14:32
 mul-product-2 : tie.Need-mul-product-2
 unfolding overhead
 mul-product-2 c = let a = c .before .args in
     let p : a .n * a .hop ≤ 256 * 1000000 = mul-le-mul (c .before .pre .1) (c .before .pre .0 .hops) in
     omega (arith, c .before .pre .0 .backs, c .overhead .ensures)
 
--- src/streams.rt:14:19
 add-product : tie.Need-add-product
 unfolding overhead
 add-product c = let a = c .before .args in
@@ -35,11 +27,9 @@ add-product c = let a = c .before .args in
     let q : a .n * a .worst2 ≤ 256 * 8000000 = mul-le-mul (c .before .pre .1) (c .before .pre .0 .pair) in
     omega (arith, c .before .pre .0 .backs, c .overhead .ensures)
 
--- src/streams.rt:14:5
 product-requires : tie.Need-product-requires
 product-requires c κs = search needs
 
--- src/streams.rt:10:1
 returns : tie.Need-returns
 unfolding load
 returns c = let a = c .before .before .args in

@@ -1,14 +1,11 @@
-use Prim.Native.Nat.{ℕ, suc, _+_, _-_, _≤_, _<_}
-use mathlib.Core.Path.{_≡_, sym, ap, _∙_}
-use mathlib.Core.List.{List}
+use Prim.Native.Nat.{ℕ, _+_, _-_, _≤_}
+use mathlib.Core.Path.{_≡_, ap, _∙_}
 use native.Mathlib.Omega.{arith}
-use lib.ListN.{length, getD, take}
+use lib.ListN.{getD, take}
 use Rattle.placement.specs.Zones.{total, total-take}
 use Rattle.plan.proofs.Cursors.{total-none, total-more}
 use Rattle.plan.proofs.zones.sum_positions.Statement.{statement}
 use Rattle.plan.proofs.zones.sum_positions.Tie as tie
-use Rattle.plan.proofs.zones.sum_positions.Reads as reads
-use Rattle.plan.proofs.zones.sum_positions.Lts as lts
 
 abbrev Inv-loop : tie.InvT-loop
 Inv-loop positions zones count sum₀ i₀ sum i = (count ≡ zones) × (i ≤ zones) × (sum ≡ total (take i positions))
@@ -23,38 +20,30 @@ turn c =
     let l = c .before .before .loop in
     total-more (c .before .before .before .args .positions .now) (l .i) (l .i + 1) (omega arith) (omega (arith, c .before .before .before .pre .0 .wide))
 
--- src/zones.rt:24:5
 loop-holds : tie.Need-loop-holds Inv-loop μ-loop
 loop-holds c = let z = total-none (c .args .positions .now) in omega arith
 
--- src/zones.rt:25:16
 mul-sum : tie.Need-mul-sum Inv-loop μ-loop
 mul-sum c = omega arith
 
--- src/zones.rt:25:16
 element-copy-out-sum : tie.Need-element-copy-out-sum Inv-loop μ-loop
 element-copy-out-sum c = omega arith
 
--- src/zones.rt:25:9
 add-sum : tie.Need-add-sum Inv-loop μ-loop
 add-sum c = let ps = c .before .before .before .args .positions .now in
     let l = c .before .before .loop in
     omega (arith, turn c, total-take ps (l .i + 1), c .before .before .before .pre .0 .small)
 
--- src/zones.rt:26:9
 add-i : tie.Need-add-i Inv-loop μ-loop
 add-i c = omega arith
 
--- src/zones.rt:24:5
 loop-less : tie.Need-loop-less Inv-loop μ-loop
 loop-less c = omega arith
 
--- src/zones.rt:24:5
 loop-again : tie.Need-loop-again Inv-loop μ-loop
 loop-again c = let l = c .before .before .loop in
     omega (arith, turn c)
 
--- src/zones.rt:17:1
 returns : tie.Need-returns Inv-loop μ-loop
 returns c = let a = c .before .before .args in
     let l = c .before .loop in

@@ -1,39 +1,30 @@
 use native.Mathlib.Omega.{arith}
 use Rattle.plan.proofs.Cursors.{Down, step-down, down-is, down-stays}
-use Prim.Native.Nat.{ℕ, suc, _+_, _-_, _≤_, _<_}
-use lib.ListN.{length, getD, take}
-use borrow.Author.Needs.{needs}
+use Prim.Native.Nat.{_-_, _<_}
+use lib.ListN.{getD}
 use Rattle.plan.proofs.zones.zone_down.Statement.{statement}
 use Rattle.plan.proofs.zones.zone_down.Tie as tie
-use Rattle.plan.proofs.zones.zone_down.Reads as reads
-use Rattle.plan.proofs.zones.zone_down.Lts as lts
 
 next : (c : tie.Else1) → (let s = c .before .before in let a = s .args in
     (0 < a .at .index) × Down (a .positions .now) (s .pre .0) (a .at) (a .q) (a .at .index - 1) (a .at .border - getD (a .positions .now) (a .at .index - 1) 0))
 next c = let s = c .before .before in step-down (s .args .positions .now) (s .pre .0) (s .args .at) (s .args .q) (s .pre .1) (c .if1 .left)
 
--- src/zones.rt:92:9
 returns : tie.Need-returns
 returns c = let s = c .before .before in
     down-stays (s .args .positions .now) (s .pre .0) (s .args .at) (s .args .q) (s .pre .1) (c .if1 .taken)
 
--- src/zones.rt:94:17
 sub-index : tie.Need-sub-index
 sub-index c = omega (arith, next (c .before) .0)
 
--- src/zones.rt:97:29
 mul-t6 : tie.Need-mul-t6
 mul-t6 c = omega (arith, next (c .before) .1 .room, c .before .before .before .pre .0 .wide)
 
--- src/zones.rt:97:29
 element-copy-out-t9 : tie.Need-element-copy-out-t9
 element-copy-out-t9 c = omega (arith, next (c .before) .1 .room, c .before .before .before .pre .0 .wide)
 
--- src/zones.rt:97:17
 sub-t10 : tie.Need-sub-t10
 sub-t10 c = omega (arith, next (c .before .before .before) .1 .enough)
 
--- src/zones.rt:87:1
 returns-2 : tie.Need-returns-2
 returns-2 c = let s = c .before .before .before .before .before in
     down-is (s .args .positions .now) (s .pre .0) (s .args .at) (s .args .q) _ _ (next (c .before .before .before) .1)

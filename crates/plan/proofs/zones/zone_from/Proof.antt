@@ -1,38 +1,27 @@
-use Prim.Native.Nat.{_+_, _<_, suc}
-use mathlib.Core.Path.{_≡_}
+use Prim.Native.Nat.{_<_}
 use native.Mathlib.Omega.{arith}
-use lib.ListN.{getD, take}
-use Rattle.placement.specs.Zones.{total}
 use Rattle.plan.proofs.Cursors.{holds-index, holds-turn}
 use borrow.Author.Needs.{needs}
 use Rattle.plan.proofs.zones.zone_from.Statement.{statement}
 use Rattle.plan.proofs.zones.zone_from.Tie as tie
-use Rattle.plan.proofs.zones.zone_from.Reads as reads
-use Rattle.plan.proofs.zones.zone_from.Lts as lts
-use Rattle.plan.proofs.zones.zone_of.Reads as zone-of-reads
 
 index-below : (c : tie.After-zone-of) → c .zone-of .result .index < 64
 index-below c = omega (arith, holds-index (c .before .args .positions .now) (c .zone-of .result .index) (c .before .args .q) (c .zone-of .ensures .holds), c .before .pre .0 .wide)
 
--- src/zones.rt:63:9
 zone-of-requires : tie.Need-zone-of-requires
 zone-of-requires c κs = search needs
 
--- src/zones.rt:67:31
 mul-t5 : tie.Need-mul-t5
 mul-t5 c = omega (arith, index-below c)
 
--- src/zones.rt:67:31
 element-copy-out-t8 : tie.Need-element-copy-out-t8
 element-copy-out-t8 c = index-below c
 
--- src/zones.rt:67:17
 sub-t9 : tie.Need-sub-t9
 sub-t9 c = let z = c .before .before .zone-of in
     let s = c .before .before .before in
     omega (arith, z .ensures .border, holds-turn (s .args .positions .now) (z .result .index) (s .args .q) (z .ensures .holds))
 
--- src/zones.rt:59:1
 returns : tie.Need-returns
 returns c = let z = c .before .before .zone-of in
     let s = c .before .before .before in

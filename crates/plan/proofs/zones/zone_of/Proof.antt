@@ -1,15 +1,12 @@
 use Prim.Native.Nat.{ℕ, suc, _+_, _-_, _≤_, _<_}
-use mathlib.Core.Path.{_≡_, refl, sym, ap, _∙_}
+use mathlib.Core.Path.{_≡_, sym, ap, _∙_}
 use native.Mathlib.Omega.{arith}
-use borrow.Author.Needs.{needs}
 use mathlib.Core.List.{List}
 use lib.ListN.{length, getD, take}
 use Rattle.placement.specs.Zones.{total, total-take, total-turn}
 use Rattle.plan.proofs.Cursors.{total-none, zone-left}
 use Rattle.plan.proofs.zones.zone_of.Statement.{statement}
 use Rattle.plan.proofs.zones.zone_of.Tie as tie
-use Rattle.plan.proofs.zones.zone_of.Reads as reads
-use Rattle.plan.proofs.zones.zone_of.Lts as lts
 
 abbrev Inv-loop : tie.InvT-loop
 Inv-loop positions q index₀ end₀ index end = (index < 64) × (end ≡ total (take (suc index) positions)) × (total (take index positions) ≤ q)
@@ -34,46 +31,37 @@ next c index end inv h =
     let turn : total (take (suc (index + 1)) ps) ≡ total (take (index + 1) ps) + getD ps (index + 1) 0 = total-turn ps (index + 1) room in
     record { room = omega (arith, c .pre .0 .wide); is = omega arith; few = omega (arith, total-take ps (suc (index + 1)), c .pre .0 .small); from = omega arith }
 
--- src/zones.rt:37:24
 element-copy-out-end : tie.Need-element-copy-out-end Inv-loop μ-loop
 element-copy-out-end c = omega arith
 
--- src/zones.rt:38:5
 loop-holds : tie.Need-loop-holds Inv-loop μ-loop
 loop-holds c = let ps = c .before .args .positions .now in
     (omega arith, omega (arith, total-turn ps 0 (omega (arith, c .before .pre .0 .wide)), total-none ps), omega (arith, total-none ps))
 
--- src/zones.rt:39:9
 add-index : tie.Need-add-index Inv-loop μ-loop
 add-index c = omega arith
 
--- src/zones.rt:40:16
 mul-end : tie.Need-mul-end Inv-loop μ-loop
 mul-end c = omega arith
 
--- src/zones.rt:40:16
 element-copy-out-end-2 : tie.Need-element-copy-out-end-2 Inv-loop μ-loop
 element-copy-out-end-2 c = next (c .before .before .before) _ _ (c .before .loop .inv) (c .loop-test .taken) .room
 
--- src/zones.rt:40:9
 add-end : tie.Need-add-end Inv-loop μ-loop
 add-end c = let l = c .before .before .loop in
     let n = next (c .before .before .before .before) (l .index) (l .end) (l .inv) (c .before .loop-test .taken) in
     omega (arith, n .few)
 
--- src/zones.rt:38:5
 loop-less : tie.Need-loop-less Inv-loop μ-loop
 loop-less c = let l = c .before .before .loop in
     let n = next (c .before .before .before .before) (l .index) (l .end) (l .inv) (c .before .loop-test .taken) in
     omega (arith, n .room)
 
--- src/zones.rt:38:5
 loop-again : tie.Need-loop-again Inv-loop μ-loop
 loop-again c = let l = c .before .before .loop in
     let n = next (c .before .before .before .before) (l .index) (l .end) (l .inv) (c .before .loop-test .taken) in
     (n .room, n .is, n .from)
 
--- src/zones.rt:32:1
 returns : tie.Need-returns Inv-loop μ-loop
 returns c = let l = c .before .loop in
     record { border = l .inv .1; holds = record { from = l .inv .2; to = omega (arith, l .inv .1, c .loop-test .left) } }

@@ -1,39 +1,30 @@
 use native.Mathlib.Omega.{arith}
 use Rattle.plan.proofs.Cursors.{Up, step-up, up-is, up-stays}
-use Prim.Native.Nat.{ℕ, suc, _+_, _-_, _≤_, _<_}
-use lib.ListN.{length, getD, take}
-use borrow.Author.Needs.{needs}
+use Prim.Native.Nat.{_+_}
+use lib.ListN.{getD}
 use Rattle.plan.proofs.zones.zone_up.Statement.{statement}
 use Rattle.plan.proofs.zones.zone_up.Tie as tie
-use Rattle.plan.proofs.zones.zone_up.Reads as reads
-use Rattle.plan.proofs.zones.zone_up.Lts as lts
 
 next : (c : tie.Else1) → (let s = c .before .before in let a = s .args in
     Up (a .positions .now) (s .pre .0) (a .at) (a .q) (a .at .index + 1) (a .at .border + getD (a .positions .now) (a .at .index + 1) 0))
 next c = let s = c .before .before in step-up (s .args .positions .now) (s .pre .0) (s .args .at) (s .args .q) (s .pre .1) (c .if1 .left) (s .pre .2)
 
--- src/zones.rt:77:9
 returns : tie.Need-returns
 returns c = let s = c .before .before in
     up-stays (s .args .positions .now) (s .pre .0) (s .args .at) (s .args .q) (s .pre .1) (c .if1 .taken)
 
--- src/zones.rt:79:17
 add-index : tie.Need-add-index
 add-index c = omega (arith, next (c .before) .room, c .before .before .before .pre .0 .wide)
 
--- src/zones.rt:82:29
 mul-t6 : tie.Need-mul-t6
 mul-t6 c = omega (arith, next (c .before) .room, c .before .before .before .pre .0 .wide)
 
--- src/zones.rt:82:29
 element-copy-out-t9 : tie.Need-element-copy-out-t9
 element-copy-out-t9 c = omega (arith, next (c .before) .room, c .before .before .before .pre .0 .wide)
 
--- src/zones.rt:82:17
 add-t10 : tie.Need-add-t10
 add-t10 c = omega (arith, next (c .before .before .before) .few)
 
--- src/zones.rt:72:1
 returns-2 : tie.Need-returns-2
 returns-2 c = let s = c .before .before .before .before .before in
     up-is (s .args .positions .now) (s .pre .0) (s .args .at) (s .args .q) _ _ (next (c .before .before .before))

@@ -5,7 +5,7 @@ use native.Mathlib.Omega.{arith}
 use borrow.Author.Needs.{needs}
 use borrow.Author.Count.{below-none, below-more}
 use lib.ListN.{length, getD}
-use Rattle.soundness.specs.Facts.{Tells, Tidy, TidyAt, AllTidy, PlayersHold, Listed}
+use Rattle.soundness.specs.Facts.{Tells, Tidy, TidyAt, AllTidy, PlayersHold, LeadList, LeadIs}
 use Rattle.soundness.proofs.Laws.{tells-yes, tells-no, tells-equal, tells-below, no-kind}
 use Rattle.soundness.proofs.slots.is_tidy.Statement.{statement}
 use Rattle.soundness.proofs.slots.is_tidy.Tie as tie

@@ -2,28 +2,21 @@ use Prim.Native.Nat.{_<_}
 use native.Mathlib.Omega.{arith}
 use Rattle.plan.proofs.Cursors.{holds-index, time-held}
 use borrow.Author.Needs.{needs}
-use Rattle.plan.proofs.zones.time_at.Statement.{statement}
-use Rattle.plan.proofs.zones.time_at.Tie as tie
-use Rattle.plan.proofs.zones.time_at.Reads as reads
-use Rattle.plan.proofs.zones.time_at.Lts as lts
-use Rattle.plan.proofs.zones.zone_of.Reads as zone-of-reads
+use Rattle.plan.proofs.time_at.Statement.{statement}
+use Rattle.plan.proofs.time_at.Tie as tie
 
 index-below : (c : tie.After-zone-of) → c .zone-of .result .index < 64
 index-below c = omega (arith, holds-index (c .before .args .positions .now) (c .zone-of .result .index) (c .before .args .q) (c .zone-of .ensures .holds), c .before .pre .0 .wide)
 
--- src/zones.rt:53:9
 zone-of-requires : tie.Need-zone-of-requires
 zone-of-requires c κs = search needs
 
--- src/zones.rt:55:5
 mul-result : tie.Need-mul-result
 mul-result c = omega (arith, index-below c)
 
--- src/zones.rt:55:5
 element-copy-out-result : tie.Need-element-copy-out-result
 element-copy-out-result c = index-below c
 
--- src/zones.rt:49:1
 returns : tie.Need-returns
 returns c = let z = c .before .zone-of in
     time-held (c .before .before .args .positions .now) (c .before .before .args .times .now) (z .result .index) (c .before .before .args .q) (z .ensures .holds)

@@ -10,31 +10,15 @@ use native.Mathlib.Decide.{ℕ-discrete, decLt}
 use lib.ListN.{length, getD}
 use lib.Dec.{eqb}
 use borrow.Author.Tests.{eqb-true, eqb-false, eq-eqb, ne-eqb}
-use Rattle.laws.specs.Bools.{clash, and-left, and-right, and-both}
+use Rattle.laws.specs.Bools.{clash, is-false, and-left, and-right, and-both}
 use Rattle.words.specs.Words.{wordsOf, withWord, withWords}
 use Rattle.words.specs.Laws.{withWords-none, withWords-cons, withWords-append, withWord-length, withWords-length, withWord-entries, withWords-entries}
 use Rattle.plan.specs.Plan.{row}
+use Rattle.plan.specs.Rows.{row-length, row-more, begins-yes, begins-at}
 use Rattle.placement.specs.Placement.{place, place-even, place-odd}
 use Rattle.placement.specs.Zones.{timeAt}
 use Rattle.plan.specs.Cursors.{leadAt}
 use Rattle.plan.specs.Answer.{begins}
-
--- ---- rows
-
-pub row-length : (g : ℕ → ℕ) (b n : ℕ) → length (row g b n) ≡ n
-unfolding row
-row-length g b zero = refl
-row-length g b (suc n) = ap suc (row-length g (suc b) n)
-
-pub row-more : (g : ℕ → ℕ) (b n : ℕ) → row g b (suc n) ≡ row g b n ++ (g (b + n) ∷ [])
-unfolding row
-row-more g b zero = let e : b + 0 ≡ b = omega arith in rw e
-row-more g b (suc n) = let e : suc b + n ≡ b + suc n = omega arith in ap (λ (t : List ℕ). g b ∷ t) (row-more g (suc b) n ∙ ap (λ (k : ℕ). row g (suc b) n ++ (g k ∷ [])) e)
-
-pub row-same : (g h : ℕ → ℕ) (b n : ℕ) → ((k : ℕ) → b ≤ k → k < b + n → g k ≡ h k) → row g b n ≡ row h b n
-unfolding row
-row-same g h b zero e = refl
-row-same g h b (suc n) e = rw (e b (omega arith) (omega arith), row-same g h (suc b) n (λ k l u. e k (omega arith) (omega arith)))
 
 -- ---- writing
 
@@ -70,30 +54,6 @@ module _ (s : List ℕ) (g : ℕ → ℕ) where
   written-entries n = withWords-entries s 0 (row g 0 n)
 
 -- ---- comparing
-
--- a list that has each entry begins with them
-pub begins-yes : (g : ℕ → ℕ) (b n : ℕ) (ws : List ℕ) → n ≤ length ws → ((k : ℕ) → k < n → getD ws k 0 ≡ g (b + k)) → begins (row g b n) ws ≡ true
-unfolding begins row
-begins-yes g b zero ws l h = refl
-begins-yes g b (suc n) [] l h = absurd (omega arith)
-begins-yes g b (suc n) (w ∷ ws) l h =
-    let z : b + 0 ≡ b = omega arith in
-    and-both (eq-eqb w (g b) (h 0 (omega arith) ∙ ap g z))
-    (begins-yes g (suc b) n ws (omega arith) (λ k u. let e : b + suc k ≡ suc b + k = omega arith in h (suc k) (omega arith) ∙ ap g e))
-
--- one that begins with them has each
-pub begins-at : (g : ℕ → ℕ) (b n : ℕ) (ws : List ℕ) → begins (row g b n) ws ≡ true → (k : ℕ) → k < n → getD ws k 0 ≡ g (b + k)
-unfolding begins row
-begins-at g b zero ws e k u = absurd (omega arith)
-begins-at g b (suc n) [] e k u = clash e refl
-begins-at g b (suc n) (w ∷ ws) e zero u = let z : b ≡ b + 0 = omega arith in eqb-true w (g b) (and-left (eqb w (g b)) _ e) ∙ ap g z
-begins-at g b (suc n) (w ∷ ws) e (suc k) u = let z : suc b + k ≡ b + suc k = omega arith in begins-at g (suc b) n ws (and-right (eqb w (g b)) _ e) k (omega arith) ∙ ap g z
-
-pub begins-long : (g : ℕ → ℕ) (b n : ℕ) (ws : List ℕ) → begins (row g b n) ws ≡ true → n ≤ length ws
-unfolding begins row
-begins-long g b zero ws e = omega arith
-begins-long g b (suc n) [] e = clash e refl
-begins-long g b (suc n) (w ∷ ws) e = omega (arith, begins-long g (suc b) n ws (and-right (eqb w (g b)) _ e))
 
 module _ (g h : ℕ → ℕ) (n : ℕ) (ps ls : List ℕ) where
   -- both lists have the first k entries

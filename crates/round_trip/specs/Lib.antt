@@ -1,0 +1,4 @@
+pub mod Entries
+pub mod Legality
+pub mod RoundTrip
+pub mod Size

@@ -1,0 +1,383 @@
+-- What is written is read back, and what is accepted is what would be written.
+-- Assumes nothing.
+use Prim.Native.Nat.{ℕ, zero, suc, _+_, _≤_, _<_}
+use mathlib.Core.Path.{_≡_, refl, sym, ap, ap₂, _∙_, subst}
+use mathlib.Core.Logic.{_↔_}
+use mathlib.Core.List.{List, [], _∷_, _++_}
+use mathlib.Core.Bool.{Bool, true, false, cond}
+use native.Mathlib.Omega.{arith}
+use lib.ListN.{length, getD, take, drop, replicate, length-append, length-drop, length-set, take-append-drop, drop-of-length-le}
+use lib.Seq.{length-take-le, drop-append-seam, drop-drop}
+use lib.Dec.{leb, ltb}
+use borrow.Author.Tests.{ltb-false, le-ltb, le-leb}
+use Rattle.leb128.specs.declared.Number.{Number}
+use Rattle.leb128.specs.declared.Number.the-variants as number
+use Rattle.leb128.specs.Number.{groups, numberAt}
+use Rattle.leb128.specs.Laws.{Bytes, Stands, written-read, read-written}
+use Rattle.card.specs.declared.Figures.{Figures}
+use Rattle.card.specs.declared.CardRead.{CardRead}
+use Rattle.card.specs.declared.fields.Rule.{Rule}
+use Rattle.card.specs.declared.fields.Rule.the-variants.{Kind, Zones, Positions, Time, Blocks, Measure}
+use Rattle.card.specs.declared.fields.Field.{Field}
+use Rattle.card.specs.declared.fields.Field.the-variants.{Value, Refused}
+use Rattle.card.specs.Ranges.{first, faultOf}
+use Rattle.card.specs.Card.{Legal, filmFault, zoneFaults, recordFault, filmNumbers, zoneNumbers, numbersOf, bytesOf, cardOf, writeFault, writtenCard, bufferAfter}
+use Rattle.card.specs.Read.{onFault, onNumber, fieldAt, blankZones, blankFigures, accepted, refusedCard, thenField, withZones, withZone, withFilm, cardEnd, filmFrom, zonesFrom, readCard}
+use Rattle.card.specs.Laws.{first-none, first-clear, kind-range, zones-range, positions-range, time-range, kind-legal, zones-legal}
+use Rattle.round_trip.specs.Entries.{Agree, agree-self, agree-all, agree-next, agree-back}
+use Rattle.round_trip.specs.Legality.{Wide, fault-judged, judged-fault, fault-film, fault-legal, legal-fault}
+
+-- ---- what is written is read back
+
+-- the numbers vs stand from an offset to the end of s
+record Ahead (s : List ℕ) (at : ℕ) (vs : List ℕ) : Type 0 where
+  inside : at ≤ length s
+  bytes : drop at s ≡ bytesOf vs
+
+module _ {s : List ℕ} {at v : ℕ} {vs : List ℕ} (a : Ahead s at (v ∷ vs)) where
+  -- after the first number stand the others
+  ahead-next : Ahead s (at + length (groups v)) vs
+  unfolding bytesOf
+  ahead-next = record {
+    inside = omega (arith, a .inside, length-append (groups v) (bytesOf vs), ap length (a .bytes), length-drop at s);
+    bytes = sym (drop-drop (length (groups v)) at s) ∙ ap (λ (bs : List ℕ). drop (length (groups v)) bs) (a .bytes) ∙ drop-append-seam (groups v) (bytesOf vs);
+  }
+
+  -- the first number is what the reader finds
+  number-ahead : v < 4294967296 → numberAt s at ≡ number.Value v (at + length (groups v))
+  unfolding bytesOf
+  number-ahead h =
+      let front : length (take at s) ≡ at = length-take-le at s (a .inside) in
+      let whole : take at s ++ (groups v ++ bytesOf vs) ≡ s = ap (λ (bs : List ℕ). take at s ++ bs) (sym (a .bytes)) ∙ take-append-drop at s in
+      rw front at (rw whole at (written-read (take at s) (bytesOf vs) v h))
+
+  -- a figure in its range is read, and the card goes on
+  field-goes : (rule : Rule) (bound : ℕ) (go : ℕ → ℕ → CardRead) → v < 4294967296 → faultOf rule bound v ≡ 0
+      → thenField (fieldAt rule bound s at) go ≡ go v (at + length (groups v))
+  unfolding fieldAt onNumber onFault thenField
+  field-goes rule bound go h e = rw (number-ahead h, e)
+
+-- no byte is left over
+end-goes : (s : List ℕ) (at : ℕ) (f : Figures) → Ahead s at [] → cardEnd s at f ≡ record { verdict = accepted; figures = f }
+unfolding cardEnd bytesOf
+end-goes s at f a = rw (le-ltb at (length s) (omega (arith, length-drop at s, ap length (a .bytes))))
+
+-- the film's figures are read
+film-goes : (s : List ℕ) (at : ℕ) (f g : Figures) (total : ℕ) → Ahead s at (filmNumbers f) → filmFault f total ≡ 0
+    → filmFrom s at g total ≡ record { verdict = accepted; figures = withFilm g (f .blocks) (f .bytes) (f .rate) (f .hop) (f .back) }
+unfolding filmFrom filmNumbers filmFault
+film-goes s at f g total a e =
+    let l = fault-film f total e in
+    let n = first-none (faultOf Blocks total (f .blocks)) _ e in
+    let b = first-none (faultOf Measure 4194304 (f .bytes)) _ (n .1) in
+    let c = first-none (faultOf Measure 10000000 (f .rate)) _ (b .1) in
+    let h = first-none (faultOf Measure 1000000 (f .hop)) _ (c .1) in
+    let a₁ = ahead-next a in
+    let a₂ = ahead-next a₁ in
+    let a₃ = ahead-next a₂ in
+    let a₄ = ahead-next a₃ in
+    field-goes a Blocks total _ (omega (arith, l .blocks)) (n .0)
+    ∙ field-goes a₁ Measure 4194304 _ (omega (arith, l .bytes)) (b .0)
+    ∙ field-goes a₂ Measure 10000000 _ (omega (arith, l .rate)) (c .0)
+    ∙ field-goes a₃ Measure 1000000 _ (omega (arith, l .hop)) (h .0)
+    ∙ field-goes a₄ Measure 1000000 _ (omega (arith, l .back)) (h .1)
+    ∙ end-goes s _ _ (ahead-next a₄)
+
+-- g has the zone count of f, and its entries but for `left` from the i-th on
+record Filled (i left : ℕ) (g f : Figures) : Type 0 where
+  zones : g .zones ≡ f .zones
+  positions : Agree i left (g .positions) (f .positions)
+  times : Agree i left (g .times) (f .times)
+
+-- the zones from the i-th on are read, then the film
+zones-go : (s : List ℕ) (f : Figures) → Wide f → (left at i : ℕ) (g : Figures) (total before : ℕ) → i + left ≤ 64 → Filled i left g f
+    → Ahead s at (zoneNumbers left i f) → zoneFaults left i f total before ≡ 0 → zonesFrom left s at i g total before ≡ record { verdict = accepted; figures = f }
+unfolding zonesFrom zoneNumbers zoneFaults
+zones-go s f w zero at i g total before b u a e = film-goes s at f g total a e ∙ (λ t. record { verdict = accepted; figures = full t })
+  where
+    full : withFilm g (f .blocks) (f .bytes) (f .rate) (f .hop) (f .back) ≡ f
+    full t = record {
+      zones = u .zones t;
+      positions = agree-all i _ _ (u .positions) t;
+      times = agree-all i _ _ (u .times) t;
+      blocks = f .blocks;
+      bytes = f .bytes;
+      rate = f .rate;
+      hop = f .hop;
+      back = f .back;
+    }
+zones-go s f w (suc left) at i g total before b u a e =
+    let p = first-none (faultOf Positions total (getD (f .positions) i 0)) _ e in
+    let q = first-none (faultOf Time before (getD (f .times) i 0)) _ (p .1) in
+    let few = positions-range total (getD (f .positions) i 0) (p .0) in
+    let slow = time-range before (getD (f .times) i 0) (q .0) in
+    let next : Filled (i + 1) left (withZone g i (getD (f .positions) i 0) (getD (f .times) i 0)) f = record {
+      zones = u .zones;
+      positions = agree-next i left (g .positions) (f .positions) (omega (arith, u .positions .long)) (u .positions);
+      times = agree-next i left (g .times) (f .times) (omega (arith, u .times .long)) (u .times);
+    } in
+    field-goes a Positions total _ (omega arith) (p .0)
+    ∙ field-goes (ahead-next a) Time before _ (omega arith) (q .0)
+    ∙ zones-go s f w left _ (i + 1) _ _ _ (omega arith) next (ahead-next (ahead-next a)) (q .1)
+
+-- the entries of a record before any is read
+zero-at : (n i : ℕ) → _≡_ {A = ℕ} (getD (replicate n 0) i 0) 0
+zero-at zero i = refl
+zero-at (suc n) zero = refl
+zero-at (suc n) (suc i) = zero-at n i
+
+blank-at : (i : ℕ) → getD blankZones i 0 ≡ 0
+unfolding blankZones
+blank-at i = zero-at 64 i
+
+blank-long : length blankZones ≡ 64
+unfolding blankZones
+blank-long = refl
+
+-- A WRITTEN CARD IS READ BACK
+pub card-read : (f : Figures) → Wide f → recordFault f ≡ 0 → readCard (cardOf f) ≡ record { verdict = accepted; figures = f }
+unfolding readCard cardOf numbersOf
+card-read f w e =
+    let j = fault-judged f e in
+    let a : Ahead (cardOf f) 0 (numbersOf f) = record { inside = omega arith; bytes = refl } in
+    let u : Filled 0 (f .zones) (withZones (f .zones)) f = record {
+      zones = refl;
+      positions = record { long = blank-long ∙ sym (w .0); low = λ i h. absurd (omega arith); high = λ i h. blank-at i ∙ sym (j .unused i (omega arith) .0) };
+      times = record { long = blank-long ∙ sym (w .1); low = λ i h. absurd (omega arith); high = λ i h. blank-at i ∙ sym (j .unused i (omega arith) .1) };
+    } in
+    field-goes a Kind 0 _ (omega arith) (kind-legal 0)
+    ∙ field-goes (ahead-next a) Zones 0 _ (omega (arith, j .zones)) (zones-legal 0 (f .zones) (j .zones .0) (j .zones .1))
+    ∙ zones-go (cardOf f) f w (f .zones) _ 0 _ 0 4000000 (omega (arith, j .zones)) u (ahead-next (ahead-next a)) (j .faults)
+
+-- ---- what is accepted is what would be written
+
+-- the figure at an offset of s: its value in its range, and its bytes
+record Got (rule : Rule) (bound : ℕ) (s : List ℕ) (at : ℕ) : Type 0 where
+  value : ℕ
+  next : ℕ
+  reads : fieldAt rule bound s at ≡ Value value next
+  clear : faultOf rule bound value ≡ 0
+  stands : Stands s at value next
+
+module _ (rule : Rule) (bound : ℕ) (s : List ℕ) (at : ℕ) (go : ℕ → ℕ → CardRead) where
+  got-goes : (g : Got rule bound s at) → thenField (fieldAt rule bound s at) go ≡ go (g .value) (g .next)
+  unfolding thenField
+  got-goes g = rw (g .reads)
+
+  -- an accepted card has the figure and goes on after it
+  accepted-field : {A : Type 0} → Bytes s → thenField (fieldAt rule bound s at) go .verdict .number ≡ 0
+      → ((g : Got rule bound s at) → go (g .value) (g .next) .verdict .number ≡ 0 → A) → A
+  unfolding fieldAt onNumber onFault thenField refusedCard
+  accepted-field {A} y e on = by (numberAt s at) refl e
+    where
+      judged : (v next : ℕ) → numberAt s at ≡ number.Value v next → (k : ℕ) → faultOf rule bound v ≡ k → thenField (onFault k at v next) go .verdict .number ≡ 0 → A
+      judged v next n zero q e = on (record { value = v; next = next; reads = rw (n, q); clear = q; stands = read-written s at v next y n }) e
+      judged v next n (suc k) q e = absurd (omega arith)
+
+      by : (n : Number) → numberAt s at ≡ n → thenField (onNumber (faultOf rule bound) at n) go .verdict .number ≡ 0 → A
+      by (number.Value v next) n e = judged v next n (faultOf rule bound v) refl e
+      by (number.CutOff size) n e = absurd (omega arith)
+      by (number.Malformed start) n e = absurd (omega arith)
+
+-- an accepted card ends after its last figure
+end-got : (s : List ℕ) (at : ℕ) (f : Figures) → at ≤ length s → cardEnd s at f .verdict .number ≡ 0 → (cardEnd s at f ≡ record { verdict = accepted; figures = f }) × Ahead s at []
+unfolding cardEnd refusedCard bytesOf
+end-got s at f l e = by (ltb at (length s)) refl e
+  where
+    by : (t : Bool) → ltb at (length s) ≡ t → cond t (refusedCard 11 at) (record { verdict = accepted; figures = f }) .verdict .number ≡ 0
+        → (cond (ltb at (length s)) (refusedCard 11 at) (record { verdict = accepted; figures = f }) ≡ record { verdict = accepted; figures = f }) × Ahead s at []
+    by true q e = absurd (omega arith)
+    by false q e = (rw q, record { inside = l; bytes = drop-of-length-le s (ltb-false at (length s) q) })
+
+-- what an accepted card answers from the i-th zone on, f being the figures so far
+record Rest (left : ℕ) (s : List ℕ) (at i : ℕ) (f : Figures) (total before : ℕ) : Type 0 where
+  figures : Figures
+  is : zonesFrom left s at i f total before ≡ record { verdict = accepted; figures = figures }
+  zones : figures .zones ≡ f .zones
+  positions : Agree i left (f .positions) (figures .positions)
+  times : Agree i left (f .times) (figures .times)
+  faults : zoneFaults left i figures total before ≡ 0
+  ahead : Ahead s at (zoneNumbers left i figures)
+
+-- a number in front of the others
+ahead-more : {s : List ℕ} {at v next : ℕ} {vs : List ℕ} → Stands s at v next → Ahead s next vs → Ahead s at (v ∷ vs)
+unfolding bytesOf
+ahead-more {v = v} n a = record { inside = omega (arith, n .after, n .inside); bytes = n .bytes ∙ ap (λ (x : List ℕ). groups v ++ x) (a .bytes) }
+
+-- the film's five figures and the end are a rest with no zones
+film-rest : (s : List ℕ) (at i : ℕ) (f : Figures) (total before : ℕ)
+    (n : Got Blocks total s at) (b : Got Measure 4194304 s (n .next)) (c : Got Measure 10000000 s (b .next)) (h : Got Measure 1000000 s (c .next)) (r : Got Measure 1000000 s (h .next))
+    → cardEnd s (r .next) (withFilm f (n .value) (b .value) (c .value) (h .value) (r .value)) .verdict .number ≡ 0 → Rest zero s at i f total before
+unfolding filmFrom zonesFrom zoneFaults zoneNumbers filmFault filmNumbers
+film-rest s at i f total before n b c h r e = by (end-got s (r .next) g (r .stands .inside) e)
+  where
+    g : Figures
+    g = withFilm f (n .value) (b .value) (c .value) (h .value) (r .value)
+
+    by : (cardEnd s (r .next) g ≡ record { verdict = accepted; figures = g }) × Ahead s (r .next) [] → Rest zero s at i f total before
+    by end = record {
+      figures = g;
+      is = got-goes Blocks total s at _ n ∙ got-goes Measure 4194304 s (n .next) _ b ∙ got-goes Measure 10000000 s (b .next) _ c
+          ∙ got-goes Measure 1000000 s (c .next) _ h ∙ got-goes Measure 1000000 s (h .next) _ r ∙ end .0;
+      zones = refl;
+      positions = agree-self i (f .positions);
+      times = agree-self i (f .times);
+      faults = first-clear (n .clear) (first-clear (b .clear) (first-clear (c .clear) (first-clear (h .clear) (r .clear))));
+      ahead = ahead-more (n .stands) (ahead-more (b .stands) (ahead-more (c .stands) (ahead-more (h .stands) (ahead-more (r .stands) (end .1)))));
+    }
+
+-- an accepted card has the film's five figures
+film-got : (s : List ℕ) (at i : ℕ) (f : Figures) (total before : ℕ) → Bytes s → filmFrom s at f total .verdict .number ≡ 0 → Rest zero s at i f total before
+unfolding filmFrom
+film-got s at i f total before y e =
+    accepted-field Blocks total s at _ y e (λ n e₁.
+    accepted-field Measure 4194304 s (n .next) _ y e₁ (λ b e₂.
+    accepted-field Measure 10000000 s (b .next) _ y e₂ (λ c e₃.
+    accepted-field Measure 1000000 s (c .next) _ y e₃ (λ h e₄.
+    accepted-field Measure 1000000 s (h .next) _ y e₄ (λ r e₅.
+    film-rest s at i f total before n b c h r e₅)))))
+
+-- a zone in front of a rest is a rest with one zone more
+zone-rest : (left : ℕ) (s : List ℕ) (at i : ℕ) (f : Figures) (total before : ℕ) → i < 64 → Wide f
+    → (p : Got Positions total s at) (t : Got Time before s (p .next))
+    → Rest left s (t .next) (i + 1) (withZone f i (p .value) (t .value)) (total + p .value) (t .value) → Rest (suc left) s at i f total before
+unfolding zonesFrom zoneFaults zoneNumbers
+zone-rest left s at i f total before b w p t r =
+    by (agree-back i left (f .positions) (r .figures .positions) (omega arith) (p .value) (r .positions))
+    (agree-back i left (f .times) (r .figures .times) (omega arith) (t .value) (r .times))
+  where
+    by : (getD (r .figures .positions) i 0 ≡ p .value) × Agree i (suc left) (f .positions) (r .figures .positions)
+        → (getD (r .figures .times) i 0 ≡ t .value) × Agree i (suc left) (f .times) (r .figures .times) → Rest (suc left) s at i f total before
+    by ps ts = record {
+      figures = r .figures;
+      is = got-goes Positions total s at _ p ∙ got-goes Time before s (p .next) _ t ∙ r .is;
+      zones = r .zones;
+      positions = ps .1;
+      times = ts .1;
+      faults = rw (ps .0, ts .0) (first-clear (p .clear) (first-clear (t .clear) (r .faults)));
+      ahead = rw (ps .0, ts .0) (ahead-more (p .stands) (ahead-more (t .stands) (r .ahead)));
+    }
+
+-- an accepted card has each zone and the film
+zones-got : (left : ℕ) (s : List ℕ) (at i : ℕ) (f : Figures) (total before : ℕ) → Bytes s → i + left ≤ 64 → Wide f
+    → zonesFrom left s at i f total before .verdict .number ≡ 0 → Rest left s at i f total before
+unfolding zonesFrom
+zones-got zero s at i f total before y b w e = film-got s at i f total before y e
+zones-got (suc left) s at i f total before y b w e =
+    accepted-field Positions total s at _ y e (λ p e₁.
+    accepted-field Time before s (p .next) _ y e₁ (λ t e₂.
+    zone-rest left s at i f total before (omega arith) w p t
+    (zones-got left s (t .next) (i + 1) (withZone f i (p .value) (t .value)) (total + p .value) (t .value) y (omega arith)
+    (length-set (f .positions) i (p .value) ∙ w .0, length-set (f .times) i (t .value) ∙ w .1) e₂)))
+
+-- the card s is accepted with the figures g, which the judge does not refuse, and is their card
+pub record AcceptedWith (s : List ℕ) (g : Figures) : Type 0 where
+  pub wide : Wide g
+  pub clear : recordFault g ≡ 0
+  pub same : s ≡ cardOf g
+  pub whole : readCard s ≡ record { verdict = accepted; figures = g }
+
+-- the same, with the figures that it answers
+abbrev pub AcceptedCard : List ℕ → Type 0
+AcceptedCard s = AcceptedWith s (readCard s .figures)
+
+-- the numbers from the front on are the whole
+ahead-whole : (s : List ℕ) (f : Figures) (kind zones : ℕ) → kind ≡ 1 → zones ≡ f .zones → Ahead s 0 (kind ∷ zones ∷ zoneNumbers zones 0 f) → s ≡ cardOf f
+unfolding cardOf numbersOf
+ahead-whole s f kind zones one e a = a .bytes ∙ ap₂ (λ (k z : ℕ). bytesOf (k ∷ z ∷ zoneNumbers z 0 f)) one e
+
+-- kind, zone count and the rest are the whole card
+accepted-rest : (s : List ℕ) (k : Got Kind 0 s 0) (z : Got Zones 0 s (k .next)) → k .value ≡ 1 → (1 ≤ z .value) × (z .value ≤ 64)
+    → (r : Rest (z .value) s (z .next) 0 (withZones (z .value)) 0 4000000) → AcceptedWith s (r .figures)
+unfolding readCard
+accepted-rest s k z one few r = record {
+  wide = (sym (r .positions .long) ∙ blank-long, sym (r .times .long) ∙ blank-long);
+  clear = judged-fault (r .figures) (record {
+    zones = rw (r .zones) few;
+    unused = λ i l. (sym (r .positions .high i (omega (arith, r .zones))) ∙ blank-at i, sym (r .times .high i (omega (arith, r .zones))) ∙ blank-at i);
+    faults = subst (λ (n : ℕ). zoneFaults n 0 (r .figures) 0 4000000 ≡ 0) (sym (r .zones)) (r .faults);
+  });
+  same = ahead-whole s (r .figures) (k .value) (z .value) one (sym (r .zones)) (ahead-more (k .stands) (ahead-more (z .stands) (r .ahead)));
+  whole = got-goes Kind 0 s 0 _ k ∙ got-goes Zones 0 s (k .next) _ z ∙ r .is;
+}
+
+-- AN ACCEPTED CARD IS THE CARD OF ITS FIGURES
+pub read-card : (s : List ℕ) → Bytes s → readCard s .verdict .number ≡ 0 → AcceptedCard s
+unfolding readCard
+read-card s y e =
+    accepted-field Kind 0 s 0 _ y e (λ k e₁.
+    accepted-field Zones 0 s (k .next) _ y e₁ (λ z e₂.
+    by k z (zones-range 0 (z .value) (z .clear)) e₂))
+  where
+    -- the figures found are those of the answer
+    answered : {g : Figures} → AcceptedWith s g → AcceptedCard s
+    answered a = subst (AcceptedWith s) (ap (λ (x : CardRead). x .figures) (sym (a .whole))) a
+
+    by : (k : Got Kind 0 s 0) (z : Got Zones 0 s (k .next)) → (1 ≤ z .value) × (z .value ≤ 64)
+        → zonesFrom (z .value) s (z .next) 0 (withZones (z .value)) 0 4000000 .verdict .number ≡ 0 → AcceptedCard s
+    by k z few e = answered (accepted-rest s k z (kind-range 0 (k .value) (k .clear)) few
+        (zones-got (z .value) s (z .next) 0 (withZones (z .value)) 0 4000000 y (omega arith) (blank-long, blank-long) e))
+
+-- ---- the same of legal figures
+
+-- THE CARD OF LEGAL FIGURES IS READ BACK
+pub legal-read : (f : Figures) → Legal f → readCard (cardOf f) ≡ record { verdict = accepted; figures = f }
+legal-read f l = card-read f (l .wide) (legal-fault f l)
+
+-- THE READER ACCEPTS EXACTLY THE CARDS OF LEGAL FIGURES
+pub reader-legal : (s : List ℕ) → Bytes s → (readCard s .verdict .number ≡ 0) ↔ ((f : Figures) × Legal f × (s ≡ cardOf f))
+reader-legal s y = (λ e. found (readCard s .figures) (read-card s y e), accepts)
+  where
+    found : (g : Figures) → AcceptedWith s g → (f : Figures) × Legal f × (s ≡ cardOf f)
+    found g a = (g, fault-legal g (a .wide) (a .clear), a .same)
+
+    accepts : (f : Figures) × Legal f × (s ≡ cardOf f) → readCard s .verdict .number ≡ 0
+    accepts (f, l, e) = ap (λ (x : List ℕ). readCard x .verdict .number) e ∙ ap (λ (r : CardRead). r .verdict .number) (legal-read f l)
+
+-- the writer puts the card of figures that are not refused in front of what stood past it
+written : (g : Figures) (out : List ℕ) → recordFault g ≡ 0 → length (cardOf g) ≤ length out
+    → (writtenCard g out ≡ record { verdict = accepted; length = length (cardOf g) }) × (bufferAfter g out ≡ cardOf g ++ drop (length (cardOf g)) out)
+unfolding writtenCard bufferAfter writeFault first
+written g out e h =
+    let room : leb (length (cardOf g)) (length out) ≡ true = le-leb (length (cardOf g)) (length out) (omega arith) in
+    (rw (e, room), rw (e, room))
+
+-- AN ACCEPTED CARD IS WHAT THE WRITER WRITES OF ITS FIGURES
+pub accepted-written : (s : List ℕ) → Bytes s → readCard s .verdict .number ≡ 0 → (out : List ℕ) → length s ≤ length out
+    → (writtenCard (readCard s .figures) out ≡ record { verdict = accepted; length = length s }) × (bufferAfter (readCard s .figures) out ≡ s ++ drop (length s) out)
+accepted-written s y e out = by (readCard s .figures) (read-card s y e)
+  where
+    by : (g : Figures) → AcceptedWith s g → length s ≤ length out
+        → (writtenCard g out ≡ record { verdict = accepted; length = length s }) × (bufferAfter g out ≡ s ++ drop (length s) out)
+    by g a = subst (λ (x : List ℕ). length x ≤ length out → (writtenCard g out ≡ record { verdict = accepted; length = length x }) × (bufferAfter g out ≡ x ++ drop (length x) out)) (sym (a .same)) (written g out (a .clear))
+
+-- ---- a refused card
+
+-- a refusal has no figures
+abbrev Blank : CardRead → Type 0
+Blank r = (k : ℕ) → r .verdict .number ≡ suc k → r .figures ≡ blankFigures
+
+then-blank : (x : Field) (go : ℕ → ℕ → CardRead) → ((v next : ℕ) → Blank (go v next)) → Blank (thenField x go)
+unfolding thenField refusedCard
+then-blank (Value v next) go h = h v next
+then-blank (Refused j at) go h = λ k e. refl
+
+end-blank : (s : List ℕ) (at : ℕ) (f : Figures) → Blank (cardEnd s at f)
+unfolding cardEnd refusedCard
+end-blank s at f = by (ltb at (length s))
+  where
+    by : (t : Bool) → Blank (cond t (refusedCard 11 at) (record { verdict = accepted; figures = f }))
+    by true = λ k e. refl
+    by false = λ k e. absurd (omega arith)
+
+zones-blank : (left : ℕ) (s : List ℕ) (at i : ℕ) (f : Figures) (total before : ℕ) → Blank (zonesFrom left s at i f total before)
+unfolding zonesFrom filmFrom
+zones-blank zero s at i f total before =
+    then-blank _ _ (λ n at₁. then-blank _ _ (λ b at₂. then-blank _ _ (λ c at₃. then-blank _ _ (λ hop at₄. then-blank _ _ (λ ret at₅. end-blank s at₅ (withFilm f n b c hop ret))))))
+zones-blank (suc left) s at i f total before =
+    then-blank _ _ (λ p at₁. then-blank _ _ (λ t at₂. zones-blank left s at₂ (i + 1) (withZone f i p t) (total + p) t))
+
+-- A REFUSED CARD ANSWERS NO FIGURES
+pub refused-blank : (s : List ℕ) (k : ℕ) → readCard s .verdict .number ≡ suc k → readCard s .figures ≡ blankFigures
+unfolding readCard
+refused-blank s = then-blank _ _ (λ kind at₁. then-blank _ _ (λ z at₂. zones-blank z s at₂ 0 (withZones z) 0 4000000))

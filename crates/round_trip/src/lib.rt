@@ -1,0 +1,41 @@
+// How the reader, the judge and the writer of a card fit together, and that they accept just the legal figures: claims without code.
+ghost use mathlib.Core.Path.{_≡_};
+ghost use mathlib.Core.Logic.{_↔_};
+ghost use mathlib.Core.List.{List, _++_};
+ghost use Prim.Native.Nat.{ℕ, suc, _≤_};
+ghost use lib.ListN.{length, drop};
+ghost use Rattle.leb128.specs.Laws.{Bytes};
+ghost use Rattle.card.specs.declared.Figures.{Figures};
+ghost use Rattle.card.specs.Card.{Legal, recordFault, judgeRecord, cardOf, writtenCard, bufferAfter};
+ghost use Rattle.card.specs.Read.{accepted, blankFigures, readCard};
+ghost use Rattle.round_trip.specs.Legality.{Wide};
+
+// The judge accepts a record exactly where its figures are legal.
+pub fn judge_accepts_legal()
+    ensures { λ _. ⌜ ((f : Figures) → Wide f → ((judgeRecord f ≡ accepted) ↔ Legal f) × ((recordFault f ≡ 0) ↔ Legal f)) ⌝ }
+{}
+
+// The reader accepts bytes exactly where they are the card of legal figures.
+pub fn reader_accepts_legal()
+    ensures { λ _. ⌜ ((s : List ℕ) → Bytes s → (readCard s .verdict .number ≡ 0) ↔ ((f : Figures) × Legal f × (s ≡ cardOf f))) ⌝ }
+{}
+
+// The card of legal figures is read back as these figures.
+pub fn written_card_reads_back()
+    ensures { λ _. ⌜ ((f : Figures) → Legal f → readCard (cardOf f) ≡ record { verdict = accepted; figures = f }) ⌝ }
+{}
+
+// An accepted card is the card of the figures read, and it is what the writer writes of them: no other form of it is accepted.
+pub fn accepted_card_is_the_written_one()
+    ensures { λ _. ⌜ ((s : List ℕ) → Bytes s → readCard s .verdict .number ≡ 0 → (s ≡ cardOf (readCard s .figures)) × ((out : List ℕ) → length s ≤ length out → (writtenCard (readCard s .figures) out ≡ record { verdict = accepted; length = length s }) × (bufferAfter (readCard s .figures) out ≡ s ++ drop (length s) out))) ⌝ }
+{}
+
+// A refused card answers figures that are all zero.
+pub fn refused_card_has_no_figures()
+    ensures { λ _. ⌜ ((s : List ℕ) (k : ℕ) → readCard s .verdict .number ≡ suc k → readCard s .figures ≡ blankFigures) ⌝ }
+{}
+
+// The card of legal figures has 9 to 467 bytes.
+pub fn legal_card_is_short()
+    ensures { λ _. ⌜ ((f : Figures) → Legal f → (9 ≤ length (cardOf f)) × (length (cardOf f) ≤ 467)) ⌝ }
+{}
