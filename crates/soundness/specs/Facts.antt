@@ -1,14 +1,35 @@
--- What the tests of a record tell, as facts on its numbers.
+-- What the test of a record tells, as facts on its numbers.
 -- Assumes nothing.
-use Prim.Native.Nat.{ℕ, _+_, _*_, _≤_, _<_}
+use Prim.Native.Nat.{ℕ, _*_, _≤_, _<_}
 use mathlib.Core.Path.{_≡_}
-use mathlib.Core.Bool.{Bool, true, false}
+use mathlib.Core.Bool.{Bool, true, false, _&&_}
 use mathlib.Core.List.{List}
-use lib.ListN.{length, getD}
+use lib.ListN.{length, getD, take}
 use Rattle.card.specs.declared.Figures.{Figures}
 use Rattle.words.specs.Words.{wordsOf}
 use Rattle.plan.specs.Plan.{leadOf}
+use Rattle.plan.specs.Answer.{isPlan}
+use Rattle.safety.specs.Scheduler.{leads}
+use Rattle.safety.specs.Order.{bySlot}
+use Rattle.safety.specs.Sound.{sound}
 use Rattle.desk.specs.declared.Desk.{Desk}
+use Rattle.desk.specs.Desk.{supplyOf, slotsIn, viewOf}
+
+-- the phase and the slots are sound
+abbrev pub slotsSound : Desk → Bool
+slotsSound d = sound (supplyOf (d .plan)) (bySlot (supplyOf (d .plan))) (viewOf d)
+
+-- THE RECORD IS SOUND with its lent lists
+abbrev pub soundDesk : Desk → List ℕ → List ℕ → Bool
+soundDesk d ps ls = isPlan (d .plan) ps ls && slotsSound d
+
+-- the leads at the next blocks of all filling and playing slots, added up
+abbrev pub leadSum : Desk → ℕ
+leadSum d = leads (supplyOf (d .plan)) (slotsIn d)
+
+-- those of the first i slots
+abbrev pub leadsTo : Desk → ℕ → ℕ
+leadsTo d i = leads (supplyOf (d .plan)) (take i (slotsIn d))
 
 -- a test tells whether a fact holds
 pub record Tells (r : Bool) (P : Type 0) : Type 0 where

@@ -19,12 +19,12 @@ use Rattle.safety.specs.Scheduler.{Slot, at, leads, lowWater}
 use Rattle.safety.specs.Order.{bySlot}
 use Rattle.safety.specs.Arrays.{slotOf, length-slots, slot-at}
 use Rattle.safety.specs.Sound.{sound, Good, Sound, sound-says, sound-of-good}
-use Rattle.safety.specs.Turns.{leads-next, leads-skip, sound-yes, sound-no, sound-at}
+use Rattle.safety.specs.Turns.{leads-none, leads-next, leads-skip, leads-all, sound-yes, sound-no, sound-at}
 use Rattle.desk.specs.declared.Desk.{Desk}
 use Rattle.desk.specs.Desk.{supplyOf, slotsIn, viewOf}
 use Rattle.desk.specs.View.{Wide, same-length}
 use Rattle.desk.specs.Promise.{supply-named}
-use Rattle.soundness.specs.Facts.{Tells, Tidy, TidyAt, AllTidy, PlayersHold, LeadList, LeadIs}
+use Rattle.soundness.specs.Facts.{slotsSound, leadSum, leadsTo, Tells, Tidy, TidyAt, AllTidy, PlayersHold, LeadList, LeadIs}
 
 -- ---- one slot
 
@@ -77,13 +77,19 @@ module _ (d : Desk) (w : Wide d) where
 
   -- ---- the leads of filling and playing slots, added up
 
+  pub leads-start : leadsTo d 0 ≡ 0
+  leads-start = leads-none (supplyOf (d .plan)) (slotsIn d)
+
+  pub leads-end : (i : ℕ) → i ≡ 256 → leadsTo d i ≡ leadSum d
+  leads-end i e = ap (leadsTo d) (e ∙ sym slots-long) ∙ leads-all (supplyOf (d .plan)) (slotsIn d)
+
   module _ (ls : List ℕ) (q : LeadList (d .plan .figures) ls) (t : AllTidy d) where
     lead-at : (x : ℕ) → x < d .plan .figures .blocks → getD (wordsOf ls) x 0 ≡ supplyOf (d .plan) .lead x
     unfolding supplyOf
     lead-at x h = q .here x h
 
     pub leads-turn : (i r : ℕ) → i < 256 → LeadIs ls (getD (d .kinds) i 0) (getD (d .next) i 0) r
-        → (leads (supplyOf (d .plan)) (take i (slotsIn d)) + r ≡ leads (supplyOf (d .plan)) (take (i + 1) (slotsIn d))) × (r ≤ 3999999)
+        → (leadsTo d i + r ≡ leadsTo d (i + 1)) × (r ≤ 3999999)
     leads-turn i r l e = by-cases (decLe 2 k) (λ a. by-cases (decLe k 3) (λ b. reads a b) (λ b. skips (λ _ c. b c))) (λ a. skips (λ c _. a c))
       where
         p : Supply ℕ
@@ -98,7 +104,7 @@ module _ (d : Desk) (w : Wide d) where
         x : ℕ
         x = getD (d .next) i 0
 
-        reads : 2 ≤ k → k ≤ 3 → (leads p (take i ss) + r ≡ leads p (take (i + 1) ss)) × (r ≤ 3999999)
+        reads : 2 ≤ k → k ≤ 3 → (leadsTo d i + r ≡ leadsTo d (i + 1)) × (r ≤ 3999999)
         reads a b =
             let h : x < d .plan .figures .blocks = t .slots i l .named (omega arith) b in
             let f : p .lead (at p ss i .next) ≡ p .lead x = ap (p .lead) (next-is i) in
@@ -107,7 +113,7 @@ module _ (d : Desk) (w : Wide d) where
               omega (arith, e .reading a b, q .here x h, q .small x h),
             )
 
-        skips : (2 ≤ k → k ≤ 3 → ⊥) → (leads p (take i ss) + r ≡ leads p (take (i + 1) ss)) × (r ≤ 3999999)
+        skips : (2 ≤ k → k ≤ 3 → ⊥) → (leadsTo d i + r ≡ leadsTo d (i + 1)) × (r ≤ 3999999)
         skips n = (
           omega (arith, leads-skip p ss i (omega (arith, slots-long)) (λ a b. n (omega (arith, kind-is i)) (omega (arith, kind-is i))), e .other n),
           omega (arith, e .other n),
@@ -115,36 +121,37 @@ module _ (d : Desk) (w : Wide d) where
 
   -- ---- the whole record
 
-  abbrev isSound : Bool
-  isSound = sound (supplyOf (d .plan)) (bySlot (supplyOf (d .plan))) (viewOf d)
+  -- the low-water mark
+  abbrev pub mark : ℕ
+  mark = lowWater (supplyOf (d .plan)) (leadSum d)
 
-  abbrev mark : ℕ
-  mark = lowWater (supplyOf (d .plan)) (leads (supplyOf (d .plan)) (slotsIn d))
+  abbrev IsSound : Type 0
+  IsSound = Sound (supplyOf (d .plan)) (bySlot (supplyOf (d .plan))) (viewOf d)
 
-  pub good-at : Sound (supplyOf (d .plan)) (bySlot (supplyOf (d .plan))) (viewOf d) → (i : ℕ)
-      → Good (supplyOf (d .plan)) (leads (supplyOf (d .plan)) (slotsIn d)) (slotOf (supplyOf (d .plan)) (getD (d .kinds) i 0) (getD (d .next) i 0) (getD (d .held) i 0))
+  pub good-at : IsSound → (i : ℕ)
+      → Good (supplyOf (d .plan)) (leadSum d) (slotOf (supplyOf (d .plan)) (getD (d .kinds) i 0) (getD (d .next) i 0) (getD (d .held) i 0))
   unfolding viewOf
   good-at h i =
-      subst (Good (supplyOf (d .plan)) (leads (supplyOf (d .plan)) (slotsIn d))) (slot-is i)
+      subst (Good (supplyOf (d .plan)) (leadSum d)) (slot-is i)
       (sound-at (supplyOf (d .plan)) (supply-named (d .plan)) (bySlot (supplyOf (d .plan))) (viewOf d) h i)
 
   -- what soundness says of the arrays
-  pub sound-tidy : Sound (supplyOf (d .plan)) (bySlot (supplyOf (d .plan))) (viewOf d) → AllTidy d
+  pub sound-tidy : IsSound → AllTidy d
   unfolding viewOf supplyOf
   sound-tidy h = record {
     slots = λ i l. good-tidy (d .plan) _ _ _ _ (good-at h i);
     unused = λ i l u. sym (kind-is i) ∙ h .unused i u;
   }
 
-  pub sound-players : Sound (supplyOf (d .plan)) (bySlot (supplyOf (d .plan))) (viewOf d) → PlayersHold d mark
+  pub sound-players : IsSound → PlayersHold d mark
   sound-players h i l k = good-at h i .floored k
 
-  pub sound-phase : Sound (supplyOf (d .plan)) (bySlot (supplyOf (d .plan))) (viewOf d) → d .phase ≤ 1
+  pub sound-phase : IsSound → d .phase ≤ 1
   unfolding viewOf
   sound-phase h = h .phase
 
   -- and a record of which all this holds is sound
-  pub facts-sound : d .phase ≤ 1 → AllTidy d → PlayersHold d mark → isSound ≡ true
+  pub facts-sound : d .phase ≤ 1 → AllTidy d → PlayersHold d mark → slotsSound d ≡ true
   unfolding viewOf bySlot supplyOf
   facts-sound e t h =
       let p = supplyOf (d .plan) in
@@ -155,12 +162,12 @@ module _ (d : Desk) (w : Wide d) where
       refl
 
   -- the ways of the test
-  pub unsound-phase : 1 < d .phase → false ≡ isSound
+  pub unsound-phase : 1 < d .phase → false ≡ slotsSound d
   unsound-phase l = sym (sound-no (supplyOf (d .plan)) (supply-named (d .plan)) (bySlot (supplyOf (d .plan))) (viewOf d) (λ h. omega (arith, sound-phase h)))
 
-  pub unsound-slots : (AllTidy d → ⊥) → false ≡ isSound
+  pub unsound-slots : (AllTidy d → ⊥) → false ≡ slotsSound d
   unsound-slots n = sym (sound-no (supplyOf (d .plan)) (supply-named (d .plan)) (bySlot (supplyOf (d .plan))) (viewOf d) (λ h. n (sound-tidy h)))
 
-  pub sound-told : (r : Bool) → d .phase ≤ 1 → AllTidy d → Tells r (PlayersHold d mark) → r ≡ isSound
+  pub sound-told : (r : Bool) → d .phase ≤ 1 → AllTidy d → Tells r (PlayersHold d mark) → r ≡ slotsSound d
   sound-told true e t h = sym (facts-sound e t (h .yes refl))
   sound-told false e t h = sym (sound-no (supplyOf (d .plan)) (supply-named (d .plan)) (bySlot (supplyOf (d .plan))) (viewOf d) (λ s. h .no refl (sound-players s)))
