@@ -168,6 +168,11 @@ module _ (d : Desk) (w : Wide d) where
   pub unsound-slots : (AllTidy d → ⊥) → false ≡ slotsSound d
   unsound-slots n = sym (sound-no (supplyOf (d .plan)) (supply-named (d .plan)) (bySlot (supplyOf (d .plan))) (viewOf d) (λ h. n (sound-tidy h)))
 
-  pub sound-told : (r : Bool) → d .phase ≤ 1 → AllTidy d → Tells r (PlayersHold d mark) → r ≡ slotsSound d
-  sound-told true e t h = sym (facts-sound e t (h .yes refl))
-  sound-told false e t h = sym (sound-no (supplyOf (d .plan)) (supply-named (d .plan)) (bySlot (supplyOf (d .plan))) (viewOf d) (λ s. h .no refl (sound-players s)))
+  -- m is the mark as the code computes it, L the sum of the leads
+  pub sound-told : (r : Bool) (m L : ℕ) → L ≡ leadSum d → m ≡ 2000000 * d .plan .figures .bytes + d .plan .figures .rate * L
+      → d .phase ≤ 1 → AllTidy d → Tells r (PlayersHold d m) → r ≡ slotsSound d
+  sound-told r m L a b e t h = go r (subst (λ (x : ℕ). Tells r (PlayersHold d x)) (b ∙ sym (mark-is (d .plan) L) ∙ ap (lowWater (supplyOf (d .plan))) a) h)
+    where
+      go : (r : Bool) → Tells r (PlayersHold d mark) → r ≡ slotsSound d
+      go true h = sym (facts-sound e t (h .yes refl))
+      go false h = sym (sound-no (supplyOf (d .plan)) (supply-named (d .plan)) (bySlot (supplyOf (d .plan))) (viewOf d) (λ s. h .no refl (sound-players s)))
