@@ -1,8 +1,8 @@
 -- Tests that tell of facts.
 -- Assumes nothing.
 use Prim.Native.Nat.{ℕ, zero, suc, _≤_, _<_}
-use mathlib.Core.Path.{_≡_, refl}
-use mathlib.Core.Bool.{Bool, true, false, true≢false}
+use mathlib.Core.Path.{_≡_, refl, sym}
+use mathlib.Core.Bool.{Bool, true, false, _&&_}
 use native.Mathlib.Omega.{arith}
 use lib.Dec.{ltb, eqb}
 use borrow.Author.Tests.{ltb-true, ltb-false, eqb-true, eqb-false, lt-ltb, le-ltb, eq-eqb, ne-eqb}
@@ -29,3 +29,10 @@ no-kind (suc (suc zero)) a b c d e l = c refl
 no-kind (suc (suc (suc zero))) a b c d e l = d refl
 no-kind (suc (suc (suc (suc zero)))) a b c d e l = e refl
 no-kind (suc (suc (suc (suc (suc k))))) a b c d e l = omega arith
+
+-- two tests in a row
+pub fails-first : (a b : Bool) → a ≡ false → false ≡ (a && b)
+fails-first a b e = sym (rw e)
+
+pub then-second : (a r b : Bool) → a ≡ true → r ≡ b → r ≡ (a && b)
+then-second a r b e q = rw e q

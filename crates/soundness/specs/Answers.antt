@@ -1,4 +1,4 @@
--- The answers of join and leave, a law for each way that their code can take: the rows of 01's table, then what an accepted call makes.
+-- The answers of open, join and leave, a law for each way that their code can take: the rows of 01's table, then what an accepted call makes.
 -- Assumes nothing.
 use Prim.Native.Nat.{ℕ, zero, suc, _≤_, _<_}
 use mathlib.Core.Path.{_≡_, refl, sym, ap, _∙_}
@@ -9,6 +9,7 @@ use native.Mathlib.Omega.{arith}
 use lib.ListN.{length, getD, set, length-set}
 use borrow.Author.Tests.{lt-ltb, le-ltb}
 use Rattle.laws.specs.Bools.{and-left, and-right}
+use Rattle.plan.specs.declared.Plan.{Plan}
 use Rattle.plan.specs.Answer.{isPlan}
 use Rattle.safety.specs.Scheduler.{Call, join, leave, joined, left}
 use Rattle.safety.specs.Order.{bySlot}
@@ -19,7 +20,7 @@ use Rattle.safety.specs.Lists.{answer-accepted, answer-refused}
 use Rattle.safety.specs.Rows.{refuse, row-sound, join-phase, join-slot, join-occupied, join-fault, join-accepted, leave-phase, leave-slot, leave-free, leave-accepted}
 use Rattle.desk.specs.declared.Desk.{Desk}
 use Rattle.desk.specs.declared.Answer.{Answer}
-use Rattle.desk.specs.Desk.{supplyOf, slotsIn, viewOf, deskOf, verdict, answerOf, answered, joinDesk, leaveDesk}
+use Rattle.desk.specs.Desk.{supplyOf, slotsIn, viewOf, deskOf, freshDesk, blankDesk, verdict, openDesk, answerOf, answered, joinDesk, leaveDesk}
 use Rattle.desk.specs.View.{Wide, same-length, desk-of-view}
 use Rattle.soundness.specs.Facts.{slotsSound, soundDesk}
 use Rattle.soundness.specs.Laws.{kind-is}
@@ -37,6 +38,18 @@ withSlot d i k x = record {
   next = set (d .next) i x;
   held = set (d .held) i 0;
 }
+
+-- ---- open
+
+pub open-14 : (p : Plan) (ps ls : List ℕ) → isPlan p ps ls ≡ false → answers blankDesk 14 0 ≡ openDesk p ps ls
+unfolding openDesk
+open-14 p ps ls e = rw e
+
+pub open-0 : (p : Plan) (ps ls : List ℕ) → isPlan p ps ls ≡ true → answers (freshDesk p) 0 0 ≡ openDesk p ps ls
+unfolding openDesk
+open-0 p ps ls e = rw e
+
+-- ---- join and leave
 
 module _ (d : Desk) (w : Wide d) (ps ls : List ℕ) where
   abbrev judges : Call ℕ → refusals.Verdict
