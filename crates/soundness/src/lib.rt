@@ -1,17 +1,25 @@
 // The test of a desk's record, what is gathered of the lent lists for its slots, and the calls open, join and leave.
 mod slots; // the test of the slots
+mod gathering; // what the lent lists and the zones say of a block
 mod records; // records that the calls answer
 
+use crate::gathering::next_block;
 use crate::records::answer;
 use crate::records::blank_desk;
 use crate::records::fresh_desk;
 use crate::records::with_slot;
+use crate::records::zeros;
 use desk::Answer;
 use desk::Desk;
+use desk::Gathered;
 use plan::Plan;
 ghost use mathlib.Core.Path.{_≡_};
+ghost use mathlib.Core.Bool.{true};
+ghost use Rattle.plan.specs.Answer.{isPlan};
 ghost use Rattle.desk.specs.Desk.{openDesk, joinDesk, leaveDesk};
+ghost use Rattle.desk.specs.Ready.{Ready, Gathers};
 ghost use Rattle.soundness.specs.Facts.{soundDesk};
+ghost use Rattle.soundness.specs.Gather.{InRange};
 
 // Is the record sound with the lent lists? It is the plan of its figures, both lists begin with its entries, and phase and slots are
 // as document 01 says. Any record and any lists may be given.
@@ -22,6 +30,33 @@ pub fn is_sound(desk: Desk, positions: &[u8], leads: &[u8]) -> bool
         return false;
     }
     slots::slots_sound(desk, leads)
+}
+
+// Time, lead and position of the next block of each slot; zero for free slots and tails.
+pub fn gather(desk: Desk, positions: &[u8], leads: &[u8]) -> Gathered
+    requires { ⌜ (Ready desk) × (isPlan (desk .plan) (now positions) (now leads) ≡ true) ⌝ }
+    ensures { λ r. ⌜ (Gathers desk r) × (InRange r) ⌝ }
+{
+    let plan = desk.plan;
+    let figures = plan.figures;
+    let mut all_times = zeros();
+    let mut all_leads = zeros();
+    let mut all_positions = zeros();
+    let mut i: usize = 0;
+    while i < 256 {
+        let kind = desk.kinds[i];
+        let next = desk.next[i];
+        let b = next_block(&figures.positions, &figures.times, positions, leads, kind, next);
+        all_times[i] = b.time;
+        all_leads[i] = b.lead;
+        all_positions[i] = b.position;
+        i += 1;
+    }
+    Gathered {
+        times: all_times,
+        leads: all_leads,
+        positions: all_positions,
+    }
 }
 
 // Opens a desk: 14 where the record and the lists are not the plan of its figures; the new desk is then all zero.

@@ -11,7 +11,8 @@ ghost use Rattle.plan.specs.Plan.{blankPlan};
 ghost use Rattle.desk.specs.Desk.{zeros, freshDesk, blankDesk};
 ghost use Rattle.soundness.specs.Answers.{answers, withSlot};
 
-fn zeros() -> [u32; 256]
+// 256 zeros.
+pub fn zeros() -> [u32; 256]
     ensures { λ r. ⌜ r ≡ zeros ⌝ }
 {
     [0u32; 256]
