@@ -1,14 +1,13 @@
 -- The answers of open, join and leave, a law for each way that their code can take: the rows of 01's table, then what an accepted call makes.
 -- Assumes nothing.
-use Prim.Native.Nat.{ℕ, zero, suc, _≤_, _<_}
-use mathlib.Core.Path.{_≡_, refl, sym, ap, _∙_}
+use Prim.Native.Nat.{ℕ, _≤_, _<_}
+use mathlib.Core.Path.{_≡_, sym, ap, _∙_}
 use mathlib.Core.Logic.{_≢_}
 use mathlib.Core.Bool.{Bool, true, false, cond}
 use mathlib.Core.List.{List}
 use native.Mathlib.Omega.{arith}
-use lib.ListN.{length, getD, set, length-set}
+use lib.ListN.{getD, set, length-set}
 use borrow.Author.Tests.{lt-ltb, le-ltb}
-use Rattle.laws.specs.Bools.{and-left, and-right}
 use Rattle.plan.specs.declared.Plan.{Plan}
 use Rattle.plan.specs.Answer.{isPlan}
 use Rattle.safety.specs.Scheduler.{Call, join, leave, joined, left}
@@ -17,12 +16,12 @@ use Rattle.safety.specs.Arrays.{slots-set}
 use Rattle.safety.specs.Refusals as refusals
 use Rattle.safety.specs.Calls as calls
 use Rattle.safety.specs.Lists.{answer-accepted, answer-refused}
-use Rattle.safety.specs.Rows.{refuse, row-sound, join-phase, join-slot, join-occupied, join-fault, join-accepted, leave-phase, leave-slot, leave-free, leave-accepted}
+use Rattle.safety.specs.Rows.{refuse, join-phase, join-slot, join-occupied, join-fault, join-accepted, leave-phase, leave-slot, leave-free, leave-accepted}
 use Rattle.desk.specs.declared.Desk.{Desk}
 use Rattle.desk.specs.declared.Answer.{Answer}
 use Rattle.desk.specs.Desk.{supplyOf, slotsIn, viewOf, deskOf, freshDesk, blankDesk, verdict, openDesk, answerOf, answered, joinDesk, leaveDesk}
 use Rattle.desk.specs.View.{Wide, same-length, desk-of-view}
-use Rattle.soundness.specs.Facts.{slotsSound, soundDesk}
+use Rattle.soundness.specs.Facts.{soundDesk}
 use Rattle.soundness.specs.Laws.{kind-is}
 
 -- an answer
@@ -41,13 +40,13 @@ withSlot d i k x = record {
 
 -- ---- open
 
-pub open-14 : (p : Plan) (ps ls : List ℕ) → isPlan p ps ls ≡ false → answers blankDesk 14 0 ≡ openDesk p ps ls
+pub open-unfit : (p : Plan) (ps ls : List ℕ) → isPlan p ps ls ≡ false → answers blankDesk 14 0 ≡ openDesk p ps ls
 unfolding openDesk
-open-14 p ps ls e = rw e
+open-unfit p ps ls e = rw e
 
-pub open-0 : (p : Plan) (ps ls : List ℕ) → isPlan p ps ls ≡ true → answers (freshDesk p) 0 0 ≡ openDesk p ps ls
+pub open-done : (p : Plan) (ps ls : List ℕ) → isPlan p ps ls ≡ true → answers (freshDesk p) 0 0 ≡ openDesk p ps ls
 unfolding openDesk
-open-0 p ps ls e = rw e
+open-done p ps ls e = rw e
 
 -- ---- join and leave
 
@@ -94,38 +93,38 @@ module _ (d : Desk) (w : Wide d) (ps ls : List ℕ) where
   -- ---- join
 
   module _ (slot block : ℕ) where
-    pub join-14 : soundDesk d ps ls ≡ false → answers d 14 0 ≡ joinDesk d ps ls slot block
+    pub join-unsound : soundDesk d ps ls ≡ false → answers d 14 0 ≡ joinDesk d ps ls slot block
     unfolding joinDesk
-    join-14 e = sym (refused-is (join slot block) 14 0 (omega arith) (unsound-row (join slot block) e))
+    join-unsound e = sym (refused-is (join slot block) 14 0 (omega arith) (unsound-row (join slot block) e))
 
     module _ (s : soundDesk d ps ls ≡ true) where
-      pub join-15 : d .phase ≢ 0 → answers d 15 0 ≡ joinDesk d ps ls slot block
+      pub join-in-sweep : d .phase ≢ 0 → answers d 15 0 ≡ joinDesk d ps ls slot block
       unfolding joinDesk viewOf
-      join-15 h =
+      join-in-sweep h =
           sym (refused-is (join slot block) 15 0 (omega arith) (sound-row (join slot block) s ∙ join-phase (supplyOf (d .plan)) (viewOf d) 0 slot block h))
 
-      pub join-16 : d .phase ≡ 0 → d .plan .streams ≤ slot → answers d 16 slot ≡ joinDesk d ps ls slot block
+      pub join-no-slot : d .phase ≡ 0 → d .plan .streams ≤ slot → answers d 16 slot ≡ joinDesk d ps ls slot block
       unfolding joinDesk viewOf supplyOf
-      join-16 h l =
+      join-no-slot h l =
           sym (refused-is (join slot block) 16 slot (omega arith) (sound-row (join slot block) s ∙ join-slot (supplyOf (d .plan)) (viewOf d) 0 slot block h l))
 
-      pub join-17 : d .phase ≡ 0 → slot < d .plan .streams → getD (d .kinds) slot 0 ≢ 0 → answers d 17 slot ≡ joinDesk d ps ls slot block
+      pub join-taken : d .phase ≡ 0 → slot < d .plan .streams → getD (d .kinds) slot 0 ≢ 0 → answers d 17 slot ≡ joinDesk d ps ls slot block
       unfolding joinDesk viewOf supplyOf
-      join-17 h l k =
+      join-taken h l k =
           sym (refused-is (join slot block) 17 slot (omega arith)
           (sound-row (join slot block) s ∙ join-occupied (supplyOf (d .plan)) (viewOf d) 0 slot block h l (λ e. k (sym (kind-is d w slot) ∙ e))))
 
-      pub join-18 : d .phase ≡ 0 → slot < d .plan .streams → getD (d .kinds) slot 0 ≡ 0 → d .plan .figures .blocks ≤ block → answers d 18 slot ≡ joinDesk d ps ls slot block
+      pub join-past-end : d .phase ≡ 0 → slot < d .plan .streams → getD (d .kinds) slot 0 ≡ 0 → d .plan .figures .blocks ≤ block → answers d 18 slot ≡ joinDesk d ps ls slot block
       unfolding joinDesk viewOf supplyOf
-      join-18 h l k b =
+      join-past-end h l k b =
           let f : supplyOf (d .plan) .fault block ≡ 18 = ap (λ (t : Bool). cond t 0 18) (le-ltb block (d .plan .figures .blocks) b) in
           sym (refused-is (join slot block) 18 slot (omega arith)
           (sound-row (join slot block) s ∙ join-fault (supplyOf (d .plan)) (viewOf d) 0 slot block h l (kind-is d w slot ∙ k) (λ z. omega arith) ∙ ap (λ (n : ℕ). refuse n slot) f))
 
-      pub join-0 : d .phase ≡ 0 → slot < d .plan .streams → getD (d .kinds) slot 0 ≡ 0 → block < d .plan .figures .blocks
+      pub join-done : d .phase ≡ 0 → slot < d .plan .streams → getD (d .kinds) slot 0 ≡ 0 → block < d .plan .figures .blocks
           → answers (withSlot d slot 1 block) 0 0 ≡ joinDesk d ps ls slot block
       unfolding joinDesk viewOf supplyOf answered answerOf calls.refusals calls.accepted joined bySlot
-      join-0 h l k b =
+      join-done h l k b =
           let p = supplyOf (d .plan) in
           let f : p .fault block ≡ 0 = ap (λ (t : Bool). cond t 0 18) (lt-ltb block (d .plan .figures .blocks) b) in
           let v : judges (join slot block) ≡ refusals.accept = sound-row (join slot block) s ∙ join-accepted p (viewOf d) 0 slot block h l (kind-is d w slot ∙ k) f in
@@ -135,27 +134,27 @@ module _ (d : Desk) (w : Wide d) (ps ls : List ℕ) where
   -- ---- leave
 
   module _ (slot : ℕ) where
-    pub leave-14 : soundDesk d ps ls ≡ false → answers d 14 0 ≡ leaveDesk d ps ls slot
+    pub leave-unsound : soundDesk d ps ls ≡ false → answers d 14 0 ≡ leaveDesk d ps ls slot
     unfolding leaveDesk
-    leave-14 e = sym (refused-is (leave slot) 14 0 (omega arith) (unsound-row (leave slot) e))
+    leave-unsound e = sym (refused-is (leave slot) 14 0 (omega arith) (unsound-row (leave slot) e))
 
     module _ (s : soundDesk d ps ls ≡ true) where
-      pub leave-15 : d .phase ≢ 0 → answers d 15 0 ≡ leaveDesk d ps ls slot
+      pub leave-in-sweep : d .phase ≢ 0 → answers d 15 0 ≡ leaveDesk d ps ls slot
       unfolding leaveDesk viewOf
-      leave-15 h = sym (refused-is (leave slot) 15 0 (omega arith) (sound-row (leave slot) s ∙ leave-phase (supplyOf (d .plan)) (viewOf d) 0 slot h))
+      leave-in-sweep h = sym (refused-is (leave slot) 15 0 (omega arith) (sound-row (leave slot) s ∙ leave-phase (supplyOf (d .plan)) (viewOf d) 0 slot h))
 
-      pub leave-16 : d .phase ≡ 0 → d .plan .streams ≤ slot → answers d 16 slot ≡ leaveDesk d ps ls slot
+      pub leave-no-slot : d .phase ≡ 0 → d .plan .streams ≤ slot → answers d 16 slot ≡ leaveDesk d ps ls slot
       unfolding leaveDesk viewOf supplyOf
-      leave-16 h l = sym (refused-is (leave slot) 16 slot (omega arith) (sound-row (leave slot) s ∙ leave-slot (supplyOf (d .plan)) (viewOf d) 0 slot h l))
+      leave-no-slot h l = sym (refused-is (leave slot) 16 slot (omega arith) (sound-row (leave slot) s ∙ leave-slot (supplyOf (d .plan)) (viewOf d) 0 slot h l))
 
-      pub leave-17 : d .phase ≡ 0 → slot < d .plan .streams → getD (d .kinds) slot 0 ≡ 0 → answers d 17 slot ≡ leaveDesk d ps ls slot
+      pub leave-vacant : d .phase ≡ 0 → slot < d .plan .streams → getD (d .kinds) slot 0 ≡ 0 → answers d 17 slot ≡ leaveDesk d ps ls slot
       unfolding leaveDesk viewOf supplyOf
-      leave-17 h l k =
+      leave-vacant h l k =
           sym (refused-is (leave slot) 17 slot (omega arith) (sound-row (leave slot) s ∙ leave-free (supplyOf (d .plan)) (viewOf d) 0 slot h l (kind-is d w slot ∙ k)))
 
-      pub leave-0 : d .phase ≡ 0 → slot < d .plan .streams → getD (d .kinds) slot 0 ≢ 0 → answers (withSlot d slot 0 0) 0 0 ≡ leaveDesk d ps ls slot
+      pub leave-done : d .phase ≡ 0 → slot < d .plan .streams → getD (d .kinds) slot 0 ≢ 0 → answers (withSlot d slot 0 0) 0 0 ≡ leaveDesk d ps ls slot
       unfolding leaveDesk viewOf supplyOf answered answerOf calls.refusals calls.accepted left bySlot
-      leave-0 h l k =
+      leave-done h l k =
           let p = supplyOf (d .plan) in
           let v : judges (leave slot) ≡ refusals.accept = sound-row (leave slot) s ∙ leave-accepted p (viewOf d) 0 slot h l (λ e. k (sym (kind-is d w slot) ∙ e)) in
           sym (ap (answered d) (answer-accepted p (bySlot p) (calls.refusals p (bySlot p)) (viewOf d) (record { call = leave slot; fair = isPlan (d .plan) ps ls; room = 0 }) (ap (λ (u : refusals.Verdict). u .number) v))

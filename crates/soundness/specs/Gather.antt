@@ -11,8 +11,6 @@ use lib.ListN.{length, getD, set, replicate, length-set, length-replicate}
 use lib.Seq.{getD-set-same, getD-set-other}
 use borrow.Author.Count.{below-more}
 use Rattle.words.specs.Words.{wordsOf}
-use Rattle.card.specs.declared.Figures.{Figures}
-use Rattle.card.specs.Card.{Legal, totalPositions}
 use Rattle.placement.specs.Zones.{total, timeAt}
 use Rattle.plan.specs.Plan.{placeOf, timeOf, leadOf}
 use Rattle.plan.specs.Answer.{isPlan}
@@ -23,9 +21,8 @@ use Rattle.desk.specs.declared.Desk.{Desk}
 use Rattle.desk.specs.declared.Gathered.{Gathered}
 use Rattle.desk.specs.Desk.{zeros}
 use Rattle.desk.specs.View.{Wide}
-use Rattle.desk.specs.Ready.{Ready, Gathers}
+use Rattle.desk.specs.Ready.{Ready}
 use Rattle.soundness.specs.declared.gathering.Block.{Block}
-use Rattle.soundness.specs.Facts.{AllTidy}
 use Rattle.soundness.specs.Laws.{sound-tidy}
 
 -- every entry is in range
@@ -40,7 +37,7 @@ pub record Reach (sizes ps ls : List ℕ) (x : ℕ) : Type 0 where
   pub lead : x < length (wordsOf ls)
   pub within : getD (wordsOf ps) x 0 < total sizes
 
--- the block that a slot of kind k with next block x is to be fetched
+-- what is found for a slot of kind k with next block x: nothing for a free slot or a tail
 pub record Found (sizes times ps ls : List ℕ) (k x : ℕ) (r : Block) : Type 0 where
   pub time : 1 ≤ k → k ≤ 3 → r .time ≡ timeAt sizes times (getD (wordsOf ps) x 0)
   pub lead : 1 ≤ k → k ≤ 3 → r .lead ≡ getD (wordsOf ls) x 0
@@ -59,6 +56,7 @@ zero-at zero j = refl
 zero-at (suc n) zero = refl
 zero-at (suc n) (suc j) = zero-at n j
 
+-- none yet
 pub filled-none : (P : ℕ → ℕ → Type 0) (M : ℕ) (a : List ℕ) → a ≡ zeros → Filled P M 0 a
 unfolding zeros
 filled-none P M a e = rw e (record {
@@ -67,6 +65,7 @@ filled-none P M a e = rw e (record {
   small = λ j. omega (arith, zero-at 256 j);
 })
 
+-- one entry more
 pub filled-next : (P : ℕ → ℕ → Type 0) (M i v : ℕ) (a : List ℕ) → Filled P M i a → i < 256 → P i v → v ≤ M → Filled P M (i + 1) (set a i v)
 filled-next P M i v a h l p m = record {
   long = length-set a i v ∙ h .long;
@@ -81,15 +80,15 @@ abbrev pub OfNext : Desk → (ℕ → ℕ) → ℕ → ℕ → Type 0
 OfNext d g j v = 1 ≤ getD (d .kinds) j 0 → getD (d .kinds) j 0 ≤ 3 → v ≡ g (getD (d .next) j 0)
 
 module _ (d : Desk) (w : Wide d) (r : Ready d) (ps ls : List ℕ) (e : isPlan (d .plan) ps ls ≡ true) where
-  f : Figures
-  f = d .plan .figures
-
+  -- the next block of an asked, filling or playing slot is a block
   pub next-below : (i : ℕ) → i < 256 → 1 ≤ getD (d .kinds) i 0 → getD (d .kinds) i 0 ≤ 3 → getD (d .next) i 0 < d .plan .figures .blocks
   next-below i l a b = sound-tidy d w (r .sound) .slots i l .named a b
 
+  -- the zones are as the search for a position's zone needs them
   pub zoned : Zoned (d .plan .figures .positions)
   zoned = legal-zoned (d .plan .figures) (r .legal)
 
+  -- both lists have the next block
   pub reach : (i : ℕ) → i < 256 → 1 ≤ getD (d .kinds) i 0 → getD (d .kinds) i 0 ≤ 3 → Reach (d .plan .figures .positions) ps ls (getD (d .next) i 0)
   reach i l a b =
       let h = checked (d .plan) ps ls e in
@@ -121,8 +120,7 @@ module _ (d : Desk) (w : Wide d) (r : Ready d) (ps ls : List ℕ) (e : isPlan (d
         some : 1 ≤ k → k ≤ 3 → (b .time ≤ 4000000) × (b .lead ≤ 3999999) × (b .position ≤ 1048575)
         some u v =
             let n = next-below i l u v in
-            let p = place-below (d .plan .figures) (r .legal) _ n in
-            (
+            let p = place-below (d .plan .figures) (r .legal) _ n in (
               omega (arith, found-time u v, time-small (d .plan .figures) (r .legal) _ p),
               omega (arith, found-lead u v, lead-small (d .plan .figures) (r .legal) _ n),
               omega (arith, found-position u v, p, r .legal .total),

@@ -1,6 +1,6 @@
 -- The facts of a record and the rules' test of it (crate safety): each way that the test in code can take.
 -- Assumes nothing.
-use Prim.Native.Nat.{ℕ, zero, suc, _+_, _*_, _≤_, _<_}
+use Prim.Native.Nat.{ℕ, _+_, _*_, _≤_, _<_}
 use mathlib.Core.Path.{_≡_, refl, sym, ap, _∙_, subst}
 use mathlib.Core.Logic.{by-cases}
 use mathlib.Core.Bool.{Bool, true, false}
@@ -9,22 +9,19 @@ use native.Mathlib.Omega.{arith}
 use native.Mathlib.Decide.{decLe}
 use lib.ListN.{length, getD, take}
 use borrow.Author.Tests.{ltb-true, eqb-true, lt-ltb, eq-eqb}
-use Rattle.laws.specs.Bools.{bool-ext}
 use Rattle.words.specs.Words.{wordsOf}
-use Rattle.card.specs.Card.{Legal}
 use Rattle.plan.specs.declared.Plan.{Plan}
-use Rattle.plan.specs.Plan.{leadOf}
 use Rattle.safety.specs.Supply.{Supply}
 use Rattle.safety.specs.Scheduler.{Slot, at, leads, lowWater}
 use Rattle.safety.specs.Order.{bySlot}
 use Rattle.safety.specs.Arrays.{slotOf, length-slots, slot-at}
-use Rattle.safety.specs.Sound.{sound, Good, Sound, sound-says, sound-of-good}
+use Rattle.safety.specs.Sound.{sound, Good, Sound, sound-of-good}
 use Rattle.safety.specs.Turns.{leads-none, leads-next, leads-skip, leads-all, sound-yes, sound-no, sound-at}
 use Rattle.desk.specs.declared.Desk.{Desk}
 use Rattle.desk.specs.Desk.{supplyOf, slotsIn, viewOf}
 use Rattle.desk.specs.View.{Wide, same-length}
 use Rattle.desk.specs.Promise.{supply-named}
-use Rattle.soundness.specs.Facts.{slotsSound, leadSum, leadsTo, Tells, Tidy, TidyAt, AllTidy, PlayersHold, LeadList, LeadIs}
+use Rattle.soundness.specs.Facts.{slotsSound, leadSum, leadsTo, Tells, Tidy, AllTidy, PlayersHold, LeadList, LeadIs}
 
 -- ---- one slot
 
@@ -107,8 +104,7 @@ module _ (d : Desk) (w : Wide d) where
         reads : 2 ≤ k → k ≤ 3 → (leadsTo d i + r ≡ leadsTo d (i + 1)) × (r ≤ 3999999)
         reads a b =
             let h : x < d .plan .figures .blocks = t .slots i l .named (omega arith) b in
-            let f : p .lead (at p ss i .next) ≡ p .lead x = ap (p .lead) (next-is i) in
-            (
+            let f : p .lead (at p ss i .next) ≡ p .lead x = ap (p .lead) (next-is i) in (
               omega (arith, leads-next p ss i (omega (arith, slots-long)) (omega (arith, kind-is i)) (omega (arith, kind-is i)), e .reading a b, lead-at x h),
               omega (arith, e .reading a b, q .here x h, q .small x h),
             )

@@ -46,7 +46,14 @@ pub fn gather(desk: Desk, positions: &[u8], leads: &[u8]) -> Gathered
     while i < 256 {
         let kind = desk.kinds[i];
         let next = desk.next[i];
-        let b = next_block(&figures.positions, &figures.times, positions, leads, kind, next);
+        let b = next_block(
+            &figures.positions,
+            &figures.times,
+            positions,
+            leads,
+            kind,
+            next,
+        );
         all_times[i] = b.time;
         all_leads[i] = b.lead;
         all_positions[i] = b.position;

@@ -1,18 +1,11 @@
-use Prim.Native.Nat.{ℕ, _+_, _-_, _≤_, _<_}
-use mathlib.Core.Path.{_≡_, refl, sym, ap, _∙_}
+use Prim.Native.Nat.{_-_, _≤_, _<_}
 use native.Mathlib.Omega.{arith}
 use borrow.Author.Needs.{needs}
-use lib.ListN.{getD}
-use mathlib.Core.Bool.{true}
 use Rattle.plan.specs.Plan.{placeOf, timeOf, leadOf}
 use Rattle.desk.specs.View.{Wide}
 use Rattle.soundness.specs.Gather.{Filled, OfNext, filled-none, filled-next, zoned, reach, found-time, found-lead, found-position, found-small}
 use Rattle.soundness.proofs.gather.Statement.{statement}
 use Rattle.soundness.proofs.gather.Tie as tie
-use Rattle.soundness.proofs.gather.Reads as reads
-use Rattle.soundness.proofs.gather.Lts as lts
-use Rattle.soundness.proofs.gathering.next_block.Reads as next-block-reads
-use Rattle.soundness.proofs.records.zeros.Reads as zeros-reads
 
 abbrev Inv-loop : tie.InvT-loop
 Inv-loop positions leads desk figures all-times₀ all-leads₀ all-positions₀ i₀ all-times all-leads all-positions i =
@@ -23,44 +16,33 @@ Inv-loop positions leads desk figures all-times₀ all-leads₀ all-positions₀
 abbrev μ-loop : tie.MeasureT-loop
 μ-loop positions leads desk figures all-times₀ all-leads₀ all-positions₀ i₀ all-times all-leads all-positions i = 256 - i
 
---EXTRA
 wide : (c : tie.Start Inv-loop μ-loop) → Wide (c .args .t1)
 wide c = record { kinds = search needs; next = search needs; held = search needs }
---END
 
--- src/lib.rt:42:25
 zeros-requires : tie.Need-zeros-requires Inv-loop μ-loop
 zeros-requires c κs = search needs
 
--- src/lib.rt:43:25
 zeros-requires-2 : tie.Need-zeros-requires-2 Inv-loop μ-loop
 zeros-requires-2 c κs = search needs
 
--- src/lib.rt:44:29
 zeros-requires-3 : tie.Need-zeros-requires-3 Inv-loop μ-loop
 zeros-requires-3 c κs = search needs
 
--- src/lib.rt:46:5
 loop-holds : tie.Need-loop-holds Inv-loop μ-loop
 loop-holds c = (omega arith, filled-none _ _ _ (c .before .before .zeros .ensures), filled-none _ _ _ (c .before .zeros2 .ensures), filled-none _ _ _ (c .zeros3 .ensures))
 
--- src/lib.rt:47:20
 mul-kind : tie.Need-mul-kind Inv-loop μ-loop
 mul-kind c = search needs
 
--- src/lib.rt:47:20
 element-copy-out-kind : tie.Need-element-copy-out-kind Inv-loop μ-loop
 element-copy-out-kind c = search needs
 
--- src/lib.rt:48:20
 mul-next : tie.Need-mul-next Inv-loop μ-loop
 mul-next c = search needs
 
--- src/lib.rt:48:20
 element-copy-out-next : tie.Need-element-copy-out-next Inv-loop μ-loop
 element-copy-out-next c = search needs
 
--- src/lib.rt:49:13
 next-block-requires : tie.Need-next-block-requires Inv-loop μ-loop
 next-block-requires c κs =
     let l = c .before .before .before .before .before .before .loop in
@@ -68,39 +50,30 @@ next-block-requires c κs =
     let d = s .args .t1 in
     (zoned d (wide s) (s .pre .0) _ _ (s .pre .1), reach d (wide s) (s .pre .0) _ _ (s .pre .1) (l .i) (omega arith))
 
--- src/lib.rt:50:9
 mul-all-times : tie.Need-mul-all-times Inv-loop μ-loop
 mul-all-times c = search needs
 
--- src/lib.rt:50:9
 array-write-all-times : tie.Need-array-write-all-times Inv-loop μ-loop
 array-write-all-times c = search needs
 
--- src/lib.rt:51:9
 mul-all-leads : tie.Need-mul-all-leads Inv-loop μ-loop
 mul-all-leads c = search needs
 
--- src/lib.rt:51:9
 array-write-all-leads : tie.Need-array-write-all-leads Inv-loop μ-loop
 array-write-all-leads c = search needs
 
--- src/lib.rt:52:9
 mul-all-positions : tie.Need-mul-all-positions Inv-loop μ-loop
 mul-all-positions c = search needs
 
--- src/lib.rt:52:9
 array-write-all-positions : tie.Need-array-write-all-positions Inv-loop μ-loop
 array-write-all-positions c = search needs
 
--- src/lib.rt:53:9
 add-i : tie.Need-add-i Inv-loop μ-loop
 add-i c = search needs
 
--- src/lib.rt:46:5
 loop-less : tie.Need-loop-less Inv-loop μ-loop
 loop-less c = search needs
 
--- src/lib.rt:46:5
 loop-again : tie.Need-loop-again Inv-loop μ-loop
 loop-again c =
     let l = c .before .before .before .before .before .before .before .loop in
@@ -109,22 +82,23 @@ loop-again c =
     let b = c .next-block .result in
     let q = c .next-block .ensures in
     let h : l .i < 256 = omega arith in
-    let m = found-small d (wide s) (s .pre .0) _ _ (s .pre .1) (l .i) h b q in
-    (omega arith,
-    filled-next _ _ (l .i) _ _ (l .inv .1) h (found-time d (wide s) (s .pre .0) _ _ (s .pre .1) (l .i) h b q) (m .0),
-    filled-next _ _ (l .i) _ _ (l .inv .2) h (found-lead d (wide s) (s .pre .0) _ _ (s .pre .1) (l .i) h b q) (m .1),
-    filled-next _ _ (l .i) _ _ (l .inv .3) h (found-position d (wide s) (s .pre .0) _ _ (s .pre .1) (l .i) h b q) (m .2))
+    let m = found-small d (wide s) (s .pre .0) _ _ (s .pre .1) (l .i) h b q in (
+      omega arith,
+      filled-next _ _ (l .i) _ _ (l .inv .1) h (found-time d (wide s) (s .pre .0) _ _ (s .pre .1) (l .i) h b q) (m .0),
+      filled-next _ _ (l .i) _ _ (l .inv .2) h (found-lead d (wide s) (s .pre .0) _ _ (s .pre .1) (l .i) h b q) (m .1),
+      filled-next _ _ (l .i) _ _ (l .inv .3) h (found-position d (wide s) (s .pre .0) _ _ (s .pre .1) (l .i) h b q) (m .2),
+    )
 
--- src/lib.rt:36:1
 returns : tie.Need-returns Inv-loop μ-loop
 returns c =
-    let l = c .before .loop in
-    (record {
-      times = λ i h. l .inv .1 .done i (omega arith);
-      leads = λ i h. l .inv .2 .done i (omega arith);
-      positions = λ i h. l .inv .3 .done i (omega arith);
-    },
-    record { times = l .inv .1 .small; leads = l .inv .2 .small; positions = l .inv .3 .small })
+    let l = c .before .loop in (
+      record {
+        times = λ i h. l .inv .1 .done i (omega arith);
+        leads = λ i h. l .inv .2 .done i (omega arith);
+        positions = λ i h. l .inv .3 .done i (omega arith);
+      },
+      record { times = l .inv .1 .small; leads = l .inv .2 .small; positions = l .inv .3 .small },
+    )
 
 pub gather-spec : {M : Type 1} → statement M
 gather-spec =

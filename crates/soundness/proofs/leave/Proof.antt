@@ -1,25 +1,18 @@
-use mathlib.Core.Path.{_≡_, refl, sym, ap, _∙_}
+use mathlib.Core.Path.{_≡_, sym, ap, _∙_}
 use native.Mathlib.Omega.{arith}
 use borrow.Author.Needs.{needs}
 use Prim.Native.Nat.{_≤_}
 use mathlib.Core.Bool.{true}
 use borrow.Author.Tests.{not-true, not-false}
-use Rattle.laws.specs.Bools.{and-left}
 use Rattle.round_trip.specs.Legality as legality
 use Rattle.desk.specs.declared.Desk.{Desk}
 use Rattle.desk.specs.View.{Wide}
 use Rattle.soundness.specs.Facts.{soundDesk}
-use Rattle.soundness.specs.Ready.{plan-streams}
-use Rattle.soundness.specs.Answers.{answers, leave-14, leave-15, leave-16, leave-17, leave-0}
+use Rattle.soundness.specs.Ready.{plan-streams, sound-plan}
+use Rattle.soundness.specs.Answers.{answers, leave-unsound, leave-in-sweep, leave-no-slot, leave-vacant, leave-done}
 use Rattle.soundness.proofs.leave.Statement.{statement}
 use Rattle.soundness.proofs.leave.Tie as tie
-use Rattle.soundness.proofs.leave.Reads as reads
-use Rattle.soundness.proofs.leave.Lts as lts
-use Rattle.soundness.proofs.is_sound.Reads as is-sound-reads
-use Rattle.soundness.proofs.records.answer.Reads as answer-reads
-use Rattle.soundness.proofs.records.with_slot.Reads as with-slot-reads
 
---EXTRA
 wide : (c : tie.Start) → Wide (c .args .t1)
 wide c = record { kinds = search needs; next = search needs; held = search needs }
 
@@ -31,78 +24,63 @@ passed : (c : tie.Else1) → (let a = c .before .before .before .before .args in
 passed c = sym (c .before .is-sound .ensures) ∙ not-false _ (c .if1 .left)
 
 few : (c : tie.Else1) → c .before .before .before .before .args .t1 .plan .streams ≤ 256
-few c = plan-streams _ _ _ (slim (c .before .before .before .before)) (and-left _ _ (passed c))
---END
+few c = plan-streams _ _ _ (slim (c .before .before .before .before)) (sound-plan _ _ _ (passed c))
 
--- src/lib.rt:66:9
 is-sound-requires : tie.Need-is-sound-requires
 is-sound-requires c κs = search needs
 
--- src/lib.rt:67:9
 answer-requires : tie.Need-answer-requires
 answer-requires c κs = search needs
 
--- src/lib.rt:67:9
 returns : tie.Need-returns
 returns c =
     let s = c .before .before .before .before .before in
-    c .answer .ensures ∙ leave-14 (s .args .t1) (wide s) _ _ _ (sym (c .before .before .is-sound .ensures) ∙ not-true _ (c .before .if1 .taken))
+    c .answer .ensures ∙ leave-unsound (s .args .t1) (wide s) _ _ _ (sym (c .before .before .is-sound .ensures) ∙ not-true _ (c .before .if1 .taken))
 
--- src/lib.rt:70:9
 answer-requires-2 : tie.Need-answer-requires-2
 answer-requires-2 c κs = search needs
 
--- src/lib.rt:70:9
 returns-2 : tie.Need-returns-2
 returns-2 c =
     let e = c .before .before in
     let s = e .before .before .before .before in
-    c .answer2 .ensures ∙ leave-15 (s .args .t1) (wide s) _ _ _ (passed e) (c .before .if2 .taken)
+    c .answer2 .ensures ∙ leave-in-sweep (s .args .t1) (wide s) _ _ _ (passed e) (c .before .if2 .taken)
 
--- src/lib.rt:75:9
 answer-requires-3 : tie.Need-answer-requires-3
 answer-requires-3 c κs = search needs
 
--- src/lib.rt:75:9
 returns-3 : tie.Need-returns-3
 returns-3 c =
     let e = c .before .before .before .before .before in
     let s = e .before .before .before .before in
-    c .answer3 .ensures ∙ leave-16 (s .args .t1) (wide s) _ _ _ (passed e) (c .before .before .before .before .if2 .left) (c .before .if3 .taken)
+    c .answer3 .ensures ∙ leave-no-slot (s .args .t1) (wide s) _ _ _ (passed e) (c .before .before .before .before .if2 .left) (c .before .if3 .taken)
 
--- src/lib.rt:77:8
 mul-if4 : tie.Need-mul-if4
 mul-if4 c = search needs
 
--- src/lib.rt:77:8
 element-copy-out-if4 : tie.Need-element-copy-out-if4
 element-copy-out-if4 c = omega (arith, few (c .before .before .before .before))
 
--- src/lib.rt:78:9
 answer-requires-4 : tie.Need-answer-requires-4
 answer-requires-4 c κs = search needs
 
--- src/lib.rt:78:9
 returns-4 : tie.Need-returns-4
 returns-4 c =
     let e = c .before .before .before .before .before .before .before in
     let s = e .before .before .before .before in
-    c .answer4 .ensures ∙ leave-17 (s .args .t1) (wide s) _ _ _ (passed e) (c .before .before .before .before .before .before .if2 .left) (c .before .before .before .if3 .left) (c .before .if4 .taken)
+    c .answer4 .ensures ∙ leave-vacant (s .args .t1) (wide s) _ _ _ (passed e) (c .before .before .before .before .before .before .if2 .left) (c .before .before .before .if3 .left) (c .before .if4 .taken)
 
--- src/lib.rt:80:12
 with-slot-requires : tie.Need-with-slot-requires
 with-slot-requires c κs = omega (arith, few (c .before .before .before .before .before .before))
 
--- src/lib.rt:80:5
 answer-requires-5 : tie.Need-answer-requires-5
 answer-requires-5 c κs = search needs
 
--- src/lib.rt:63:1
 returns-5 : tie.Need-returns-5
 returns-5 c =
     let e = c .before .before .before .before .before .before .before .before in
     let s = e .before .before .before .before in
-    c .answer5 .ensures ∙ ap (λ (d : Desk). answers d 0 0) (c .before .with-slot .ensures) ∙ leave-0 (s .args .t1) (wide s) _ _ _ (passed e) (c .before .before .before .before .before .before .before .if2 .left) (c .before .before .before .before .if3 .left) (c .before .before .if4 .left)
+    c .answer5 .ensures ∙ ap (λ (d : Desk). answers d 0 0) (c .before .with-slot .ensures) ∙ leave-done (s .args .t1) (wide s) _ _ _ (passed e) (c .before .before .before .before .before .before .before .if2 .left) (c .before .before .before .before .if3 .left) (c .before .before .if4 .left)
 
 pub leave-spec : {M : Type 1} → statement M
 leave-spec =

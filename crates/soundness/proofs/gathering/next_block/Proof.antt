@@ -1,44 +1,29 @@
-use Prim.Native.Nat.{ℕ, _+_, _-_, _≤_, _<_}
-use mathlib.Core.Path.{_≡_, refl, sym, ap, _∙_}
+use mathlib.Core.Path.{refl, ap, _∙_}
 use native.Mathlib.Omega.{arith}
-use borrow.Author.Needs.{needs}
-use lib.ListN.{getD}
 use Rattle.placement.specs.Zones.{timeAt}
-use Rattle.soundness.specs.Gather.{Reach, Found}
+use Rattle.soundness.specs.Gather.{Reach}
 use Rattle.soundness.proofs.gathering.next_block.Statement.{statement}
 use Rattle.soundness.proofs.gathering.next_block.Tie as tie
-use Rattle.soundness.proofs.gathering.next_block.Reads as reads
-use Rattle.soundness.proofs.gathering.next_block.Lts as lts
-use Rattle.plan.proofs.time_at.Reads as time-at-reads
-use Rattle.words.proofs.word_at.Reads as word-at-reads
 
---EXTRA
 -- past the tests of the kind
 has : (c : tie.Else2) → (let a = c .before .before .before .before .args in Reach (a .sizes .now) (a .positions .now) (a .leads .now) (a .next))
 has c = c .before .before .before .before .pre .1 (omega arith) (omega arith)
---END
 
--- src/gathering.rt:28:9
 returns : tie.Need-returns
 returns c = record { time = λ a b. absurd (omega arith); lead = λ a b. absurd (omega arith); position = λ a b. absurd (omega arith); other = λ _. (refl, refl, refl) }
 
--- src/gathering.rt:35:9
 returns-2 : tie.Need-returns-2
 returns-2 c = record { time = λ a b. absurd (omega arith); lead = λ a b. absurd (omega arith); position = λ a b. absurd (omega arith); other = λ _. (refl, refl, refl) }
 
--- src/gathering.rt:42:9
 word-at-requires : tie.Need-word-at-requires
 word-at-requires c κs = has c .place
 
--- src/gathering.rt:44:15
 time-at-requires : tie.Need-time-at-requires
 time-at-requires c κs = let s = c .before .before .before .before .before in (s .pre .0, omega (arith, has (c .before) .within, c .word-at .ensures))
 
--- src/gathering.rt:45:15
 word-at-requires-2 : tie.Need-word-at-requires-2
 word-at-requires-2 c κs = has (c .before .before) .lead
 
--- src/gathering.rt:16:1
 returns-3 : tie.Need-returns-3
 returns-3 c =
     let s = c .before .before .before .before .before .before .before in

@@ -1,23 +1,15 @@
-use mathlib.Core.Path.{_≡_, refl, sym, ap, _∙_}
-use native.Mathlib.Omega.{arith}
 use borrow.Author.Needs.{needs}
 use Rattle.card.specs.Read.{blankFigures}
 use Rattle.plan.specs.Plan.{blankPlan}
 use Rattle.soundness.proofs.records.blank_plan.Statement.{statement}
 use Rattle.soundness.proofs.records.blank_plan.Tie as tie
-use Rattle.soundness.proofs.records.blank_plan.Reads as reads
-use Rattle.soundness.proofs.records.blank_plan.Lts as lts
-use Rattle.soundness.proofs.records.blank_zones.Reads as blank-zones-reads
 
--- src/records.rt:32:24
 blank-zones-requires : tie.Need-blank-zones-requires
 blank-zones-requires c κs = search needs
 
--- src/records.rt:33:20
 blank-zones-requires-2 : tie.Need-blank-zones-requires-2
 blank-zones-requires-2 c κs = search needs
 
--- src/records.rt:26:1
 returns : tie.Need-returns
 unfolding blankFigures blankPlan
 returns c =

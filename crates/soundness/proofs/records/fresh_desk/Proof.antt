@@ -1,26 +1,17 @@
-use mathlib.Core.Path.{_≡_, refl, sym, ap, _∙_}
-use native.Mathlib.Omega.{arith}
 use borrow.Author.Needs.{needs}
 use Rattle.desk.specs.Desk.{freshDesk}
 use Rattle.soundness.proofs.records.fresh_desk.Statement.{statement}
 use Rattle.soundness.proofs.records.fresh_desk.Tie as tie
-use Rattle.soundness.proofs.records.fresh_desk.Reads as reads
-use Rattle.soundness.proofs.records.fresh_desk.Lts as lts
-use Rattle.soundness.proofs.records.zeros.Reads as zeros-reads
 
--- src/records.rt:54:16
 zeros-requires : tie.Need-zeros-requires
 zeros-requires c κs = search needs
 
--- src/records.rt:55:15
 zeros-requires-2 : tie.Need-zeros-requires-2
 zeros-requires-2 c κs = search needs
 
--- src/records.rt:56:15
 zeros-requires-3 : tie.Need-zeros-requires-3
 zeros-requires-3 c κs = search needs
 
--- src/records.rt:48:1
 returns : tie.Need-returns
 unfolding freshDesk
 returns c = λ t. record { plan = c .before .before .before .args .plan; phase = 0; kinds = c .before .before .zeros .ensures t; next = c .before .zeros2 .ensures t; held = c .zeros3 .ensures t }

@@ -1,18 +1,15 @@
-use Prim.Native.Nat.{ℕ, suc, _+_, _-_, _*_, _≤_, _<_}
-use mathlib.Core.Path.{_≡_, refl, sym, ap, _∙_}
+use Prim.Native.Nat.{ℕ, _-_, _≤_, _<_}
+use mathlib.Core.Path.{_≡_}
 use mathlib.Core.Logic.{⊎-elim}
 use native.Mathlib.Omega.{arith}
 use borrow.Author.Needs.{needs}
-use borrow.Author.Count.{below-none, below-more}
-use lib.ListN.{length, getD}
-use Rattle.soundness.specs.Facts.{Tells, Tidy, TidyAt, AllTidy, PlayersHold, LeadList, LeadIs}
-use Rattle.soundness.proofs.Laws.{tells-yes, tells-no, tells-equal, tells-below, no-kind}
+use borrow.Author.Count.{below-more}
+use lib.ListN.{getD}
+use Rattle.soundness.specs.Facts.{TidyAt}
+use Rattle.soundness.proofs.Laws.{tells-yes, tells-no}
 use borrow.Author.Tests.{not-true, not-false}
 use Rattle.soundness.proofs.slots.all_tidy.Statement.{statement}
 use Rattle.soundness.proofs.slots.all_tidy.Tie as tie
-use Rattle.soundness.proofs.slots.all_tidy.Reads as reads
-use Rattle.soundness.proofs.slots.all_tidy.Lts as lts
-use Rattle.soundness.proofs.slots.is_tidy.Reads as is-tidy-reads
 
 abbrev Inv-loop : tie.InvT-loop
 Inv-loop desk plan blocks i₀ i = (i ≤ 256) × ((j : ℕ) → j < i → TidyAt desk j) × ((j : ℕ) → j < i → desk .plan .streams ≤ j → getD (desk .kinds) j 0 ≡ 0)
@@ -20,71 +17,57 @@ Inv-loop desk plan blocks i₀ i = (i ≤ 256) × ((j : ℕ) → j < i → TidyA
 abbrev μ-loop : tie.MeasureT-loop
 μ-loop desk plan blocks i₀ i = 256 - i
 
--- src/slots.rt:58:5
 loop-holds : tie.Need-loop-holds Inv-loop μ-loop
 loop-holds c = (omega arith, λ j h. absurd (omega arith), λ j h. absurd (omega arith))
 
--- src/slots.rt:59:20
 mul-kind : tie.Need-mul-kind Inv-loop μ-loop
 mul-kind c = search needs
 
--- src/slots.rt:59:20
 element-copy-out-kind : tie.Need-element-copy-out-kind Inv-loop μ-loop
 element-copy-out-kind c = search needs
 
--- src/slots.rt:60:20
 mul-next : tie.Need-mul-next Inv-loop μ-loop
 mul-next c = search needs
 
--- src/slots.rt:60:20
 element-copy-out-next : tie.Need-element-copy-out-next Inv-loop μ-loop
 element-copy-out-next c = search needs
 
--- src/slots.rt:61:20
 mul-held : tie.Need-mul-held Inv-loop μ-loop
 mul-held c = search needs
 
--- src/slots.rt:61:20
 element-copy-out-held : tie.Need-element-copy-out-held Inv-loop μ-loop
 element-copy-out-held c = search needs
 
--- src/slots.rt:62:13
 is-tidy-requires : tie.Need-is-tidy-requires Inv-loop μ-loop
 is-tidy-requires c κs = search needs
 
--- src/slots.rt:63:13
 returns : tie.Need-returns Inv-loop μ-loop
 returns c =
     let l = c .before .before .before .before .before .before .loop in
     tells-no (λ t. c .before .is-tidy .ensures .no (not-true _ (c .if1 .taken)) (t .slots (l .i) (omega arith)))
 
--- src/slots.rt:66:16
 cast-if3 : tie.Need-cast-if3 Inv-loop μ-loop
 cast-if3 c = search needs
 
--- src/slots.rt:67:17
 returns-2 : tie.Need-returns-2 Inv-loop μ-loop
 returns-2 c =
     let l = c .before .before .before .before .before .before .before .before .before .loop in
-    tells-no (λ t. c .before .before .if2 .taken (t .unused (l .i) (omega arith) (c .if3 .taken)))
+    tells-no (λ t. omega (arith, t .unused (l .i) (omega arith) (c .if3 .taken), c .before .before .if2 .taken))
 
--- src/slots.rt:70:9
 add-i : tie.Need-add-i Inv-loop μ-loop
 add-i c = search needs
 
--- src/slots.rt:58:5
 loop-less : tie.Need-loop-less Inv-loop μ-loop
 loop-less c = search needs
 
--- src/slots.rt:58:5
 loop-again : tie.Need-loop-again Inv-loop μ-loop
 loop-again c =
-    let l = c .before .before .before .before .before .before .before .loop in
-    (omega arith,
-    below-more _ (l .i) (l .inv .1) (c .before .before .is-tidy .ensures .yes (not-false _ (c .before .if1 .left))),
-    below-more _ (l .i) (l .inv .2) (λ h. ⊎-elim (λ w. absurd (omega (arith, w .2 .left))) (λ w. w .left) (c .if2 .came)))
+    let l = c .before .before .before .before .before .before .before .loop in (
+      omega arith,
+      below-more _ (l .i) (l .inv .1) (c .before .before .is-tidy .ensures .yes (not-false _ (c .before .if1 .left))),
+      below-more _ (l .i) (l .inv .2) (λ h. ⊎-elim (λ w. absurd (omega (arith, w .2 .left))) (λ w. omega (arith, w .left)) (c .if2 .came)),
+    )
 
--- src/slots.rt:51:1
 returns-3 : tie.Need-returns-3 Inv-loop μ-loop
 returns-3 c =
     let l = c .before .loop in

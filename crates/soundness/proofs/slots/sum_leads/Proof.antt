@@ -1,20 +1,14 @@
-use Prim.Native.Nat.{ℕ, suc, _+_, _-_, _*_, _≤_, _<_}
-use mathlib.Core.Path.{_≡_, refl, sym, ap, _∙_}
-use mathlib.Core.Logic.{⊎-elim}
+use Prim.Native.Nat.{ℕ, _+_, _-_, _*_, _≤_, _<_}
+use mathlib.Core.Path.{_≡_, sym, ap, _∙_}
 use native.Mathlib.Omega.{arith}
 use borrow.Author.Needs.{needs}
-use borrow.Author.Count.{below-none, below-more}
-use lib.ListN.{length, getD}
-use Rattle.soundness.specs.Facts.{Tells, Tidy, TidyAt, AllTidy, PlayersHold, LeadList, LeadIs}
-use Rattle.soundness.proofs.Laws.{tells-yes, tells-no, tells-equal, tells-below, no-kind}
+use lib.ListN.{getD}
+use Rattle.soundness.specs.Facts.{LeadIs}
 use Rattle.soundness.specs.Facts.{leadsTo}
 use Rattle.desk.specs.View.{Wide}
 use Rattle.soundness.specs.Laws.{leads-start, leads-turn, leads-end}
 use Rattle.soundness.proofs.slots.sum_leads.Statement.{statement}
 use Rattle.soundness.proofs.slots.sum_leads.Tie as tie
-use Rattle.soundness.proofs.slots.sum_leads.Reads as reads
-use Rattle.soundness.proofs.slots.sum_leads.Lts as lts
-use Rattle.soundness.proofs.slots.lead_of.Reads as lead-of-reads
 
 abbrev Inv-loop : tie.InvT-loop
 Inv-loop leads desk sum₀ i₀ sum i = (i ≤ 256) × (sum ≡ leadsTo desk i) × (sum ≤ i * 3999999)
@@ -22,7 +16,6 @@ Inv-loop leads desk sum₀ i₀ sum i = (i ≤ 256) × (sum ≡ leadsTo desk i) 
 abbrev μ-loop : tie.MeasureT-loop
 μ-loop leads desk sum₀ i₀ sum i = 256 - i
 
---EXTRA
 wide : (c : tie.Start Inv-loop μ-loop) → Wide (c .args .t1)
 wide c = record { kinds = search needs; next = search needs; held = search needs }
 
@@ -30,54 +23,42 @@ wide c = record { kinds = search needs; next = search needs; held = search needs
 turn : (c : tie.Start Inv-loop μ-loop) (i r : ℕ) → i < 256 → LeadIs (c .args .leads .now) (getD (c .args .t1 .kinds) i 0) (getD (c .args .t1 .next) i 0) r
     → (leadsTo (c .args .t1) i + r ≡ leadsTo (c .args .t1) (i + 1)) × (r ≤ 3999999)
 turn c i r l e = leads-turn (c .args .t1) (wide c) (c .args .leads .now) (c .pre .1) (c .pre .0) i r l e
---END
 
--- src/slots.rt:118:5
 loop-holds : tie.Need-loop-holds Inv-loop μ-loop
 loop-holds c = (omega arith, sym (leads-start (c .before .args .t1) (wide (c .before))), omega arith)
 
--- src/slots.rt:119:20
 mul-kind : tie.Need-mul-kind Inv-loop μ-loop
 mul-kind c = search needs
 
--- src/slots.rt:119:20
 element-copy-out-kind : tie.Need-element-copy-out-kind Inv-loop μ-loop
 element-copy-out-kind c = search needs
 
--- src/slots.rt:120:20
 mul-next : tie.Need-mul-next Inv-loop μ-loop
 mul-next c = search needs
 
--- src/slots.rt:120:20
 element-copy-out-next : tie.Need-element-copy-out-next Inv-loop μ-loop
 element-copy-out-next c = search needs
 
--- src/slots.rt:121:16
 lead-of-requires : tie.Need-lead-of-requires Inv-loop μ-loop
 lead-of-requires c κs =
     let s = c .before .before .before .before .before in
     λ a b. omega (arith, s .pre .0 .slots (c .before .before .before .loop .i) (omega arith) .named (omega arith) b, s .pre .1 .long)
 
--- src/slots.rt:121:9
 add-sum : tie.Need-add-sum Inv-loop μ-loop
 add-sum c = omega (arith, turn (c .before .before .before .before .before .before) (c .before .before .before .before .loop .i) (c .lead-of .result) (omega arith) (c .lead-of .ensures) .1)
 
--- src/slots.rt:122:9
 add-i : tie.Need-add-i Inv-loop μ-loop
 add-i c = search needs
 
--- src/slots.rt:118:5
 loop-less : tie.Need-loop-less Inv-loop μ-loop
 loop-less c = search needs
 
--- src/slots.rt:118:5
 loop-again : tie.Need-loop-again Inv-loop μ-loop
 loop-again c =
     let l = c .before .before .before .before .loop in
     let t = turn (c .before .before .before .before .before .before) (l .i) (c .lead-of .result) (omega arith) (c .lead-of .ensures) in
     (omega arith, ap (λ (n : ℕ). n + c .lead-of .result) (l .inv .1) ∙ t .0, omega arith)
 
--- src/slots.rt:112:1
 returns : tie.Need-returns Inv-loop μ-loop
 returns c =
     let l = c .before .loop in
