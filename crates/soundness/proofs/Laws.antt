@@ -1,0 +1,38 @@
+-- Tests that tell of facts.
+-- Assumes nothing.
+use Prim.Native.Nat.{ℕ, zero, suc, _≤_, _<_}
+use mathlib.Core.Path.{_≡_, refl, sym}
+use mathlib.Core.Bool.{Bool, true, false, _&&_}
+use native.Mathlib.Omega.{arith}
+use lib.Dec.{ltb, eqb}
+use borrow.Author.Tests.{ltb-true, eqb-true, eqb-false, lt-ltb}
+use Rattle.laws.specs.Bools.{clash}
+use Rattle.soundness.specs.Facts.{Tells}
+
+pub tells-yes : {P : Type 0} → P → Tells true P
+tells-yes p = record { yes = λ _. p; no = λ e _. clash refl e }
+
+pub tells-no : {P : Type 0} → (P → ⊥) → Tells false P
+tells-no f = record { yes = λ e. clash e refl; no = λ _. f }
+
+pub tells-equal : {P : Type 0} (a b : ℕ) → (a ≡ b → P) → (P → a ≡ b) → Tells (eqb a b) P
+tells-equal a b f g = record { yes = λ e. f (eqb-true a b e); no = λ e p. eqb-false a b e (g p) }
+
+pub tells-below : {P : Type 0} (a b : ℕ) → (a < b → P) → (P → a < b) → Tells (ltb a b) P
+tells-below a b f g = record { yes = λ e. f (ltb-true a b e); no = λ e p. clash (lt-ltb a b (g p)) e }
+
+-- the last arm of the match on a kind
+pub no-kind : (k : ℕ) → (k ≡ 0 → ⊥) → (k ≡ 1 → ⊥) → (k ≡ 2 → ⊥) → (k ≡ 3 → ⊥) → (k ≡ 4 → ⊥) → k ≤ 4 → ⊥
+no-kind zero a b c d e l = a refl
+no-kind (suc zero) a b c d e l = b refl
+no-kind (suc (suc zero)) a b c d e l = c refl
+no-kind (suc (suc (suc zero))) a b c d e l = d refl
+no-kind (suc (suc (suc (suc zero)))) a b c d e l = e refl
+no-kind (suc (suc (suc (suc (suc k))))) a b c d e l = omega arith
+
+-- two tests in a row
+pub fails-first : (a b : Bool) → a ≡ false → false ≡ (a && b)
+fails-first a b e = sym (rw e)
+
+pub then-second : (a r b : Bool) → a ≡ true → r ≡ b → r ≡ (a && b)
+then-second a r b e q = rw e q

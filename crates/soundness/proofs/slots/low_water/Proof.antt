@@ -1,0 +1,24 @@
+use Prim.Native.Nat.{_*_, _≤_}
+use native.Mathlib.Omega.{arith}
+use borrow.Author.Needs.{needs}
+use native.Mathlib.Nat.{mul-le-mul}
+use Rattle.soundness.proofs.slots.low_water.Statement.{statement}
+use Rattle.soundness.proofs.slots.low_water.Tie as tie
+
+product-requires : tie.Need-product-requires
+product-requires c κs = search needs
+
+product-requires-2 : tie.Need-product-requires-2
+product-requires-2 c κs = search needs
+
+add-result : tie.Need-add-result
+add-result c =
+    let a = c .before .before .args in
+    let p : a .rate * a .sum ≤ 10000000 * 1023999744 = mul-le-mul (c .before .before .pre .0) (c .before .before .pre .1) in
+    omega arith
+
+returns : tie.Need-returns
+returns c = search needs
+
+pub low-water-spec : {M : Type 1} → statement M
+low-water-spec = tie.close (tie.spec product-requires product-requires-2 add-result returns)

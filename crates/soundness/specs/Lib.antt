@@ -1,0 +1,5 @@
+pub mod Answers
+pub mod Facts
+pub mod Gather
+pub mod Laws
+pub mod Ready
