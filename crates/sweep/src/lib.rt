@@ -1,0 +1,8 @@
+// The steps of a begin and of an end, on a desk that is known to be sound and on what was gathered for its slots.
+mod marks; // the low-water mark (01: the floor), and the least that a playing slot holds
+mod grants; // filling slots start to play, and asked slots are granted
+
+use card::Verdict;
+use desk::Begun;
+use desk::Desk;
+use desk::Gathered;
