@@ -1,3 +1,4 @@
 pub mod Slots
 pub mod Levels
 pub mod Granting
+pub mod Fetching

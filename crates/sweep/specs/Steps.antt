@@ -1,6 +1,6 @@
 -- What the steps of a begin and an end know of the desk, and what each makes of it.
 -- Assumes nothing.
-use Prim.Native.Nat.{ℕ, _+_, _≤_, _<_}
+use Prim.Native.Nat.{ℕ, _-_, _≤_, _<_}
 use mathlib.Core.Path.{_≡_}
 use mathlib.Core.List.{List}
 use lib.ListN.{length, getD}
@@ -29,3 +29,9 @@ pub record Stage (d : Desk) (g : Gathered) : Type 0 where
 -- the desk with other slots
 abbrev pub withSlots : Desk → List (Slot ℕ) → Desk
 withSlots d ss = deskOf (d .plan) (record { phase = d .phase; slots = ss; queue = tt })
+
+-- k is the place of position q among the first m of ps, which rise: after those that are not greater
+pub record Place (ps : List ℕ) (m q k : ℕ) : Type 0 where
+  pub inside : k ≤ m
+  pub after : 0 < k → getD ps (k - 1) 0 ≤ q
+  pub before : k < m → q < getD ps k 0
