@@ -1,11 +1,11 @@
 -- The steps of a begin, one after the other.
 -- Assumes nothing.
-use Prim.Native.Nat.{ℕ, _+_, _*_, _≤_, _<_}
+use Prim.Native.Nat.{ℕ, _+_, _*_, _≤_}
 use mathlib.Core.Path.{_≡_, refl, sym, ap, _∙_}
 use mathlib.Core.List.{List}
 use native.Mathlib.Omega.{arith}
-use lib.ListN.{length, getD}
-use Rattle.laws.specs.Each.{Each, Both, each-map, both-at}
+use lib.ListN.{getD}
+use Rattle.laws.specs.Each.{Both, each-map, both-at}
 use Rattle.plan.specs.Plan as F
 use Rattle.safety.specs.Scheduler.{Slot, freeSlot, at, leads, lowWater, started, tries, begun, entries, bound}
 use Rattle.safety.specs.Order.{bySlot}
@@ -13,7 +13,6 @@ use Rattle.safety.specs.Orderly.{Kept, kept-refl}
 use Rattle.safety.specs.BySlot.{started-kept, started-leads, begun-began}
 use Rattle.safety.specs.Calls.{accepted}
 use Rattle.desk.specs.declared.Desk.{Desk}
-use Rattle.desk.specs.declared.Begun.{Begun}
 use Rattle.desk.specs.declared.Fetches.{Fetches}
 use Rattle.desk.specs.declared.Gathered.{Gathered}
 use Rattle.desk.specs.Desk.{supplyOf, slotsIn, viewOf, deskOf, verdict, fetchesOf}

@@ -2,20 +2,15 @@
 -- Assumes nothing.
 use Prim.Native.Nat.{ℕ, suc, _+_, _-_, _≤_, _<_}
 use mathlib.Core.Path.{_≡_, refl, sym, ap, _∙_}
-use mathlib.Core.Logic.{_≢_}
-use mathlib.Core.Bool.{true, false}
 use mathlib.Core.List.{List}
 use native.Mathlib.Omega.{arith}
-use native.Mathlib.Numerals.{add-one}
 use lib.ListN.{length, getD, set}
-use lib.Dec.{ltb, eqb}
 use borrow.Author.Tests.{ltb-true, eq-eqb, ne-eqb}
 use Rattle.laws.specs.Each.{each-at}
 use Rattle.laws.specs.Places.{each-of-allFrom, eachFrom-at}
 use Rattle.plan.specs.declared.Plan.{Plan}
 use Rattle.safety.specs.Scheduler as S
-use Rattle.safety.specs.Scheduler.{freeSlot, at, leads, endedSlot, ended, mostDrawn, end}
-use Rattle.safety.specs.Order.{bySlot}
+use Rattle.safety.specs.Scheduler.{freeSlot, at, leads, endedSlot, ended, mostDrawn}
 use Rattle.safety.specs.Sound.{Good, good-free}
 use Rattle.safety.specs.Refusals.{drawAllowed, drawHeld}
 use Rattle.safety.specs.Calls.{accepted}
@@ -29,7 +24,7 @@ use Rattle.desk.specs.Ready.{Ready, ready-lawful}
 use Rattle.sweep.specs.declared.ends.Slot.{Slot}
 use Rattle.sweep.specs.Steps.{Drawn, withSlots, endedDesk}
 use Rattle.sweep.specs.Ends.{slotIn, Film}
-use Rattle.sweep.proofs.Slots.{length-in, slot-in, load-kind, load-next, load-held, store-slot, with-own}
+use Rattle.sweep.proofs.Slots.{length-in, load-kind, load-next, load-held, store-slot, with-own}
 use Rattle.sweep.proofs.Fetching.{buffer-has}
 
 -- ---- one slot

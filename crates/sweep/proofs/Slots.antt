@@ -1,12 +1,12 @@
 -- A desk's three arrays as its slots, loads and stores.
 -- Assumes nothing.
-use Prim.Native.Nat.{ℕ, zero, suc, _<_}
+use Prim.Native.Nat.{ℕ, zero, suc}
 use mathlib.Core.Path.{_≡_, refl, sym, ap, _∙_}
 use mathlib.Core.List.{List, [], _∷_, map}
 use lib.ListN.{length, getD, set, List·getD-map}
 use lib.Seq.{map-set-same}
 use Rattle.safety.specs.Scheduler.{Slot, freeSlot, at}
-use Rattle.safety.specs.Arrays.{slotOf, slotsOf, length-slots, slot-at, slots-back}
+use Rattle.safety.specs.Arrays.{slotOf, length-slots, slot-at, slots-back}
 use Rattle.desk.specs.declared.Desk.{Desk}
 use Rattle.desk.specs.Desk.{supplyOf, slotsIn, viewOf, deskOf}
 use Rattle.desk.specs.View.{Wide, same-length, desk-of-view}

@@ -1,7 +1,5 @@
-use native.Mathlib.Omega.{arith}
 use mathlib.Core.Path.{_≡_}
 use Rattle.desk.specs.View.{Wide}
-use Rattle.desk.specs.declared.Desk.{Desk}
 use Rattle.safety.specs.Scheduler.{begun}
 use Rattle.desk.specs.Desk.{supplyOf, slotsIn}
 use Rattle.sweep.specs.Steps.{Stage, withSlots}
@@ -9,15 +7,6 @@ use Rattle.sweep.proofs.Beginning.{stage-of, mark-is, stage-started, le
 use borrow.Author.Needs.{needs}
 use Rattle.sweep.proofs.begin_sweep.Statement.{statement}
 use Rattle.sweep.proofs.begin_sweep.Tie as tie
-use Rattle.sweep.proofs.begin_sweep.Reads as reads
-use Rattle.sweep.proofs.begin_sweep.Lts as lts
-use Rattle.sweep.proofs.fetches.list_fetches.Reads as list-fetches-reads
-use Rattle.sweep.proofs.fetches.sweep_bound.Reads as sweep-bound-reads
-use Rattle.sweep.proofs.grants.grant_asked.Reads as grant-asked-reads
-use Rattle.sweep.proofs.grants.start_playing.Reads as start-playing-reads
-use Rattle.sweep.proofs.marks.least_level.Reads as least-level-reads
-use Rattle.sweep.proofs.marks.low_water.Reads as low-water-reads
-use Rattle.sweep.proofs.marks.sum_leads.Reads as sum-leads-reads
 
 wide : (c : tie.Start) → Wide (c .args .desk)
 wide c = record { kinds = search needs; next = search needs; held = search needs }
@@ -33,41 +22,34 @@ all c =
     begun-all d (wide s) (c .before .before .before .low-water .result) (c .before .before .start-playing .result) (c .before .before .start-playing .ensures) (c .grant-asked .result) (c .grant-asked .ensures)
     (mark-is d (c .before .before .before .low-water .result) (c .before .before .before .before .sum-leads .result) (c .before .before .before .low-water .ensures) (c .before .before .before .before .sum-leads .ensures .0))
 
--- src/lib.rt:34:9
 sum-leads-requires : tie.Need-sum-leads-requires
 sum-leads-requires c κs = search needs
 
--- src/lib.rt:35:9
 low-water-requires : tie.Need-low-water-requires
 low-water-requires c κs = search needs
 
--- src/lib.rt:36:9
 start-playing-requires : tie.Need-start-playing-requires
 start-playing-requires c κs = search needs
 
--- src/lib.rt:37:9
 least-level-requires : tie.Need-least-level-requires
 least-level-requires c κs = search needs
 
--- src/lib.rt:38:9
 grant-asked-requires : tie.Need-grant-asked-requires
 grant-asked-requires c κs = let s = c .before .before .before .before in
     let e = c .before .start-playing in
-    let l = c .before .before .before .sum-leads in
-    (stage-started (s .args .desk) (wide s) (c .before .before .low-water .result) (e .result) (e .ensures) (s .args .g) (stage s),
-    leads-started (s .args .desk) (wide s) (c .before .before .low-water .result) (e .result) (e .ensures) (l .result) (l .ensures .0),
-    l .ensures .1,
-    c .least-level .ensures)
+    let l = c .before .before .before .sum-leads in (
+      stage-started (s .args .desk) (wide s) (c .before .before .low-water .result) (e .result) (e .ensures) (s .args .g) (stage s),
+      leads-started (s .args .desk) (wide s) (c .before .before .low-water .result) (e .result) (e .ensures) (l .result) (l .ensures .0),
+      l .ensures .1,
+      c .least-level .ensures,
+    )
 
--- src/lib.rt:39:9
 sweep-bound-requires : tie.Need-sweep-bound-requires
 sweep-bound-requires c κs = let s = c .before .before .before .before .before in stage-begun (s .args .desk) (c .grant-asked .result) (all c) (wide s) (s .args .g) (s .pre .0) (stage s)
 
--- src/lib.rt:40:9
 list-fetches-requires : tie.Need-list-fetches-requires
 list-fetches-requires c κs = let s = c .before .before .before .before .before .before in stage-begun (s .args .desk) (c .before .grant-asked .result) (all (c .before)) (wide s) (s .args .g) (s .pre .0) (stage s)
 
--- src/lib.rt:30:1
 returns : tie.Need-returns
 returns c = begun-is _ (c .before .before .grant-asked .result) (all (c .before .before)) (c .before .sweep-bound .result) (c .list-fetches .result) (c .before .sweep-bound .ensures) (c .list-fetches .ensures)
 

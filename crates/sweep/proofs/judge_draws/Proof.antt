@@ -10,13 +10,6 @@ use Rattle.sweep.proofs.Drawing.{streams-are, most-is, judged-length, j
 use borrow.Author.Needs.{needs}
 use Rattle.sweep.proofs.judge_draws.Statement.{statement}
 use Rattle.sweep.proofs.judge_draws.Tie as tie
-use Rattle.sweep.proofs.judge_draws.Reads as reads
-use Rattle.sweep.proofs.judge_draws.Lts as lts
-use Rattle.plan.proofs.product.Reads as product-reads
-use Rattle.sweep.proofs.draws.first_excess.Reads as first-excess-reads
-use Rattle.sweep.proofs.draws.first_overdrawn.Reads as first-overdrawn-reads
-use Rattle.sweep.proofs.fetches.sweep_bound.Reads as sweep-bound-reads
-use Rattle.words.proofs.entries.Reads as entries-reads
 
 wide : (c : tie.Start) → Wide (c .args .desk)
 wide c = record { kinds = search needs; next = search needs; held = search needs }
@@ -28,46 +21,36 @@ count c = omega (arith, c .before .entries .ensures)
 most : (c : tie.After-product) → (let d = c .before .before .before .before .before .before .args .desk in c .product .result / 1000000 ≡ mostDrawn (supplyOf (d .plan)) (slotsIn d))
 most c = most-is (c .before .before .before .before .before .before .args .desk) (c .before .sweep-bound .result) (c .product .result) _ (c .before .sweep-bound .ensures) (c .product .ensures) refl
 
--- src/lib.rt:58:13
 cast-n : tie.Need-cast-n
 cast-n c = search needs
 
--- src/lib.rt:59:8
 entries-requires : tie.Need-entries-requires
 entries-requires c κs = search needs
 
--- src/lib.rt:60:9
 returns : tie.Need-returns
 returns c = let a = c .before .before .before .before in judged-length (a .args .desk) (wide a) (a .pre .0) (a .pre .3) _ (λ z. omega (arith, c .before .entries .ensures))
 
--- src/lib.rt:65:48
 sweep-bound-requires : tie.Need-sweep-bound-requires
 sweep-bound-requires c κs = search needs
 
--- src/lib.rt:65:16
 product-requires : tie.Need-product-requires
 product-requires c κs = search needs
 
--- src/lib.rt:66:9
 first-excess-requires : tie.Need-first-excess-requires
 first-excess-requires c κs = let a = c .before .before .before .before .before .before in omega (arith, count (c .before .before), streams-are (a .args .desk) (a .pre .0))
 
--- src/lib.rt:68:9
 returns-2 : tie.Need-returns-2
 returns-2 c = let a = c .before .before .before .before .before .before .before .before in
     judged-excess (a .args .desk) (wide a) (a .pre .0) (a .pre .3) _ (count (c .before .before .before .before)) _ (most (c .before .before)) (c .before .first-excess .result) (c .before .first-excess .ensures) (omega arith)
 
--- src/lib.rt:73:9
 first-overdrawn-requires : tie.Need-first-overdrawn-requires
 first-overdrawn-requires c κs = let a = c .before .before .before .before .before .before .before .before in omega (arith, count (c .before .before .before .before), streams-are (a .args .desk) (a .pre .0))
 
--- src/lib.rt:75:9
 returns-3 : tie.Need-returns-3
 returns-3 c = let a = c .before .before .before .before .before .before .before .before .before .before in
     judged-overdrawn (a .args .desk) (wide a) (a .pre .0) (a .pre .3) _ (count (c .before .before .before .before .before .before)) _ (most (c .before .before .before .before)) (c .before .before .before .first-excess .result) (c .before .before .before .first-excess .ensures) (c .before .before .if2 .left)
     (c .before .first-overdrawn .result) (c .before .first-overdrawn .ensures) (omega arith)
 
--- src/lib.rt:54:1
 returns-4 : tie.Need-returns-4
 returns-4 c = let a = c .before .before .before .before .before .before .before .before .before .before in
     judged-accepted (a .args .desk) (wide a) (a .pre .0) (a .pre .3) _ (count (c .before .before .before .before .before .before)) _ (most (c .before .before .before .before)) (c .before .before .before .first-excess .result) (c .before .before .before .first-excess .ensures) (c .before .before .if2 .left)

@@ -3,18 +3,13 @@ use Rattle.safety.specs.Turns.{limit-player, limit-other}
 use Rattle.safety.specs.Arrays.{slotOf}
 use Rattle.sweep.proofs.draws.draw_limit.Statement.{statement}
 use Rattle.sweep.proofs.draws.draw_limit.Tie as tie
-use Rattle.sweep.proofs.draws.draw_limit.Reads as reads
-use Rattle.sweep.proofs.draws.draw_limit.Lts as lts
 
--- src/draws.rt:16:1
 returns : tie.Need-returns
 returns c = λ p b h. limit-player p (c .before .args .most) (slotOf p (c .before .args .kind) b h) (omega arith) (omega arith)
 
--- src/draws.rt:16:1
 returns-2 : tie.Need-returns-2
 returns-2 c = λ p b h. limit-player p (c .before .args .most) (slotOf p (c .before .args .kind) b h) (omega arith) (omega arith)
 
--- src/draws.rt:16:1
 returns-3 : tie.Need-returns-3
 returns-3 c = λ p b h. limit-other p (c .before .args .most) (slotOf p (c .before .args .kind) b h) (λ x y. omega arith)
 

@@ -1,6 +1,6 @@
 use native.Mathlib.Omega.{arith}
-use Prim.Native.Nat.{ℕ, _+_, _-_, _≤_, _<_}
-use mathlib.Core.Path.{_≡_, sym, _∙_}
+use Prim.Native.Nat.{ℕ, _-_, _≤_, _<_}
+use mathlib.Core.Path.{_≡_}
 use borrow.Author.Needs.{needs}
 use borrow.Author.Count.{below-more}
 use lib.ListN.{length, getD}
@@ -8,14 +8,9 @@ use Rattle.words.specs.Words.{wordsOf}
 use Rattle.safety.specs.Scheduler.{at, drawLimit}
 use Rattle.desk.specs.View.{Wide}
 use Rattle.desk.specs.Desk.{supplyOf, slotsIn}
-use Rattle.sweep.proofs.Drawing.{limit-in, held-in}
+use Rattle.sweep.proofs.Drawing.{limit-in}
 use Rattle.sweep.proofs.draws.first_excess.Statement.{statement}
 use Rattle.sweep.proofs.draws.first_excess.Tie as tie
-use Rattle.sweep.proofs.draws.first_excess.Reads as reads
-use Rattle.sweep.proofs.draws.first_excess.Lts as lts
-use Rattle.sweep.proofs.draws.draw_limit.Reads as draw-limit-reads
-use Rattle.words.proofs.entries.Reads as entries-reads
-use Rattle.words.proofs.word_at.Reads as word-at-reads
 
 abbrev Inv-loop : tie.InvT-loop
 Inv-loop most draws desk count i₀ i = (count ≡ length (wordsOf draws)) × (i ≤ count) × ((j : ℕ) → j < i → getD (wordsOf draws) j 0 ≤ drawLimit (supplyOf (desk .plan)) most (at (supplyOf (desk .plan)) (slotsIn desk) j))
@@ -26,35 +21,27 @@ abbrev μ-loop : tie.MeasureT-loop
 wide : (c : tie.Start Inv-loop μ-loop) → Wide (c .args .t1)
 wide c = record { kinds = search needs; next = search needs; held = search needs }
 
--- src/draws.rt:31:9
 entries-requires : tie.Need-entries-requires Inv-loop μ-loop
 entries-requires c κs = search needs
 
--- src/draws.rt:33:5
 loop-holds : tie.Need-loop-holds Inv-loop μ-loop
 loop-holds c = (c .entries .ensures, omega arith, λ j l. absurd (omega arith))
 
--- src/draws.rt:34:23
 mul-draw-limit : tie.Need-mul-draw-limit Inv-loop μ-loop
 mul-draw-limit c = omega arith
 
--- src/draws.rt:34:23
 element-copy-out-draw-limit : tie.Need-element-copy-out-draw-limit Inv-loop μ-loop
 element-copy-out-draw-limit c = omega (arith, c .before .before .before .before .pre)
 
--- src/draws.rt:34:12
 draw-limit-requires : tie.Need-draw-limit-requires Inv-loop μ-loop
 draw-limit-requires c κs = search needs
 
--- src/draws.rt:34:46
 word-at-requires : tie.Need-word-at-requires Inv-loop μ-loop
 word-at-requires c κs = omega (arith, c .before .before .before .loop .inv .0, c .before .before .loop-test .taken)
 
--- src/draws.rt:34:46
 cast-if1 : tie.Need-cast-if1 Inv-loop μ-loop
 cast-if1 c = search needs
 
--- src/draws.rt:35:13
 returns : tie.Need-returns Inv-loop μ-loop
 returns c = let l = c .before .before .before .before .before .loop in
     let a = c .before .before .before .before .before .before .before .before in
@@ -64,21 +51,17 @@ returns c = let l = c .before .before .before .before .before .loop in
       above = λ _. omega (arith, limit-in (a .args .t1) (wide a) (a .args .most) (l .i) (c .before .before .draw-limit .result) (c .before .before .draw-limit .ensures), c .before .word-at .ensures);
     }
 
--- src/draws.rt:37:9
 add-i : tie.Need-add-i Inv-loop μ-loop
 add-i c = omega arith
 
--- src/draws.rt:33:5
 loop-less : tie.Need-loop-less Inv-loop μ-loop
 loop-less c = omega arith
 
--- src/draws.rt:33:5
 loop-again : tie.Need-loop-again Inv-loop μ-loop
 loop-again c = let l = c .before .before .before .before .before .loop in
     let a = c .before .before .before .before .before .before .before .before in
     (l .inv .0, omega arith, below-more _ _ (l .inv .2) (omega (arith, limit-in (a .args .t1) (wide a) (a .args .most) (l .i) (c .before .before .draw-limit .result) (c .before .before .draw-limit .ensures), c .before .word-at .ensures)))
 
--- src/draws.rt:27:1
 returns-2 : tie.Need-returns-2 Inv-loop μ-loop
 returns-2 c = let l = c .before .loop in record { inside = omega arith; below = l .inv .2; above = λ z. absurd (omega arith) }
 

@@ -1,20 +1,16 @@
 use native.Mathlib.Omega.{arith}
-use Prim.Native.Nat.{ℕ, _+_, _-_, _≤_, _<_}
-use mathlib.Core.Path.{_≡_, sym, _∙_}
+use Prim.Native.Nat.{ℕ, _-_, _≤_, _<_}
+use mathlib.Core.Path.{_≡_}
 use borrow.Author.Needs.{needs}
 use borrow.Author.Count.{below-more}
 use lib.ListN.{length, getD}
 use Rattle.words.specs.Words.{wordsOf}
-use Rattle.safety.specs.Scheduler.{at, drawLimit}
+use Rattle.safety.specs.Scheduler.{at}
 use Rattle.desk.specs.View.{Wide}
 use Rattle.desk.specs.Desk.{supplyOf, slotsIn}
-use Rattle.sweep.proofs.Drawing.{limit-in, held-in}
+use Rattle.sweep.proofs.Drawing.{held-in}
 use Rattle.sweep.proofs.draws.first_overdrawn.Statement.{statement}
 use Rattle.sweep.proofs.draws.first_overdrawn.Tie as tie
-use Rattle.sweep.proofs.draws.first_overdrawn.Reads as reads
-use Rattle.sweep.proofs.draws.first_overdrawn.Lts as lts
-use Rattle.words.proofs.entries.Reads as entries-reads
-use Rattle.words.proofs.word_at.Reads as word-at-reads
 
 abbrev Inv-loop : tie.InvT-loop
 Inv-loop draws desk count i₀ i = (count ≡ length (wordsOf draws)) × (i ≤ count) × ((j : ℕ) → j < i → getD (wordsOf draws) j 0 ≤ at (supplyOf (desk .plan)) (slotsIn desk) j .buffered)
@@ -25,27 +21,21 @@ abbrev μ-loop : tie.MeasureT-loop
 wide : (c : tie.Start Inv-loop μ-loop) → Wide (c .args .t1)
 wide c = record { kinds = search needs; next = search needs; held = search needs }
 
--- src/draws.rt:47:9
 entries-requires : tie.Need-entries-requires Inv-loop μ-loop
 entries-requires c κs = search needs
 
--- src/draws.rt:49:5
 loop-holds : tie.Need-loop-holds Inv-loop μ-loop
 loop-holds c = (c .entries .ensures, omega arith, λ j l. absurd (omega arith))
 
--- src/draws.rt:50:12
 mul-if1 : tie.Need-mul-if1 Inv-loop μ-loop
 mul-if1 c = omega arith
 
--- src/draws.rt:50:12
 element-copy-out-if1 : tie.Need-element-copy-out-if1 Inv-loop μ-loop
 element-copy-out-if1 c = omega (arith, c .before .before .before .before .pre)
 
--- src/draws.rt:50:27
 word-at-requires : tie.Need-word-at-requires Inv-loop μ-loop
 word-at-requires c κs = omega (arith, c .before .before .loop .inv .0, c .before .loop-test .taken)
 
--- src/draws.rt:51:13
 returns : tie.Need-returns Inv-loop μ-loop
 returns c = let l = c .before .before .before .before .loop in
     let a = c .before .before .before .before .before .before .before in
@@ -55,21 +45,17 @@ returns c = let l = c .before .before .before .before .loop in
       above = λ _. omega (arith, held-in (a .args .t1) (wide a) (l .i), c .before .word-at .ensures);
     }
 
--- src/draws.rt:53:9
 add-i : tie.Need-add-i Inv-loop μ-loop
 add-i c = omega arith
 
--- src/draws.rt:49:5
 loop-less : tie.Need-loop-less Inv-loop μ-loop
 loop-less c = omega arith
 
--- src/draws.rt:49:5
 loop-again : tie.Need-loop-again Inv-loop μ-loop
 loop-again c = let l = c .before .before .before .before .loop in
     let a = c .before .before .before .before .before .before .before in
     (l .inv .0, omega arith, below-more _ _ (l .inv .2) (omega (arith, held-in (a .args .t1) (wide a) (l .i), c .before .word-at .ensures)))
 
--- src/draws.rt:43:1
 returns-2 : tie.Need-returns-2 Inv-loop μ-loop
 returns-2 c = let l = c .before .loop in record { inside = omega arith; below = l .inv .2; above = λ z. absurd (omega arith) }
 

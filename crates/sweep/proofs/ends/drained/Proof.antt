@@ -1,21 +1,15 @@
 use native.Mathlib.Omega.{arith}
-use mathlib.Core.Path.{_≡_}
 use Rattle.sweep.proofs.Ending.{drained-empty, drained-on}
 use borrow.Author.Needs.{needs}
 use Rattle.sweep.proofs.ends.drained.Statement.{statement}
 use Rattle.sweep.proofs.ends.drained.Tie as tie
-use Rattle.sweep.proofs.ends.drained.Reads as reads
-use Rattle.sweep.proofs.ends.drained.Lts as lts
 
--- src/ends.rt:56:9
 returns : tie.Need-returns
 returns c = λ p. let a = c .before .before in drained-empty p (a .args .slot) (a .args .draw) (a .pre .0) (omega arith)
 
--- src/ends.rt:65:15
 sub-t4 : tie.Need-sub-t4
 sub-t4 c = search needs
 
--- src/ends.rt:51:1
 returns-2 : tie.Need-returns-2
 returns-2 c = λ p. let a = c .before .before .before in drained-on p (a .args .slot) (a .args .draw) (a .pre .0) (omega arith)
 

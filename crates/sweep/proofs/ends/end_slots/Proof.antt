@@ -1,21 +1,15 @@
 use native.Mathlib.Omega.{arith}
-use Prim.Native.Nat.{ℕ, _+_, _-_, _≤_, _<_}
+use Prim.Native.Nat.{_-_, _≤_, _<_}
 use mathlib.Core.Path.{_≡_, refl, ap, _∙_}
 use borrow.Author.Needs.{needs}
 use lib.ListN.{length, getD}
 use Rattle.words.specs.Words.{wordsOf}
-use Rattle.safety.specs.Scheduler.{endedSlot}
-use Rattle.desk.specs.Desk.{supplyOf}
 use Rattle.desk.specs.View.{Wide}
 use Rattle.sweep.proofs.Drawing.{streams-are}
 use Rattle.sweep.proofs.Fetching.{buffer-has, buffer-most}
 use Rattle.sweep.proofs.Ending.{endedUpTo, ends-none, drawn-count, fair-now, ends-turn, ends-all}
 use Rattle.sweep.proofs.ends.end_slots.Statement.{statement}
 use Rattle.sweep.proofs.ends.end_slots.Tie as tie
-use Rattle.sweep.proofs.ends.end_slots.Reads as reads
-use Rattle.sweep.proofs.ends.end_slots.Lts as lts
-use Rattle.sweep.proofs.ends.ended_slot.Reads as ended-slot-reads
-use Rattle.words.proofs.word_at.Reads as word-at-reads
 
 abbrev Inv-loop : tie.InvT-loop
 Inv-loop draws blocks bytes room count d₀ i₀ d i = (count ≡ d₀ .plan .streams) × (i ≤ count) × (d ≡ endedUpTo d₀ (wordsOf draws) i)
@@ -32,100 +26,86 @@ inside c =
     let a = c .before .before .before .before .before in
     omega (arith, streams-are (a .args .desk) (a .pre .0), drawn-count (a .args .desk) (wordsOf (a .args .draws .now)) (a .pre .1))
 
--- src/ends.rt:90:16
 sub-room : tie.Need-sub-room Inv-loop μ-loop
 sub-room c = omega (arith, buffer-has (c .before .before .args .desk .plan) (c .before .before .pre .0 .planned))
 
--- src/ends.rt:91:17
 cast-count : tie.Need-cast-count Inv-loop μ-loop
 cast-count c = search needs
 
--- src/ends.rt:94:5
 loop-holds : tie.Need-loop-holds Inv-loop μ-loop
 loop-holds c = let a = c .before .before .before in (refl, omega arith, ends-none _ (wide a) _)
 
--- src/ends.rt:96:19
 mul-ended-slot : tie.Need-mul-ended-slot Inv-loop μ-loop
 mul-ended-slot c = omega (arith, inside c)
 
--- src/ends.rt:96:19
 element-copy-out-ended-slot : tie.Need-element-copy-out-ended-slot Inv-loop μ-loop
 element-copy-out-ended-slot c = inside c .0
 
--- src/ends.rt:97:19
 mul-t16 : tie.Need-mul-t16 Inv-loop μ-loop
 mul-t16 c = omega (arith, inside (c .before))
 
--- src/ends.rt:97:19
 element-copy-out-t19 : tie.Need-element-copy-out-t19 Inv-loop μ-loop
 element-copy-out-t19 c = inside (c .before) .0
 
--- src/ends.rt:98:19
 mul-t20 : tie.Need-mul-t20 Inv-loop μ-loop
 mul-t20 c = omega (arith, inside (c .before .before))
 
--- src/ends.rt:98:19
 element-copy-out-t23 : tie.Need-element-copy-out-t23 Inv-loop μ-loop
 element-copy-out-t23 c = inside (c .before .before) .0
 
--- src/ends.rt:100:38
 word-at-requires : tie.Need-word-at-requires Inv-loop μ-loop
 word-at-requires c κs = inside (c .before .before .before) .1
 
--- src/ends.rt:100:13
 ended-slot-requires : tie.Need-ended-slot-requires Inv-loop μ-loop
 ended-slot-requires c κs = let a = c .before .before .before .before .before .before .before .before .before in
     let l = c .before .before .before .before .before .loop in
     let d = a .args .desk in
     let ds = wordsOf (a .args .draws .now) in
     let f = fair-now d (wide a) (a .pre .0) ds (a .pre .1) (l .i) (inside (c .before .before .before .before) .0) (l .d) (l .inv .2) in
-    let e : c .word-at .result ≡ getD ds (l .i) 0 = c .word-at .ensures in
-    (omega (arith, f .drawn), λ z. e ∙ f .none z, f .kinds, f .named,
-    omega (arith, buffer-has (d .plan) (a .pre .0 .planned), buffer-most (d .plan) (a .pre .0 .legal) (a .pre .0 .planned)), a .pre .0 .legal .bytes .0)
+    let e : c .word-at .result ≡ getD ds (l .i) 0 = c .word-at .ensures in (
+      omega (arith, f .drawn),
+      λ z. e ∙ f .none z,
+      f .kinds,
+      f .named,
+      omega (arith, buffer-has (d .plan) (a .pre .0 .planned), buffer-most (d .plan) (a .pre .0 .legal) (a .pre .0 .planned)),
+      a .pre .0 .legal .bytes .0,
+    )
 
--- src/ends.rt:101:9
 mul-d : tie.Need-mul-d Inv-loop μ-loop
 mul-d c = omega (arith, inside (c .before .before .before .before .before))
 
--- src/ends.rt:101:9
 element-write-d : tie.Need-element-write-d Inv-loop μ-loop
 element-write-d c = inside (c .before .before .before .before .before) .0
 
--- src/ends.rt:102:9
 mul-d-2 : tie.Need-mul-d-2 Inv-loop μ-loop
 mul-d-2 c = omega (arith, inside (c .before .before .before .before .before))
 
--- src/ends.rt:102:9
 element-write-d-2 : tie.Need-element-write-d-2 Inv-loop μ-loop
 element-write-d-2 c = inside (c .before .before .before .before .before) .0
 
--- src/ends.rt:103:9
 mul-d-3 : tie.Need-mul-d-3 Inv-loop μ-loop
 mul-d-3 c = omega (arith, inside (c .before .before .before .before .before))
 
--- src/ends.rt:103:9
 element-write-d-3 : tie.Need-element-write-d-3 Inv-loop μ-loop
 element-write-d-3 c = inside (c .before .before .before .before .before) .0
 
--- src/ends.rt:104:9
 add-i : tie.Need-add-i Inv-loop μ-loop
 add-i c = omega (arith, inside (c .before .before .before .before .before))
 
--- src/ends.rt:94:5
 loop-less : tie.Need-loop-less Inv-loop μ-loop
 loop-less c = omega arith
 
--- src/ends.rt:94:5
 loop-again : tie.Need-loop-again Inv-loop μ-loop
 loop-again c = let a = c .before .before .before .before .before .before .before .before .before .before in
     let l = c .before .before .before .before .before .before .loop in
     let d = a .args .desk in
-    let ds = wordsOf (a .args .draws .now) in
-    (refl, omega (arith, c .before .before .before .before .before .loop-test .taken),
-    ends-turn d (wide a) (a .pre .0) ds (a .pre .1) (l .i) (inside (c .before .before .before .before .before) .0) (l .d) (l .inv .2)
-    (c .before .word-at .result) (c .before .word-at .ensures) (c .ended-slot .result) (c .ended-slot .ensures))
+    let ds = wordsOf (a .args .draws .now) in (
+      refl,
+      omega (arith, c .before .before .before .before .before .loop-test .taken),
+      ends-turn d (wide a) (a .pre .0) ds (a .pre .1) (l .i) (inside (c .before .before .before .before .before) .0) (l .d) (l .inv .2)
+          (c .before .word-at .result) (c .before .word-at .ensures) (c .ended-slot .result) (c .ended-slot .ensures),
+    )
 
--- src/ends.rt:84:1
 returns : tie.Need-returns Inv-loop μ-loop
 returns c = let a = c .before .before .before .before .before in
     let l = c .before .loop in

@@ -1,39 +1,27 @@
 use native.Mathlib.Omega.{arith}
-use mathlib.Core.Path.{_≡_}
 use Rattle.sweep.proofs.Ending.{still}
 use borrow.Author.Needs.{needs}
 use Rattle.sweep.proofs.ends.ended_slot.Statement.{statement}
 use Rattle.sweep.proofs.ends.ended_slot.Tie as tie
-use Rattle.sweep.proofs.ends.ended_slot.Reads as reads
-use Rattle.sweep.proofs.ends.ended_slot.Lts as lts
-use Rattle.sweep.proofs.ends.drained.Reads as drained-reads
-use Rattle.sweep.proofs.ends.swept.Reads as swept-reads
 
--- src/ends.rt:76:14
 swept-requires : tie.Need-swept-requires
 swept-requires c κs = let a = c .before in (omega arith, omega arith, a .pre .0, a .pre .3 (omega arith) (omega arith), a .pre .4, a .pre .5)
 
--- src/ends.rt:77:14
 swept-requires-2 : tie.Need-swept-requires-2
 swept-requires-2 c κs = let a = c .before in (omega arith, omega arith, a .pre .0, a .pre .3 (omega arith) (omega arith), a .pre .4, a .pre .5)
 
--- src/ends.rt:78:14
 drained-requires : tie.Need-drained-requires
 drained-requires c κs = search needs
 
--- src/ends.rt:70:1
 returns : tie.Need-returns
 returns c = search needs
 
--- src/ends.rt:70:1
 returns-2 : tie.Need-returns-2
 returns-2 c = search needs
 
--- src/ends.rt:70:1
 returns-3 : tie.Need-returns-3
 returns-3 c = λ p f. c .drained .ensures p
 
--- src/ends.rt:70:1
 returns-4 : tie.Need-returns-4
 returns-4 c = λ p f. let a = c .before in still p (a .args .slot) (a .args .draw) (omega arith) (a .pre .1 (omega arith))
 

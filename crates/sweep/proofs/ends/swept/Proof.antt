@@ -1,39 +1,29 @@
 use native.Mathlib.Omega.{arith}
-use mathlib.Core.Path.{_≡_}
 use Rattle.sweep.proofs.Ending.{swept-full, swept-last, swept-on}
 use borrow.Author.Needs.{needs}
 use Rattle.sweep.proofs.ends.swept.Statement.{statement}
 use Rattle.sweep.proofs.ends.swept.Tie as tie
-use Rattle.sweep.proofs.ends.swept.Reads as reads
-use Rattle.sweep.proofs.ends.swept.Lts as lts
 
--- src/ends.rt:31:19
 sub-t9 : tie.Need-sub-t9
 sub-t9 c = search needs
 
--- src/ends.rt:28:9
 returns : tie.Need-returns
 returns c = λ p f. let a = c .before .before .before in
     swept-full p _ _ _ f (a .args .slot) (a .args .draw) (a .pre .0) (a .pre .1) (omega arith)
 
--- src/ends.rt:34:16
 add-next : tie.Need-add-next
 add-next c = search needs
 
--- src/ends.rt:35:16
 sub-held : tie.Need-sub-held
 sub-held c = search needs
 
--- src/ends.rt:35:16
 add-held : tie.Need-add-held
 add-held c = search needs
 
--- src/ends.rt:37:9
 returns-2 : tie.Need-returns-2
 returns-2 c = λ p f. let a = c .before .before .before .before .before in
     swept-last p _ _ _ f (a .args .slot) (a .args .draw) (a .pre .0) (a .pre .1) (omega arith) (a .pre .5) (omega arith)
 
--- src/ends.rt:23:1
 returns-3 : tie.Need-returns-3
 returns-3 c = λ p f. let a = c .before .before .before .before .before in
     swept-on p _ _ _ f (a .args .slot) (a .args .draw) (a .pre .0) (a .pre .1) (omega arith) (λ z. omega arith)

@@ -1,15 +1,12 @@
 use native.Mathlib.Omega.{arith}
-use Prim.Native.Nat.{_+_, _*_, _≤_, _-_}
-use mathlib.Core.Path.{_≡_, _∙_, sym}
+use Prim.Native.Nat.{_-_}
+use mathlib.Core.Path.{_∙_, sym}
 use mathlib.Core.Logic.{⊎-elim}
 use borrow.Author.Needs.{needs}
 use Rattle.desk.specs.View.{Wide}
 use Rattle.sweep.proofs.Granting.{Granting, grants-none, grants-yes, grants-no, grants-end}
 use Rattle.sweep.proofs.grants.grant_asked.Statement.{statement}
 use Rattle.sweep.proofs.grants.grant_asked.Tie as tie
-use Rattle.sweep.proofs.grants.grant_asked.Reads as reads
-use Rattle.sweep.proofs.grants.grant_asked.Lts as lts
-use Rattle.sweep.proofs.grants.is_granted.Reads as is-granted-reads
 
 abbrev Inv-loop : tie.InvT-loop
 Inv-loop sum level g bytes rate d₀ leads₀ i₀ d leads i = Granting d₀ d leads i
@@ -20,51 +17,39 @@ abbrev μ-loop : tie.MeasureT-loop
 wide : (c : tie.Start Inv-loop μ-loop) → Wide (c .args .desk)
 wide c = record { kinds = search needs; next = search needs; held = search needs }
 
--- src/grants.rt:66:5
 loop-holds : tie.Need-loop-holds Inv-loop μ-loop
 loop-holds c = grants-none _ (wide c) _ (c .pre .1) (c .pre .2)
 
--- src/grants.rt:67:30
 mul-raised : tie.Need-mul-raised Inv-loop μ-loop
 mul-raised c = omega arith
 
--- src/grants.rt:67:30
 element-copy-out-raised : tie.Need-element-copy-out-raised Inv-loop μ-loop
 element-copy-out-raised c = omega arith
 
--- src/grants.rt:67:22
 add-raised : tie.Need-add-raised Inv-loop μ-loop
 add-raised c = omega (arith, c .before .before .before .pre .0 .range .leads (c .before .before .loop .i))
 
--- src/grants.rt:68:23
 mul-is-granted : tie.Need-mul-is-granted Inv-loop μ-loop
 mul-is-granted c = omega arith
 
--- src/grants.rt:68:23
 element-copy-out-is-granted : tie.Need-element-copy-out-is-granted Inv-loop μ-loop
 element-copy-out-is-granted c = omega arith
 
--- src/grants.rt:68:12
 is-granted-requires : tie.Need-is-granted-requires Inv-loop μ-loop
 is-granted-requires c κs = let a = c .before .before .before .before in (a .pre .0 .legal .bytes .1, a .pre .0 .legal .rate .1)
 
--- src/grants.rt:69:13
 mul-d : tie.Need-mul-d Inv-loop μ-loop
 mul-d c = omega arith
 
--- src/grants.rt:69:13
 element-write-d : tie.Need-element-write-d Inv-loop μ-loop
 element-write-d c = omega arith
 
--- src/grants.rt:72:9
 add-i : tie.Need-add-i Inv-loop μ-loop
 add-i c = omega arith
 
--- src/grants.rt:66:5
 loop-less : tie.Need-loop-less Inv-loop μ-loop
 loop-less c = omega arith
 
--- src/grants.rt:66:5
 loop-again : tie.Need-loop-again Inv-loop μ-loop
 loop-again c = let b = c .before in
     let l = b .before .before .before .before .loop in
@@ -76,7 +61,6 @@ loop-again c = let b = c .before in
     (λ w. rw (w .1, w .2) (grants-no (a .args .desk) (wide a) g (a .pre .0) (a .args .level) (a .pre .3) (l .d) (l .leads) (l .i) t (l .inv) (sym (b .is-granted .ensures) ∙ w .0 .left)))
     (c .if1 .came)
 
--- src/grants.rt:57:1
 returns : tie.Need-returns Inv-loop μ-loop
 returns c = grants-end _ _ _ _ (c .before .loop .inv) (c .loop-test .left)
 

@@ -1,24 +1,14 @@
-use native.Mathlib.Omega.{arith}
 use borrow.Author.Tests.{eq-eqb, ne-eqb}
-use mathlib.Core.Bool.{_&&_}
-use lib.Dec.{leb, eqb}
-use mathlib.Core.Path.{refl}
 use borrow.Author.Needs.{needs}
 use Rattle.sweep.proofs.grants.is_granted.Statement.{statement}
 use Rattle.sweep.proofs.grants.is_granted.Tie as tie
-use Rattle.sweep.proofs.grants.is_granted.Reads as reads
-use Rattle.sweep.proofs.grants.is_granted.Lts as lts
-use Rattle.sweep.proofs.marks.low_water.Reads as low-water-reads
 
--- src/grants.rt:51:14
 low-water-requires : tie.Need-low-water-requires
 low-water-requires c κs = search needs
 
--- src/grants.rt:46:1
 returns : tie.Need-returns
 returns c = rw (c .low-water .ensures, eq-eqb (c .before .before .args .kind) 1 (c .before .match .keys1))
 
--- src/grants.rt:46:1
 returns-2 : tie.Need-returns-2
 returns-2 c = rw (ne-eqb (c .before .args .kind) 1 (c .match .rest .1))
 

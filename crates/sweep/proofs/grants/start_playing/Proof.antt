@@ -1,15 +1,11 @@
 use native.Mathlib.Omega.{arith}
 use Prim.Native.Nat.{_≤_, _-_}
-use mathlib.Core.Path.{_≡_, _∙_, ap}
+use mathlib.Core.Path.{_≡_}
 use borrow.Author.Needs.{needs}
 use Rattle.desk.specs.View.{Wide}
-use Rattle.desk.specs.Desk.{supplyOf, slotsIn}
 use Rattle.sweep.proofs.Granting.{startedDesk, started-none, started-turn, started-end}
 use Rattle.sweep.proofs.grants.start_playing.Statement.{statement}
 use Rattle.sweep.proofs.grants.start_playing.Tie as tie
-use Rattle.sweep.proofs.grants.start_playing.Reads as reads
-use Rattle.sweep.proofs.grants.start_playing.Lts as lts
-use Rattle.sweep.proofs.grants.started_kind.Reads as started-kind-reads
 
 abbrev Inv-loop : tie.InvT-loop
 Inv-loop mark d₀ i₀ d i = (i ≤ 256) × (d ≡ startedDesk d₀ mark i)
@@ -20,53 +16,41 @@ abbrev μ-loop : tie.MeasureT-loop
 wide : (c : tie.Start Inv-loop μ-loop) → Wide (c .args .desk)
 wide c = record { kinds = search needs; next = search needs; held = search needs }
 
--- src/grants.rt:38:5
 loop-holds : tie.Need-loop-holds Inv-loop μ-loop
 loop-holds c = (omega arith, started-none _ (wide c) _)
 
--- src/grants.rt:39:35
 mul-started-kind : tie.Need-mul-started-kind Inv-loop μ-loop
 mul-started-kind c = omega arith
 
--- src/grants.rt:39:35
 element-copy-out-started-kind : tie.Need-element-copy-out-started-kind Inv-loop μ-loop
 element-copy-out-started-kind c = omega arith
 
--- src/grants.rt:39:47
 mul-started-kind-2 : tie.Need-mul-started-kind-2 Inv-loop μ-loop
 mul-started-kind-2 c = omega arith
 
--- src/grants.rt:39:47
 element-copy-out-started-kind-2 : tie.Need-element-copy-out-started-kind-2 Inv-loop μ-loop
 element-copy-out-started-kind-2 c = omega arith
 
--- src/grants.rt:39:22
 started-kind-requires : tie.Need-started-kind-requires Inv-loop μ-loop
 started-kind-requires c κs = search needs
 
--- src/grants.rt:39:9
 mul-d : tie.Need-mul-d Inv-loop μ-loop
 mul-d c = omega arith
 
--- src/grants.rt:39:9
 element-write-d : tie.Need-element-write-d Inv-loop μ-loop
 element-write-d c = omega arith
 
--- src/grants.rt:40:9
 add-i : tie.Need-add-i Inv-loop μ-loop
 add-i c = omega arith
 
--- src/grants.rt:38:5
 loop-less : tie.Need-loop-less Inv-loop μ-loop
 loop-less c = omega arith
 
--- src/grants.rt:38:5
 loop-again : tie.Need-loop-again Inv-loop μ-loop
 loop-again c = let l = c .before .before .before .before .loop in
     let a = c .before .before .before .before .before in
     (omega arith, started-turn (a .args .desk) (wide a) (a .args .mark) (l .i) (c .started-kind .result) (l .d) (l .inv .1) (c .before .before .before .loop-test .taken) (c .started-kind .ensures))
 
--- src/grants.rt:33:1
 returns : tie.Need-returns Inv-loop μ-loop
 returns c = started-end _ (wide (c .before .before)) _ (c .before .loop .i) _ (c .before .loop .inv .1) (omega arith)
 

@@ -1,21 +1,16 @@
 use native.Mathlib.Omega.{arith}
-use mathlib.Core.Path.{_≡_, refl, sym, ap, _∙_}
+use mathlib.Core.Path.{sym, _∙_}
 use Rattle.safety.specs.Slots.{reading-lead, other-lead}
 use Rattle.safety.specs.Arrays.{slotOf}
 use Rattle.sweep.proofs.marks.counted_lead.Statement.{statement}
 use Rattle.sweep.proofs.marks.counted_lead.Tie as tie
-use Rattle.sweep.proofs.marks.counted_lead.Reads as reads
-use Rattle.sweep.proofs.marks.counted_lead.Lts as lts
 
--- src/marks.rt:23:1
 returns : tie.Need-returns
 returns c = (omega arith, λ p b h e. e (omega arith) (omega arith) ∙ sym (reading-lead p (slotOf p (c .before .args .kind) b h) (omega arith) (omega arith)))
 
--- src/marks.rt:23:1
 returns-2 : tie.Need-returns-2
 returns-2 c = (omega arith, λ p b h e. e (omega arith) (omega arith) ∙ sym (reading-lead p (slotOf p (c .before .args .kind) b h) (omega arith) (omega arith)))
 
--- src/marks.rt:23:1
 returns-3 : tie.Need-returns-3
 returns-3 c = (omega arith, λ p b h e. sym (other-lead p (slotOf p (c .before .args .kind) b h) (λ x y. omega arith)))
 

@@ -1,31 +1,23 @@
 use native.Mathlib.Omega.{arith}
 use native.Mathlib.Nat.{mul-le-mul}
 use Prim.Native.Nat.{_*_, _≤_}
-use mathlib.Core.Path.{_≡_}
 use borrow.Author.Needs.{needs}
 use Rattle.sweep.proofs.marks.low_water.Statement.{statement}
 use Rattle.sweep.proofs.marks.low_water.Tie as tie
-use Rattle.sweep.proofs.marks.low_water.Reads as reads
-use Rattle.sweep.proofs.marks.low_water.Lts as lts
-use Rattle.plan.proofs.product.Reads as product-reads
 
--- src/marks.rt:19:5
 product-requires : tie.Need-product-requires
 product-requires c κs = search needs
 
--- src/marks.rt:19:31
 product-requires-2 : tie.Need-product-requires-2
 product-requires-2 c κs = search needs
 
--- src/marks.rt:19:5
 add-result : tie.Need-add-result
-add-result c = 
+add-result c =
     let a = c .before .before .args in
     let x : a .leads ≤ 4294967295 = omega arith in
     let q : a .rate * a .leads ≤ 10000000 * 4294967295 = mul-le-mul (c .before .before .pre .1) x in
     omega arith
 
--- src/marks.rt:15:1
 returns : tie.Need-returns
 returns c = search needs
 
