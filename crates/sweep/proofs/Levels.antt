@@ -1,0 +1,62 @@
+-- One turn of the loops that add up the leads and find the least that a playing slot holds.
+-- Assumes nothing.
+use Prim.Native.Nat.{ℕ, _+_, _*_, _≤_, _<_, min}
+use mathlib.Core.Path.{_≡_, sym, ap, _∙_}
+use mathlib.Core.Logic.{by-cases}
+use native.Mathlib.Omega.{arith}
+use native.Mathlib.Decide.{ℕ-discrete}
+use lib.ListN.{length, getD, take}
+use Rattle.laws.specs.Sums.{sum-next}
+use Rattle.safety.specs.Supply.{Supply}
+use Rattle.safety.specs.Scheduler.{Slot, freeSlot, at, leadOf, leads}
+use Rattle.safety.specs.Arrays.{slotOf}
+use Rattle.safety.specs.Turns.{leads-all, leastHeld, least-next, least-skip, least-all}
+use Rattle.desk.specs.declared.Desk.{Desk}
+use Rattle.desk.specs.declared.Gathered.{Gathered}
+use Rattle.desk.specs.Desk.{supplyOf, slotsIn}
+use Rattle.desk.specs.View.{Wide}
+use Rattle.desk.specs.Ready.{Gathers}
+use Rattle.sweep.proofs.Slots.{length-in, slot-in}
+
+module _ (d : Desk) (w : Wide d) where
+  -- the gathered lead of a slot that asks, fills or plays is that of its next block
+  pub lead-in : (g : Gathered) → Gathers d g → (i : ℕ) → i < 256 → 1 ≤ getD (d .kinds) i 0 → getD (d .kinds) i 0 ≤ 3 → getD (g .leads) i 0 ≡ supplyOf (d .plan) .lead (getD (d .next) i 0)
+  unfolding supplyOf
+  lead-in g u i l k h = u .leads i l k h
+
+  pub leads-turn : (g : Gathered) → Gathers d g → (i sum own : ℕ) → i < 256
+      → sum ≡ leads (supplyOf (d .plan)) (take i (slotsIn d))
+      → ((p : Supply ℕ) (b h : ℕ) → (2 ≤ getD (d .kinds) i 0 → getD (d .kinds) i 0 ≤ 3 → getD (g .leads) i 0 ≡ p .lead b) → own ≡ leadOf p (slotOf p (getD (d .kinds) i 0) b h))
+      → sum + own ≡ leads (supplyOf (d .plan)) (take (i + 1) (slotsIn d))
+  unfolding leads
+  leads-turn g u i sum own l s o =
+      let q = supplyOf (d .plan) in
+      let e : own ≡ leadOf q (at q (slotsIn d) i) = o q (getD (d .next) i 0) (getD (d .held) i 0) (λ a b. lead-in g u i l (omega arith) b) ∙ ap (leadOf q) (sym (slot-in d w i)) in
+      omega (arith, sum-next (leadOf q) (freeSlot q) (slotsIn d) i (omega (arith, length-in d w)))
+
+  pub least-turn : (top i level next : ℕ) → i < 256
+      → level ≡ 2000000 * leastHeld (supplyOf (d .plan)) top (take i (slotsIn d))
+      → (getD (d .kinds) i 0 ≡ 3 → next ≡ min level (2000000 * getD (d .held) i 0))
+      → ((getD (d .kinds) i 0 ≡ 3 → ⊥) → next ≡ level)
+      → next ≡ 2000000 * leastHeld (supplyOf (d .plan)) top (take (i + 1) (slotsIn d))
+  least-turn top i level next l s a b =
+      let q = supplyOf (d .plan) in
+      let k : at q (slotsIn d) i .kind ≡ getD (d .kinds) i 0 = ap (λ (s : Slot ℕ). s .kind) (slot-in d w i) in
+      let h : at q (slotsIn d) i .buffered ≡ getD (d .held) i 0 = ap (λ (s : Slot ℕ). s .buffered) (slot-in d w i) in
+      let long : i < length (slotsIn d) = omega (arith, length-in d w) in
+      by-cases (ℕ-discrete (getD (d .kinds) i 0) 3)
+      (λ e. omega (arith, a e, least-next q top (slotsIn d) i long (k ∙ e)))
+      (λ e. omega (arith, b e, least-skip q top (slotsIn d) i long (λ z. e (sym k ∙ z))))
+
+  pub leads-end : (i sum : ℕ) → i ≡ 256 → sum ≡ leads (supplyOf (d .plan)) (take i (slotsIn d)) → sum ≡ leads (supplyOf (d .plan)) (slotsIn d)
+  leads-end i sum e s =
+      s
+      ∙ ap (λ (n : ℕ). leads (supplyOf (d .plan)) (take n (slotsIn d))) (e ∙ sym (length-in d w))
+      ∙ leads-all (supplyOf (d .plan)) (slotsIn d)
+
+  pub least-end : (top i level : ℕ) → i ≡ 256 → level ≡ 2000000 * leastHeld (supplyOf (d .plan)) top (take i (slotsIn d))
+      → level ≡ 2000000 * leastHeld (supplyOf (d .plan)) top (slotsIn d)
+  least-end top i level e s =
+      s
+      ∙ ap (λ (n : ℕ). 2000000 * leastHeld (supplyOf (d .plan)) top (take n (slotsIn d))) (e ∙ sym (length-in d w))
+      ∙ ap (λ (n : ℕ). 2000000 * n) (least-all (supplyOf (d .plan)) top (slotsIn d))
