@@ -1,0 +1,137 @@
+-- The answers of begin and end, a law for each way that their code can take: the rows of 01's table, then what an accepted call makes.
+-- Assumes nothing.
+use Prim.Native.Nat.{ℕ, zero, suc, _+_, _*_, _≤_, _<_}
+use mathlib.Core.Path.{_≡_, refl, sym, ap, _∙_}
+use mathlib.Core.Logic.{_≢_}
+use mathlib.Core.Bool.{Bool, true, false}
+use mathlib.Core.List.{List, []}
+use native.Mathlib.Omega.{arith}
+use Rattle.words.specs.Words.{wordsOf}
+use Rattle.plan.specs.Answer.{isPlan}
+use Rattle.safety.specs.Scheduler.{Call, begin, end}
+use Rattle.safety.specs.Order.{bySlot}
+use Rattle.safety.specs.Refusals as refusals
+use Rattle.safety.specs.Calls as calls
+use Rattle.safety.specs.Lists.{answer-accepted, answer-refused}
+use Rattle.safety.specs.Verdicts.{refusals-strict}
+use Rattle.safety.specs.Rows.{refuse, begin-phase, begin-short, begin-accepted, end-phase}
+use Rattle.desk.specs.declared.Desk.{Desk}
+use Rattle.desk.specs.declared.Answer.{Answer}
+use Rattle.desk.specs.declared.Begun.{Begun}
+use Rattle.desk.specs.Desk.{supplyOf, viewOf, deskOf, verdict, fetchesOf, answerOf, answered, beginDesk, endDesk}
+use Rattle.desk.specs.View.{Wide, desk-of-view}
+use Rattle.desk.specs.Promise.{supply-named}
+use Rattle.soundness.specs.Facts.{soundDesk}
+use Rattle.soundness.specs.Answers.{answers}
+use Rattle.sweep.specs.Steps.{begunDesk, judgedDraws, Drawn, endedDesk}
+
+-- a begin that is refused: the desk it was given, no fetches and no bound
+unfoldable pub notBegun : Desk → ℕ → Begun
+notBegun d k = record { verdict = verdict k 0; desk = d; bound = 0; fetches = fetchesOf [] }
+
+module _ (d : Desk) (w : Wide d) (ps ls : List ℕ) where
+  abbrev judges : ℕ → Call ℕ → refusals.Verdict
+  judges room c = refusals.verdict (supplyOf (d .plan)) (bySlot (supplyOf (d .plan))) (viewOf d) (isPlan (d .plan) ps ls) room c
+
+  unsound-row : (room : ℕ) (c : Call ℕ) → soundDesk d ps ls ≡ false → judges room c ≡ refuse 14 0
+  unfolding refusals.verdict
+  unsound-row room c e = rw e
+
+  sound-row : (room : ℕ) (c : Call ℕ) → soundDesk d ps ls ≡ true → judges room c ≡ refusals.judged (supplyOf (d .plan)) (viewOf d) room c
+  unfolding refusals.verdict
+  sound-row room c e = rw e
+
+  -- the rules' answer to a refused and to an accepted call
+  refused-answer : (room : ℕ) (c : Call ℕ) (k i : ℕ) → 0 < k → judges room c ≡ refuse k i
+      → answerOf d ps ls room c ≡ calls.refused (supplyOf (d .plan)) (bySlot (supplyOf (d .plan))) (viewOf d) k i
+  unfolding answerOf calls.refusals
+  refused-answer room c k i h e =
+      let p = supplyOf (d .plan) in
+      answer-refused p (bySlot p) (calls.refusals p (bySlot p)) (viewOf d) (record { call = c; fair = isPlan (d .plan) ps ls; room = room }) k i h e
+
+  accepted-answer : (room : ℕ) (c : Call ℕ) → judges room c .number ≡ 0 → answerOf d ps ls room c ≡ calls.accepted (supplyOf (d .plan)) (bySlot (supplyOf (d .plan))) (viewOf d) c
+  unfolding answerOf calls.refusals
+  accepted-answer room c e =
+      let p = supplyOf (d .plan) in
+      answer-accepted p (bySlot p) (calls.refusals p (bySlot p)) (viewOf d) (record { call = c; fair = isPlan (d .plan) ps ls; room = room }) e
+
+  -- ---- begin
+
+  module _ (room : ℕ) where
+    not-begun : (k : ℕ) → 0 < k → judges room begin ≡ refuse k 0 → notBegun d k ≡ beginDesk d ps ls room
+    unfolding beginDesk notBegun
+    not-begun k h e =
+        let a = refused-answer room begin k 0 h e in
+        (λ t. record { verdict = verdict k 0; desk = sym (desk-of-view d w) t; bound = 0; fetches = fetchesOf [] })
+        ∙ λ t. record {
+          verdict = verdict (sym a t .number) (sym a t .place);
+          desk = deskOf (d .plan) (sym a t .scheduler);
+          bound = sym a t .bound;
+          fetches = fetchesOf (sym a t .entries);
+        }
+
+    pub begin-unsound : soundDesk d ps ls ≡ false → notBegun d 14 ≡ beginDesk d ps ls room
+    begin-unsound e = not-begun 14 (omega arith) (unsound-row room begin e)
+
+    module _ (s : soundDesk d ps ls ≡ true) where
+      pub begin-in-sweep : d .phase ≢ 0 → notBegun d 15 ≡ beginDesk d ps ls room
+      unfolding viewOf
+      begin-in-sweep h = not-begun 15 (omega arith) (sound-row room begin s ∙ begin-phase (supplyOf (d .plan)) (viewOf d) room h)
+
+      pub begin-no-room : d .phase ≡ 0 → room < d .plan .streams → notBegun d 13 ≡ beginDesk d ps ls room
+      unfolding viewOf supplyOf
+      begin-no-room h l = not-begun 13 (omega arith) (sound-row room begin s ∙ begin-short (supplyOf (d .plan)) (viewOf d) room h (omega arith))
+
+      pub begin-begun : d .phase ≡ 0 → d .plan .streams ≤ room → begunDesk d ≡ beginDesk d ps ls room
+      unfolding viewOf supplyOf beginDesk begunDesk calls.accepted
+      begin-begun h l =
+          let p = supplyOf (d .plan) in
+          let v : judges room begin ≡ refusals.accept = sound-row room begin s ∙ begin-accepted p (viewOf d) room h (omega arith) in
+          let a = accepted-answer room begin (ap (λ (u : refusals.Verdict). u .number) v) in
+          λ t. record {
+            verdict = verdict (sym a t .number) (sym a t .place);
+            desk = deskOf (d .plan) (sym a t .scheduler);
+            bound = sym a t .bound;
+            fetches = fetchesOf (sym a t .entries);
+          }
+
+  -- ---- end
+
+  module _ (draws : List ℕ) where
+    not-ended : (k i : ℕ) → 0 < k → judges 0 (end (wordsOf draws)) ≡ refuse k i → answers d k i ≡ endDesk d ps ls draws
+    unfolding endDesk answered
+    not-ended k i h e =
+        let a = refused-answer 0 (end (wordsOf draws)) k i h e in
+        (λ t. record { verdict = verdict k i; desk = sym (desk-of-view d w) t })
+        ∙ λ t. record { verdict = verdict (sym a t .number) (sym a t .place); desk = deskOf (d .plan) (sym a t .scheduler) }
+
+    pub end-unsound : soundDesk d ps ls ≡ false → answers d 14 0 ≡ endDesk d ps ls draws
+    end-unsound e = not-ended 14 0 (omega arith) (unsound-row 0 (end (wordsOf draws)) e)
+
+    module _ (s : soundDesk d ps ls ≡ true) where
+      pub end-between : d .phase ≢ 1 → answers d 15 0 ≡ endDesk d ps ls draws
+      unfolding viewOf
+      end-between h = not-ended 15 0 (omega arith) (sound-row 0 (end (wordsOf draws)) s ∙ end-phase (supplyOf (d .plan)) (viewOf d) 0 (wordsOf draws) h)
+
+      -- draws that are turned down
+      pub end-refused : judgedDraws d (wordsOf draws) .number ≢ 0
+          → answers d (judgedDraws d (wordsOf draws) .number) (judgedDraws d (wordsOf draws) .place) ≡ endDesk d ps ls draws
+      unfolding judgedDraws
+      end-refused n = not-ended _ _ (omega arith) (sound-row 0 (end (wordsOf draws)) s)
+
+      -- and draws that are not
+      clear : judgedDraws d (wordsOf draws) .number ≡ 0 → judges 0 (end (wordsOf draws)) .number ≡ 0
+      unfolding judgedDraws
+      clear e = ap (λ (u : refusals.Verdict). u .number) (sound-row 0 (end (wordsOf draws)) s) ∙ e
+
+      pub end-drawn : judgedDraws d (wordsOf draws) .number ≡ 0 → Drawn d (wordsOf draws)
+      unfolding calls.refusals
+      end-drawn e =
+          let p = supplyOf (d .plan) in
+          refusals-strict p (supply-named (d .plan)) (bySlot p) .strict (viewOf d) (record { call = end (wordsOf draws); fair = isPlan (d .plan) ps ls; room = 0 }) (clear e)
+
+      pub end-ended : judgedDraws d (wordsOf draws) .number ≡ 0 → answers (endedDesk d (wordsOf draws)) 0 0 ≡ endDesk d ps ls draws
+      unfolding endDesk answered endedDesk calls.accepted
+      end-ended e =
+          let a = accepted-answer 0 (end (wordsOf draws)) (clear e) in
+          λ t. record { verdict = verdict (sym a t .number) (sym a t .place); desk = deskOf (d .plan) (sym a t .scheduler) }

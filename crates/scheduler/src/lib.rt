@@ -1,0 +1,100 @@
+// Begin and end of a sweep. (Open, join and leave stand in crate soundness.)
+use card::Verdict;
+use desk::Answer;
+use desk::Begun;
+use desk::Desk;
+use desk::Fetches;
+use soundness::gather;
+use soundness::is_sound;
+use sweep::begin_sweep;
+use sweep::end_sweep;
+use sweep::judge_draws;
+ghost use mathlib.Core.Path.{_≡_};
+ghost use mathlib.Core.List.{[]};
+ghost use Rattle.desk.specs.Desk.{zeros, fetchesOf, beginDesk, endDesk};
+ghost use Rattle.soundness.specs.Answers.{answers};
+ghost use Rattle.scheduler.specs.Answers.{notBegun};
+
+fn zeros() -> [u32; 256]
+    ensures { λ r. ⌜ r ≡ zeros ⌝ }
+{
+    [0u32; 256]
+}
+
+fn no_fetches() -> Fetches
+    ensures { λ r. ⌜ r ≡ fetchesOf [] ⌝ }
+{
+    Fetches {
+        count: 0,
+        positions: zeros(),
+        slots: zeros(),
+        blocks: zeros(),
+    }
+}
+
+// A refused begin: the desk it was given, no fetches and no bound.
+fn not_begun(desk: Desk, number: u32) -> Begun
+    ensures { λ r. ⌜ r ≡ notBegun desk number ⌝ }
+{
+    Begun {
+        verdict: Verdict {
+            number: number,
+            place: 0,
+        },
+        desk: desk,
+        bound: 0,
+        fetches: no_fetches(),
+    }
+}
+
+// A desk with a number and no place.
+fn answer(desk: Desk, number: u32) -> Answer
+    ensures { λ r. ⌜ r ≡ answers desk number 0 ⌝ }
+{
+    Answer {
+        verdict: Verdict {
+            number: number,
+            place: 0,
+        },
+        desk: desk,
+    }
+}
+
+// Begins a sweep, where the caller has room for so many fetch entries: 14, 15, 13.
+pub fn begin(desk: Desk, positions: &[u8], leads: &[u8], room: usize) -> Begun
+    ensures { λ r. ⌜ r ≡ beginDesk desk (now (positions .entry)) (now (leads .entry)) room ⌝ }
+{
+    if !is_sound(desk, positions, leads) {
+        return not_begun(desk, 14);
+    }
+    if desk.phase != 0 {
+        return not_begun(desk, 15);
+    }
+    let plan = desk.plan;
+    if room < plan.streams as usize {
+        return not_begun(desk, 13);
+    }
+    let g = gather(desk, positions, leads);
+    begin_sweep(desk, g)
+}
+
+// Ends a sweep with a draw for each of the n slots: 14, 15, 19, 20, 21.
+pub fn end(desk: Desk, positions: &[u8], leads: &[u8], draws: &[u8]) -> Answer
+    ensures { λ r. ⌜ r ≡ endDesk desk (now (positions .entry)) (now (leads .entry)) (now (draws .entry)) ⌝ }
+{
+    if !is_sound(desk, positions, leads) {
+        return answer(desk, 14);
+    }
+    if desk.phase != 1 {
+        return answer(desk, 15);
+    }
+    let g = gather(desk, positions, leads);
+    let verdict = judge_draws(desk, g, draws);
+    if verdict.number != 0 {
+        return Answer {
+            verdict: verdict,
+            desk: desk,
+        };
+    }
+    answer(end_sweep(desk, draws), 0)
+}
