@@ -32,13 +32,9 @@ fn is_tidy(blocks: u32, buffer: u32, kind: u32, next: u32, held: u32) -> bool
             return next < blocks;
         }
         // filling
-        2 => {
-            return next < blocks;
-        }
+        2 => return next < blocks,
         // playing
-        3 => {
-            return next < blocks;
-        }
+        3 => return next < blocks,
         // tail
         4 => {
             if held == 0 {
@@ -46,9 +42,7 @@ fn is_tidy(blocks: u32, buffer: u32, kind: u32, next: u32, held: u32) -> bool
             }
             return next == blocks;
         }
-        _ => {
-            return false;
-        }
+        _ => return false,
     }
 }
 
