@@ -41,7 +41,7 @@ returns c = let l = c .before .before .before .before .loop in
     let a = c .before .before .before .before .before .before .before in
     record {
       inside = omega arith;
-      below = l .inv .2;
+      below = λ j u. omega (arith, l .inv .2 j u);
       above = λ _. omega (arith, held-in (a .args .t1) (wide a) (l .i), c .before .word-at .ensures);
     }
 
@@ -57,7 +57,7 @@ loop-again c = let l = c .before .before .before .before .loop in
     (l .inv .0, omega arith, below-more _ _ (l .inv .2) (omega (arith, held-in (a .args .t1) (wide a) (l .i), c .before .word-at .ensures)))
 
 returns-2 : tie.Need-returns-2 Inv-loop μ-loop
-returns-2 c = let l = c .before .loop in record { inside = omega arith; below = l .inv .2; above = λ z. absurd (omega arith) }
+returns-2 c = let l = c .before .loop in record { inside = omega arith; below = λ j u. omega (arith, l .inv .2 j u); above = λ z. absurd (omega arith) }
 
 pub first-overdrawn-spec : {M : Type 1} → statement M
 first-overdrawn-spec =
