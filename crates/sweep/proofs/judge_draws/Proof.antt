@@ -11,6 +11,7 @@ use borrow.Author.Needs.{needs}
 use Rattle.sweep.proofs.judge_draws.Statement.{statement}
 use Rattle.sweep.proofs.judge_draws.Tie as tie
 
+-- the arrays have 256 entries
 wide : (c : tie.Start) → Wide (c .args .desk)
 wide c = record { kinds = search needs; next = search needs; held = search needs }
 
@@ -18,6 +19,7 @@ wide c = record { kinds = search needs; next = search needs; held = search needs
 count : (c : tie.Else1) → length (wordsOf (c .before .before .before .before .args .draws .now)) ≡ c .before .before .before .before .args .desk .plan .streams
 count c = omega (arith, c .before .entries .ensures)
 
+-- the most that may be drawn
 most : (c : tie.After-product) → (let d = c .before .before .before .before .before .before .args .desk in c .product .result / 1000000 ≡ mostDrawn (supplyOf (d .plan)) (slotsIn d))
 most c = most-is (c .before .before .before .before .before .before .args .desk) (c .before .sweep-bound .result) (c .product .result) _ (c .before .sweep-bound .ensures) (c .product .ensures) refl
 

@@ -12,12 +12,14 @@ use Rattle.sweep.proofs.Drawing.{held-in}
 use Rattle.sweep.proofs.draws.first_overdrawn.Statement.{statement}
 use Rattle.sweep.proofs.draws.first_overdrawn.Tie as tie
 
+-- the first i draws are held
 abbrev Inv-loop : tie.InvT-loop
 Inv-loop draws desk count i₀ i = (count ≡ length (wordsOf draws)) × (i ≤ count) × ((j : ℕ) → j < i → getD (wordsOf draws) j 0 ≤ at (supplyOf (desk .plan)) (slotsIn desk) j .buffered)
 
 abbrev μ-loop : tie.MeasureT-loop
 μ-loop draws desk count i₀ i = count - i
 
+-- the arrays have 256 entries
 wide : (c : tie.Start Inv-loop μ-loop) → Wide (c .args .t1)
 wide c = record { kinds = search needs; next = search needs; held = search needs }
 

@@ -11,12 +11,14 @@ use Rattle.sweep.proofs.Levels.{least-turn, least-end}
 use Rattle.sweep.proofs.marks.least_level.Statement.{statement}
 use Rattle.sweep.proofs.marks.least_level.Tie as tie
 
+-- the least of the first i slots is found
 abbrev Inv-loop : tie.InvT-loop
 Inv-loop desk level₀ i₀ level i = (i ≤ 256) × (level ≡ 2000000 * leastHeld (supplyOf (desk .plan)) ample (take i (slotsIn desk)))
 
 abbrev μ-loop : tie.MeasureT-loop
 μ-loop desk level₀ i₀ level i = 256 - i
 
+-- the arrays have 256 entries
 wide : (c : tie.Start Inv-loop μ-loop) → Wide (c .args .t1)
 wide c = record { kinds = search needs; next = search needs; held = search needs }
 
