@@ -22,7 +22,7 @@ use Rattle.desk.specs.declared.Desk.{Desk}
 use Rattle.desk.specs.declared.Gathered.{Gathered}
 use Rattle.desk.specs.Desk.{supplyOf, slotsIn}
 use Rattle.desk.specs.View.{Wide}
-use Rattle.sweep.specs.Steps.{Stage, withSlots}
+use Rattle.sweep.specs.Steps.{Stage, ample, withSlots}
 use Rattle.sweep.proofs.Slots.{length-in, slot-in, load-kind, load-held, store-kind, with-own}
 use Rattle.sweep.proofs.Levels.{lead-in}
 
@@ -72,7 +72,7 @@ grants-none d w sum e h =
     let q = sym (tries-none (supplyOf (d .plan)) (slotsIn d)) in
     record { few = omega arith; desk = with-own d w ∙ ap (withSlots d) q; leads = e ∙ ap (leads (supplyOf (d .plan))) q; small = omega arith }
 
-module _ (d : Desk) (w : Wide d) (g : Gathered) (ok : Stage d g) (level : ℕ) (least : level ≡ 2000000 * leastHeld (supplyOf (d .plan)) 1000000000000 (slotsIn d))
+module _ (d : Desk) (w : Wide d) (g : Gathered) (ok : Stage d g) (level : ℕ) (least : level ≡ 2000000 * leastHeld (supplyOf (d .plan)) ample (slotsIn d))
     (e : Desk) (sum i : ℕ) (l : i < 256) (inv : Granting d e sum i) where
   -- the sum with the lead of slot i
   abbrev raised : ℕ
@@ -97,7 +97,7 @@ module _ (d : Desk) (w : Wide d) (g : Gathered) (ok : Stage d g) (level : ℕ) (
       let p = supplyOf (d .plan) in
       let top : raised ≤ 513 * 3999999 = omega (arith, inv .small, ok .range .leads i) in
       let most : d .plan .figures .rate * raised ≤ 10000000 * (513 * 3999999) = mul-le-mul (ok .legal .rate .1) top in
-      least-holds p 1000000000000 (2000000 * d .plan .figures .bytes + d .plan .figures .rate * raised) (slotsIn d) (omega (arith, ok .legal .bytes .1))
+      least-holds p ample (2000000 * d .plan .figures .bytes + d .plan .figures .rate * raised) (slotsIn d) (omega (arith, ok .legal .bytes .1))
       ∙ ap (leb (2000000 * d .plan .figures .bytes + d .plan .figures .rate * raised)) (sym least)
 
   pub grants-yes : (eqb (getD (e .kinds) i 0) 1 && leb (2000000 * d .plan .figures .bytes + d .plan .figures .rate * raised) level) ≡ true

@@ -31,6 +31,10 @@ pub record Stage (d : Desk) (g : Gathered) : Type 0 where
   pub gathers : Gathers d g
   pub range : InRange g
 
+-- stands for the least that a playing slot holds where none plays: 2,000,000 times it is above every mark
+abbrev pub ample : ℕ
+ample = 1000000000000
+
 -- the desk with other slots
 abbrev pub withSlots : Desk → List (Slot ℕ) → Desk
 withSlots d ss = deskOf (d .plan) (record { phase = d .phase; slots = ss; queue = tt })

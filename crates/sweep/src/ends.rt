@@ -2,11 +2,10 @@
 use desk::Desk;
 use words::word_at;
 ghost use mathlib.Core.Path.{_≡_};
-ghost use Prim.Native.Nat.{ℕ, _+_, _≤_, _<_};
+ghost use Prim.Native.Nat.{_+_, _≤_, _<_};
 ghost use Rattle.words.specs.Words.{wordsOf};
 ghost use Rattle.plan.specs.declared.Plan.{Plan};
 ghost use Rattle.safety.specs.Scheduler.{endedSlot, ended};
-ghost use Rattle.safety.specs.Arrays.{slotOf};
 ghost use Rattle.desk.specs.Desk.{supplyOf, slotsIn};
 ghost use Rattle.desk.specs.Ready.{Ready};
 ghost use Rattle.sweep.specs.Steps.{Drawn, withSlots};

@@ -12,7 +12,7 @@ ghost use Rattle.safety.specs.Scheduler.{startedSlot, started, leads, tries};
 ghost use Rattle.safety.specs.Arrays.{slotOf};
 ghost use Rattle.safety.specs.Turns.{leastHeld};
 ghost use Rattle.desk.specs.Desk.{supplyOf, slotsIn};
-ghost use Rattle.sweep.specs.Steps.{Stage, withSlots};
+ghost use Rattle.sweep.specs.Steps.{Stage, ample, withSlots};
 
 // The kind of a slot after it was tested against the mark: a filling one that holds it plays.
 fn started_kind(kind: u32, held: u32, mark: u64) -> u32
@@ -53,9 +53,9 @@ fn is_granted(kind: u32, bytes: u32, rate: u32, leads: u32, level: u64) -> bool
     }
 }
 
-// In slot order, asked slots become filling; `leads` is the sum so far and `level` the least that a playing slot holds.
+// In slot order, asked slots become filling; `sum` is the leads before and `level` the least that a playing slot holds.
 pub fn grant_asked(desk: Desk, g: Gathered, sum: u32, level: u64) -> Desk
-    requires { ⌜ (Stage desk g) × (sum ≡ leads (supplyOf (desk .plan)) (slotsIn desk)) × (sum ≤ 256 * 3999999) × (level ≡ 2000000 * leastHeld (supplyOf (desk .plan)) 1000000000000 (slotsIn desk)) ⌝ }
+    requires { ⌜ (Stage desk g) × (sum ≡ leads (supplyOf (desk .plan)) (slotsIn desk)) × (sum ≤ 256 * 3999999) × (level ≡ 2000000 * leastHeld (supplyOf (desk .plan)) ample (slotsIn desk)) ⌝ }
     ensures { λ r. ⌜ r ≡ withSlots desk (tries (supplyOf (desk .plan)) (slotsIn desk) 0 256) ⌝ }
 {
     let bytes = desk.plan.figures.bytes;

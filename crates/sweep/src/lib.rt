@@ -64,13 +64,13 @@ pub fn judge_draws(desk: Desk, g: Gathered, draws: &[u8]) -> Verdict
     }
     let most = product(desk.plan.figures.rate, sweep_bound(desk, g)) / 1000000;
     let excess = first_excess(desk, most, draws);
+    let overdrawn = first_overdrawn(desk, draws);
     if excess < n {
         return Verdict {
             number: 20,
             place: excess,
         };
     }
-    let overdrawn = first_overdrawn(desk, draws);
     if overdrawn < n {
         return Verdict {
             number: 21,

@@ -9,7 +9,7 @@ ghost use Rattle.safety.specs.Scheduler.{leadOf, leads};
 ghost use Rattle.safety.specs.Arrays.{slotOf};
 ghost use Rattle.safety.specs.Turns.{leastHeld};
 ghost use Rattle.desk.specs.Desk.{supplyOf, slotsIn};
-ghost use Rattle.sweep.specs.Steps.{Stage};
+ghost use Rattle.sweep.specs.Steps.{Stage, ample};
 
 // The mark of leads that add up to `leads`: B plus c / 2,000,000 times the leads.
 pub fn low_water(bytes: u32, rate: u32, leads: u32) -> u64
@@ -62,9 +62,9 @@ fn lower(kind: u32, held: u32, level: u64) -> u64
     }
 }
 
-// The least that a playing slot holds, in two-millionths of a byte; where none plays, more than any mark.
+// The least that a playing slot holds, in two-millionths of a byte; where none plays, above every mark.
 pub fn least_level(desk: Desk) -> u64
-    ensures { λ r. ⌜ r ≡ 2000000 * leastHeld (supplyOf (desk .plan)) 1000000000000 (slotsIn desk) ⌝ }
+    ensures { λ r. ⌜ r ≡ 2000000 * leastHeld (supplyOf (desk .plan)) ample (slotsIn desk) ⌝ }
 {
     let mut level: u64 = 2000000000000000000;
     let mut i: usize = 0;

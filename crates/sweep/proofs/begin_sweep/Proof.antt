@@ -8,6 +8,7 @@ use borrow.Author.Needs.{needs}
 use Rattle.sweep.proofs.begin_sweep.Statement.{statement}
 use Rattle.sweep.proofs.begin_sweep.Tie as tie
 
+-- the arrays have 256 entries
 wide : (c : tie.Start) → Wide (c .args .desk)
 wide c = record { kinds = search needs; next = search needs; held = search needs }
 

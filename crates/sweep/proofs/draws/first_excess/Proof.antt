@@ -12,12 +12,14 @@ use Rattle.sweep.proofs.Drawing.{limit-in}
 use Rattle.sweep.proofs.draws.first_excess.Statement.{statement}
 use Rattle.sweep.proofs.draws.first_excess.Tie as tie
 
+-- the first i draws are allowed
 abbrev Inv-loop : tie.InvT-loop
 Inv-loop most draws desk count i₀ i = (count ≡ length (wordsOf draws)) × (i ≤ count) × ((j : ℕ) → j < i → getD (wordsOf draws) j 0 ≤ drawLimit (supplyOf (desk .plan)) most (at (supplyOf (desk .plan)) (slotsIn desk) j))
 
 abbrev μ-loop : tie.MeasureT-loop
 μ-loop most draws desk count i₀ i = count - i
 
+-- the arrays have 256 entries
 wide : (c : tie.Start Inv-loop μ-loop) → Wide (c .args .t1)
 wide c = record { kinds = search needs; next = search needs; held = search needs }
 

@@ -12,12 +12,14 @@ use Rattle.sweep.proofs.Drawing.{held-in}
 use Rattle.sweep.proofs.draws.first_overdrawn.Statement.{statement}
 use Rattle.sweep.proofs.draws.first_overdrawn.Tie as tie
 
+-- the first i draws are held
 abbrev Inv-loop : tie.InvT-loop
 Inv-loop draws desk count i₀ i = (count ≡ length (wordsOf draws)) × (i ≤ count) × ((j : ℕ) → j < i → getD (wordsOf draws) j 0 ≤ at (supplyOf (desk .plan)) (slotsIn desk) j .buffered)
 
 abbrev μ-loop : tie.MeasureT-loop
 μ-loop draws desk count i₀ i = count - i
 
+-- the arrays have 256 entries
 wide : (c : tie.Start Inv-loop μ-loop) → Wide (c .args .t1)
 wide c = record { kinds = search needs; next = search needs; held = search needs }
 
@@ -41,7 +43,7 @@ returns c = let l = c .before .before .before .before .loop in
     let a = c .before .before .before .before .before .before .before in
     record {
       inside = omega arith;
-      below = l .inv .2;
+      below = λ j u. omega (arith, l .inv .2 j u);
       above = λ _. omega (arith, held-in (a .args .t1) (wide a) (l .i), c .before .word-at .ensures);
     }
 
@@ -57,7 +59,7 @@ loop-again c = let l = c .before .before .before .before .loop in
     (l .inv .0, omega arith, below-more _ _ (l .inv .2) (omega (arith, held-in (a .args .t1) (wide a) (l .i), c .before .word-at .ensures)))
 
 returns-2 : tie.Need-returns-2 Inv-loop μ-loop
-returns-2 c = let l = c .before .loop in record { inside = omega arith; below = l .inv .2; above = λ z. absurd (omega arith) }
+returns-2 c = let l = c .before .loop in record { inside = omega arith; below = λ j u. omega (arith, l .inv .2 j u); above = λ z. absurd (omega arith) }
 
 pub first-overdrawn-spec : {M : Type 1} → statement M
 first-overdrawn-spec =

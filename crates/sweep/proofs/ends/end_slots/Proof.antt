@@ -11,12 +11,14 @@ use Rattle.sweep.proofs.Ending.{endedUpTo, ends-none, drawn-count, fair
 use Rattle.sweep.proofs.ends.end_slots.Statement.{statement}
 use Rattle.sweep.proofs.ends.end_slots.Tie as tie
 
+-- the first i slots are done
 abbrev Inv-loop : tie.InvT-loop
 Inv-loop draws blocks bytes room count d₀ i₀ d i = (count ≡ d₀ .plan .streams) × (i ≤ count) × (d ≡ endedUpTo d₀ (wordsOf draws) i)
 
 abbrev μ-loop : tie.MeasureT-loop
 μ-loop draws blocks bytes room count d₀ i₀ d i = count - i
 
+-- the arrays have 256 entries
 wide : (c : tie.Start Inv-loop μ-loop) → Wide (c .args .desk)
 wide c = record { kinds = search needs; next = search needs; held = search needs }
 

@@ -8,12 +8,14 @@ use Rattle.sweep.proofs.Granting.{Granting, grants-none, grants-yes, gr
 use Rattle.sweep.proofs.grants.grant_asked.Statement.{statement}
 use Rattle.sweep.proofs.grants.grant_asked.Tie as tie
 
+-- the first i slots are tried; the sum of the leads goes with the grants
 abbrev Inv-loop : tie.InvT-loop
 Inv-loop sum level g bytes rate d₀ leads₀ i₀ d leads i = Granting d₀ d leads i
 
 abbrev μ-loop : tie.MeasureT-loop
 μ-loop sum level g bytes rate d₀ leads₀ i₀ d leads i = 256 - i
 
+-- the arrays have 256 entries
 wide : (c : tie.Start Inv-loop μ-loop) → Wide (c .args .desk)
 wide c = record { kinds = search needs; next = search needs; held = search needs }
 

@@ -7,12 +7,14 @@ use Rattle.sweep.proofs.Granting.{startedDesk, started-none, started-tu
 use Rattle.sweep.proofs.grants.start_playing.Statement.{statement}
 use Rattle.sweep.proofs.grants.start_playing.Tie as tie
 
+-- the first i slots are done
 abbrev Inv-loop : tie.InvT-loop
 Inv-loop mark d₀ i₀ d i = (i ≤ 256) × (d ≡ startedDesk d₀ mark i)
 
 abbrev μ-loop : tie.MeasureT-loop
 μ-loop mark d₀ i₀ d i = 256 - i
 
+-- the arrays have 256 entries
 wide : (c : tie.Start Inv-loop μ-loop) → Wide (c .args .desk)
 wide c = record { kinds = search needs; next = search needs; held = search needs }
 

@@ -6,21 +6,24 @@ use borrow.Author.Needs.{needs}
 use Rattle.desk.specs.View.{Wide}
 use Rattle.desk.specs.Desk.{supplyOf, slotsIn}
 use Rattle.safety.specs.Turns.{leastHeld, least-none}
+use Rattle.sweep.specs.Steps.{ample}
 use Rattle.sweep.proofs.Levels.{least-turn, least-end}
 use Rattle.sweep.proofs.marks.least_level.Statement.{statement}
 use Rattle.sweep.proofs.marks.least_level.Tie as tie
 
+-- the least of the first i slots is found
 abbrev Inv-loop : tie.InvT-loop
-Inv-loop desk level₀ i₀ level i = (i ≤ 256) × (level ≡ 2000000 * leastHeld (supplyOf (desk .plan)) 1000000000000 (take i (slotsIn desk)))
+Inv-loop desk level₀ i₀ level i = (i ≤ 256) × (level ≡ 2000000 * leastHeld (supplyOf (desk .plan)) ample (take i (slotsIn desk)))
 
 abbrev μ-loop : tie.MeasureT-loop
 μ-loop desk level₀ i₀ level i = 256 - i
 
+-- the arrays have 256 entries
 wide : (c : tie.Start Inv-loop μ-loop) → Wide (c .args .t1)
 wide c = record { kinds = search needs; next = search needs; held = search needs }
 
 loop-holds : tie.Need-loop-holds Inv-loop μ-loop
-loop-holds c = (omega arith, omega (arith, least-none (supplyOf (c .args .t1 .plan)) 1000000000000 (slotsIn (c .args .t1))))
+loop-holds c = (omega arith, omega (arith, least-none (supplyOf (c .args .t1 .plan)) ample (slotsIn (c .args .t1))))
 
 mul-lower : tie.Need-mul-lower Inv-loop μ-loop
 mul-lower c = omega arith
@@ -47,12 +50,12 @@ loop-again : tie.Need-loop-again Inv-loop μ-loop
 loop-again c = let l = c .before .before .before .before .loop in
     let a = c .before .before .before .before .before in (
       omega arith,
-      least-turn (a .args .t1) (wide a) 1000000000000 (l .i) (l .level) (c .lower .result) (c .before .before .before .loop-test .taken) (l .inv .1) (c .lower .ensures .0) (c .lower .ensures .1),
+      least-turn (a .args .t1) (wide a) ample (l .i) (l .level) (c .lower .result) (c .before .before .before .loop-test .taken) (l .inv .1) (c .lower .ensures .0) (c .lower .ensures .1),
     )
 
 returns : tie.Need-returns Inv-loop μ-loop
 returns c = let l = c .before .loop in
-    least-end _ (wide (c .before .before)) 1000000000000 (l .i) (l .level) (omega arith) (l .inv .1)
+    least-end _ (wide (c .before .before)) ample (l .i) (l .level) (omega arith) (l .inv .1)
 
 pub least-level-spec : {M : Type 1} → statement M
 least-level-spec =

@@ -11,12 +11,14 @@ use Rattle.sweep.proofs.Levels.{leads-turn, leads-end}
 use Rattle.sweep.proofs.marks.sum_leads.Statement.{statement}
 use Rattle.sweep.proofs.marks.sum_leads.Tie as tie
 
+-- the leads of the first i slots are added up; each is below 4,000,000
 abbrev Inv-loop : tie.InvT-loop
 Inv-loop desk g sum₀ i₀ sum i = (i ≤ 256) × (sum ≡ leads (supplyOf (desk .plan)) (take i (slotsIn desk))) × (sum ≤ i * 3999999)
 
 abbrev μ-loop : tie.MeasureT-loop
 μ-loop desk g sum₀ i₀ sum i = 256 - i
 
+-- the arrays have 256 entries
 wide : (c : tie.Start Inv-loop μ-loop) → Wide (c .args .t1)
 wide c = record { kinds = search needs; next = search needs; held = search needs }
 
