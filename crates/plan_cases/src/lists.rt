@@ -1,5 +1,6 @@
 // Lists filled with a pattern, and their sums.
 use libc::STDOUT_FILENO;
+ghost use Prim.Native.Nat.{_<_};
 
 // Fills a list with a pattern.
 pub fn fill(list: &mut [u8]) {
@@ -10,7 +11,9 @@ pub fn fill(list: &mut [u8]) {
     }
 }
 
-fn wide(b: u8) -> u64 {
+fn wide(b: u8) -> u64
+    ensures { λ r. ⌜ r < 256 ⌝ }
+{
     b as u64
 }
 

@@ -77,37 +77,21 @@ fn long_film(figures: Figures) {
 }
 
 // A record, with lists of so many bytes, 4,096 at most.
-fn record_in(figures: Figures, positions_size: usize, leads_size: usize) {
+fn record_in(figures: Figures, positions_size: isize, leads_size: isize) {
     let mut positions = io::buffer();
     let mut leads = io::buffer();
-    if 4096 < positions_size {
-        return;
-    }
-    if 4096 < leads_size {
-        return;
-    }
-    show_record(
-        figures,
-        &mut positions[..positions_size],
-        &mut leads[..leads_size],
-    );
+    let p = io::count(positions_size, &positions);
+    let l = io::count(leads_size, &leads);
+    show_record(figures, &mut positions[..p], &mut leads[..l]);
 }
 
 // A card, with lists of so many bytes, 4,096 at most.
-fn card_in(card: &[u8], positions_size: usize, leads_size: usize) {
+fn card_in(card: &[u8], positions_size: isize, leads_size: isize) {
     let mut positions = io::buffer();
     let mut leads = io::buffer();
-    if 4096 < positions_size {
-        return;
-    }
-    if 4096 < leads_size {
-        return;
-    }
-    show_card(
-        card,
-        &mut positions[..positions_size],
-        &mut leads[..leads_size],
-    );
+    let p = io::count(positions_size, &positions);
+    let l = io::count(leads_size, &leads);
+    show_card(card, &mut positions[..p], &mut leads[..l]);
 }
 
 // Real disks, and the examples of document 001.
@@ -304,16 +288,12 @@ fn check_part(
     plan: Plan,
     positions: &[u8],
     leads: &[u8],
-    positions_size: usize,
-    leads_size: usize,
+    positions_size: isize,
+    leads_size: isize,
 ) {
-    if positions.len() < positions_size {
-        return;
-    }
-    if leads.len() < leads_size {
-        return;
-    }
-    check(plan, &positions[..positions_size], &leads[..leads_size]);
+    let p = io::count(positions_size, positions);
+    let l = io::count(leads_size, leads);
+    check(plan, &positions[..p], &leads[..l]);
 }
 
 fn check_parts(plan: Plan, positions: &[u8], leads: &[u8]) {
