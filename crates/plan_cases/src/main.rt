@@ -70,14 +70,16 @@ fn show_card(card: &[u8], positions: &mut [u8], leads: &mut [u8]) {
 }
 
 // A long film, with lists of 16,384 entries.
-fn long_film(figures: Figures) {
+fn long_film(name: &[u8], figures: Figures) {
+    print(name);
     let mut positions = io::large_buffer();
     let mut leads = io::large_buffer();
     show_record(figures, &mut positions, &mut leads);
 }
 
 // A record, with lists of so many bytes, 4,096 at most.
-fn record_in(figures: Figures, positions_size: isize, leads_size: isize) {
+fn record_in(name: &[u8], figures: Figures, positions_size: isize, leads_size: isize) {
+    print(name);
     let mut positions = io::buffer();
     let mut leads = io::buffer();
     let p = io::count(positions_size, &positions);
@@ -86,7 +88,8 @@ fn record_in(figures: Figures, positions_size: isize, leads_size: isize) {
 }
 
 // A card, with lists of so many bytes, 4,096 at most.
-fn card_in(card: &[u8], positions_size: isize, leads_size: isize) {
+fn card_in(name: &[u8], card: &[u8], positions_size: isize, leads_size: isize) {
+    print(name);
     let mut positions = io::buffer();
     let mut leads = io::buffer();
     let p = io::count(positions_size, &positions);
@@ -94,92 +97,103 @@ fn card_in(card: &[u8], positions_size: isize, leads_size: isize) {
     show_card(card, &mut positions[..p], &mut leads[..l]);
 }
 
-// Real disks, and the examples of document 001.
 fn real_disks() {
-    print(b"Barracuda 9, N 8871:");
-    long_film(barracuda(8871));
-    print(b"Barracuda 9, N 3600:");
-    long_film(barracuda(3600));
-    print(b"Deskstar 120GXP:");
-    long_film(deskstar());
+    long_film(b"Barracuda 9, N 8871:", barracuda(8871));
+    long_film(b"Barracuda 9, N 3600:", barracuda(3600));
+    long_film(b"Deskstar 120GXP:", deskstar());
 }
 
+// Example 1 of document 001: the least B for 12 streams, and a byte less.
 fn paper_examples() {
-    print(b"example 1, one zone, B 286921:");
-    record_in(example_one_zone(286921), 8, 8);
-    print(b"example 1, one zone, B 286920:");
-    record_in(example_one_zone(286920), 8, 8);
-    print(b"example 1, six zones, B 180659:");
-    record_in(example_six_zones(180659), 24, 24);
-    print(b"example 1, six zones, B 180658:");
-    record_in(example_six_zones(180658), 24, 24);
-    print(b"times 2 2 1:");
-    record_in(two_two_one(), 12, 12);
+    record_in(
+        b"example 1, one zone, B 286921:",
+        example_one_zone(286921),
+        8,
+        8,
+    );
+    record_in(
+        b"example 1, one zone, B 286920:",
+        example_one_zone(286920),
+        8,
+        8,
+    );
+    record_in(
+        b"example 1, six zones, B 180659:",
+        example_six_zones(180659),
+        24,
+        24,
+    );
+    record_in(
+        b"example 1, six zones, B 180658:",
+        example_six_zones(180658),
+        24,
+        24,
+    );
 }
 
-// 13: either list an entry short. Longer lists are fine, and entries past N and spare bytes stay.
-fn list_sizes() {
-    print(b"positions one entry short:");
-    record_in(bench_film(), 23, 24);
-    print(b"leads one entry short:");
-    record_in(bench_film(), 24, 23);
-    print(b"no lists:");
-    record_in(bench_film(), 0, 0);
-    print(b"lists that just fit:");
-    record_in(bench_film(), 24, 24);
-    print(b"spare bytes:");
-    record_in(bench_film(), 27, 25);
-    print(b"long lists:");
-    record_in(bench_film(), 4096, 400);
+// 13: either list an entry short.
+fn short_lists() {
+    record_in(b"positions one entry short:", bench_film(), 23, 24);
+    record_in(b"leads one entry short:", bench_film(), 24, 23);
+    record_in(b"no lists:", bench_film(), 0, 0);
+}
+
+// Longer lists are fine: entries past N and spare bytes stay.
+fn long_lists() {
+    record_in(b"lists that just fit:", bench_film(), 24, 24);
+    record_in(b"spare bytes:", bench_film(), 27, 25);
+    record_in(b"long lists:", bench_film(), 4096, 400);
 }
 
 // The order of refusals: the figures' own, then 13, then 12. Both lists stay.
 fn order_of_refusals() {
     let slow = alike(2, 23834);
-    print(b"no stream:");
-    record_in(slow, 8, 8);
-    print(b"no stream, short list:");
-    record_in(slow, 8, 7);
+    record_in(b"no stream:", slow, 8, 8);
+    record_in(b"no stream, short list:", slow, 8, 7);
     let mut no_hop = slow;
     no_hop.hop = 0;
-    print(b"no stream, short list, hop 0:");
-    record_in(no_hop, 8, 7);
-    print(b"one stream:");
-    record_in(alike(2, 23835), 8, 8);
+    record_in(b"no stream, short list, hop 0:", no_hop, 8, 7);
+}
+
+fn small_films() {
+    record_in(b"times 2 2 1:", two_two_one(), 12, 12);
+    record_in(b"one stream:", alike(2, 23835), 8, 8);
     let mut no_block = bench_film();
     no_block.blocks = 1;
-    print(b"N 1:");
-    record_in(no_block, 24, 24);
+    record_in(b"N 1:", no_block, 24, 24);
 }
 
 // The same from cards: a refusal has its offset, 13 and 12 have 0.
 fn cards() {
-    print(b"card of the bench film:");
     card_in(
+        b"card of the bench film:",
         b"\x01\x06\x01\xfe\xad\x01\x01\xc6\xa0\x01\x01\x92\x95\x01\x01\x92\x8b\x01\x01\xbc\x82\x01\x01\xe8\x7a\x06\x80\x80\x10\xa0\xc2\x1e\xfe\x62\x98\x75",
         28,
         28,
     );
-    print(b"card, short list:");
     card_in(
+        b"card, short list:",
         b"\x01\x06\x01\xfe\xad\x01\x01\xc6\xa0\x01\x01\x92\x95\x01\x01\x92\x8b\x01\x01\xbc\x82\x01\x01\xe8\x7a\x06\x80\x80\x10\xa0\xc2\x1e\xfe\x62\x98\x75",
         20,
         28,
     );
-    print(b"card, second time 0, short list:");
     card_in(
+        b"card, second time 0, short list:",
         b"\x01\x06\x01\xfe\xad\x01\x01\x00\x01\x92\x95\x01\x01\x92\x8b\x01\x01\xbc\x82\x01\x01\xe8\x7a\x06\x80\x80\x10\xa0\xc2\x1e\xfe\x62\x98\x75",
         20,
         28,
     );
-    print(b"card, no stream:");
+}
+
+fn slow_cards() {
     card_in(
+        b"card, no stream:",
         b"\x01\x01\x02\xa0\x9c\x01\x02\x9a\xba\x01\xa0\xc2\x1e\xfe\x62\x98\x75",
         8,
         8,
     );
-    print(b"card, no stream, bytes left over:");
     card_in(
+        b"card, no stream, bytes left over:",
         b"\x01\x01\x02\xa0\x9c\x01\x02\x9a\xba\x01\xa0\xc2\x1e\xfe\x62\x98\x75\x00",
         8,
         8,
@@ -197,6 +211,7 @@ fn check(plan: Plan, positions: &[u8], leads: &[u8]) {
 
 // Each number altered.
 fn check_numbers(plan: Plan, positions: &[u8], leads: &[u8]) {
+    print(b"numbers altered:");
     let mut streams = plan;
     streams.streams = 15;
     check(streams, positions, leads);
@@ -219,14 +234,19 @@ fn with_figures(plan: Plan, figures: Figures) -> Plan {
     other
 }
 
-// Figures altered: a return with which all numbers stay, a B with another buffer, zones out of range, a rate that feeds no stream.
+// Figures altered: a return with which all numbers stay, and a B with another buffer.
 fn check_figures(plan: Plan, positions: &[u8], leads: &[u8]) {
+    print(b"figures altered:");
     let mut back = plan.figures;
     back.back = 15001;
     check(with_figures(plan, back), positions, leads);
     let mut bytes = plan.figures;
     bytes.bytes = 262145;
     check(with_figures(plan, bytes), positions, leads);
+}
+
+// Figures out of range, and a rate that feeds no stream.
+fn check_refused_figures(plan: Plan, positions: &[u8], leads: &[u8]) {
     let mut zones = plan.figures;
     zones.zones = 65;
     check(with_figures(plan, zones), positions, leads);
@@ -260,26 +280,24 @@ fn check_lead(plan: Plan, positions: &[u8], leads: &mut [u8], at: usize) {
     leads[at] = old;
 }
 
-// Each entry altered, in its lowest or its highest byte, and the first byte past the last.
+// Each byte of the six entries altered, then those of the entry past N.
 fn check_positions(plan: Plan, positions: &mut [u8], leads: &[u8]) {
-    check_position(plan, positions, leads, 0);
-    check_position(plan, positions, leads, 7);
-    check_position(plan, positions, leads, 8);
-    check_position(plan, positions, leads, 15);
-    check_position(plan, positions, leads, 16);
-    check_position(plan, positions, leads, 23);
-    check_position(plan, positions, leads, 24);
+    print(b"positions altered, then past N:");
+    let mut at: usize = 0;
+    while at < 28 {
+        check_position(plan, positions, leads, at);
+        at += 1;
+    }
     print(b"\n");
 }
 
 fn check_leads(plan: Plan, positions: &[u8], leads: &mut [u8]) {
-    check_lead(plan, positions, leads, 0);
-    check_lead(plan, positions, leads, 7);
-    check_lead(plan, positions, leads, 8);
-    check_lead(plan, positions, leads, 15);
-    check_lead(plan, positions, leads, 16);
-    check_lead(plan, positions, leads, 23);
-    check_lead(plan, positions, leads, 24);
+    print(b"leads altered, then past N:");
+    let mut at: usize = 0;
+    while at < 28 {
+        check_lead(plan, positions, leads, at);
+        at += 1;
+    }
     print(b"\n");
 }
 
@@ -297,6 +315,7 @@ fn check_part(
 }
 
 fn check_parts(plan: Plan, positions: &[u8], leads: &[u8]) {
+    print(b"lists that just fit, then short:");
     check_part(plan, positions, leads, 24, 24);
     check_part(plan, positions, leads, 23, 24);
     check_part(plan, positions, leads, 24, 23);
@@ -304,30 +323,42 @@ fn check_parts(plan: Plan, positions: &[u8], leads: &[u8]) {
     print(b"\n");
 }
 
+fn check_own(plan: Plan, positions: &[u8], leads: &[u8]) {
+    print(b"own plan:");
+    check(plan, positions, leads);
+    print(b"\n");
+}
+
+fn check_record(plan: Plan, positions: &[u8], leads: &[u8]) {
+    check_own(plan, positions, leads);
+    check_numbers(plan, positions, leads);
+    check_figures(plan, positions, leads);
+    check_refused_figures(plan, positions, leads);
+    check_parts(plan, positions, leads);
+}
+
+fn check_lists(plan: Plan, positions: &mut [u8], leads: &mut [u8]) {
+    check_record(plan, positions, leads);
+    check_positions(plan, positions, leads);
+    check_leads(plan, positions, leads);
+}
+
+// The check of the bench film's plan, and of altered ones.
 fn checks() {
     let mut positions = io::buffer();
     let mut leads = io::buffer();
     let planned = plan::plan_record(bench_film(), &mut positions, &mut leads);
-    let plan = planned.plan;
-    print(b"own plan:");
-    check(plan, &positions, &leads);
-    print(b"\nnumbers altered:");
-    check_numbers(plan, &positions, &leads);
-    print(b"figures altered:");
-    check_figures(plan, &positions, &leads);
-    print(b"positions altered, then past N:");
-    check_positions(plan, &mut positions, &leads);
-    print(b"leads altered, then past N:");
-    check_leads(plan, &positions, &mut leads);
-    print(b"lists that just fit, then short:");
-    check_parts(plan, &positions, &leads);
+    check_lists(planned.plan, &mut positions, &mut leads);
 }
 
 fn main() {
     real_disks();
     paper_examples();
-    list_sizes();
+    short_lists();
+    long_lists();
     order_of_refusals();
+    small_films();
     cards();
+    slow_cards();
     checks();
 }
