@@ -30,3 +30,7 @@ sixTimes = 22270 ∷ 20550 ∷ 19090 ∷ 17810 ∷ 16700 ∷ 15720 ∷ []
 -- the bench film: six zones of 1 position, with N blocks of B bytes
 abbrev pub bench : ℕ → ℕ → Figures
 bench N B = film sixOnes sixTimes N B
+
+-- one zone of N positions of 20000, the film on all of them
+abbrev pub alike : ℕ → ℕ → Figures
+alike N B = film (N ∷ []) (20000 ∷ []) N B

@@ -7,11 +7,41 @@ use Rattle.card.specs.Ranges.{first, below, above, outside, thenAbove, faultOf}
 use Rattle.card.specs.Read.{onFault, onNumber, fieldAt, blankZones, blankFigures, accepted, refusedCard, thenField, cardEnd, filmFrom, zonesFrom, readCard}
 use Rattle.card.specs.Card.{filmNumbers, zoneNumbers, numbersOf, bytesOf, cardOf}
 use Rattle.card.specs.declared.CardRead.{CardRead}
-use Rattle.cases.specs.Bench.{entries, film, sixOnes, bench}
+use Rattle.card.specs.declared.Figures.{Figures}
+use Rattle.card.specs.Card.{totalPositions}
+use Rattle.laws.specs.Runs.{sumBy}
+use Rattle.laws.specs.Greatest.{greatestOf, greatest}
+use Rattle.words.specs.Words.{wordsOf}
+use Rattle.placement.specs.Placement.{place, worstTime}
+use Rattle.placement.specs.Zones.{timeAt}
+use Rattle.pacing.specs.Film.{row as run, span, lead, once}
+use Rattle.pacing.specs.Streams.{overhead, load, streams, bufferOf}
+use Rattle.pacing.specs.Laid.{laidFilm, slowest, margin}
+use Rattle.plan.specs.declared.Plan.{Plan}
+use Rattle.plan.specs.Plan.{timeOf, worst2Of, streamsOf, marginOf, filmOf, leadOf, bufferSize, planOf, blankPlan, row, positionsOf, leadsOf}
+use Rattle.plan.specs.Answer.{planFault, refusal, planned}
+use Rattle.cases.specs.Bench.{entries, film, sixOnes, bench, alike}
 
 -- what a listing prints of a refused card: the number and the offset
 abbrev pub Refuses : List ℕ → ℕ → ℕ → Type 0
 Refuses s number offset = (readCard s .verdict .number ≡ number) × (readCard s .verdict .place ≡ offset)
+
+-- the plan of figures: streams, buffer, worst2 and margin
+abbrev pub Plans : Figures → ℕ → ℕ → ℕ → ℕ → Type 0
+Plans f streams buffer worst2 margin =
+    _≡_ {A = Plan} (planOf f) (record { figures = f; streams = streams; buffer = buffer; worst2 = worst2; margin = margin })
+
+-- time(b) of each block
+abbrev pub timesOf : Figures → List ℕ
+timesOf f = row (timeOf f) 0 (f .blocks)
+
+-- a list of two entries
+abbrev pub two : List ℕ
+two = 0 ∷ 0 ∷ 0 ∷ 0 ∷ 0 ∷ 0 ∷ 0 ∷ 0 ∷ []
+
+-- the number that the planner answers to the card of a film of two blocks
+abbrev pub answered : Figures → ℕ
+answered f = planned (readCard (cardOf f)) two two .verdict .number
 
 pub record Cases : Type 0 where
   -- 300 is AC 02, 22270 is FE AD 01
@@ -27,9 +57,28 @@ pub record Cases : Type 0 where
   -- empty card: 1 at 0. First number 81 00: 2 at 0
   pub empty-card : Refuses [] 1 0
   pub longer-form : Refuses (129 ∷ 0 ∷ []) 2 0
+  -- the bench film's listing
+  pub bench-plan : Plans (bench 6 262144) 16 812632 37990 6550
+  pub bench-positions : positionsOf (bench 6 262144) ≡ 0 ∷ 5 ∷ 1 ∷ 4 ∷ 2 ∷ 3 ∷ []
+  pub bench-times : timesOf (bench 6 262144) ≡ 22270 ∷ 15720 ∷ 20550 ∷ 16700 ∷ 19090 ∷ 17810 ∷ []
+  pub bench-leads : leadsOf (bench 6 262144) ≡ 6550 ∷ 0 ∷ 3110 ∷ 0 ∷ 190 ∷ 0 ∷ []
+  -- B 260820: 16 streams, buffer 808660. B 260819: 15 streams, buffer 807020
+  pub sixteen-streams : Plans (bench 6 260820) 16 808660 37990 6550
+  pub fifteen-streams : Plans (bench 6 260819) 15 807020 37990 6550
+  -- N 5: positions 1, 5, 2, 4, 3; worst2 36270, margin 4830
+  pub five-positions : positionsOf (bench 5 262144) ≡ 1 ∷ 5 ∷ 2 ∷ 4 ∷ 3 ∷ []
+  pub five-worst2 : worst2Of (bench 5 262144) ≡ 36270
+  pub five-margin : marginOf (bench 5 262144) ≡ 4830
+  -- one zone, 3 positions of 20000, N 3: positions 0, 2, 1; worst2 40000; all leads 0
+  pub three-positions : positionsOf (alike 3 262144) ≡ 0 ∷ 2 ∷ 1 ∷ []
+  pub three-worst2 : worst2Of (alike 3 262144) ≡ 40000
+  pub three-leads : leadsOf (alike 3 262144) ≡ 0 ∷ 0 ∷ 0 ∷ []
+  -- one zone, 2 positions of 20000, N 2: B 23835 gives 1 stream, 23834 gives 12
+  pub one-stream : (answered (alike 2 23835) ≡ 0) × (streamsOf (alike 2 23835) ≡ 1)
+  pub no-stream : answered (alike 2 23834) ≡ 12
 
 pub cases : Cases
-unfolding groupsFrom groups continuing joined judged numberIn numberAt first below above outside thenAbove faultOf onFault onNumber fieldAt blankZones blankFigures refusedCard thenField cardEnd filmFrom zonesFrom readCard filmNumbers zoneNumbers numbersOf bytesOf cardOf entries film
+unfolding groupsFrom groups continuing joined judged numberIn numberAt first below above outside thenAbove faultOf onFault onNumber fieldAt blankZones blankFigures refusedCard thenField cardEnd filmFrom zonesFrom readCard filmNumbers zoneNumbers numbersOf bytesOf cardOf entries film totalPositions sumBy greatestOf greatest wordsOf place worstTime timeAt run span lead once overhead load streams bufferOf laidFilm slowest margin worst2Of streamsOf marginOf filmOf leadOf bufferSize planOf blankPlan row positionsOf leadsOf planFault refusal planned
 cases = record {
   number-300 = refl;
   number-22270 = refl;
@@ -39,4 +88,18 @@ cases = record {
   seven-blocks = (refl, refl);
   empty-card = (refl, refl);
   longer-form = (refl, refl);
+  bench-plan = refl;
+  bench-positions = refl;
+  bench-times = refl;
+  bench-leads = refl;
+  sixteen-streams = refl;
+  fifteen-streams = refl;
+  five-positions = refl;
+  five-worst2 = refl;
+  five-margin = refl;
+  three-positions = refl;
+  three-worst2 = refl;
+  three-leads = refl;
+  one-stream = (refl, refl);
+  no-stream = refl;
 }

@@ -1,0 +1,68 @@
+-- An accepted card's answer is a plan with its lists, and each listed position is on the disk.
+-- Assumes nothing.
+use Prim.Native.Nat.{ℕ, zero, suc, _≤_, _<_}
+use mathlib.Core.Path.{_≡_, refl, sym, ap, _∙_}
+use mathlib.Core.Bool.{true}
+use mathlib.Core.List.{List}
+use mathlib.Core.Logic.{by-cases}
+use native.Mathlib.Omega.{arith}
+use native.Mathlib.Decide.{decLt}
+use lib.ListN.{length, getD}
+use Rattle.card.specs.declared.Figures.{Figures}
+use Rattle.card.specs.declared.CardRead.{CardRead}
+use Rattle.card.specs.Read.{readCard}
+use Rattle.round_trip.specs.Legality.{Wide}
+use Rattle.placement.specs.Zones.{total}
+use Rattle.words.specs.Words.{Bytes, wordsOf}
+use Rattle.plan.specs.declared.Plan.{Plan}
+use Rattle.plan.specs.declared.Planned.{Planned}
+use Rattle.plan.specs.Plan.{streamsOf}
+use Rattle.plan.specs.Cursors.{Zoned}
+use Rattle.plan.specs.Legal.{legal-zoned, place-below, total-is}
+use Rattle.plan.specs.Answer.{planFault, faultAfter, refusal, answer, planned, positionsAfter, leadsAfter, isPlan}
+use Rattle.plan.specs.Check.{checked, checked-legal, plan-passes}
+use Rattle.plan.proofs.Answers.{short-positions, short-leads, no-stream, card-legal}
+
+-- ---- a plan with its lists
+
+module _ (p : Plan) (ps ls : List ℕ) (w : Wide (p .figures)) (e : isPlan p ps ls ≡ true) where
+  pub plan-zoned : Zoned (p .figures .positions)
+  plan-zoned = legal-zoned (p .figures) (checked-legal p ps ls w e)
+
+  pub position-on : (b : ℕ) → b < p .figures .blocks → getD (wordsOf ps) b 0 < total (p .figures .positions)
+  position-on b u =
+      let ok = checked-legal p ps ls w e in
+      omega (arith, checked p ps ls e .place-at b u, place-below (p .figures) ok b u, total-is (p .figures) ok)
+
+-- ---- an accepted card
+
+-- neither 13 nor 12: both lists are long enough, and a stream is fed
+no-fault : (f : Figures) (np nl : ℕ) → planFault f np nl ≡ 0 → (f .blocks ≤ np) × (f .blocks ≤ nl) × (0 < streamsOf f)
+no-fault f np nl e = by-cases (decLt np (f .blocks))
+    (λ h. absurd (omega (arith, short-positions f np nl h)))
+    (λ h. by-cases (decLt nl (f .blocks))
+    (λ k. absurd (omega (arith, short-leads f np nl (omega arith) k)))
+    (λ k. by-cases (decLt 0 (streamsOf f))
+    (λ s. (omega arith, omega arith, s))
+    (λ s. absurd (omega (arith, no-stream f np nl (omega arith) (omega arith) (omega arith))))))
+
+answer-none : (j k : ℕ) (r : CardRead) → answer j k r .verdict .number ≡ 0 → (j ≡ 0) × (k ≡ 0)
+unfolding refusal
+answer-none zero zero r e = (refl, refl)
+answer-none zero (suc k) r e = absurd (omega (arith, e))
+answer-none (suc j) k r e = absurd (omega (arith, e))
+
+-- the answer to an accepted card is a plan, with the lists as they are left
+answer-plan : (s : List ℕ) → Bytes s → (ps ls : List ℕ) → planned (readCard s) ps ls .verdict .number ≡ 0
+    → isPlan (planned (readCard s) ps ls .plan) (positionsAfter (readCard s) ps ls) (leadsAfter (readCard s) ps ls) ≡ true
+unfolding planned positionsAfter leadsAfter
+answer-plan s y ps ls e =
+    let r = readCard s in
+    let n = answer-none (r .verdict .number) (faultAfter r ps ls) r e in
+    let g = no-fault (r .figures) (length (wordsOf ps)) (length (wordsOf ls)) (n .1) in
+    rw (n .0, n .1) (plan-passes (r .figures) (card-legal s y r refl (n .0)) (g .2) ps ls (g .0) (g .1))
+
+pub accepted-plan : (s : List ℕ) → Bytes s → (ps ls : List ℕ) (a : Planned) (qs ms : List ℕ)
+    → (a ≡ planned (readCard s) ps ls) × (qs ≡ positionsAfter (readCard s) ps ls) × (ms ≡ leadsAfter (readCard s) ps ls)
+    → a .verdict .number ≡ 0 → isPlan (a .plan) qs ms ≡ true
+accepted-plan s y ps ls a qs ms e n = rw (e .0, e .1, e .2) (answer-plan s y ps ls (sym (ap (λ (x : Planned). x .verdict .number) (e .0)) ∙ n))

@@ -1,0 +1,77 @@
+use Prim.Native.Nat.{_≤_}
+use native.Mathlib.Omega.{arith}
+use lib.ListN.{length}
+use Rattle.round_trip.specs.Legality.{Wide}
+use Rattle.words.specs.Words.{wordsOf}
+use Rattle.plan.specs.Check.{checked}
+use Rattle.listing.proofs.Laws.{plan-zoned, position-on}
+use borrow.Author.Needs.{needs}
+use Rattle.listing.proofs.print_block.Statement.{statement}
+use Rattle.listing.proofs.print_block.Tie as tie
+
+wide : (c : tie.Start) → Wide (c .args .plan .figures)
+wide c = (search needs, search needs)
+
+long : (c : tie.Start) → (c .args .plan .figures .blocks ≤ length (wordsOf (c .args .positions .now))) × (c .args .plan .figures .blocks ≤ length (wordsOf (c .args .leads .now)))
+long c = checked (c .args .plan) (c .args .positions .now) (c .args .leads .now) (c .pre .0) .long
+
+word-at-requires : tie.Need-word-at-requires
+word-at-requires c κs = let s = c .before .before .before in omega (arith, long s, s .pre)
+
+time-at-requires : tie.Need-time-at-requires
+time-at-requires c κs = let w = c .before .before .before in
+    let s = w .before .before .before .before in
+    let a = s .args in
+    let q = position-on (a .plan) (a .positions .now) (a .leads .now) (wide s) (s .pre .0) (a .b) (s .pre .1) in
+    (plan-zoned (a .plan) (a .positions .now) (a .leads .now) (wide s) (s .pre .0), omega (arith, q, w .word-at .ensures))
+
+word-at-requires-2 : tie.Need-word-at-requires-2
+word-at-requires-2 c κs = let s = c .before .before .before .before .before .before .before .before in omega (arith, long s, s .pre)
+
+empty-requires : tie.Need-empty-requires
+empty-requires c κs = search needs
+
+put-number-requires : tie.Need-put-number-requires
+put-number-requires c κs = search needs
+
+cast-put-next : tie.Need-cast-put-next
+cast-put-next c = search needs
+
+put-next-requires : tie.Need-put-next-requires
+put-next-requires c κs = search needs
+
+cast-put-next-2 : tie.Need-cast-put-next-2
+cast-put-next-2 c = search needs
+
+put-next-requires-2 : tie.Need-put-next-requires-2
+put-next-requires-2 c κs = search needs
+
+cast-put-next-3 : tie.Need-cast-put-next-3
+cast-put-next-3 c = search needs
+
+put-next-requires-3 : tie.Need-put-next-requires-3
+put-next-requires-3 c κs = search needs
+
+print-requires : tie.Need-print-requires
+print-requires c κs = search needs
+
+returns : tie.Need-returns
+returns c = search needs
+
+pub print-block-spec : {M : Type 1} → statement M
+print-block-spec =
+    tie.close
+    (tie.spec
+    word-at-requires
+    time-at-requires
+    word-at-requires-2
+    empty-requires
+    put-number-requires
+    cast-put-next
+    put-next-requires
+    cast-put-next-2
+    put-next-requires-2
+    cast-put-next-3
+    put-next-requires-3
+    print-requires
+    returns)

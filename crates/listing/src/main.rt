@@ -1,0 +1,79 @@
+// Reads a card from standard input and prints its plan: four named figures, then the position, time and lead of each block.
+mod line; // lines of text
+
+use crate::line::empty;
+use crate::line::print;
+use crate::line::put_next;
+use crate::line::put_number;
+use crate::line::put_text;
+use card::Verdict;
+use libc::STDIN_FILENO;
+use plan::Plan;
+ghost use mathlib.Core.Path.{_≡_};
+ghost use mathlib.Core.Bool.{true};
+ghost use Prim.Native.Nat.{_<_};
+ghost use Rattle.plan.specs.Answer.{isPlan};
+
+fn print_figure(name: &[u8], figure: u32) {
+    print(put_next(put_text(empty(), name), figure as u64));
+}
+
+fn print_figures(plan: Plan) {
+    print_figure(b"streams", plan.streams);
+    print_figure(b"buffer", plan.buffer);
+    print_figure(b"worst2", plan.worst2);
+    print_figure(b"margin", plan.margin);
+}
+
+fn print_refusal(verdict: Verdict) {
+    let number = put_next(put_text(empty(), b"refused"), verdict.number as u64);
+    print(put_next(put_text(number, b" at"), verdict.place as u64));
+}
+
+// The line of block b: its number, position, time and lead.
+fn print_block(plan: Plan, positions: &[u8], leads: &[u8], b: u32)
+    requires { ⌜ (isPlan plan (now positions) (now leads) ≡ true) × (b < plan .figures .blocks) ⌝ }
+{
+    let figures = plan.figures;
+    let position = words::word_at(positions, b as usize);
+    let time = plan::time_at(&figures.positions, &figures.times, position);
+    let lead = words::word_at(leads, b as usize);
+    let start = put_next(put_number(empty(), b as u64), position as u64);
+    print(put_next(put_next(start, time as u64), lead as u64));
+}
+
+// The line of each block of a plan, whose lists begin with its positions and leads.
+fn print_blocks(plan: Plan, positions: &[u8], leads: &[u8])
+    requires { ⌜ isPlan plan (now positions) (now leads) ≡ true ⌝ }
+{
+    print(put_text(empty(), b"block position time lead"));
+    let figures = plan.figures;
+    let blocks = figures.blocks;
+    let mut b: u32 = 0;
+    while b < blocks {
+        print_block(plan, positions, leads, b);
+        b += 1;
+    }
+}
+
+// The listing of a card: its plan, or the refusal.
+fn list(card: &[u8]) {
+    let mut positions = io::large_buffer();
+    let mut leads = io::large_buffer();
+    let planned = plan::plan_card(card, &mut positions, &mut leads);
+    let verdict = planned.verdict;
+    if verdict.number != 0 {
+        print_refusal(verdict);
+        return;
+    }
+    let plan = planned.plan;
+    print_figures(plan);
+    print_blocks(plan, &positions, &leads);
+}
+
+// Every refusal of a card is decided within its first 512 bytes, so what is read is enough of any input.
+fn main() {
+    let mut input = io::buffer();
+    let count = io::read_full(STDIN_FILENO, &mut input);
+    list(&input[..count]);
+}
