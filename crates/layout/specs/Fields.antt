@@ -1,10 +1,12 @@
 -- Fields at offsets of a list of words: a number takes one word, an array as many as it has entries.
 -- Assumes nothing.
-use Prim.Native.Nat.{ℕ, zero, suc, _+_, _≤_, _<_}
-use mathlib.Core.Path.{_≡_, refl, sym, ap, _∙_}
+use Prim.Native.Nat.{ℕ, zero, suc, _+_, _<_}
+use mathlib.Core.Path.{_≡_, sym, ap, _∙_}
 use mathlib.Core.List.{List, [], _∷_, _++_}
 use native.Mathlib.Omega.{arith}
 use lib.ListN.{length, getD, take, drop, take-append-drop}
+use Rattle.words.specs.Words.{withWord, withWords}
+use Rattle.words.specs.Laws.{withWords-append}
 use lib.Seq.{drop-cons, drop-drop, take-at, drop-at}
 
 -- ---- from the words: the fields one after the other are the words from an offset on
@@ -25,3 +27,19 @@ number-at (w ∷ ws) (suc k) v t e = number-at ws k v t e
 
 pub array-at : (ws : List ℕ) (k n : ℕ) (a t : List ℕ) → length a ≡ n → drop k ws ≡ a ++ t → (take n (drop k ws) ≡ a) × (drop (k + n) ws ≡ t)
 array-at ws k n a t h e = (ap (take n) e ∙ take-at a t n h, sym (drop-drop n k ws) ∙ ap (drop n) e ∙ drop-at a t n h)
+
+-- ---- fields written one after the other
+
+module _ (s : List ℕ) {t : List ℕ} where
+  pub put-last : (k v : ℕ) → t ≡ withWord s k v → t ≡ withWords s k (v ∷ [])
+  unfolding withWords
+  put-last k v e = e
+
+  module _ {u : List ℕ} where
+    pub put-then : (k v : ℕ) (vs : List ℕ) → t ≡ withWord s k v → u ≡ withWords t (k + 1) vs → u ≡ withWords s k (v ∷ vs)
+    unfolding withWords
+    put-then k v vs e d = d ∙ ap (λ (x : List ℕ). withWords x (k + 1) vs) e
+
+    pub write-then : (k n : ℕ) (a vs : List ℕ) → length a ≡ n → t ≡ withWords s k a → u ≡ withWords t (k + n) vs → u ≡ withWords s k (a ++ vs)
+    write-then k n a vs h e d =
+        d ∙ ap (λ (x : List ℕ). withWords x (k + n) vs) e ∙ ap (λ (m : ℕ). withWords (withWords s k a) (k + m) vs) (sym h) ∙ sym (withWords-append s k a vs)

@@ -1,14 +1,14 @@
 -- Decoding what was encoded gives it back, and encoding what was decoded gives the same words and the same bytes.
 -- Assumes nothing.
-use Prim.Native.Nat.{ℕ, zero, suc, _+_, _*_, _/_, _≤_, _<_}
+use Prim.Native.Nat.{ℕ, zero, suc, _*_, _≤_}
 use mathlib.Core.Path.{_≡_, refl, sym, ap, _∙_}
 use mathlib.Core.List.{List, [], _∷_, _++_, append-assoc, append-nil}
 use native.Mathlib.Omega.{arith}
-use lib.ListN.{length, getD, take, drop, replicate, length-append, length-replicate, length-take, length-drop, drop-of-length-le}
+use lib.ListN.{length, take, drop, replicate, length-append, length-replicate, length-take, length-drop, drop-of-length-le}
 use lib.Seq.{take-all, take-at, drop-at}
 use Rattle.laws.specs.Overwrite.{overwrite, overwrite-front}
 use Rattle.words.specs.Words.{Bytes, Words, wordsOf, withWords, bytesOf}
-use Rattle.words.specs.Laws.{words-length, words-withWords, written-read, withWords-overwrite, withWords-length}
+use Rattle.words.specs.Laws.{words-length, words-withWords, written-read, withWords-overwrite}
 use Rattle.card.specs.Read.{blankZones, blankFigures}
 use Rattle.plan.specs.declared.Plan.{Plan}
 use Rattle.plan.specs.Plan.{blankPlan}

@@ -1,37 +1,34 @@
+use Rattle.layout.specs.Fields.{put-then, put-last}
+use native.Mathlib.Omega.{arith}
+use Rattle.words.specs.Laws.{words-length}
 use borrow.Author.Needs.{needs}
 use Rattle.layout.proofs.write_film.Statement.{statement}
 use Rattle.layout.proofs.write_film.Tie as tie
-use Rattle.layout.proofs.write_film.Reads as reads
-use Rattle.layout.proofs.write_film.Lts as lts
-use Rattle.words.proofs.put_word.Reads as put-word-reads
 
--- src/lib.rt:85:5
 put-word-requires : tie.Need-put-word-requires
 put-word-requires c κs = search needs
 
--- src/lib.rt:86:5
 put-word-requires-2 : tie.Need-put-word-requires-2
-put-word-requires-2 c κs = ?
+put-word-requires-2 c κs = omega (arith, words-length (c .before .before .before .put-word .last .0), words-length (c .before .before .before .before .before .before .args .list .now))
 
--- src/lib.rt:87:5
 put-word-requires-3 : tie.Need-put-word-requires-3
-put-word-requires-3 c κs = ?
+put-word-requires-3 c κs = omega (arith, words-length (c .before .before .before .put-word2 .last .0), words-length (c .before .before .before .before .before .before .before .before .before .before .args .list .now))
 
--- src/lib.rt:88:5
 put-word-requires-4 : tie.Need-put-word-requires-4
-put-word-requires-4 c κs = ?
+put-word-requires-4 c κs = omega (arith, words-length (c .before .before .before .put-word3 .last .0), words-length (c .before .before .before .before .before .before .before .before .before .before .before .before .before .before .args .list .now))
 
--- src/lib.rt:89:5
 put-word-requires-5 : tie.Need-put-word-requires-5
-put-word-requires-5 c κs = ?
+put-word-requires-5 c κs = omega (arith, words-length (c .before .before .before .put-word4 .last .0), words-length (c .before .before .before .before .before .before .before .before .before .before .before .before .before .before .before .before .before .before .args .list .now))
 
--- src/lib.rt:81:1
 same-length : tie.Need-same-length
 same-length c = search needs
 
--- src/lib.rt:81:1
 returns : tie.Need-returns
-returns c = ?
+returns c = put-then _ 129 _ _ (c .before .before .before .before .before .before .before .before .before .before .before .before .before .before .before .before .before .before .put-word .ensures)
+    (put-then _ 130 _ _ (c .before .before .before .before .before .before .before .before .before .before .before .before .before .before .put-word2 .ensures)
+    (put-then _ 131 _ _ (c .before .before .before .before .before .before .before .before .before .before .put-word3 .ensures)
+    (put-then _ 132 _ _ (c .before .before .before .before .before .before .put-word4 .ensures)
+    (put-last _ 133 _ (c .before .before .put-word5 .ensures)))))
 
 pub write-film-spec : {M : Type 1} → statement M
 write-film-spec =

@@ -1,40 +1,42 @@
+use native.Mathlib.Omega.{arith}
+use Rattle.words.specs.Laws.{words-length}
+use Rattle.layout.specs.Fields.{put-then, write-then}
+use mathlib.Core.Path.{refl}
+use Rattle.layout.specs.Layout.{planWords}
+use Rattle.layout.specs.Laws.{PlanSized}
 use borrow.Author.Needs.{needs}
 use Rattle.layout.proofs.write_plan.Statement.{statement}
 use Rattle.layout.proofs.write_plan.Tie as tie
-use Rattle.layout.proofs.write_plan.Reads as reads
-use Rattle.layout.proofs.write_plan.Lts as lts
-use Rattle.layout.proofs.write_film.Reads as write-film-reads
-use Rattle.layout.proofs.write_numbers.Reads as write-numbers-reads
-use Rattle.words.proofs.put_word.Reads as put-word-reads
-use Rattle.words.proofs.write_64.Reads as write-64-reads
 
--- src/lib.rt:109:5
+sized : (c : tie.Start) → PlanSized (c .args .plan)
+sized c = record { positions = search needs; times = search needs }
+
 put-word-requires : tie.Need-put-word-requires
 put-word-requires c κs = search needs
 
--- src/lib.rt:110:5
 write-64-requires : tie.Need-write-64-requires
-write-64-requires c κs = ?
+write-64-requires c κs = omega (arith, words-length (c .before .before .before .before .before .put-word .last .0), words-length (c .before .before .before .before .before .before .before .before .before .args .list .now))
 
--- src/lib.rt:111:5
 write-64-requires-2 : tie.Need-write-64-requires-2
-write-64-requires-2 c κs = ?
+write-64-requires-2 c κs = omega (arith, words-length (c .before .before .before .before .before .write-64 .last .0), words-length (c .before .before .before .before .before .before .before .before .before .before .before .before .before .before .before .args .list .now))
 
--- src/lib.rt:112:5
 write-film-requires : tie.Need-write-film-requires
-write-film-requires c κs = ?
+write-film-requires c κs = omega (arith, words-length (c .before .before .before .write-642 .last .0), words-length (c .before .before .before .before .before .before .before .before .before .before .before .before .before .before .before .before .before .before .before .args .list .now))
 
--- src/lib.rt:120:5
 write-numbers-requires : tie.Need-write-numbers-requires
-write-numbers-requires c κs = ?
+write-numbers-requires c κs = omega (arith, words-length (c .before .before .before .write-film .last .0), words-length (c .before .before .before .before .before .before .before .before .before .before .before .before .before .before .before .before .before .before .before .before .before .before .before .args .list .now))
 
--- src/lib.rt:104:1
 same-length : tie.Need-same-length
 same-length c = search needs
 
--- src/lib.rt:104:1
 returns : tie.Need-returns
-returns c = ?
+unfolding planWords
+returns c =
+    let z = sized (c .before .before .before .before .before .before .before .before .before .before .before .before .before .before .before .before .before .before .before .before .before .before .before .before .before .before) in
+    put-then _ 0 _ _ (c .before .before .before .before .before .before .before .before .before .before .before .before .before .before .before .before .before .before .before .before .before .before .put-word .ensures)
+    (write-then _ 1 64 _ _ (z .positions) (c .before .before .before .before .before .before .before .before .before .before .before .before .before .before .before .before .write-64 .ensures)
+    (write-then _ 65 64 _ _ (z .times) (c .before .before .before .before .before .before .before .before .before .before .write-642 .ensures)
+    (write-then _ 129 5 _ _ refl (c .before .before .before .before .before .before .write-film .ensures) (c .before .before .write-numbers .ensures))))
 
 pub write-plan-spec : {M : Type 1} → statement M
 write-plan-spec =
