@@ -5,7 +5,8 @@ use mathlib.Core.Path.{_≡_, sym, ap, _∙_}
 use mathlib.Core.List.{List, [], _∷_, _++_}
 use native.Mathlib.Omega.{arith}
 use lib.ListN.{length, getD, take, drop, take-append-drop}
-use Rattle.words.specs.Words.{withWord, withWords}
+use Rattle.laws.specs.Each.{Each, each-at}
+use Rattle.words.specs.Words.{Words, withWord, withWords}
 use Rattle.words.specs.Laws.{withWords-append}
 use lib.Seq.{drop-cons, drop-drop, take-at, drop-at}
 
@@ -43,3 +44,16 @@ module _ (s : List ℕ) {t : List ℕ} where
     pub write-then : (k n : ℕ) (a vs : List ℕ) → length a ≡ n → t ≡ withWords s k a → u ≡ withWords t (k + n) vs → u ≡ withWords s k (a ++ vs)
     write-then k n a vs h e d =
         d ∙ ap (λ (x : List ℕ). withWords x (k + n) vs) e ∙ ap (λ (m : ℕ). withWords (withWords s k a) (k + m) vs) (sym h) ∙ sym (withWords-append s k a vs)
+
+-- ---- fields of 32 bits
+
+pub words-each : (vs : List ℕ) → Each (λ v. v < 4294967296) vs → Words vs
+words-each vs h i = each-at (λ (v : ℕ). v < 4294967296) vs i 0 h (omega arith)
+
+pub words-number : (v : ℕ) (vs : List ℕ) → v < 4294967296 → Words vs → Words (v ∷ vs)
+words-number v vs h y zero = h
+words-number v vs h y (suc i) = y i
+
+pub words-array : (a vs : List ℕ) → Words a → Words vs → Words (a ++ vs)
+words-array [] vs x y = y
+words-array (v ∷ a) vs x y = words-number v (a ++ vs) (x 0) (words-array a vs (λ i. x (suc i)) y)

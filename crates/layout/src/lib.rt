@@ -9,11 +9,14 @@ use words::word_at;
 use words::write_64;
 use words::write_256;
 ghost use mathlib.Core.Path.{_≡_};
-ghost use Prim.Native.Nat.{_≤_};
-ghost use mathlib.Core.List.{[], _∷_};
+ghost use Prim.Native.Nat.{ℕ, _≤_};
+ghost use mathlib.Core.List.{List, [], _∷_};
 ghost use lib.ListN.{length};
-ghost use Rattle.words.specs.Words.{wordsOf, withWords};
+ghost use Rattle.words.specs.Words.{Bytes, Words, wordsOf, withWords};
+ghost use Rattle.plan.specs.declared.Plan.{Plan};
+ghost use Rattle.desk.specs.declared.Desk.{Desk};
 ghost use Rattle.layout.specs.Layout.{planWords, planIn, deskWords, deskIn};
+ghost use Rattle.layout.specs.Laws.{PlanSized, DeskSized};
 
 // Bytes of a plan and of a desk.
 pub const PLAN_BYTES: usize = 552;
@@ -145,3 +148,15 @@ pub fn write_desk(list: &mut [u8], desk: Desk)
     write_256(list, NEXT, &desk.next);
     write_256(list, HELD, &desk.held);
 }
+
+// What is written is read back.
+pub fn written_reads_back()
+    ensures plans { λ _. ⌜ ((s : List ℕ) (p : Plan) → PlanSized p → Words (planWords p) → 138 ≤ length (wordsOf s) → planIn (wordsOf (withWords s 0 (planWords p))) ≡ p) ⌝ }
+    ensures desks { λ _. ⌜ ((s : List ℕ) (d : Desk) → DeskSized d → Words (deskWords d) → 907 ≤ length (wordsOf s) → deskIn (wordsOf (withWords s 0 (deskWords d))) ≡ d) ⌝ }
+{}
+
+// What was read is written back, whatever the bytes.
+pub fn read_writes_back()
+    ensures plans { λ _. ⌜ ((s : List ℕ) → Bytes s → 138 ≤ length (wordsOf s) → withWords s 0 (planWords (planIn (wordsOf s))) ≡ s) ⌝ }
+    ensures desks { λ _. ⌜ ((s : List ℕ) → Bytes s → 907 ≤ length (wordsOf s) → withWords s 0 (deskWords (deskIn (wordsOf s))) ≡ s) ⌝ }
+{}
