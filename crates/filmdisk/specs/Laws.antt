@@ -1,26 +1,25 @@
 -- What the plan call leaves in each string, in document 01's words.
 -- Assumes nothing.
 use Prim.Native.Nat.{ℕ, zero, suc}
-use mathlib.Core.Path.{_≡_, refl, sym, ap, _∙_}
-use mathlib.Core.Bool.{Bool, true, false, cond, not, _&&_}
+use mathlib.Core.Path.{_≡_, refl, ap, _∙_}
+use mathlib.Core.Bool.{Bool, true, false, cond, _&&_}
 use mathlib.Core.List.{List}
 use mathlib.Core.Logic.{by-cases}
 use native.Mathlib.Omega.{arith}
 use native.Mathlib.Decide.{ℕ-discrete}
-use lib.ListN.{length, replicate}
+use lib.ListN.{length}
 use lib.Dec.{eqb}
 use borrow.Author.Tests.{eq-eqb, ne-eqb}
 use Rattle.words.specs.Words.{Bytes, wordsOf, withWords}
 use Rattle.words.specs.Laws.{words-length}
 use Rattle.card.specs.declared.CardRead.{CardRead}
-use Rattle.card.specs.Card.{Legal}
 use Rattle.card.specs.Read.{readCard}
 use Rattle.round_trip.specs.Legality.{fault-legal}
 use Rattle.round_trip.specs.RoundTrip.{read-card}
 use Rattle.plan.specs.declared.Plan.{Plan}
 use Rattle.plan.specs.Plan.{planOf, blankPlan, positionsOf, leadsOf}
 use Rattle.plan.specs.Answer.{refusal, answer, filled}
-use Rattle.layout.specs.Layout.{planWords, planIn}
+use Rattle.layout.specs.Layout.{planWords, planIn, zeroBytes}
 use Rattle.layout.specs.Laws.{plan-written, plan-zero}
 use Rattle.layout.specs.Legal.{legal-sized, legal-words}
 use Rattle.filmdisk.specs.Entry.{verdictAnswer, planFaultOf, plannedOf, planFilled, planAnswer, planString, positionsString, leadsString}
@@ -77,7 +76,7 @@ module _ (s p ps ls : List ℕ) where
     written = rw (eq-eqb (length p) 552 l, ne-eqb (plannedOf (readCard s) p ps ls .verdict .number) 13 n)
 
     -- after 1 to 12 it is all zero
-    pub plan-cleared : (numberOf s p ps ls ≡ 0 → ⊥) → planString s p ps ls ≡ replicate 552 0
+    pub plan-cleared : (numberOf s p ps ls ≡ 0 → ⊥) → planString s p ps ls ≡ zeroBytes 552
     unfolding planAnswer verdictAnswer plannedOf
     plan-cleared h =
         written ∙ ap (λ (q : Plan). withWords p 0 (planWords q)) (refused-kept (readCard s) ps ps (readCard s .verdict .number) (planFaultOf (readCard s) p ps ls) h .1) ∙ plan-zero p l

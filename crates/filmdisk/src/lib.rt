@@ -4,6 +4,13 @@ use layout::PLAN_BYTES;
 use layout::write_plan;
 use plan::plan_card;
 ghost use mathlib.Core.Path.{_≡_};
+ghost use Prim.Native.Nat.{ℕ};
+ghost use mathlib.Core.List.{List};
+ghost use lib.ListN.{length};
+ghost use Rattle.words.specs.Words.{Bytes, wordsOf};
+ghost use Rattle.card.specs.Read.{readCard};
+ghost use Rattle.plan.specs.Plan.{planOf};
+ghost use Rattle.layout.specs.Layout.{planIn, zeroBytes};
 ghost use Rattle.filmdisk.specs.Entry.{verdictAnswer, planAnswer, planString, positionsString, leadsString};
 
 // The answer of every call: document 01's refusal number and what is returned with it, and what a begin answers. All zero but for what the call says.
@@ -61,3 +68,13 @@ pub extern "C" fn filmdisk_plan(
     write_plan(plan, planned.plan);
     verdict_answer(verdict)
 }
+
+// What the plan call leaves in the plan string and the lists: accepted, the plan of the card's figures; after 1 to 12 zeros; after 13, and where it has
+// another length, what it held. A refused call leaves both lists.
+pub fn plan_strings()
+    ensures accepted { λ _. ⌜ ((s p ps ls : List ℕ) → Bytes s → planAnswer s p ps ls .number ≡ 0 → planIn (wordsOf (planString s p ps ls)) ≡ planOf (readCard s .figures)) ⌝ }
+    ensures cleared { λ _. ⌜ ((s p ps ls : List ℕ) → length p ≡ 552 → (planAnswer s p ps ls .number ≡ 13 → ⊥) → (planAnswer s p ps ls .number ≡ 0 → ⊥) → planString s p ps ls ≡ zeroBytes 552) ⌝ }
+    ensures kept { λ _. ⌜ ((s p ps ls : List ℕ) → planAnswer s p ps ls .number ≡ 13 → planString s p ps ls ≡ p) ⌝ }
+    ensures other { λ _. ⌜ ((s p ps ls : List ℕ) → (length p ≡ 552 → ⊥) → planString s p ps ls ≡ p) ⌝ }
+    ensures lists { λ _. ⌜ ((s p ps ls : List ℕ) → (planAnswer s p ps ls .number ≡ 0 → ⊥) → (positionsString s p ps ls ≡ ps) × (leadsString s p ps ls ≡ ls)) ⌝ }
+{}

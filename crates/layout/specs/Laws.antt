@@ -15,7 +15,7 @@ use Rattle.plan.specs.Plan.{blankPlan}
 use Rattle.desk.specs.declared.Desk.{Desk}
 use Rattle.desk.specs.Desk.{zeros, freshDesk, blankDesk}
 use Rattle.layout.specs.Fields.{number-then, array-then, number-at, array-at}
-use Rattle.layout.specs.Layout.{planNumbers, planWords, planIn, deskWords, deskIn}
+use Rattle.layout.specs.Layout.{planNumbers, planWords, planIn, deskWords, deskIn, zeroBytes}
 
 -- ---- a plan in words
 
@@ -208,10 +208,10 @@ words-zero s n e =
     ∙ append-nil (replicate (4 * n) 0)
 
 -- a refused plan is all zero
-pub plan-zero : (s : List ℕ) → length s ≡ 552 → withWords s 0 (planWords blankPlan) ≡ replicate 552 0
-unfolding planWords blankPlan blankFigures blankZones
+pub plan-zero : (s : List ℕ) → length s ≡ 552 → withWords s 0 (planWords blankPlan) ≡ zeroBytes 552
+unfolding zeroBytes planWords blankPlan blankFigures blankZones
 plan-zero s e = words-zero s 138 e
 
-pub desk-zero : (s : List ℕ) → length s ≡ 3628 → withWords s 0 (deskWords blankDesk) ≡ replicate 3628 0
-unfolding deskWords planWords blankDesk freshDesk zeros blankPlan blankFigures blankZones
+pub desk-zero : (s : List ℕ) → length s ≡ 3628 → withWords s 0 (deskWords blankDesk) ≡ zeroBytes 3628
+unfolding zeroBytes deskWords planWords blankDesk freshDesk zeros blankPlan blankFigures blankZones
 desk-zero s e = words-zero s 907 e

@@ -1,7 +1,7 @@
 -- The byte layouts of a plan and of a desk: 32-bit words, lowest byte first, without padding (crate words). Here are the words.
 use Prim.Native.Nat.{ℕ}
 use mathlib.Core.List.{List, [], _∷_, _++_}
-use lib.ListN.{getD, take, drop}
+use lib.ListN.{getD, take, drop, replicate}
 use Rattle.plan.specs.declared.Plan.{Plan}
 use Rattle.desk.specs.declared.Desk.{Desk}
 
@@ -58,3 +58,8 @@ deskIn ws = record {
   next = take 256 (drop 395 ws);
   held = take 256 (drop 651 ws);
 }
+
+-- ---- a string that is all zero
+
+unfoldable pub zeroBytes : ℕ → List ℕ
+zeroBytes n = replicate n 0

@@ -1,11 +1,10 @@
 -- The plan of legal figures can be written and read back: its arrays have 64 entries, its numbers 32 bits.
 -- Assumes nothing.
-use Prim.Native.Nat.{ℕ, suc, _≤_, _<_}
+use Prim.Native.Nat.{ℕ, suc, _<_}
 use mathlib.Core.Logic.{by-cases}
 use mathlib.Core.List.{List, _++_}
 use native.Mathlib.Omega.{arith}
 use native.Mathlib.Decide.{decLt}
-use lib.ListN.{length, getD, take}
 use Rattle.laws.specs.Each.{Each}
 use Rattle.words.specs.Words.{Words}
 use Rattle.card.specs.declared.Figures.{Figures}
