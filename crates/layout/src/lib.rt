@@ -1,4 +1,6 @@
 // Plans and desks in lent byte strings: 32-bit words, lowest byte first, without padding.
+mod offsets; // the word at which each field starts
+
 use card::Figures;
 use desk::Desk;
 use plan::Plan;
@@ -23,40 +25,6 @@ pub const PLAN_BYTES: usize = 552;
 
 pub const DESK_BYTES: usize = 3628;
 
-// The word at which each field of a plan starts.
-const ZONES: usize = 0;
-
-const POSITIONS: usize = 1;
-
-const TIMES: usize = 65;
-
-const BLOCKS: usize = 129;
-
-const BYTES: usize = 130;
-
-const RATE: usize = 131;
-
-const HOP: usize = 132;
-
-const BACK: usize = 133;
-
-const STREAMS: usize = 134;
-
-const BUFFER: usize = 135;
-
-const WORST2: usize = 136;
-
-const MARGIN: usize = 137;
-
-// The word at which each field of a desk starts; its plan is in front.
-const PHASE: usize = 138;
-
-const KINDS: usize = 139;
-
-const NEXT: usize = 395;
-
-const HELD: usize = 651;
-
 // The plan at the front of a string.
 pub fn read_plan(list: &[u8]) -> Plan
     requires { ⌜ 138 ≤ length (wordsOf (now list)) ⌝ }
@@ -64,19 +32,19 @@ pub fn read_plan(list: &[u8]) -> Plan
 {
     Plan {
         figures: Figures {
-            zones: word_at(list, ZONES),
-            positions: read_64(list, POSITIONS),
-            times: read_64(list, TIMES),
-            blocks: word_at(list, BLOCKS),
-            bytes: word_at(list, BYTES),
-            rate: word_at(list, RATE),
-            hop: word_at(list, HOP),
-            back: word_at(list, BACK),
+            zones: word_at(list, offsets::ZONES),
+            positions: read_64(list, offsets::POSITIONS),
+            times: read_64(list, offsets::TIMES),
+            blocks: word_at(list, offsets::BLOCKS),
+            bytes: word_at(list, offsets::BYTES),
+            rate: word_at(list, offsets::RATE),
+            hop: word_at(list, offsets::HOP),
+            back: word_at(list, offsets::BACK),
         },
-        streams: word_at(list, STREAMS),
-        buffer: word_at(list, BUFFER),
-        worst2: word_at(list, WORST2),
-        margin: word_at(list, MARGIN),
+        streams: word_at(list, offsets::STREAMS),
+        buffer: word_at(list, offsets::BUFFER),
+        worst2: word_at(list, offsets::WORST2),
+        margin: word_at(list, offsets::MARGIN),
     }
 }
 
@@ -85,11 +53,11 @@ fn write_film(list: &mut [u8], blocks: u32, bytes: u32, rate: u32, hop: u32, bac
     requires { ⌜ 138 ≤ length (wordsOf (now list)) ⌝ }
     ensures { λ _. ⌜ now (list .exit) ≡ withWords (now (list .entry)) 129 (blocks ∷ bytes ∷ rate ∷ hop ∷ back ∷ []) ⌝ }
 {
-    put_word(list, BLOCKS, blocks);
-    put_word(list, BYTES, bytes);
-    put_word(list, RATE, rate);
-    put_word(list, HOP, hop);
-    put_word(list, BACK, back);
+    put_word(list, offsets::BLOCKS, blocks);
+    put_word(list, offsets::BYTES, bytes);
+    put_word(list, offsets::RATE, rate);
+    put_word(list, offsets::HOP, hop);
+    put_word(list, offsets::BACK, back);
 }
 
 // Writes what was planned.
@@ -97,10 +65,10 @@ fn write_numbers(list: &mut [u8], streams: u32, buffer: u32, worst2: u32, margin
     requires { ⌜ 138 ≤ length (wordsOf (now list)) ⌝ }
     ensures { λ _. ⌜ now (list .exit) ≡ withWords (now (list .entry)) 134 (streams ∷ buffer ∷ worst2 ∷ margin ∷ []) ⌝ }
 {
-    put_word(list, STREAMS, streams);
-    put_word(list, BUFFER, buffer);
-    put_word(list, WORST2, worst2);
-    put_word(list, MARGIN, margin);
+    put_word(list, offsets::STREAMS, streams);
+    put_word(list, offsets::BUFFER, buffer);
+    put_word(list, offsets::WORST2, worst2);
+    put_word(list, offsets::MARGIN, margin);
 }
 
 // Writes a plan at the front of a string.
@@ -109,9 +77,9 @@ pub fn write_plan(list: &mut [u8], plan: Plan)
     ensures { λ _. ⌜ now (list .exit) ≡ withWords (now (list .entry)) 0 (planWords plan) ⌝ }
 {
     let figures = plan.figures;
-    put_word(list, ZONES, figures.zones);
-    write_64(list, POSITIONS, &figures.positions);
-    write_64(list, TIMES, &figures.times);
+    put_word(list, offsets::ZONES, figures.zones);
+    write_64(list, offsets::POSITIONS, &figures.positions);
+    write_64(list, offsets::TIMES, &figures.times);
     write_film(
         list,
         figures.blocks,
@@ -130,10 +98,10 @@ pub fn read_desk(list: &[u8]) -> Desk
 {
     Desk {
         plan: read_plan(list),
-        phase: word_at(list, PHASE),
-        kinds: read_256(list, KINDS),
-        next: read_256(list, NEXT),
-        held: read_256(list, HELD),
+        phase: word_at(list, offsets::PHASE),
+        kinds: read_256(list, offsets::KINDS),
+        next: read_256(list, offsets::NEXT),
+        held: read_256(list, offsets::HELD),
     }
 }
 
@@ -143,10 +111,10 @@ pub fn write_desk(list: &mut [u8], desk: Desk)
     ensures { λ _. ⌜ now (list .exit) ≡ withWords (now (list .entry)) 0 (deskWords desk) ⌝ }
 {
     write_plan(list, desk.plan);
-    put_word(list, PHASE, desk.phase);
-    write_256(list, KINDS, &desk.kinds);
-    write_256(list, NEXT, &desk.next);
-    write_256(list, HELD, &desk.held);
+    put_word(list, offsets::PHASE, desk.phase);
+    write_256(list, offsets::KINDS, &desk.kinds);
+    write_256(list, offsets::NEXT, &desk.next);
+    write_256(list, offsets::HELD, &desk.held);
 }
 
 // What is written is read back.
