@@ -1,0 +1,46 @@
+-- What the entry points for C answer, and what they leave in each lent string.
+use Prim.Native.Nat.{ℕ}
+use mathlib.Core.List.{List}
+use mathlib.Core.Bool.{cond, not, _&&_}
+use lib.ListN.{length}
+use lib.Dec.{eqb}
+use Rattle.words.specs.Words.{withWords}
+use Rattle.card.specs.declared.Verdict.{Verdict}
+use Rattle.card.specs.declared.CardRead.{CardRead}
+use Rattle.card.specs.Read.{readCard}
+use Rattle.plan.specs.declared.Planned.{Planned}
+use Rattle.plan.specs.Plan.{positionsOf, leadsOf}
+use Rattle.plan.specs.Answer.{faultAfter, answer, filled}
+use Rattle.layout.specs.Layout.{planWords}
+use Rattle.filmdisk.specs.declared.FilmdiskAnswer.{FilmdiskAnswer}
+
+-- the answer of a call that has no count and no bound
+unfoldable pub verdictAnswer : Verdict → FilmdiskAnswer
+verdictAnswer v = record { number = v .number; place = v .place; count = 0; bound = 0 }
+
+-- ---- plan: a card as it was read, the plan string p, and both lists
+
+-- after the figures are accepted: 13 where the plan string has another length or a list is too short, then 12
+unfoldable pub planFaultOf : CardRead → List ℕ → List ℕ → List ℕ → ℕ
+planFaultOf r p ps ls = cond (eqb (length p) 552) (faultAfter r ps ls) 13
+
+-- the planner's answer
+unfoldable pub plannedOf : CardRead → List ℕ → List ℕ → List ℕ → Planned
+plannedOf r p ps ls = answer (r .verdict .number) (planFaultOf r p ps ls) r
+
+-- the plan string after an answer: the plan, all zero after 1 to 12; as it was after 13, and where it has another length
+unfoldable pub planFilled : List ℕ → Planned → List ℕ
+planFilled p a = cond (eqb (length p) 552 && not (eqb (a .verdict .number) 13)) (withWords p 0 (planWords (a .plan))) p
+
+-- THE ANSWER of the plan call with a card s, and the three strings after it. A list has its N entries written, or is left as it was
+unfoldable pub planAnswer : List ℕ → List ℕ → List ℕ → List ℕ → FilmdiskAnswer
+planAnswer s p ps ls = verdictAnswer (plannedOf (readCard s) p ps ls .verdict)
+
+unfoldable pub planString : List ℕ → List ℕ → List ℕ → List ℕ → List ℕ
+planString s p ps ls = planFilled p (plannedOf (readCard s) p ps ls)
+
+unfoldable pub positionsString : List ℕ → List ℕ → List ℕ → List ℕ → List ℕ
+positionsString s p ps ls = let r = readCard s in filled (r .verdict .number) (planFaultOf r p ps ls) ps (positionsOf (r .figures))
+
+unfoldable pub leadsString : List ℕ → List ℕ → List ℕ → List ℕ → List ℕ
+leadsString s p ps ls = let r = readCard s in filled (r .verdict .number) (planFaultOf r p ps ls) ls (leadsOf (r .figures))

@@ -1,0 +1,101 @@
+-- What the plan call leaves in each string, in document 01's words.
+-- Assumes nothing.
+use Prim.Native.Nat.{ℕ, zero, suc}
+use mathlib.Core.Path.{_≡_, refl, ap, _∙_}
+use mathlib.Core.Bool.{Bool, true, false, cond, _&&_}
+use mathlib.Core.List.{List}
+use mathlib.Core.Logic.{by-cases}
+use native.Mathlib.Omega.{arith}
+use native.Mathlib.Decide.{ℕ-discrete}
+use lib.ListN.{length}
+use lib.Dec.{eqb}
+use borrow.Author.Tests.{eq-eqb, ne-eqb}
+use Rattle.words.specs.Words.{Bytes, wordsOf, withWords}
+use Rattle.words.specs.Laws.{words-length}
+use Rattle.card.specs.declared.CardRead.{CardRead}
+use Rattle.card.specs.Read.{readCard}
+use Rattle.round_trip.specs.Legality.{fault-legal}
+use Rattle.round_trip.specs.RoundTrip.{read-card}
+use Rattle.plan.specs.declared.Plan.{Plan}
+use Rattle.plan.specs.Plan.{planOf, blankPlan, positionsOf, leadsOf}
+use Rattle.plan.specs.Answer.{refusal, answer, filled}
+use Rattle.layout.specs.Layout.{planWords, planIn, zeroBytes}
+use Rattle.layout.specs.Laws.{plan-written, plan-zero}
+use Rattle.layout.specs.Legal.{legal-sized, legal-words}
+use Rattle.filmdisk.specs.Entry.{verdictAnswer, planFaultOf, plannedOf, planFilled, planAnswer, planString, positionsString, leadsString}
+
+-- ---- the planner's answer, by its two numbers
+
+module _ (r : CardRead) (s vs : List ℕ) where
+  -- a refusal leaves a list and has a blank plan
+  refused-kept : (j k : ℕ) → (answer j k r .verdict .number ≡ 0 → ⊥) → (filled j k s vs ≡ s) × (answer j k r .plan ≡ blankPlan)
+  unfolding refusal
+  refused-kept zero zero h = absurd (h refl)
+  refused-kept zero (suc k) h = (refl, refl)
+  refused-kept (suc j) k h = (refl, refl)
+
+-- an accepted answer has the plan of the figures
+accepted-told : (r : CardRead) (j k : ℕ) → answer j k r .verdict .number ≡ 0 → (j ≡ 0) × (k ≡ 0) × (answer j k r .plan ≡ planOf (r .figures))
+unfolding refusal
+accepted-told r zero zero h = (refl, refl, refl)
+accepted-told r zero (suc k) h = absurd (omega arith)
+accepted-told r (suc j) k h = absurd (omega arith)
+
+-- ---- the strings after the call
+
+-- the number that the call answers
+abbrev pub numberOf : List ℕ → List ℕ → List ℕ → List ℕ → ℕ
+numberOf s p ps ls = planAnswer s p ps ls .number
+
+module _ (s p ps ls : List ℕ) where
+  -- a refused call leaves both lists
+  pub lists-kept : (numberOf s p ps ls ≡ 0 → ⊥) → (positionsString s p ps ls ≡ ps) × (leadsString s p ps ls ≡ ls)
+  unfolding planAnswer verdictAnswer plannedOf positionsString leadsString
+  lists-kept h =
+      let r = readCard s in
+      let j = r .verdict .number in
+      let k = planFaultOf r p ps ls in
+      (refused-kept r ps (positionsOf (r .figures)) j k h .0, refused-kept r ls (leadsOf (r .figures)) j k h .0)
+
+  -- after 13, and where it has another length, the plan string is as it was
+  pub plan-kept : numberOf s p ps ls ≡ 13 → planString s p ps ls ≡ p
+  unfolding planAnswer verdictAnswer planString planFilled
+  plan-kept h = rw (eq-eqb (plannedOf (readCard s) p ps ls .verdict .number) 13 h) (go (eqb (length p) 552))
+    where
+      go : (t : Bool) → cond (t && false) (withWords p 0 (planWords (plannedOf (readCard s) p ps ls .plan))) p ≡ p
+      go true = refl
+      go false = refl
+
+  pub other-kept : (length p ≡ 552 → ⊥) → planString s p ps ls ≡ p
+  unfolding planString planFilled
+  other-kept n = rw (ne-eqb (length p) 552 n)
+
+  module _ (l : length p ≡ 552) (n : numberOf s p ps ls ≡ 13 → ⊥) where
+    written : planString s p ps ls ≡ withWords p 0 (planWords (plannedOf (readCard s) p ps ls .plan))
+    unfolding planAnswer verdictAnswer planString planFilled
+    written = rw (eq-eqb (length p) 552 l, ne-eqb (plannedOf (readCard s) p ps ls .verdict .number) 13 n)
+
+    -- after 1 to 12 it is all zero
+    pub plan-cleared : (numberOf s p ps ls ≡ 0 → ⊥) → planString s p ps ls ≡ zeroBytes 552
+    unfolding planAnswer verdictAnswer plannedOf
+    plan-cleared h =
+        written ∙ ap (λ (q : Plan). withWords p 0 (planWords q)) (refused-kept (readCard s) ps ps (readCard s .verdict .number) (planFaultOf (readCard s) p ps ls) h .1) ∙ plan-zero p l
+
+  right-length : planFaultOf (readCard s) p ps ls ≡ 0 → length p ≡ 552
+  unfolding planFaultOf
+  right-length e = by-cases (ℕ-discrete (length p) 552) (λ l. l) (λ n. wrong (rw (ne-eqb (length p) 552 n) at e))
+    where
+      wrong : _≡_ {A = ℕ} 13 0 → length p ≡ 552
+      wrong e = absurd (omega arith)
+
+  -- an accepted call leaves the plan of the card's figures
+  pub plan-told : Bytes s → numberOf s p ps ls ≡ 0 → planIn (wordsOf (planString s p ps ls)) ≡ planOf (readCard s .figures)
+  unfolding planAnswer verdictAnswer plannedOf
+  plan-told y h =
+      let r = readCard s in
+      let told = accepted-told r (r .verdict .number) (planFaultOf r p ps ls) h in
+      let l = right-length (told .1) in
+      let card = read-card s y (told .0) in
+      let ok = fault-legal (r .figures) (card .wide) (card .clear) in
+      ap (λ (t : List ℕ). planIn (wordsOf t)) (written l (λ e. omega arith) ∙ ap (λ (q : Plan). withWords p 0 (planWords q)) (told .2))
+      ∙ plan-written p (planOf (r .figures)) (legal-sized (r .figures) ok) (legal-words (r .figures) ok) (omega (arith, words-length p))

@@ -1,0 +1,130 @@
+// Plans and desks in lent byte strings: 32-bit words, lowest byte first, without padding.
+mod offsets; // the word at which each field starts
+
+use card::Figures;
+use desk::Desk;
+use plan::Plan;
+use words::put_word;
+use words::read_64;
+use words::read_256;
+use words::word_at;
+use words::write_64;
+use words::write_256;
+ghost use mathlib.Core.Path.{_≡_};
+ghost use Prim.Native.Nat.{ℕ, _≤_};
+ghost use mathlib.Core.List.{List, [], _∷_};
+ghost use lib.ListN.{length};
+ghost use Rattle.words.specs.Words.{Bytes, Words, wordsOf, withWords};
+ghost use Rattle.plan.specs.declared.Plan.{Plan};
+ghost use Rattle.desk.specs.declared.Desk.{Desk};
+ghost use Rattle.layout.specs.Layout.{planWords, planIn, deskWords, deskIn};
+ghost use Rattle.layout.specs.Laws.{PlanSized, DeskSized};
+
+// Bytes of a plan and of a desk.
+pub const PLAN_BYTES: usize = 552;
+
+pub const DESK_BYTES: usize = 3628;
+
+// The plan at the front of a string.
+pub fn read_plan(list: &[u8]) -> Plan
+    requires { ⌜ 138 ≤ length (wordsOf (now list)) ⌝ }
+    ensures { λ r. ⌜ r ≡ planIn (wordsOf (now (list .entry))) ⌝ }
+{
+    Plan {
+        figures: Figures {
+            zones: word_at(list, offsets::ZONES),
+            positions: read_64(list, offsets::POSITIONS),
+            times: read_64(list, offsets::TIMES),
+            blocks: word_at(list, offsets::BLOCKS),
+            bytes: word_at(list, offsets::BYTES),
+            rate: word_at(list, offsets::RATE),
+            hop: word_at(list, offsets::HOP),
+            back: word_at(list, offsets::BACK),
+        },
+        streams: word_at(list, offsets::STREAMS),
+        buffer: word_at(list, offsets::BUFFER),
+        worst2: word_at(list, offsets::WORST2),
+        margin: word_at(list, offsets::MARGIN),
+    }
+}
+
+// Writes N, B, c, hop and return.
+fn write_film(list: &mut [u8], blocks: u32, bytes: u32, rate: u32, hop: u32, back: u32)
+    requires { ⌜ 138 ≤ length (wordsOf (now list)) ⌝ }
+    ensures { λ _. ⌜ now (list .exit) ≡ withWords (now (list .entry)) 129 (blocks ∷ bytes ∷ rate ∷ hop ∷ back ∷ []) ⌝ }
+{
+    put_word(list, offsets::BLOCKS, blocks);
+    put_word(list, offsets::BYTES, bytes);
+    put_word(list, offsets::RATE, rate);
+    put_word(list, offsets::HOP, hop);
+    put_word(list, offsets::BACK, back);
+}
+
+// Writes what was planned.
+fn write_numbers(list: &mut [u8], streams: u32, buffer: u32, worst2: u32, margin: u32)
+    requires { ⌜ 138 ≤ length (wordsOf (now list)) ⌝ }
+    ensures { λ _. ⌜ now (list .exit) ≡ withWords (now (list .entry)) 134 (streams ∷ buffer ∷ worst2 ∷ margin ∷ []) ⌝ }
+{
+    put_word(list, offsets::STREAMS, streams);
+    put_word(list, offsets::BUFFER, buffer);
+    put_word(list, offsets::WORST2, worst2);
+    put_word(list, offsets::MARGIN, margin);
+}
+
+// Writes a plan at the front of a string.
+pub fn write_plan(list: &mut [u8], plan: Plan)
+    requires { ⌜ 138 ≤ length (wordsOf (now list)) ⌝ }
+    ensures { λ _. ⌜ now (list .exit) ≡ withWords (now (list .entry)) 0 (planWords plan) ⌝ }
+{
+    let figures = plan.figures;
+    put_word(list, offsets::ZONES, figures.zones);
+    write_64(list, offsets::POSITIONS, &figures.positions);
+    write_64(list, offsets::TIMES, &figures.times);
+    write_film(
+        list,
+        figures.blocks,
+        figures.bytes,
+        figures.rate,
+        figures.hop,
+        figures.back,
+    );
+    write_numbers(list, plan.streams, plan.buffer, plan.worst2, plan.margin);
+}
+
+// The desk at the front of a string.
+pub fn read_desk(list: &[u8]) -> Desk
+    requires { ⌜ 907 ≤ length (wordsOf (now list)) ⌝ }
+    ensures { λ r. ⌜ r ≡ deskIn (wordsOf (now (list .entry))) ⌝ }
+{
+    Desk {
+        plan: read_plan(list),
+        phase: word_at(list, offsets::PHASE),
+        kinds: read_256(list, offsets::KINDS),
+        next: read_256(list, offsets::NEXT),
+        held: read_256(list, offsets::HELD),
+    }
+}
+
+// Writes a desk at the front of a string.
+pub fn write_desk(list: &mut [u8], desk: Desk)
+    requires { ⌜ 907 ≤ length (wordsOf (now list)) ⌝ }
+    ensures { λ _. ⌜ now (list .exit) ≡ withWords (now (list .entry)) 0 (deskWords desk) ⌝ }
+{
+    write_plan(list, desk.plan);
+    put_word(list, offsets::PHASE, desk.phase);
+    write_256(list, offsets::KINDS, &desk.kinds);
+    write_256(list, offsets::NEXT, &desk.next);
+    write_256(list, offsets::HELD, &desk.held);
+}
+
+// What is written is read back.
+pub fn written_reads_back()
+    ensures plans { λ _. ⌜ ((s : List ℕ) (p : Plan) → PlanSized p → Words (planWords p) → 138 ≤ length (wordsOf s) → planIn (wordsOf (withWords s 0 (planWords p))) ≡ p) ⌝ }
+    ensures desks { λ _. ⌜ ((s : List ℕ) (d : Desk) → DeskSized d → Words (deskWords d) → 907 ≤ length (wordsOf s) → deskIn (wordsOf (withWords s 0 (deskWords d))) ≡ d) ⌝ }
+{}
+
+// What was read is written back, whatever the bytes.
+pub fn read_writes_back()
+    ensures plans { λ _. ⌜ ((s : List ℕ) → Bytes s → 138 ≤ length (wordsOf s) → withWords s 0 (planWords (planIn (wordsOf s))) ≡ s) ⌝ }
+    ensures desks { λ _. ⌜ ((s : List ℕ) → Bytes s → 907 ≤ length (wordsOf s) → withWords s 0 (deskWords (deskIn (wordsOf s))) ≡ s) ⌝ }
+{}
