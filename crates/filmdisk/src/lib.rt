@@ -50,7 +50,7 @@ pub extern "C" fn filmdisk_plan(
         × (now (leads .exit) ≡ leadsString (now (card .entry)) (now (plan .entry)) (now (positions .entry)) (now (leads .entry))) ⌝ }
 {
     if plan.len() != PLAN_BYTES {
-        let read = card::read_card(card);
+        let read = card_reader::read_card(card);
         let verdict = read.verdict;
         if verdict.number != 0 {
             return verdict_answer(verdict);
