@@ -4,10 +4,12 @@
 test:
 	@sh tests/run
 
+# The listing of the bench film: reads its card from standard input.
 run:
 	@sh tests/tools rt
-	@rt check card_cases >target/run.log 2>&1 || { cat target/run.log; exit 1; }
-	@target/bin/card_cases
+	@mkdir -p target
+	@rt check listing >target/run.log 2>&1 || { cat target/run.log; exit 1; }
+	@target/bin/listing <crates/listing/stdin
 
 fmt:
 	@rt fmt
