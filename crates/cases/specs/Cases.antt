@@ -1,7 +1,7 @@
 -- The rows of document 01's bench cases that are marked (p), each an equation that computes.
 use Prim.Native.Nat.{ℕ}
 use mathlib.Core.Path.{_≡_, refl}
-use mathlib.Core.List.{List, [], _∷_, _++_}
+use mathlib.Core.List.{List, [], _∷_}
 use Rattle.leb128.specs.Number.{groupsFrom, groups, continuing, joined, judged, numberIn, numberAt}
 use Rattle.card.specs.Ranges.{first, below, above, outside, thenAbove, faultOf}
 use Rattle.card.specs.Read.{onFault, onNumber, fieldAt, blankZones, blankFigures, accepted, refusedCard, thenField, cardEnd, filmFrom, zonesFrom, readCard}
@@ -14,12 +14,13 @@ use Rattle.laws.specs.Greatest.{greatestOf, greatest}
 use Rattle.words.specs.Words.{wordsOf}
 use Rattle.placement.specs.Placement.{place, worstTime}
 use Rattle.placement.specs.Zones.{timeAt}
-use Rattle.pacing.specs.Film.{row as run, span, lead, once}
+use Rattle.pacing.specs.Film.{span, lead, once}
 use Rattle.pacing.specs.Streams.{overhead, load, streams, bufferOf}
 use Rattle.pacing.specs.Laid.{laidFilm, slowest, margin}
 use Rattle.plan.specs.declared.Plan.{Plan}
 use Rattle.plan.specs.Plan.{timeOf, worst2Of, streamsOf, marginOf, filmOf, leadOf, bufferSize, planOf, blankPlan, row, positionsOf, leadsOf}
 use Rattle.plan.specs.Answer.{planFault, refusal, planned}
+use Rattle.cases.specs.Story.{Story, story}
 use Rattle.cases.specs.Bench.{entries, film, sixOnes, bench, alike}
 
 -- what a listing prints of a refused card: the number and the offset
@@ -76,6 +77,8 @@ pub record Cases : Type 0 where
   -- one zone, 2 positions of 20000, N 2: B 23835 gives 1 stream, 23834 gives 12
   pub one-stream : (answered (alike 2 23835) ≡ 0) × (streamsOf (alike 2 23835) ≡ 1)
   pub no-stream : answered (alike 2 23834) ≡ 12
+  -- the desk case
+  pub desk : Story
 
 pub cases : Cases
 unfolding groupsFrom groups continuing joined judged numberIn numberAt first below above outside thenAbove faultOf onFault onNumber fieldAt blankZones blankFigures refusedCard thenField cardEnd filmFrom zonesFrom readCard filmNumbers zoneNumbers numbersOf bytesOf cardOf entries film totalPositions sumBy greatestOf greatest wordsOf place worstTime timeAt run span lead once overhead load streams bufferOf laidFilm slowest margin worst2Of streamsOf marginOf filmOf leadOf bufferSize planOf blankPlan row positionsOf leadsOf planFault refusal planned
@@ -102,4 +105,5 @@ cases = record {
   three-leads = refl;
   one-stream = (refl, refl);
   no-stream = refl;
+  desk = story;
 }

@@ -1,0 +1,100 @@
+-- Document 01's desk case: the bench film's desk, call by call.
+use Prim.Native.Nat.{ℕ, _+_, _*_}
+use mathlib.Core.Path.{_≡_, refl}
+use mathlib.Core.List.{List, _∷_}
+use lib.ListN.{getD, replicate}
+use Rattle.laws.specs.Runs.{sumBy, allBy}
+use Rattle.laws.specs.Greatest.{greatestOf, greatest}
+use Rattle.laws.specs.Map.{mapFrom}
+use Rattle.laws.specs.Places.{allFrom, lowestFrom}
+use Rattle.words.specs.Words.{wordsOf, bytesOf}
+use Rattle.card.specs.Ranges.{first, below, above, outside, thenAbove, faultOf}
+use Rattle.card.specs.Card.{totalPositions, filmFault, zoneFaults, unusedZero, recordFault}
+use Rattle.card.specs.declared.Figures.{Figures}
+use Rattle.placement.specs.Placement.{place, worstTime}
+use Rattle.placement.specs.Zones.{timeAt}
+use Rattle.pacing.specs.Film.{span, lead, once}
+use Rattle.pacing.specs.Streams.{overhead, load, streams, bufferOf}
+use Rattle.pacing.specs.Laid.{laidFilm, slowest, margin}
+use Rattle.plan.specs.Plan.{worst2Of, streamsOf, marginOf, filmOf, leadOf, bufferSize, planOf, row, positionsOf, leadsOf}
+use Rattle.plan.specs.Answer.{begins, sameNumbers, isPlan}
+use Rattle.safety.specs.Scheduler as S
+use Rattle.safety.specs.Sound.{isZero, soundSlot, sound}
+use Rattle.safety.specs.Refusals.{drawAllowed, drawHeld, judged, verdict}
+use Rattle.safety.specs.Order.{bySlot}
+use Rattle.safety.specs.Calls.{refusals, accepted, answer}
+use Rattle.safety.specs.Arrays.{slotsOf}
+use Rattle.desk.specs.declared.Desk.{Desk}
+use Rattle.desk.specs.declared.Begun.{Begun}
+use Rattle.desk.specs.Desk.{supplyOf, viewOf, deskOf, zeros, freshDesk, openDesk, answerOf, answered, joinDesk, beginDesk, endDesk, array, fetchesOf}
+use Rattle.cases.specs.Bench.{entries, film, bench}
+
+-- the bench film's plan and its two lists
+abbrev figures : Figures
+figures = bench 6 262144
+
+unfoldable pub positions : List ℕ
+positions = bytesOf (positionsOf figures)
+
+unfoldable pub leads : List ℕ
+leads = bytesOf (leadsOf figures)
+
+-- draws for the 16 slots: slot 0 draws d
+abbrev pub draws : ℕ → List ℕ
+draws d = bytesOf (d ∷ replicate 15 0)
+
+-- the desk opens; slot 0 joins at block 0; the first sweep
+unfoldable pub joinedDesk : Desk
+joinedDesk = joinDesk (openDesk (planOf figures) positions leads .desk) positions leads 0 0 .desk
+
+unfoldable pub firstBegin : Begun
+firstBegin = beginDesk joinedDesk positions leads 16
+
+-- end with zeros; slot 1 joins at block 0; the second sweep
+unfoldable pub firstEnd : Desk
+firstEnd = endDesk (firstBegin .desk) positions leads (draws 0) .desk
+
+unfoldable pub secondBegin : Begun
+secondBegin = beginDesk (joinDesk firstEnd positions leads 1 0 .desk) positions leads 16
+
+-- slot 0 draws 21695; the third sweep
+unfoldable pub secondEnd : Desk
+secondEnd = endDesk (secondBegin .desk) positions leads (draws 21695) .desk
+
+unfoldable pub thirdBegin : Begun
+thirdBegin = beginDesk secondEnd positions leads 16
+
+pub record Story : Type 0 where
+  -- `begin gives position 0, slot 0, block 0, bound 49940`
+  pub first-fetch : (firstBegin .verdict .number ≡ 0) × (firstBegin .fetches .count ≡ 1) × (getD (firstBegin .fetches .positions) 0 9 ≡ 0)
+      × (getD (firstBegin .fetches .slots) 0 9 ≡ 0) × (getD (firstBegin .fetches .blocks) 0 9 ≡ 0)
+  pub first-bound : firstBegin .bound ≡ 49940
+  -- `End with zeros: held 262144`
+  pub first-held : getD (firstEnd .held) 0 0 ≡ 262144
+  -- `Begin: slot 0 plays, bound 43390; slot 1 waits, its floor being 263781.5`, in two-millionths
+  pub second-kinds : (getD (secondBegin .desk .kinds) 0 0 ≡ 3) × (getD (secondBegin .desk .kinds) 1 0 ≡ 1)
+  pub second-bound : secondBegin .bound ≡ 43390
+  pub second-floor : S.lowWater (supplyOf (planOf figures)) (0 + 6550) ≡ 2 * 263781500000
+  -- `Slot 0 may draw 21695; 21696 is 20`
+  pub drawn : endDesk (secondBegin .desk) positions leads (draws 21695) .verdict .number ≡ 0
+  pub overdrawn : (endDesk (secondBegin .desk) positions leads (draws 21696) .verdict .number ≡ 20) × (endDesk (secondBegin .desk) positions leads (draws 21696) .verdict .place ≡ 0)
+  -- `After 21695 it holds 502593, and slot 1 is granted at the next begin against 264559`
+  pub second-held : getD (secondEnd .held) 0 0 ≡ 502593
+  pub third-kinds : (getD (thirdBegin .desk .kinds) 0 0 ≡ 3) × (getD (thirdBegin .desk .kinds) 1 0 ≡ 2)
+  pub third-floor : S.lowWater (supplyOf (planOf figures)) (3110 + 6550) ≡ 2000000 * 264559
+
+pub story : Story
+unfolding sumBy allBy greatestOf greatest mapFrom allFrom lowestFrom wordsOf bytesOf first below above outside thenAbove faultOf totalPositions filmFault zoneFaults unusedZero recordFault place worstTime timeAt run span lead once overhead load streams bufferOf laidFilm slowest margin worst2Of streamsOf marginOf filmOf leadOf bufferSize planOf row positionsOf leadsOf begins sameNumbers isPlan S.before S.insert S.sorted S.entriesAt S.reads S.leadOf S.leads S.lowWater S.holds S.joined S.left S.startedSlot S.started S.playersHold S.grantable S.granted S.tried S.tries S.begun S.isFetched S.entriesFrom S.entries S.timeOf S.times S.fetchCount S.bound S.sweptBy S.released S.endedSlot S.ended S.mostDrawn S.drawLimit isZero soundSlot sound drawAllowed drawHeld judged verdict bySlot refusals accepted answer slotsOf supplyOf viewOf deskOf zeros freshDesk openDesk answerOf answered joinDesk beginDesk endDesk array fetchesOf entries film positions leads joinedDesk firstBegin firstEnd secondBegin secondEnd thirdBegin
+story = record {
+  first-fetch = (refl, refl, refl, refl, refl);
+  first-bound = refl;
+  first-held = refl;
+  second-kinds = (refl, refl);
+  second-bound = refl;
+  second-floor = refl;
+  drawn = refl;
+  overdrawn = (refl, refl);
+  second-held = refl;
+  third-kinds = (refl, refl);
+  third-floor = refl;
+}
