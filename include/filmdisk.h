@@ -148,36 +148,6 @@ filmdisk_answer filmdisk_plan(const uint8_t *card, size_t card_len,
                               uint8_t *positions, size_t positions_len,
                               uint8_t *leads, size_t leads_len);
 
-/* Opens a desk, between sweeps and with all slots free. Refusals 14, then 13. */
-filmdisk_answer filmdisk_open(const uint8_t *plan, size_t plan_len,
-                              const uint8_t *positions, size_t positions_len,
-                              const uint8_t *leads, size_t leads_len,
-                              uint8_t *desk, size_t desk_len);
-
-/* Asks for a free slot to be fed from a start block on. Refusals 14 to 18. */
-filmdisk_answer filmdisk_join(uint8_t *desk, size_t desk_len,
-                              const uint8_t *positions, size_t positions_len,
-                              const uint8_t *leads, size_t leads_len,
-                              uint32_t slot, uint32_t block);
-
-/* Frees an occupied slot. Refusals 14 to 17. */
-filmdisk_answer filmdisk_leave(uint8_t *desk, size_t desk_len,
-                               const uint8_t *positions, size_t positions_len,
-                               const uint8_t *leads, size_t leads_len,
-                               uint32_t slot);
-
-/* Begins a sweep: writes `count` fetch entries, by rising position, then slot. Refusals 14, 15, 13. */
-filmdisk_answer filmdisk_begin(uint8_t *desk, size_t desk_len,
-                               const uint8_t *positions, size_t positions_len,
-                               const uint8_t *leads, size_t leads_len,
-                               uint8_t *fetches, size_t fetches_len);
-
-/* Ends a sweep, with the bytes that each of the slots 0 to streams - 1 drew in it. Refusals 14, 15, 19, 20, 21. */
-filmdisk_answer filmdisk_end(uint8_t *desk, size_t desk_len,
-                             const uint8_t *positions, size_t positions_len,
-                             const uint8_t *leads, size_t leads_len,
-                             const uint8_t *draws, size_t draws_len);
-
 #ifdef __cplusplus
 }
 #endif
