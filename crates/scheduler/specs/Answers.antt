@@ -1,9 +1,9 @@
 -- The answers of begin and end, a law for each way that their code can take: the rows of 01's table, then what an accepted call makes.
 -- Assumes nothing.
-use Prim.Native.Nat.{ℕ, zero, suc, _+_, _*_, _≤_, _<_}
-use mathlib.Core.Path.{_≡_, refl, sym, ap, _∙_}
+use Prim.Native.Nat.{ℕ, _≤_, _<_}
+use mathlib.Core.Path.{_≡_, sym, ap, _∙_}
 use mathlib.Core.Logic.{_≢_}
-use mathlib.Core.Bool.{Bool, true, false}
+use mathlib.Core.Bool.{true, false}
 use mathlib.Core.List.{List, []}
 use native.Mathlib.Omega.{arith}
 use Rattle.words.specs.Words.{wordsOf}
@@ -16,7 +16,6 @@ use Rattle.safety.specs.Lists.{answer-accepted, answer-refused}
 use Rattle.safety.specs.Verdicts.{refusals-strict}
 use Rattle.safety.specs.Rows.{refuse, begin-phase, begin-short, begin-accepted, end-phase}
 use Rattle.desk.specs.declared.Desk.{Desk}
-use Rattle.desk.specs.declared.Answer.{Answer}
 use Rattle.desk.specs.declared.Begun.{Begun}
 use Rattle.desk.specs.Desk.{supplyOf, viewOf, deskOf, verdict, fetchesOf, answerOf, answered, beginDesk, endDesk}
 use Rattle.desk.specs.View.{Wide, desk-of-view}

@@ -1,4 +1,6 @@
 // Begin and end of a sweep. (Open, join and leave stand in crate soundness.)
+mod lists; // the fetch list in bytes
+
 use card::Verdict;
 use desk::Answer;
 use desk::Begun;
@@ -11,7 +13,10 @@ use sweep::end_sweep;
 use sweep::judge_draws;
 ghost use mathlib.Core.Path.{_≡_};
 ghost use mathlib.Core.List.{[]};
-ghost use Rattle.desk.specs.Desk.{zeros, fetchesOf, beginDesk, endDesk};
+ghost use Prim.Native.Nat.{_/_};
+ghost use lib.ListN.{length};
+ghost use Rattle.words.specs.Words.{wordsOf};
+ghost use Rattle.desk.specs.Desk.{zeros, fetchesOf, beginDesk, fetchListAfter, endDesk};
 ghost use Rattle.soundness.specs.Answers.{answers};
 ghost use Rattle.scheduler.specs.Answers.{notBegun};
 
@@ -76,6 +81,18 @@ pub fn begin(desk: Desk, positions: &[u8], leads: &[u8], room: usize) -> Begun
     }
     let g = gather(desk, positions, leads);
     begin_sweep(desk, g)
+}
+
+// Begins a sweep and writes its fetches into a lent byte string, twelve bytes an entry: position, slot, block.
+pub fn begin_into(desk: Desk, positions: &[u8], leads: &[u8], fetches: &mut [u8]) -> Begun
+    ensures { λ r. ⌜ (r ≡ beginDesk desk (now (positions .entry)) (now (leads .entry)) (length (wordsOf (now (fetches .entry))) / 3))
+        × (now (fetches .exit) ≡ fetchListAfter desk (now (positions .entry)) (now (leads .entry)) (length (wordsOf (now (fetches .entry))) / 3) (now (fetches .entry))) ⌝ }
+{
+    let room = words::entries(fetches) / 3;
+    let begun = begin(desk, positions, leads, room);
+    let list = begun.fetches;
+    lists::write_entries(list, fetches);
+    begun
 }
 
 // Ends a sweep with a draw for each of the n slots: 14, 15, 19, 20, 21.

@@ -1,5 +1,4 @@
-use mathlib.Core.Path.{_≡_, refl, sym, ap, _∙_}
-use Prim.Native.Nat.{ℕ, _+_, _-_, _*_, _≤_, _<_}
+use mathlib.Core.Path.{_≡_, sym, _∙_}
 use native.Mathlib.Omega.{arith}
 use mathlib.Core.Bool.{true}
 use borrow.Author.Tests.{not-true, not-false}
@@ -14,12 +13,6 @@ use Rattle.scheduler.specs.Answers.{begin-unsound, begin-in-sweep, begin
 use borrow.Author.Needs.{needs}
 use Rattle.scheduler.proofs.begin.Statement.{statement}
 use Rattle.scheduler.proofs.begin.Tie as tie
-use Rattle.scheduler.proofs.begin.Reads as reads
-use Rattle.scheduler.proofs.begin.Lts as lts
-use Rattle.scheduler.proofs.not_begun.Reads as not-begun-reads
-use Rattle.soundness.proofs.gather.Reads as gather-reads
-use Rattle.soundness.proofs.is_sound.Reads as is-sound-reads
-use Rattle.sweep.proofs.begin_sweep.Reads as begin-sweep-reads
 
 wide : (c : tie.Start) → Wide (c .args .desk)
 wide c = record { kinds = search needs; next = search needs; held = search needs }
@@ -35,61 +28,50 @@ passed c = sym (c .before .is-sound .ensures) ∙ not-false _ (c .if1 .left)
 ranged : (g : Gathered) → gathered.InRange g → InRange g
 ranged g r = record { leads = r .leads; times = r .times; positions = λ i. omega (arith, r .positions i) }
 
--- src/lib.rt:72:9
 is-sound-requires : tie.Need-is-sound-requires
 is-sound-requires c κs = search needs
 
--- src/lib.rt:73:9
 not-begun-requires : tie.Need-not-begun-requires
 not-begun-requires c κs = search needs
 
--- src/lib.rt:73:9
 returns : tie.Need-returns
 returns c =
     let s = c .before .before .before .before .before in
     c .not-begun .ensures ∙ begin-unsound (s .args .desk) (wide s) _ _ _ (sym (c .before .before .is-sound .ensures) ∙ not-true _ (c .before .if1 .taken))
 
--- src/lib.rt:76:9
 not-begun-requires-2 : tie.Need-not-begun-requires-2
 not-begun-requires-2 c κs = search needs
 
--- src/lib.rt:76:9
 returns-2 : tie.Need-returns-2
 returns-2 c =
     let e = c .before .before .before in
     let s = e .before .before .before .before in
     c .not-begun2 .ensures ∙ begin-in-sweep (s .args .desk) (wide s) _ _ _ (passed e) (c .before .if2 .taken)
 
--- src/lib.rt:79:15
 cast-if3 : tie.Need-cast-if3
 cast-if3 c = search needs
 
--- src/lib.rt:80:9
 not-begun-requires-3 : tie.Need-not-begun-requires-3
 not-begun-requires-3 c κs = search needs
 
--- src/lib.rt:80:9
 returns-3 : tie.Need-returns-3
 returns-3 c =
     let e = c .before .before .before .before .before .before in
     let s = e .before .before .before .before in
     c .not-begun3 .ensures ∙ begin-no-room (s .args .desk) (wide s) _ _ _ (passed e) (c .before .before .before .before .if2 .left) (c .before .if3 .taken)
 
--- src/lib.rt:82:9
 gather-requires : tie.Need-gather-requires
 gather-requires c κs =
     let e = c .before .before .before .before .before in
     let s = e .before .before .before .before in
     (sound-ready _ _ _ (slim s) (passed e), sound-plan _ _ _ (passed e))
 
--- src/lib.rt:83:5
 begin-sweep-requires : tie.Need-begin-sweep-requires
 begin-sweep-requires c κs =
     let e = c .before .before .before .before .before .before in
     let s = e .before .before .before .before in
     (sound-ready _ _ _ (slim s) (passed e), c .gather .ensures .0, ranged _ (c .gather .ensures .1), c .before .before .before .before .if2 .left)
 
--- src/lib.rt:69:1
 returns-4 : tie.Need-returns-4
 returns-4 c =
     let e = c .before .before .before .before .before .before .before in

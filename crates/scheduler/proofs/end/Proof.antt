@@ -1,5 +1,4 @@
-use mathlib.Core.Path.{_≡_, refl, sym, ap, _∙_}
-use Prim.Native.Nat.{ℕ, _+_, _-_, _*_, _≤_, _<_}
+use mathlib.Core.Path.{_≡_, sym, ap, _∙_}
 use native.Mathlib.Omega.{arith}
 use mathlib.Core.Bool.{true}
 use borrow.Author.Tests.{not-true, not-false}
@@ -16,13 +15,6 @@ use Rattle.scheduler.specs.Answers.{end-unsound, end-between, end-refuse
 use borrow.Author.Needs.{needs}
 use Rattle.scheduler.proofs.end.Statement.{statement}
 use Rattle.scheduler.proofs.end.Tie as tie
-use Rattle.scheduler.proofs.end.Reads as reads
-use Rattle.scheduler.proofs.end.Lts as lts
-use Rattle.scheduler.proofs.answer.Reads as answer-reads
-use Rattle.soundness.proofs.gather.Reads as gather-reads
-use Rattle.soundness.proofs.is_sound.Reads as is-sound-reads
-use Rattle.sweep.proofs.end_sweep.Reads as end-sweep-reads
-use Rattle.sweep.proofs.judge_draws.Reads as judge-draws-reads
 
 wide : (c : tie.Start) → Wide (c .args .desk)
 wide c = record { kinds = search needs; next = search needs; held = search needs }
@@ -38,46 +30,38 @@ passed c = sym (c .before .is-sound .ensures) ∙ not-false _ (c .if1 .left)
 ranged : (g : Gathered) → gathered.InRange g → InRange g
 ranged g r = record { leads = r .leads; times = r .times; positions = λ i. omega (arith, r .positions i) }
 
--- src/lib.rt:102:9
 is-sound-requires : tie.Need-is-sound-requires
 is-sound-requires c κs = search needs
 
--- src/lib.rt:103:9
 answer-requires : tie.Need-answer-requires
 answer-requires c κs = search needs
 
--- src/lib.rt:103:9
 returns : tie.Need-returns
 returns c =
     let s = c .before .before .before .before .before .before in
     c .answer .ensures ∙ end-unsound (s .args .desk) (wide s) _ _ _ (sym (c .before .before .is-sound .ensures) ∙ not-true _ (c .before .if1 .taken))
 
--- src/lib.rt:106:9
 answer-requires-2 : tie.Need-answer-requires-2
 answer-requires-2 c κs = search needs
 
--- src/lib.rt:106:9
 returns-2 : tie.Need-returns-2
 returns-2 c =
     let e = c .before .before .before in
     let s = e .before .before .before .before .before in
     c .answer2 .ensures ∙ end-between (s .args .desk) (wide s) _ _ _ (passed e) (c .before .if2 .taken)
 
--- src/lib.rt:108:9
 gather-requires : tie.Need-gather-requires
 gather-requires c κs =
     let e = c .before .before in
     let s = e .before .before .before .before .before in
     (sound-ready _ _ _ (slim s) (passed e), sound-plan _ _ _ (passed e))
 
--- src/lib.rt:109:9
 judge-draws-requires : tie.Need-judge-draws-requires
 judge-draws-requires c κs =
     let e = c .before .before .before in
     let s = e .before .before .before .before .before in
     (sound-ready _ _ _ (slim s) (passed e), c .gather .ensures .0, ranged _ (c .gather .ensures .1), c .before .if2 .left)
 
--- src/lib.rt:111:9
 returns-3 : tie.Need-returns-3
 returns-3 c =
     let e = c .before .before .before .before .before .before in
@@ -85,18 +69,15 @@ returns-3 c =
     let j = c .before .before .judge-draws .ensures in
     (λ t. record { verdict = j t; desk = s .args .desk }) ∙ end-refused (s .args .desk) (wide s) _ _ _ (passed e) (λ z. c .if3 .taken (ap (λ v. v .number) j ∙ z))
 
--- src/lib.rt:116:12
 end-sweep-requires : tie.Need-end-sweep-requires
 end-sweep-requires c κs =
     let e = c .before .before .before .before .before .before in
     let s = e .before .before .before .before .before in
     (sound-ready _ _ _ (slim s) (passed e), end-drawn (s .args .desk) (wide s) _ _ _ (passed e) (ap (λ v. v .number) (sym (c .before .before .judge-draws .ensures)) ∙ c .if3 .left))
 
--- src/lib.rt:116:5
 answer-requires-3 : tie.Need-answer-requires-3
 answer-requires-3 c κs = search needs
 
--- src/lib.rt:99:1
 returns-4 : tie.Need-returns-4
 returns-4 c =
     let e = c .before .before .before .before .before .before .before .before in

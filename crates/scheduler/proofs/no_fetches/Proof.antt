@@ -1,25 +1,17 @@
-use mathlib.Core.Path.{_≡_, refl, sym, ap, _∙_}
 use Rattle.desk.specs.Desk.{zeros, array, fetchesOf}
 use borrow.Author.Needs.{needs}
 use Rattle.scheduler.proofs.no_fetches.Statement.{statement}
 use Rattle.scheduler.proofs.no_fetches.Tie as tie
-use Rattle.scheduler.proofs.no_fetches.Reads as reads
-use Rattle.scheduler.proofs.no_fetches.Lts as lts
-use Rattle.scheduler.proofs.zeros.Reads as zeros-reads
 
--- src/lib.rt:34:20
 zeros-requires : tie.Need-zeros-requires
 zeros-requires c κs = search needs
 
--- src/lib.rt:35:16
 zeros-requires-2 : tie.Need-zeros-requires-2
 zeros-requires-2 c κs = search needs
 
--- src/lib.rt:36:17
 zeros-requires-3 : tie.Need-zeros-requires-3
 zeros-requires-3 c κs = search needs
 
--- src/lib.rt:29:1
 returns : tie.Need-returns
 unfolding fetchesOf array zeros
 returns c = λ t. record { count = 0; positions = c .before .before .zeros .ensures t; slots = c .before .zeros2 .ensures t; blocks = c .zeros3 .ensures t }

@@ -1,17 +1,11 @@
-use mathlib.Core.Path.{_≡_, refl, sym, ap, _∙_}
 use Rattle.scheduler.specs.Answers.{notBegun}
 use borrow.Author.Needs.{needs}
 use Rattle.scheduler.proofs.not_begun.Statement.{statement}
 use Rattle.scheduler.proofs.not_begun.Tie as tie
-use Rattle.scheduler.proofs.not_begun.Reads as reads
-use Rattle.scheduler.proofs.not_begun.Lts as lts
-use Rattle.scheduler.proofs.no_fetches.Reads as no-fetches-reads
 
--- src/lib.rt:51:18
 no-fetches-requires : tie.Need-no-fetches-requires
 no-fetches-requires c κs = search needs
 
--- src/lib.rt:41:1
 returns : tie.Need-returns
 unfolding notBegun
 returns c = λ t. record { verdict = record { number = c .before .args .number; place = 0 }; desk = c .before .args .desk; bound = 0; fetches = c .no-fetches .ensures t }

@@ -1,0 +1,70 @@
+-- How many entries a begin answers: at most n, and at most what the caller has room for.
+-- Assumes nothing.
+use Prim.Native.Nat.{ℕ, _*_, _≤_}
+use mathlib.Core.Path.{_≡_, refl, ap}
+use mathlib.Core.Bool.{Bool, true, false}
+use mathlib.Core.List.{List}
+use native.Mathlib.Omega.{arith}
+use native.Mathlib.Decide.{decLe, ℕ-discrete}
+use lib.ListN.{length}
+use Rattle.round_trip.specs.Legality as legality
+use Rattle.plan.specs.declared.Plan.{Plan}
+use Rattle.safety.specs.Scheduler.{Slot, begun, entries, fetchCount}
+use Rattle.safety.specs.Order.{bySlot}
+use Rattle.safety.specs.Calls.{accepted}
+use Rattle.safety.specs.Safety.{kept-free, fetches-le}
+use Rattle.safety.specs.BySlot.{bySlot-orderly}
+use Rattle.safety.specs.Sorting.{entries-length}
+use Rattle.desk.specs.declared.Desk.{Desk}
+use Rattle.desk.specs.declared.Begun.{Begun}
+use Rattle.desk.specs.Desk.{supplyOf, viewOf, fetchesOf, beginDesk}
+use Rattle.desk.specs.View.{Wide}
+use Rattle.desk.specs.Ready.{Ready, ready-lawful}
+use Rattle.soundness.specs.Facts.{soundDesk}
+use Rattle.soundness.specs.Ready.{sound-ready, sound-plan, plan-streams}
+use Rattle.sweep.specs.Steps.{begunDesk}
+use Rattle.scheduler.specs.Answers.{notBegun, begin-unsound, begin-in-sweep, begin-no-room, begin-begun}
+
+-- a sweep fetches at most n blocks
+one-each : (p : Plan) (ss : List (Slot ℕ)) → length (entries (supplyOf p) ss) ≡ fetchCount (supplyOf p) ss * 1
+one-each p ss = entries-length (supplyOf p) 0 (none p) ss
+  where
+    none : (p : Plan) (a : ℕ) → length (supplyOf p .others a) ≡ 0
+    none p a = unfold supplyOf in refl
+
+streams-are : (p : Plan) → supplyOf p .n ≡ p .streams
+unfolding supplyOf
+streams-are p = refl
+
+begun-few : (d : Desk) → Ready d → begunDesk d .fetches .count ≤ d .plan .streams
+unfolding begunDesk fetchesOf accepted bySlot
+begun-few d r =
+    let s = supplyOf (d .plan) in
+    let ts : List (Slot ℕ) = begun s (viewOf d .slots) in
+    let b = bySlot-orderly s .began tt (viewOf d .slots) (r .sound .slots) in
+    let free = kept-free s (s .n) (viewOf d .slots) ts (b .kept) (r .sound .unused) in
+    omega (arith, one-each (d .plan) ts, fetches-le s (ready-lawful d r) (s .n) ts free, streams-are (d .plan))
+
+-- a begin answers at most 256 entries, and no more than there is room for
+pub begin-few : (d : Desk) → Wide d → legality.Wide (d .plan .figures) → (ps ls : List ℕ) (room : ℕ)
+    → (beginDesk d ps ls room .fetches .count ≤ 256) × (beginDesk d ps ls room .fetches .count ≤ room)
+begin-few d w z ps ls room = go (soundDesk d ps ls) refl (ℕ-discrete (d .phase) 0) (decLe (d .plan .streams) room)
+  where
+    none : (k : ℕ) → notBegun d k .fetches .count ≡ 0
+    none k = unfold notBegun fetchesOf in refl
+
+    refused : (k : ℕ) → notBegun d k ≡ beginDesk d ps ls room → (beginDesk d ps ls room .fetches .count ≤ 256) × (beginDesk d ps ls room .fetches .count ≤ room)
+    refused k e = omega (arith, none k, ap (λ (b : Begun). b .fetches .count) e)
+
+    go : (t : Bool) → soundDesk d ps ls ≡ t → Dec (d .phase ≡ 0) → Dec (d .plan .streams ≤ room)
+        → (beginDesk d ps ls room .fetches .count ≤ 256) × (beginDesk d ps ls room .fetches .count ≤ room)
+    go false s p l = refused 14 (begin-unsound d w ps ls room s)
+    go true s (no p) l = refused 15 (begin-in-sweep d w ps ls room s p)
+    go true s (yes p) (no l) = refused 13 (begin-no-room d w ps ls room s p (omega arith))
+    go true s (yes p) (yes l) =
+        omega (
+          arith,
+          begun-few d (sound-ready d ps ls z s),
+          plan-streams (d .plan) ps ls z (sound-plan d ps ls s),
+          ap (λ (b : Begun). b .fetches .count) (begin-begun d w ps ls room s p l),
+        )
