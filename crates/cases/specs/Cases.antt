@@ -14,7 +14,7 @@ use Rattle.laws.specs.Greatest.{greatestOf, greatest}
 use Rattle.words.specs.Words.{wordsOf}
 use Rattle.placement.specs.Placement.{place, worstTime}
 use Rattle.placement.specs.Zones.{timeAt}
-use Rattle.pacing.specs.Film.{span, lead, once}
+use Rattle.pacing.specs.Film.{row as run, span, lead, once}
 use Rattle.pacing.specs.Streams.{overhead, load, streams, bufferOf}
 use Rattle.pacing.specs.Laid.{laidFilm, slowest, margin}
 use Rattle.plan.specs.declared.Plan.{Plan}

@@ -13,7 +13,7 @@ use Rattle.card.specs.Card.{totalPositions, filmFault, zoneFaults, unusedZero, 
 use Rattle.card.specs.declared.Figures.{Figures}
 use Rattle.placement.specs.Placement.{place, worstTime}
 use Rattle.placement.specs.Zones.{timeAt}
-use Rattle.pacing.specs.Film.{span, lead, once}
+use Rattle.pacing.specs.Film.{row as run, span, lead, once}
 use Rattle.pacing.specs.Streams.{overhead, load, streams, bufferOf}
 use Rattle.pacing.specs.Laid.{laidFilm, slowest, margin}
 use Rattle.plan.specs.Plan.{worst2Of, streamsOf, marginOf, filmOf, leadOf, bufferSize, planOf, row, positionsOf, leadsOf}
