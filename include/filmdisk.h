@@ -148,6 +148,36 @@ filmdisk_answer filmdisk_plan(const uint8_t *card, size_t card_len,
                               uint8_t *positions, size_t positions_len,
                               uint8_t *leads, size_t leads_len);
 
+/* Opens a desk of a plan and its lists, between sweeps, all slots free: writes the whole desk. Refusals 14, 13. */
+filmdisk_answer filmdisk_open(const uint8_t *plan, size_t plan_len,
+                              const uint8_t *positions, size_t positions_len,
+                              const uint8_t *leads, size_t leads_len,
+                              uint8_t *desk, size_t desk_len);
+
+/* A free slot asks to watch from a start block: alters the desk in place. Refusals 14 to 18. */
+filmdisk_answer filmdisk_join(uint8_t *desk, size_t desk_len,
+                              const uint8_t *positions, size_t positions_len,
+                              const uint8_t *leads, size_t leads_len,
+                              uint32_t slot, uint32_t block);
+
+/* An occupied slot becomes free: alters the desk in place. Refusals 14 to 17. */
+filmdisk_answer filmdisk_leave(uint8_t *desk, size_t desk_len,
+                               const uint8_t *positions, size_t positions_len,
+                               const uint8_t *leads, size_t leads_len,
+                               uint32_t slot);
+
+/* Begins a sweep: alters the desk in place, writes the answer's `count` fetches, and answers its `bound`. Refusals 14, 15, 13. */
+filmdisk_answer filmdisk_begin(uint8_t *desk, size_t desk_len,
+                               const uint8_t *positions, size_t positions_len,
+                               const uint8_t *leads, size_t leads_len,
+                               uint8_t *fetches, size_t fetches_len);
+
+/* Ends a sweep, with the bytes that each of the n slots drew: alters the desk in place. Refusals 14, 15, 19, 20, 21. */
+filmdisk_answer filmdisk_end(uint8_t *desk, size_t desk_len,
+                             const uint8_t *positions, size_t positions_len,
+                             const uint8_t *leads, size_t leads_len,
+                             const uint8_t *draws, size_t draws_len);
+
 #ifdef __cplusplus
 }
 #endif
