@@ -160,7 +160,7 @@ module _ (D ps ls : List ℕ) where
         ∙ accepted-length (supplyOf p) (checked-lawful p ps ls wide fair) (bySlot (supplyOf p)) (bySlot-orderly (supplyOf p)) (viewOf d) call was-sound
         ∙ slots-long
 
-    call-back : said (stringBy D (deskOf p (answerOf d ps ls room call .scheduler))) ≡ deskOf p (answerOf d ps ls room call .scheduler)
+    pub call-back : said (stringBy D (deskOf p (answerOf d ps ls room call .scheduler))) ≡ deskOf p (answerOf d ps ls room call .scheduler)
     call-back =
         let s = answerOf d ps ls room call .scheduler in
         ap said (right-string D right (deskOf p s))
@@ -195,9 +195,12 @@ fresh-fits p y =
     let z : Words xs = words-each xs (each-replicate (λ (v : ℕ). v < 4294967296) 256 0 (omega arith)) in
     words-array (planWords p) (0 ∷ (xs ++ (xs ++ xs))) y (words-number 0 (xs ++ (xs ++ xs)) (omega arith) (words-array xs (xs ++ xs) z (words-array xs xs z z)))
 
+pub opened-wide : (P : List ℕ) → length P ≡ 552 → Wide (planIn (wordsOf P) .figures)
+opened-wide P l = let z = plan-sized (wordsOf P) (omega (arith, words-length P, l)) in (z .positions, z .times)
+
 module _ (P ps ls : List ℕ) where
   -- it has a plan string of the right length, and is the plan of its figures
-  opened-plan : openedFrom P ps ls .verdict .number ≡ 0
+  pub opened-plan : openedFrom P ps ls .verdict .number ≡ 0
       → (length P ≡ 552) × (isPlan (planIn (wordsOf P)) ps ls ≡ true) × (openedFrom P ps ls .desk ≡ freshDesk (planIn (wordsOf P)))
   unfolding openedFrom openDesk
   opened-plan n = by-cases (ℕ-discrete (length P) 552)
@@ -212,14 +215,16 @@ module _ (P ps ls : List ℕ) where
       wrong : _≡_ {A = ℕ} 14 0 → (length P ≡ 552) × (isPlan (planIn (wordsOf P)) ps ls ≡ true) × (openedFrom P ps ls .desk ≡ freshDesk (planIn (wordsOf P)))
       wrong z = absurd (omega arith)
 
+  -- only a desk string of the right length is opened
+  pub opened-right : (D : List ℕ) → openAnswer P ps ls D .number ≡ 0 → (length D ≡ 3628) × (openedFrom P ps ls .verdict .number ≡ 0)
+  opened-right D n = by-cases (ℕ-discrete (length D) 3628) (λ l. (l, sym (open-number P ps ls D l) ∙ n)) (λ o. absurd (open-other P ps ls D o .1 n))
+
   pub open-back : (D : List ℕ) → openAnswer P ps ls D .number ≡ 0 → said (openString P ps ls D) ≡ freshDesk (planIn (wordsOf P))
   unfolding said
-  open-back D n = by-cases (ℕ-discrete (length D) 3628) right (λ o. absurd (open-other P ps ls D o .1 n))
-    where
-      right : length D ≡ 3628 → deskIn (wordsOf (openString P ps ls D)) ≡ freshDesk (planIn (wordsOf P))
-      right l =
-          let p : Plan = planIn (wordsOf P) in
-          let t = opened-plan (sym (open-number P ps ls D l) ∙ n) in
-          let z : PlanSized p = plan-sized (wordsOf P) (omega (arith, words-length P, t .0)) in
-          ap (λ (s : List ℕ). deskIn (wordsOf s)) (open-right P ps ls D l ∙ ap (λ (x : Desk). withWords D 0 (deskWords x)) (t .2))
-          ∙ desk-written D (freshDesk p) (fresh-sized p z) (fresh-fits p (plan-fits p ps ls (z .positions, z .times) (t .1))) (enough D l)
+  open-back D n =
+      let p : Plan = planIn (wordsOf P) in
+      let l = opened-right D n in
+      let t = opened-plan (l .1) in
+      let z : PlanSized p = plan-sized (wordsOf P) (omega (arith, words-length P, t .0)) in
+      ap (λ (s : List ℕ). deskIn (wordsOf s)) (open-right P ps ls D (l .0) ∙ ap (λ (x : Desk). withWords D 0 (deskWords x)) (t .2))
+      ∙ desk-written D (freshDesk p) (fresh-sized p z) (fresh-fits p (plan-fits p ps ls (z .positions, z .times) (t .1))) (enough D (l .0))

@@ -87,7 +87,7 @@ module _ (D : List ℕ) where
       refused-number : length D ≡ 3628 → answerOf (said D) ps ls room call .number ≡ 0 → ⊥
       refused-number l z = n (ap (λ (x : FilmdiskAnswer). x .number) (right-answer l a) ∙ e ∙ z)
 
-      call-kept : Bytes D → stringBy D (deskOf (said D .plan) (answerOf (said D) ps ls room call .scheduler)) ≡ D
+      pub call-kept : Bytes D → stringBy D (deskOf (said D .plan) (answerOf (said D) ps ls room call .scheduler)) ≡ D
       call-kept y = same-string y _ (λ l. refused-desk (said D) ps ls room call (said-wide l) (refused-number l))
 
     pub join-kept : (slot block : ℕ) → Bytes D → (joinAnswer D ps ls slot block .number ≡ 0 → ⊥) → joinString D ps ls slot block ≡ D

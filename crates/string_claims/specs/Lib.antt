@@ -1,2 +1,3 @@
 pub mod Back
 pub mod Kept
+pub mod Lists

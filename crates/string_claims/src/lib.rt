@@ -1,12 +1,14 @@
 // What the desk's calls leave in their byte strings, as claims about the definitions that their contracts name.
 ghost use mathlib.Core.Path.{_≡_};
 ghost use Prim.Native.Nat.{ℕ};
-ghost use mathlib.Core.List.{List};
+ghost use mathlib.Core.List.{List, map};
 ghost use lib.ListN.{length};
 ghost use Rattle.words.specs.Words.{Bytes, wordsOf};
 ghost use Rattle.desk.specs.Desk.{freshDesk, joinDesk, leaveDesk, endDesk, beginDesk};
+ghost use Rattle.trace.specs.Safe.{Safe, worldAfter};
 ghost use Rattle.layout.specs.Layout.{planIn, zeroBytes};
 ghost use Rattle.desk_strings.specs.Calls.{openAnswer, openString, said, joinAnswer, joinString, leaveAnswer, leaveString, endAnswer, endString, roomIn, beginAnswer, beginString, fetchString};
+ghost use Rattle.string_claims.specs.Lists.{StringCall, lentOf, stringsAfter};
 
 // A refused join, leave, begin or end leaves every string as it was: desk (D), fetch list (F). The lists are only read.
 pub fn refused_call_keeps_strings()
@@ -29,4 +31,11 @@ pub fn accepted_desk_reads_back()
     ensures leaves { λ _. ⌜ ((D ps ls : List ℕ) (slot : ℕ) → leaveAnswer D ps ls slot .number ≡ 0 → said (leaveString D ps ls slot) ≡ leaveDesk (said D) ps ls slot .desk) ⌝ }
     ensures begins { λ _. ⌜ ((D ps ls F : List ℕ) → beginAnswer D ps ls F .number ≡ 0 → said (beginString D ps ls F) ≡ beginDesk (said D) ps ls (roomIn F) .desk) ⌝ }
     ensures ends { λ _. ⌜ ((D ps ls draws : List ℕ) → endAnswer D ps ls draws .number ≡ 0 → said (endString D ps ls draws) ≡ endDesk (said D) ps ls draws .desk) ⌝ }
+{}
+
+// Demand 3 for the strings: from an accepted opening every list of calls on one desk string, refused calls included, leaves what the list
+// of crate trace leaves in the record, and that list is safe.
+pub fn every_list_of_strings_safe()
+    ensures { λ _. ⌜ ((P ps ls D : List ℕ) (xs : List StringCall) → Bytes D → openAnswer P ps ls D .number ≡ 0
+        → (said (stringsAfter (openString P ps ls D) xs) ≡ worldAfter (planIn (wordsOf P)) (map lentOf xs) .desk) × Safe (planIn (wordsOf P)) (map lentOf xs)) ⌝ }
 {}
