@@ -114,8 +114,7 @@ pub strings-safe : (P ps ls D : List ℕ) (xs : List StringCall) → Bytes D →
     → (said (stringsAfter (openString P ps ls D) xs) ≡ worldAfter (planIn (wordsOf P)) (map lentOf xs) .desk) × Safe (planIn (wordsOf P)) (map lentOf xs)
 strings-safe P ps ls D xs y n =
     let l = opened-right P ps ls D n in
-    let t = opened-plan P ps ls (opened-right P ps ls D n .1) in
-    (
+    let t = opened-plan P ps ls (opened-right P ps ls D n .1) in (
       list-says xs (openString P ps ls D) (opened (freshDesk (planIn (wordsOf P))))
           (rw (open-right P ps ls D (l .0)) (withWords-bytes D 0 (deskWords (openedFrom P ps ls .desk)) y))
           (ap length (open-right P ps ls D (l .0)) ∙ withWords-length D 0 (deskWords (openedFrom P ps ls .desk)) ∙ l .0)

@@ -1,12 +1,15 @@
-// What the desk's calls leave in their byte strings, as claims about the definitions that their contracts name.
+// What the calls leave in their byte strings, as claims about the definitions that their contracts name.
 ghost use mathlib.Core.Path.{_≡_};
 ghost use Prim.Native.Nat.{ℕ};
 ghost use mathlib.Core.List.{List, map};
 ghost use lib.ListN.{length};
 ghost use Rattle.words.specs.Words.{Bytes, wordsOf};
+ghost use Rattle.card.specs.Read.{readCard};
+ghost use Rattle.plan.specs.Plan.{planOf};
 ghost use Rattle.desk.specs.Desk.{freshDesk, joinDesk, leaveDesk, endDesk, beginDesk};
 ghost use Rattle.trace.specs.Safe.{Safe, worldAfter};
 ghost use Rattle.layout.specs.Layout.{planIn, zeroBytes};
+ghost use Rattle.plan_strings.specs.Calls.{planAnswer, planString, positionsString, leadsString};
 ghost use Rattle.desk_strings.specs.Calls.{openAnswer, openString, said, joinAnswer, joinString, leaveAnswer, leaveString, endAnswer, endString, roomIn, beginAnswer, beginString, fetchString};
 ghost use Rattle.string_claims.specs.Lists.{StringCall, lentOf, stringsAfter};
 
@@ -38,4 +41,14 @@ pub fn accepted_desk_reads_back()
 pub fn every_list_of_strings_safe()
     ensures { λ _. ⌜ ((P ps ls D : List ℕ) (xs : List StringCall) → Bytes D → openAnswer P ps ls D .number ≡ 0
         → (said (stringsAfter (openString P ps ls D) xs) ≡ worldAfter (planIn (wordsOf P)) (map lentOf xs) .desk) × Safe (planIn (wordsOf P)) (map lentOf xs)) ⌝ }
+{}
+
+// What the plan call leaves in the plan string and the lists: accepted, the plan of the card's figures; after 1 to 12 zeros; after 13, and where it has
+// another length, what it held. A refused call leaves both lists.
+pub fn plan_call_leaves()
+    ensures accepted { λ _. ⌜ ((s p ps ls : List ℕ) → Bytes s → planAnswer s p ps ls .number ≡ 0 → planIn (wordsOf (planString s p ps ls)) ≡ planOf (readCard s .figures)) ⌝ }
+    ensures cleared { λ _. ⌜ ((s p ps ls : List ℕ) → length p ≡ 552 → (planAnswer s p ps ls .number ≡ 13 → ⊥) → (planAnswer s p ps ls .number ≡ 0 → ⊥) → planString s p ps ls ≡ zeroBytes 552) ⌝ }
+    ensures kept { λ _. ⌜ ((s p ps ls : List ℕ) → planAnswer s p ps ls .number ≡ 13 → planString s p ps ls ≡ p) ⌝ }
+    ensures other { λ _. ⌜ ((s p ps ls : List ℕ) → (length p ≡ 552 → ⊥) → planString s p ps ls ≡ p) ⌝ }
+    ensures lists { λ _. ⌜ ((s p ps ls : List ℕ) → (planAnswer s p ps ls .number ≡ 0 → ⊥) → (positionsString s p ps ls ≡ ps) × (leadsString s p ps ls ≡ ls)) ⌝ }
 {}
