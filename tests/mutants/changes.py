@@ -8,13 +8,14 @@ from source import closing, parts, spelled
 # place: function or constant; at, old, new: the text that is replaced; line and column count from 1
 Mutant = namedtuple("Mutant", "crate file place kind at old new line column")
 
+# No change that is none of a number that is never negative: `x != 0` is `x > 0`, and `i < n` is `i != n` while i goes up to n.
 COMPARED = {
-    "<": ("<=", ">=", "!="),
+    "<": ("<=", ">=", "=="),
     "<=": ("<", ">"),
     ">": (">=", "<="),
     ">=": (">", "<"),
-    "==": ("!=", "<="),
-    "!=": ("==", ">"),
+    "==": ("!=", ">="),
+    "!=": ("==", "<"),
 }
 COMPUTED = {
     "+": "-*",

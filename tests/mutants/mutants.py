@@ -153,14 +153,15 @@ def explanations():
     return found
 
 
-def report(names, results):
+def report(names, all_sources, results):
     """The table of all results that hold for the crates as they are; returns the survivors without an explanation."""
     explained = explanations()
     whole, open_ones, survivors = Counter(), [], []
     print("| crate | killed / tried | by the proof | by its users | by its output | survived | undecided | not counted: misfit, uncompiled |")
     print("|---|---|---|---|---|---|---|---|")
     for crate in names:
-        rows = results.of(crate)
+        made = {changes.identity(m) for m in changes.mutants(crate, all_sources)}
+        rows = [row for row in results.of(crate) if row[4] in made]
         n = Counter(row[2] for row in rows)
         if rows:
             print(table_line(crate, n))
@@ -229,7 +230,7 @@ def main():
         with concurrent.futures.ThreadPoolExecutor(options.jobs) as pool:
             for ended in [pool.submit(one, crate) for crate in names]:
                 ended.result()
-    return 1 if report(names, results) else 0
+    return 1 if report(names, all_sources, results) else 0
 
 
 if __name__ == "__main__":
