@@ -47,7 +47,7 @@ static void on_fault(int signal_number)
     _exit(1);
 }
 
-static void watch_faults(void)
+void guarded_watch(void)
 {
     struct sigaction action;
     memset(&action, 0, sizeof action);
@@ -62,7 +62,6 @@ void guarded_make(guarded *string, size_t most)
     memset(string, 0, sizeof *string);
     if (on_heap)
         return;
-    watch_faults();
     string->capacity = (most + page - 1) / page * page;
     uint8_t *pages = mmap(NULL, string->capacity + 2 * page, PROT_NONE, MAP_PRIVATE | MAP_ANONYMOUS, -1, 0);
     if (pages == MAP_FAILED)

@@ -33,7 +33,8 @@ void guarded_seal(const guarded *string, int sealed);
 /* Have the bytes beside the string kept their filling? */
 int guarded_beside_kept(const guarded *string);
 
-/* What is printed if a forbidden byte is touched. */
+/* From now on a touched forbidden byte ends the program with the words of the scene and one failed test. */
+void guarded_watch(void);
 void guarded_scene(const char *words);
 
 #endif

@@ -62,6 +62,7 @@ static int is_wanted(const test *one, int argc, char **argv)
 int run_tests(const test *tests, size_t count, int argc, char **argv)
 {
     unsigned passed = 0, failed = 0;
+    guarded_watch();
     if (argc > 1 && strcmp(argv[1], "heap") == 0) {
         guarded_use_heap();
         argc--;

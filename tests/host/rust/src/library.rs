@@ -43,6 +43,7 @@ extern "C" {
     fn guarded_lend(string: *mut Guarded, from: *const u8, length: usize, edge: c_int) -> *mut u8;
     fn guarded_seal(string: *const Guarded, sealed: c_int);
     fn guarded_beside_kept(string: *const Guarded) -> c_int;
+    fn guarded_watch();
     fn guarded_scene(words: *const c_char);
 }
 
@@ -68,6 +69,8 @@ pub fn set_scene(words: &str) {
 
 impl Library {
     pub fn new() -> Library {
+        // SAFETY: sets the handlers of two signals.
+        unsafe { guarded_watch() };
         let lent = NAMES.map(|_| {
             let (room, bytes) = (std::ptr::null_mut(), std::ptr::null_mut());
             let mut string = Guarded { room, capacity: 0, bytes, length: 0 };
