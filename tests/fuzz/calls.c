@@ -154,8 +154,8 @@ static void take_lengths(void)
     uint32_t choice = take();
     set_noise(POSITIONS, entries[choice % 8] * FILMDISK_ENTRY_BYTES + choice / 64);
     set_noise(LEADS, entries[choice / 8 % 8] * FILMDISK_ENTRY_BYTES + choice / 64);
-    set_noise(PLAN, FILMDISK_PLAN_BYTES - (take() == 1));
-    set_noise(DESK, FILMDISK_DESK_BYTES - (take() == 1));
+    set_noise(PLAN, FILMDISK_PLAN_BYTES - (take() % 8 == 1));
+    set_noise(DESK, FILMDISK_DESK_BYTES - (take() % 8 == 1));
 }
 
 static uint32_t word(enum lent which, size_t index)
@@ -262,7 +262,7 @@ int LLVMFuzzerTestOneInput(const uint8_t *data, size_t size)
         return 0;
     size_t list_bytes = (size_t)word(PLAN, FILMDISK_PLAN_BLOCKS) * FILMDISK_ENTRY_BYTES;
     lengths[POSITIONS] = lengths[LEADS] = list_bytes;
-    for (uint32_t times = take(); times >= 250; times = take())
+    for (uint32_t more = take(); more >= 200; more = take())
         damage();
     if (call_both(CALL_OPEN, 0, 0).number == 0)
         run_desk();

@@ -157,6 +157,55 @@ static void worked_desk(void)
     expect_slot(1, FILMDISK_FILLING, 0, 0);
 }
 
+/* lead(2) is 3110: it lifts the floor by 777.5 bytes, which are not rounded. */
+static void floor_to_the_half_byte(void)
+{
+    bench_desk();
+    put_slot(0, FILMDISK_PLAYING, 3, BLOCK_BYTES + 777);
+    put_slot(1, FILMDISK_FILLING, 2, BLOCK_BYTES + 777);
+    expect(host_begin(), FILMDISK_NOT_SOUND, 0);
+    put_slot(0, FILMDISK_PLAYING, 3, BLOCK_BYTES + 778);
+    expect(host_begin(), 0, 0);
+    expect_slot(1, FILMDISK_FILLING, 2, BLOCK_BYTES + 777);
+    put(DESK, FILMDISK_DESK_PHASE, 0);
+    put_slot(1, FILMDISK_FILLING, 2, BLOCK_BYTES + 778);
+    expect(host_begin(), 0, 0);
+    expect_slot(1, FILMDISK_PLAYING, 2, BLOCK_BYTES + 778);
+}
+
+/* Each of two asked slots lifts the floor by 1637.5 bytes; a slot that waits does not stop a later one without a lead. */
+static void grants_in_slot_order(void)
+{
+    static const uint32_t held[] = {BLOCK_BYTES + 1637, BLOCK_BYTES + 1638, BLOCK_BYTES + 3274, BLOCK_BYTES + 3275};
+    static const uint32_t granted[] = {0, 1, 1, 2};
+    for (size_t i = 0; i < COUNT(held); i++) {
+        bench_desk();
+        put_slot(0, FILMDISK_PLAYING, 1, held[i]);
+        put_slot(4, FILMDISK_ASKED, 0, 0);
+        put_slot(5, FILMDISK_ASKED, 0, 0);
+        put_slot(6, FILMDISK_ASKED, 3, 0);
+        expect(host_begin(), 0, 0);
+        check(kind(4) == (granted[i] > 0 ? FILMDISK_FILLING : FILMDISK_ASKED), "slot 4 with %u held", held[i]);
+        check(kind(5) == (granted[i] > 1 ? FILMDISK_FILLING : FILMDISK_ASKED), "slot 5 with %u held", held[i]);
+        check(kind(6) == FILMDISK_FILLING, "slot 6 is granted");
+    }
+}
+
+/* A block is fetched where held + B is at most the buffer. */
+static void fetched_while_it_fits(void)
+{
+    bench_desk();
+    put_slot(0, FILMDISK_FILLING, 1, BUFFER - BLOCK_BYTES);
+    put_slot(1, FILMDISK_FILLING, 1, BUFFER - BLOCK_BYTES + 1);
+    put_slot(2, FILMDISK_PLAYING, 3, BUFFER - BLOCK_BYTES);
+    expect_begun(host_begin(), 2, 16700 + 15720 + 2 * 12670 + RETURN);
+    expect_fetch(0, 4, 2, 3);
+    expect_fetch(1, 5, 0, 1);
+    expect(host_end(), 0, 0);
+    expect_slot(0, FILMDISK_PLAYING, 2, BUFFER);
+    expect_slot(1, FILMDISK_PLAYING, 1, BUFFER - BLOCK_BYTES + 1);
+}
+
 /* What happens before which sweep of the evening. */
 struct event {
     unsigned sweep;
@@ -688,6 +737,9 @@ static const test tests[] = {
     TEST(plans_at_the_limit_of_a_stream),
     TEST(opening),
     TEST(worked_desk),
+    TEST(floor_to_the_half_byte),
+    TEST(grants_in_slot_order),
+    TEST(fetched_while_it_fits),
     TEST(an_evening),
     TEST(refusal_1),
     TEST(refusal_2),

@@ -4,10 +4,12 @@ use crate::call::{Call, Strings, CARD, DESK, DRAWS, FETCHES, LEADS, PLAN, POSITI
 use crate::layout::{
     bytes_of, desk_bytes, plan_bytes, DESK_BYTES, ENTRY_BYTES, FETCH_BYTES, PLAN_BYTES,
 };
+use film_disk_model::desk::{floor, ASKED, BETWEEN, FILLING, PLAYING};
+use film_disk_model::plan::TWO_MILLION;
 use film_disk_model::rng::cards::any_card;
-use film_disk_model::rng::desks::{alter_plan, any_step, longer_list, spoiled_list};
+use film_disk_model::rng::desks::{alter_plan, any_step, longer_list, sound_desk, spoiled_list};
 use film_disk_model::rng::figures::{desk_plan, large_desk_plan};
-use film_disk_model::{read_card, Planned, Rng, Step};
+use film_disk_model::{read_card, Desk, Planned, Rng, Step};
 
 /// Bytes of no meaning.
 pub fn noise(rng: &mut Rng, length: usize) -> Vec<u8> {
@@ -171,4 +173,35 @@ pub fn desk_case(rng: &mut Rng) -> (Call, Strings) {
     let (desk, step) = any_step(rng, &planned);
     let desk = read_string(rng, desk_bytes(&desk));
     step_strings(rng, desk, &step, 20)
+}
+
+/// The floor with the leads of the first few asked slots, in whole bytes, rounded up.
+fn some_level(rng: &mut Rng, planned: &Planned, desk: &Desk) -> u32 {
+    let asked = desk.used_slots().filter(|&slot| desk.kinds[slot] == ASKED);
+    let leads = asked.map(|slot| planned.leads[desk.next[slot] as usize] as u128);
+    let first = rng.pick(&[0, 0, 1, 1, 2, 3, 9]);
+    let granted: u128 = leads.take(first).sum();
+    let shares = floor(desk, &planned.leads) + planned.plan.figures.rate as u128 * granted;
+    shares.div_ceil(TWO_MILLION) as u32
+}
+
+/// A call, mostly a begin, on a desk whose slots hold just what decides: the floor with and without grants, or a byte beside it;
+/// or the greatest that a block is still fetched on.
+pub fn edge_case(rng: &mut Rng) -> (Call, Strings) {
+    let planned = some_plan(rng);
+    let (_, mut step) = any_step(rng, &planned);
+    let mut desk = sound_desk(rng, &planned);
+    if !rng.once_in(4) {
+        desk.phase = BETWEEN;
+        step.call = film_disk_model::Call::Begin { fetch_list: planned.plan.streams as usize };
+    }
+    let room = planned.plan.buffer - planned.plan.figures.block_bytes;
+    let level = if rng.once_in(6) { room } else { some_level(rng, &planned, &desk) };
+    let held = level + rng.pick(&[0, 0, 1]) - rng.once_in(3) as u32;
+    for slot in desk.used_slots() {
+        if matches!(desk.kinds[slot], FILLING | PLAYING) && !rng.once_in(4) {
+            desk.held[slot] = held;
+        }
+    }
+    step_strings(rng, desk_bytes(&desk), &step, 100)
 }

@@ -11,7 +11,7 @@ mod library;
 mod lists;
 mod trial;
 
-use cases::{desk_case, open_case, plan_case};
+use cases::{desk_case, edge_case, open_case, plan_case};
 use film_disk_model::Rng;
 use library::set_scene;
 use lists::list_case;
@@ -26,9 +26,10 @@ const SHOWN: u64 = 10;
 fn run_case(trial: &mut Trial, seed: u64) -> Result<(), String> {
     let mut rng = Rng::new(seed);
     let (call, strings) = match rng.below(10) {
-        0..=3 => plan_case(&mut rng),
-        4 | 5 => open_case(&mut rng),
-        6..=8 => desk_case(&mut rng),
+        0..=2 => plan_case(&mut rng),
+        3 => open_case(&mut rng),
+        4 | 5 => desk_case(&mut rng),
+        6..=8 => edge_case(&mut rng),
         _ => return list_case(&mut rng, trial),
     };
     trial.both(&mut rng, call, &strings).map(|_| ())
