@@ -184,16 +184,29 @@ static void end_sweep(void)
     call_both(CALL_END, 0, 0);
 }
 
+/* Takes some bytes off a string's end or adds some. */
+static void resize(enum lent which, size_t choice)
+{
+    static const size_t steps[] = {1, 4, 12, 3};
+    size_t step = steps[choice % 4];
+    if (choice / 4 % 2 == 0 && lengths[which] >= step) {
+        lengths[which] -= step;
+    } else if (lengths[which] + step <= MOST_BYTES) {
+        memset(contents[which] + lengths[which], 0, step);
+        lengths[which] += step;
+    }
+}
+
 /* Damages one byte of what is lent, or gives it another length. */
 static void damage(void)
 {
     enum lent which = take() % STRINGS;
     size_t at = take() * 16 + take();
     uint8_t change = (uint8_t)take();
-    if (which != CARD && lengths[which] > 0 && change != 0)
+    if (change % 4 == 0)
+        resize(which, at);
+    else if (lengths[which] > 0)
         contents[which][at % lengths[which]] ^= change;
-    else if (which != CARD && lengths[which] > 0)
-        lengths[which] -= at % 2 == 0 || lengths[which] >= MOST_BYTES ? 1 : (size_t)-1;
 }
 
 /* Sets a word of a slot. */
