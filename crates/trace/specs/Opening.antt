@@ -42,7 +42,7 @@ opening-safe p ps ls w e = go (isPlan p ps ls) refl e
     go false q e = absurd (omega arith)
 
 -- a call is accepted only with the plan's own lists
-fair-of : (p : Plan) (s : Scheduler ℕ (Unit {0})) (g : Given ℕ) → C.refusals (supplyOf p) (bySlot (supplyOf p)) .verdict s g .number ≡ 0 → g .fair ≡ true
+pub fair-of : (p : Plan) (s : Scheduler ℕ (Unit {0})) (g : Given ℕ) → C.refusals (supplyOf p) (bySlot (supplyOf p)) .verdict s g .number ≡ 0 → g .fair ≡ true
 unfolding C.refusals
 fair-of p s g e = go (g .fair) e
   where

@@ -1,4 +1,4 @@
--- What the entry points for C answer, and what they leave in each lent string.
+-- What the plan call answers on byte strings, and what it leaves in each.
 use Prim.Native.Nat.{ℕ}
 use mathlib.Core.List.{List}
 use mathlib.Core.Bool.{cond, not, _&&_}

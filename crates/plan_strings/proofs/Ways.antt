@@ -13,7 +13,7 @@ use Rattle.plan.specs.Answer.{refusal, answer, filled, planned, positionsAfter,
 use Rattle.layout.specs.Layout.{planWords}
 use Rattle.layout.specs.declared.FilmdiskAnswer.{FilmdiskAnswer}
 use Rattle.layout.specs.Answers.{verdictAnswer}
-use Rattle.filmdisk.specs.Entry.{planFaultOf, plannedOf, planFilled, planAnswer, planString, positionsString, leadsString}
+use Rattle.plan_strings.specs.Calls.{planFaultOf, plannedOf, planFilled, planAnswer, planString, positionsString, leadsString}
 
 -- the answer and the later contents of the three strings
 abbrev pub Outcome : List ℕ → List ℕ → List ℕ → List ℕ → FilmdiskAnswer → List ℕ → List ℕ → List ℕ → Type 0

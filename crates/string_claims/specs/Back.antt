@@ -1,0 +1,230 @@
+-- The desk that an accepted call leaves in its string reads back: it has the sizes of its type, and its numbers have 32 bits.
+-- Assumes nothing.
+use Prim.Native.Nat.{ℕ, zero, suc, _≤_, _<_}
+use mathlib.Core.Path.{_≡_, refl, sym, ap, _∙_, subst}
+use mathlib.Core.Bool.{Bool, true, false}
+use mathlib.Core.List.{List, [], _∷_, _++_, map}
+use mathlib.Core.Logic.{by-cases}
+use native.Mathlib.Omega.{arith}
+use native.Mathlib.Decide.{ℕ-discrete}
+use lib.ListN.{length, length-map, replicate, length-replicate}
+use borrow.Author.Tests.{eq-eqb, ne-eqb, ltb-true, eqb-true}
+use Rattle.laws.specs.Each.{Each, each-map, each-replicate}
+use Rattle.words.specs.Words.{Words, wordsOf, withWords}
+use Rattle.words.specs.Laws.{words-length}
+use Rattle.card.specs.Card.{Legal}
+use Rattle.round_trip.specs.Legality.{Wide}
+use Rattle.plan.specs.declared.Plan.{Plan}
+use Rattle.plan.specs.Plan.{planOf}
+use Rattle.plan.specs.Answer.{isPlan}
+use Rattle.plan.specs.Check.{checked, checked-legal}
+use Rattle.plan.specs.Legal.{buffer-small}
+use Rattle.safety.specs.Scheduler.{Slot, Call, join, leave, begin, end}
+use Rattle.safety.specs.Order.{Scheduler, bySlot}
+use Rattle.safety.specs.BySlot.{bySlot-orderly}
+use Rattle.safety.specs.Sound.{Good, Sound, sound, sound-says}
+use Rattle.safety.specs.Arrays.{length-slots}
+use Rattle.safety.specs.Calls as C
+use Rattle.safety.specs.Lists.{verdict-zero, answer-accepted}
+use Rattle.safety.specs.Verdicts.{accepted-was-sound}
+use Rattle.safety.specs.Safety.{accepted-length}
+use Rattle.safety.specs.Claim as K
+use Rattle.desk.specs.declared.Desk.{Desk}
+use Rattle.desk.specs.Desk.{supplyOf, slotsIn, viewOf, deskOf, zeros, freshDesk, openBy, openDesk, answerOf, answered, joinDesk, leaveDesk, endDesk, beginDesk}
+use Rattle.desk.specs.Promise.{supply-named}
+use Rattle.trace.specs.Opening.{checked-lawful, fair-of}
+use Rattle.layout.specs.declared.FilmdiskAnswer.{FilmdiskAnswer}
+use Rattle.layout.specs.Answers.{verdictAnswer}
+use Rattle.layout.specs.Fields.{words-each, words-number, words-array}
+use Rattle.layout.specs.Layout.{planWords, deskWords, planIn, deskIn}
+use Rattle.layout.specs.Laws.{PlanSized, plan-sized, DeskSized, desk-written}
+use Rattle.layout.specs.Legal.{legal-words}
+use Rattle.desk_strings.specs.Calls.{refusedBy, openedFrom, openAnswer, openString, said, answerBy, stringBy, joinAnswer, joinString, leaveAnswer, leaveString, endAnswer, endString, roomIn, begunAnswer, beginAnswer, beginString}
+use Rattle.string_claims.specs.Kept.{enough, said-sized, said-wide, right-answer, right-string, open-number, open-right, open-other}
+
+-- ---- numbers of 32 bits
+
+-- a plan that passes the check
+module _ (p : Plan) (ps ls : List ℕ) (w : Wide (p .figures)) (i : isPlan p ps ls ≡ true) where
+  legal : Legal (p .figures)
+  legal = checked-legal p ps ls w i
+
+  plan-fits : Words (planWords p)
+  plan-fits = subst (λ (q : Plan). Words (planWords q)) (sym (checked p ps ls i .plan)) (legal-words (p .figures) legal)
+
+  buffer-fits : p .buffer < 4294967296
+  unfolding planOf
+  buffer-fits = omega (arith, ap (λ (q : Plan). q .buffer) (checked p ps ls i .plan), buffer-small (p .figures) legal, legal .bytes)
+
+  -- a good slot
+  next-fits : (L : ℕ) (s : Slot ℕ) → Good (supplyOf p) L s → s .next < 4294967296
+  unfolding supplyOf
+  next-fits L s g = by-kind (s .kind) refl
+    where
+      block : (1 ≤ s .kind) → s .kind ≤ 3 → s .next < 4294967296
+      block m n = omega (arith, ltb-true (s .next) (p .figures .blocks) (g .named m n), legal .blocks)
+
+      by-kind : (k : ℕ) → s .kind ≡ k → s .next < 4294967296
+      by-kind zero e = omega (arith, g .zeros e .0)
+      by-kind (suc k) e = by-cases (ℕ-discrete k 3)
+          (λ z. omega (arith, eqb-true (s .next) (p .figures .blocks) (g .past (omega arith)), legal .blocks))
+          (λ z. block (omega arith) (omega (arith, g .kinds)))
+
+  module _ (L : ℕ) where
+    kinds-fit : (ss : List (Slot ℕ)) → Each (Good (supplyOf p) L) ss → Each (λ v. v < 4294967296) (map (λ x. x .kind) ss)
+    kinds-fit [] h = tt
+    kinds-fit (s ∷ ss) h = (omega (arith, h .0 .kinds), kinds-fit ss (h .1))
+
+    nexts-fit : (ss : List (Slot ℕ)) → Each (Good (supplyOf p) L) ss → Each (λ v. v < 4294967296) (map (λ x. x .next) ss)
+    nexts-fit [] h = tt
+    nexts-fit (s ∷ ss) h = (next-fits L s (h .0), nexts-fit ss (h .1))
+
+    helds-fit : (ss : List (Slot ℕ)) → Each (Good (supplyOf p) L) ss → Each (λ v. v < 4294967296) (map (λ x. x .buffered) ss)
+    unfolding supplyOf
+    helds-fit [] h = tt
+    helds-fit (s ∷ ss) h = (omega (arith, h .0 .fits, buffer-fits), helds-fit ss (h .1))
+
+  -- the record of a sound scheduler
+  pub sound-fits : (s : Scheduler ℕ (Unit {0})) → Sound (supplyOf p) (bySlot (supplyOf p)) s → Words (deskWords (deskOf p s))
+  unfolding deskWords deskOf
+  sound-fits s h =
+      let ks : List ℕ = map (λ x. x .kind) (s .slots) in
+      let ns : List ℕ = map (λ x. x .next) (s .slots) in
+      let hs : List ℕ = map (λ x. x .buffered) (s .slots) in
+      words-array (planWords p) (s .phase ∷ (ks ++ (ns ++ hs))) plan-fits
+      (words-number (s .phase) (ks ++ (ns ++ hs)) (omega (arith, h .phase))
+      (words-array ks (ns ++ hs) (words-each ks (kinds-fit _ (s .slots) (h .slots)))
+      (words-array ns hs (words-each ns (nexts-fit _ (s .slots) (h .slots))) (words-each hs (helds-fit _ (s .slots) (h .slots))))))
+
+-- ---- sizes
+
+desk-of-sized : (p : Plan) (s : Scheduler ℕ (Unit {0})) → PlanSized p → length (s .slots) ≡ 256 → DeskSized (deskOf p s)
+unfolding deskOf
+desk-of-sized p s z l = record {
+  plan = z;
+  kinds = length-map (s .slots) (λ x. x .kind) ∙ l;
+  next = length-map (s .slots) (λ x. x .next) ∙ l;
+  held = length-map (s .slots) (λ x. x .buffered) ∙ l;
+}
+
+-- ---- an accepted call
+
+module _ (D ps ls : List ℕ) where
+  module _ (room : ℕ) (call : Call ℕ) (a : FilmdiskAnswer) (e : a .number ≡ answerOf (said D) ps ls room call .number) (n : answerBy D a .number ≡ 0) where
+    abbrev d : Desk
+    d = said D
+
+    abbrev p : Plan
+    p = said D .plan
+
+    -- only a desk of the right length is accepted
+    right : length D ≡ 3628
+    unfolding answerBy refusedBy verdictAnswer
+    right = by-cases (ℕ-discrete (length D) 3628) (λ l. l) (λ o. wrong (rw (ne-eqb (length D) 3628 o) at n))
+      where
+        wrong : _≡_ {A = ℕ} 14 0 → length D ≡ 3628
+        wrong z = absurd (omega arith)
+
+    zeroed : answerOf d ps ls room call .number ≡ 0
+    zeroed = sym e ∙ sym (ap (λ (x : FilmdiskAnswer). x .number) (right-answer D right a)) ∙ n
+
+    wide : Wide (p .figures)
+    wide = let s = said-sized D right in (s .plan .positions, s .plan .times)
+
+    judged : C.refusals (supplyOf p) (bySlot (supplyOf p)) .verdict (viewOf d) (record { call = call; fair = isPlan p ps ls; room = room }) .number ≡ 0
+    unfolding answerOf
+    judged = verdict-zero (supplyOf p) (bySlot (supplyOf p)) (C.refusals (supplyOf p) (bySlot (supplyOf p))) (viewOf d) _ zeroed
+
+    fair : isPlan p ps ls ≡ true
+    fair = fair-of p (viewOf d) (record { call = call; fair = isPlan p ps ls; room = room }) judged
+
+    was-sound : Sound (supplyOf p) (bySlot (supplyOf p)) (viewOf d)
+    unfolding C.refusals
+    was-sound = sound-says (supplyOf p) (supply-named p) (bySlot (supplyOf p)) (viewOf d)
+        (accepted-was-sound (supplyOf p) (supply-named p) (bySlot (supplyOf p)) (viewOf d) (isPlan p ps ls) room call judged)
+
+    stays-sound : Sound (supplyOf p) (bySlot (supplyOf p)) (answerOf d ps ls room call .scheduler)
+    unfolding answerOf
+    stays-sound = sound-says (supplyOf p) (supply-named p) (bySlot (supplyOf p)) _
+        (K.accepted-stays-sound (supplyOf p) (checked-lawful p ps ls wide fair) (supply-named p) (bySlot (supplyOf p)) (bySlot-orderly (supplyOf p)) (viewOf d)
+        (record { call = call; fair = isPlan p ps ls; room = room }) zeroed)
+
+    slots-long : length (viewOf d .slots) ≡ 256
+    unfolding viewOf
+    slots-long = length-slots (supplyOf p) (d .kinds) (d .next) (d .held) ∙ said-wide D right .kinds
+
+    stays-long : length (answerOf d ps ls room call .scheduler .slots) ≡ 256
+    unfolding answerOf C.refusals
+    stays-long =
+        ap (λ (x : C.Answer ℕ (Unit {0})). length (x .scheduler .slots)) (answer-accepted (supplyOf p) (bySlot (supplyOf p)) (C.refusals (supplyOf p) (bySlot (supplyOf p))) (viewOf d) _ judged)
+        ∙ accepted-length (supplyOf p) (checked-lawful p ps ls wide fair) (bySlot (supplyOf p)) (bySlot-orderly (supplyOf p)) (viewOf d) call was-sound
+        ∙ slots-long
+
+    pub call-back : said (stringBy D (deskOf p (answerOf d ps ls room call .scheduler))) ≡ deskOf p (answerOf d ps ls room call .scheduler)
+    call-back =
+        let s = answerOf d ps ls room call .scheduler in
+        ap said (right-string D right (deskOf p s))
+        ∙ (unfold said in desk-written D (deskOf p s) (desk-of-sized p s (said-sized D right .plan) stays-long) (sound-fits p ps ls wide fair s stays-sound) (enough D right))
+
+  pub join-back : (slot block : ℕ) → joinAnswer D ps ls slot block .number ≡ 0 → said (joinString D ps ls slot block) ≡ joinDesk (said D) ps ls slot block .desk
+  unfolding joinAnswer joinString joinDesk answered verdictAnswer
+  join-back slot block n = call-back 0 (join slot block) _ refl n
+
+  pub leave-back : (slot : ℕ) → leaveAnswer D ps ls slot .number ≡ 0 → said (leaveString D ps ls slot) ≡ leaveDesk (said D) ps ls slot .desk
+  unfolding leaveAnswer leaveString leaveDesk answered verdictAnswer
+  leave-back slot n = call-back 0 (leave slot) _ refl n
+
+  pub end-back : (draws : List ℕ) → endAnswer D ps ls draws .number ≡ 0 → said (endString D ps ls draws) ≡ endDesk (said D) ps ls draws .desk
+  unfolding endAnswer endString endDesk answered verdictAnswer
+  end-back draws n = call-back 0 (end (wordsOf draws)) _ refl n
+
+  pub begin-back : (F : List ℕ) → beginAnswer D ps ls F .number ≡ 0 → said (beginString D ps ls F) ≡ beginDesk (said D) ps ls (roomIn F) .desk
+  unfolding beginAnswer beginString beginDesk begunAnswer
+  begin-back F n = call-back (roomIn F) begin _ refl n
+
+-- ---- an accepted opening
+
+fresh-sized : (p : Plan) → PlanSized p → DeskSized (freshDesk p)
+unfolding freshDesk zeros
+fresh-sized p z = let l = length-replicate {A = ℕ} 256 0 in record { plan = z; kinds = l; next = l; held = l }
+
+fresh-fits : (p : Plan) → Words (planWords p) → Words (deskWords (freshDesk p))
+unfolding freshDesk deskWords zeros
+fresh-fits p y =
+    let xs : List ℕ = replicate 256 0 in
+    let z : Words xs = words-each xs (each-replicate (λ (v : ℕ). v < 4294967296) 256 0 (omega arith)) in
+    words-array (planWords p) (0 ∷ (xs ++ (xs ++ xs))) y (words-number 0 (xs ++ (xs ++ xs)) (omega arith) (words-array xs (xs ++ xs) z (words-array xs xs z z)))
+
+pub opened-wide : (P : List ℕ) → length P ≡ 552 → Wide (planIn (wordsOf P) .figures)
+opened-wide P l = let z = plan-sized (wordsOf P) (omega (arith, words-length P, l)) in (z .positions, z .times)
+
+module _ (P ps ls : List ℕ) where
+  -- it has a plan string of the right length, and is the plan of its figures
+  pub opened-plan : openedFrom P ps ls .verdict .number ≡ 0
+      → (length P ≡ 552) × (isPlan (planIn (wordsOf P)) ps ls ≡ true) × (openedFrom P ps ls .desk ≡ freshDesk (planIn (wordsOf P)))
+  unfolding openedFrom openDesk
+  opened-plan n = by-cases (ℕ-discrete (length P) 552)
+      (λ l. rw (eq-eqb (length P) 552 l) (go (isPlan (planIn (wordsOf P)) ps ls) l (rw (eq-eqb (length P) 552 l) at n)))
+      (λ o. wrong (rw (ne-eqb (length P) 552 o) at n))
+    where
+      go : (t : Bool) → length P ≡ 552 → openBy t (planIn (wordsOf P)) .verdict .number ≡ 0
+          → (length P ≡ 552) × (t ≡ true) × (openBy t (planIn (wordsOf P)) .desk ≡ freshDesk (planIn (wordsOf P)))
+      go true l e = (l, refl, refl)
+      go false l e = absurd (omega arith)
+
+      wrong : _≡_ {A = ℕ} 14 0 → (length P ≡ 552) × (isPlan (planIn (wordsOf P)) ps ls ≡ true) × (openedFrom P ps ls .desk ≡ freshDesk (planIn (wordsOf P)))
+      wrong z = absurd (omega arith)
+
+  -- only a desk string of the right length is opened
+  pub opened-right : (D : List ℕ) → openAnswer P ps ls D .number ≡ 0 → (length D ≡ 3628) × (openedFrom P ps ls .verdict .number ≡ 0)
+  opened-right D n = by-cases (ℕ-discrete (length D) 3628) (λ l. (l, sym (open-number P ps ls D l) ∙ n)) (λ o. absurd (open-other P ps ls D o .1 n))
+
+  pub open-back : (D : List ℕ) → openAnswer P ps ls D .number ≡ 0 → said (openString P ps ls D) ≡ freshDesk (planIn (wordsOf P))
+  unfolding said
+  open-back D n =
+      let p : Plan = planIn (wordsOf P) in
+      let l = opened-right D n in
+      let t = opened-plan (l .1) in
+      let z : PlanSized p = plan-sized (wordsOf P) (omega (arith, words-length P, t .0)) in
+      ap (λ (s : List ℕ). deskIn (wordsOf s)) (open-right P ps ls D (l .0) ∙ ap (λ (x : Desk). withWords D 0 (deskWords x)) (t .2))
+      ∙ desk-written D (freshDesk p) (fresh-sized p z) (fresh-fits p (plan-fits p ps ls (z .positions, z .times) (t .1))) (enough D (l .0))

@@ -1,0 +1,159 @@
+-- A refused call of the desk leaves every string as it was; a refused opening leaves zeros.
+-- Assumes nothing.
+use Prim.Native.Nat.{ℕ, zero, suc, _≤_, _<_}
+use mathlib.Core.Path.{_≡_, refl, ap, _∙_}
+use mathlib.Core.Bool.{Bool, true, false, cond}
+use mathlib.Core.List.{List, []}
+use mathlib.Core.Logic.{by-cases}
+use native.Mathlib.Omega.{arith}
+use native.Mathlib.Decide.{ℕ-discrete}
+use lib.ListN.{length}
+use lib.Dec.{eqb}
+use borrow.Author.Tests.{eq-eqb, ne-eqb}
+use Rattle.words.specs.Words.{Bytes, wordsOf, withWords}
+use Rattle.words.specs.Laws.{words-length}
+use Rattle.card.specs.declared.Verdict.{Verdict}
+use Rattle.plan.specs.declared.Plan.{Plan}
+use Rattle.plan.specs.Answer.{isPlan}
+use Rattle.safety.specs.Scheduler.{Entry, Call, join, leave, begin, end}
+use Rattle.safety.specs.Order.{bySlot}
+use Rattle.safety.specs.Calls as C
+use Rattle.safety.specs.Calls.{State}
+use Rattle.safety.specs.Lists.{refused-changes-nothing}
+use Rattle.desk.specs.declared.Desk.{Desk}
+use Rattle.desk.specs.declared.Answer.{Answer}
+use Rattle.desk.specs.Desk.{supplyOf, viewOf, deskOf, verdict, blankDesk, openBy, openDesk, answerOf, answered, joinDesk, leaveDesk, endDesk, beginDesk, entryWords, fetchListAfter}
+use Rattle.desk.specs.View.{Wide, desk-of-view}
+use Rattle.layout.specs.declared.FilmdiskAnswer.{FilmdiskAnswer}
+use Rattle.layout.specs.Answers.{verdictAnswer}
+use Rattle.layout.specs.Layout.{deskWords, planIn, deskIn, zeroBytes}
+use Rattle.layout.specs.Laws.{DeskSized, desk-sized, desk-kept, desk-zero}
+use Rattle.desk_strings.specs.Calls.{refusedBy, openedFrom, openVerdict, openAnswer, openString, said, answerBy, stringBy, joinAnswer, joinString, leaveAnswer, leaveString, endAnswer, endString, roomIn, begunAnswer, beginAnswer, beginString, fetchString}
+
+above-zero : (k : ℕ) → (k ≡ 0 → ⊥) → 0 < k
+above-zero zero h = absurd (h refl)
+above-zero (suc k) h = omega arith
+
+-- ---- a call that is refused answers the desk that it was given, and no entries
+
+module _ (d : Desk) (ps ls : List ℕ) (room : ℕ) (call : Call ℕ) where
+  pub refused-same : (answerOf d ps ls room call .number ≡ 0 → ⊥) → (answerOf d ps ls room call .scheduler ≡ viewOf d) × (answerOf d ps ls room call .entries ≡ [])
+  unfolding answerOf C.turn
+  refused-same n =
+      let s = supplyOf (d .plan) in
+      let r =
+      refused-changes-nothing s (bySlot s) (C.refusals s (bySlot s)) (record { scheduler = viewOf d; ledger = [] })
+      (record { call = call; fair = isPlan (d .plan) ps ls; room = room }) (above-zero _ n) in
+      (ap (λ (v : State ℕ (Unit {0})). v .scheduler) (r .0), r .1)
+
+  pub refused-desk : Wide d → (answerOf d ps ls room call .number ≡ 0 → ⊥) → deskOf (d .plan) (answerOf d ps ls room call .scheduler) ≡ d
+  refused-desk w n = ap (deskOf (d .plan)) (refused-same n .0) ∙ desk-of-view d w
+
+-- ---- a desk string D
+
+module _ (D : List ℕ) where
+  pub enough : length D ≡ 3628 → 907 ≤ length (wordsOf D)
+  enough l = omega (arith, words-length D, l)
+
+  pub said-sized : length D ≡ 3628 → DeskSized (said D)
+  unfolding said
+  said-sized l = desk-sized (wordsOf D) (enough l)
+
+  pub said-wide : length D ≡ 3628 → Wide (said D)
+  said-wide l = let s = said-sized l in record { kinds = s .kinds; next = s .next; held = s .held }
+
+  pub right-answer : length D ≡ 3628 → (a : FilmdiskAnswer) → answerBy D a ≡ a
+  unfolding answerBy
+  right-answer l a = rw (eq-eqb (length D) 3628 l)
+
+  pub right-string : length D ≡ 3628 → (d : Desk) → stringBy D d ≡ withWords D 0 (deskWords d)
+  unfolding stringBy
+  right-string l d = rw (eq-eqb (length D) 3628 l)
+
+  other-string : (length D ≡ 3628 → ⊥) → (d : Desk) → stringBy D d ≡ D
+  unfolding stringBy
+  other-string n d = rw (ne-eqb (length D) 3628 n)
+
+  -- the desk that was read, written back
+  same-string : Bytes D → (d : Desk) → (length D ≡ 3628 → d ≡ said D) → stringBy D d ≡ D
+  unfolding said
+  same-string y d e = by-cases (ℕ-discrete (length D) 3628)
+      (λ l. right-string l d ∙ ap (λ (x : Desk). withWords D 0 (deskWords x)) (e l) ∙ desk-kept D y (enough l))
+      (λ n. other-string n d)
+
+  module _ (ps ls : List ℕ) where
+    -- any call whose answer a has the number that the rules give
+    module _ (room : ℕ) (call : Call ℕ) (a : FilmdiskAnswer) (e : a .number ≡ answerOf (said D) ps ls room call .number) (n : answerBy D a .number ≡ 0 → ⊥) where
+      refused-number : length D ≡ 3628 → answerOf (said D) ps ls room call .number ≡ 0 → ⊥
+      refused-number l z = n (ap (λ (x : FilmdiskAnswer). x .number) (right-answer l a) ∙ e ∙ z)
+
+      pub call-kept : Bytes D → stringBy D (deskOf (said D .plan) (answerOf (said D) ps ls room call .scheduler)) ≡ D
+      call-kept y = same-string y _ (λ l. refused-desk (said D) ps ls room call (said-wide l) (refused-number l))
+
+    pub join-kept : (slot block : ℕ) → Bytes D → (joinAnswer D ps ls slot block .number ≡ 0 → ⊥) → joinString D ps ls slot block ≡ D
+    unfolding joinAnswer joinString joinDesk answered verdictAnswer
+    join-kept slot block y n = call-kept 0 (join slot block) _ refl n y
+
+    pub leave-kept : (slot : ℕ) → Bytes D → (leaveAnswer D ps ls slot .number ≡ 0 → ⊥) → leaveString D ps ls slot ≡ D
+    unfolding leaveAnswer leaveString leaveDesk answered verdictAnswer
+    leave-kept slot y n = call-kept 0 (leave slot) _ refl n y
+
+    pub end-kept : (draws : List ℕ) → Bytes D → (endAnswer D ps ls draws .number ≡ 0 → ⊥) → endString D ps ls draws ≡ D
+    unfolding endAnswer endString endDesk answered verdictAnswer
+    end-kept draws y n = call-kept 0 (end (wordsOf draws)) _ refl n y
+
+    pub begin-kept : (F : List ℕ) → Bytes D → (beginAnswer D ps ls F .number ≡ 0 → ⊥) → beginString D ps ls F ≡ D
+    unfolding beginAnswer beginString beginDesk begunAnswer
+    begin-kept F y n = call-kept (roomIn F) begin _ refl n y
+
+    -- and a begin leaves the fetch list
+    pub fetches-kept : (F : List ℕ) → (beginAnswer D ps ls F .number ≡ 0 → ⊥) → fetchString D ps ls F ≡ F
+    unfolding fetchString fetchListAfter entryWords withWords beginAnswer beginDesk begunAnswer
+    fetches-kept F n = by-cases (ℕ-discrete (length D) 3628)
+        (λ l. rw (eq-eqb (length D) 3628 l)
+        (ap (λ (es : List Entry). withWords F 0 (entryWords es))
+        (refused-same (said D) ps ls (roomIn F) begin (refused-number (roomIn F) begin (begunAnswer (beginDesk (said D) ps ls (roomIn F))) refl n l) .1)))
+        (λ o. rw (ne-eqb (length D) 3628 o))
+
+-- ---- an opening
+
+-- by its two tests: the length of the plan string, and whether it is the plan of its figures
+abbrev opening : Plan → Bool → Bool → Answer
+opening p s t = cond s (openBy t p) (openBy false p)
+
+module _ (P ps ls : List ℕ) where
+  -- one that is refused answers a desk that is all zero
+  pub refused-blank : (openedFrom P ps ls .verdict .number ≡ 0 → ⊥) → (openedFrom P ps ls .desk ≡ blankDesk) × (openedFrom P ps ls .verdict .number ≡ 14)
+  unfolding openedFrom openDesk
+  refused-blank n = go (eqb (length P) 552) (isPlan (planIn (wordsOf P)) ps ls) n
+    where
+      go : (s t : Bool) → (opening (planIn (wordsOf P)) s t .verdict .number ≡ 0 → ⊥)
+          → (opening (planIn (wordsOf P)) s t .desk ≡ blankDesk) × (opening (planIn (wordsOf P)) s t .verdict .number ≡ 14)
+      go true true n = absurd (n refl)
+      go true false n = (refl, refl)
+      go false t n = (refl, refl)
+
+  module _ (D : List ℕ) where
+    pub open-number : length D ≡ 3628 → openAnswer P ps ls D .number ≡ openedFrom P ps ls .verdict .number
+    unfolding openAnswer verdictAnswer
+    open-number l = rw (eq-eqb (length D) 3628 l)
+
+    pub open-right : length D ≡ 3628 → openString P ps ls D ≡ withWords D 0 (deskWords (openedFrom P ps ls .desk))
+    unfolding openString
+    open-right l = rw (eq-eqb (length D) 3628 l)
+
+    -- refused, zeros where the desk string has the right length
+    pub open-cleared : length D ≡ 3628 → (openAnswer P ps ls D .number ≡ 0 → ⊥) → openString P ps ls D ≡ zeroBytes 3628
+    open-cleared l n =
+        open-right l ∙ ap (λ (x : Desk). withWords D 0 (deskWords x)) (refused-blank (λ z. n (open-number l ∙ z)) .0) ∙ desk-zero D l
+
+    -- a string of another length is never written, and never accepted
+    pub open-other : (length D ≡ 3628 → ⊥) → (openString P ps ls D ≡ D) × (openAnswer P ps ls D .number ≡ 0 → ⊥)
+    unfolding openString openAnswer verdictAnswer openVerdict
+    open-other o = rw (ne-eqb (length D) 3628 o) (refl, never (openedFrom P ps ls .verdict))
+      where
+        never : (v : Verdict) → cond (eqb (v .number) 0) (verdict 13 0) v .number ≡ 0 → ⊥
+        never v e = by-cases (ℕ-discrete (v .number) 0) (λ z. thirteen (rw (eq-eqb (v .number) 0 z) at e)) (λ n. n (rw (ne-eqb (v .number) 0 n) at e))
+          where
+            thirteen : _≡_ {A = ℕ} 13 0 → ⊥
+            thirteen z = omega arith

@@ -1,0 +1,4 @@
+pub mod Back
+pub mod Kept
+pub mod Lists
+pub mod Plans

@@ -1,0 +1,54 @@
+// What the calls leave in their byte strings, as claims about the definitions that their contracts name.
+ghost use mathlib.Core.Path.{_≡_};
+ghost use Prim.Native.Nat.{ℕ};
+ghost use mathlib.Core.List.{List, map};
+ghost use lib.ListN.{length};
+ghost use Rattle.words.specs.Words.{Bytes, wordsOf};
+ghost use Rattle.card.specs.Read.{readCard};
+ghost use Rattle.plan.specs.Plan.{planOf};
+ghost use Rattle.desk.specs.Desk.{freshDesk, joinDesk, leaveDesk, endDesk, beginDesk};
+ghost use Rattle.trace.specs.Safe.{Safe, worldAfter};
+ghost use Rattle.layout.specs.Layout.{planIn, zeroBytes};
+ghost use Rattle.plan_strings.specs.Calls.{planAnswer, planString, positionsString, leadsString};
+ghost use Rattle.desk_strings.specs.Calls.{openAnswer, openString, said, joinAnswer, joinString, leaveAnswer, leaveString, endAnswer, endString, roomIn, beginAnswer, beginString, fetchString};
+ghost use Rattle.string_claims.specs.Lists.{StringCall, lentOf, stringsAfter};
+
+// A refused join, leave, begin or end leaves every string as it was: desk (D), fetch list (F). The lists are only read.
+pub fn refused_call_keeps_strings()
+    ensures joins { λ _. ⌜ ((D ps ls : List ℕ) (slot block : ℕ) → Bytes D → (joinAnswer D ps ls slot block .number ≡ 0 → ⊥) → joinString D ps ls slot block ≡ D) ⌝ }
+    ensures leaves { λ _. ⌜ ((D ps ls : List ℕ) (slot : ℕ) → Bytes D → (leaveAnswer D ps ls slot .number ≡ 0 → ⊥) → leaveString D ps ls slot ≡ D) ⌝ }
+    ensures begins { λ _. ⌜ ((D ps ls F : List ℕ) → Bytes D → (beginAnswer D ps ls F .number ≡ 0 → ⊥) → (beginString D ps ls F ≡ D) × (fetchString D ps ls F ≡ F)) ⌝ }
+    ensures ends { λ _. ⌜ ((D ps ls draws : List ℕ) → Bytes D → (endAnswer D ps ls draws .number ≡ 0 → ⊥) → endString D ps ls draws ≡ D) ⌝ }
+{}
+
+// A refused opening leaves zeros in a desk string of the right length; one of another length is refused and never written.
+pub fn refused_opening_clears()
+    ensures cleared { λ _. ⌜ ((P ps ls D : List ℕ) → length D ≡ 3628 → (openAnswer P ps ls D .number ≡ 0 → ⊥) → openString P ps ls D ≡ zeroBytes 3628) ⌝ }
+    ensures other { λ _. ⌜ ((P ps ls D : List ℕ) → (length D ≡ 3628 → ⊥) → (openString P ps ls D ≡ D) × (openAnswer P ps ls D .number ≡ 0 → ⊥)) ⌝ }
+{}
+
+// After an accepted call the desk string says the desk that the call answered.
+pub fn accepted_desk_reads_back()
+    ensures opens { λ _. ⌜ ((P ps ls D : List ℕ) → openAnswer P ps ls D .number ≡ 0 → said (openString P ps ls D) ≡ freshDesk (planIn (wordsOf P))) ⌝ }
+    ensures joins { λ _. ⌜ ((D ps ls : List ℕ) (slot block : ℕ) → joinAnswer D ps ls slot block .number ≡ 0 → said (joinString D ps ls slot block) ≡ joinDesk (said D) ps ls slot block .desk) ⌝ }
+    ensures leaves { λ _. ⌜ ((D ps ls : List ℕ) (slot : ℕ) → leaveAnswer D ps ls slot .number ≡ 0 → said (leaveString D ps ls slot) ≡ leaveDesk (said D) ps ls slot .desk) ⌝ }
+    ensures begins { λ _. ⌜ ((D ps ls F : List ℕ) → beginAnswer D ps ls F .number ≡ 0 → said (beginString D ps ls F) ≡ beginDesk (said D) ps ls (roomIn F) .desk) ⌝ }
+    ensures ends { λ _. ⌜ ((D ps ls draws : List ℕ) → endAnswer D ps ls draws .number ≡ 0 → said (endString D ps ls draws) ≡ endDesk (said D) ps ls draws .desk) ⌝ }
+{}
+
+// Demand 3 for the strings: from an accepted opening every list of calls on one desk string, refused calls included, leaves what the list
+// of crate trace leaves in the record, and that list is safe.
+pub fn every_list_of_strings_safe()
+    ensures { λ _. ⌜ ((P ps ls D : List ℕ) (xs : List StringCall) → Bytes D → openAnswer P ps ls D .number ≡ 0
+        → (said (stringsAfter (openString P ps ls D) xs) ≡ worldAfter (planIn (wordsOf P)) (map lentOf xs) .desk) × Safe (planIn (wordsOf P)) (map lentOf xs)) ⌝ }
+{}
+
+// What the plan call leaves in the plan string and the lists: accepted, the plan of the card's figures; after 1 to 12 zeros; after 13, and where it has
+// another length, what it held. A refused call leaves both lists.
+pub fn plan_call_leaves()
+    ensures accepted { λ _. ⌜ ((s p ps ls : List ℕ) → Bytes s → planAnswer s p ps ls .number ≡ 0 → planIn (wordsOf (planString s p ps ls)) ≡ planOf (readCard s .figures)) ⌝ }
+    ensures cleared { λ _. ⌜ ((s p ps ls : List ℕ) → length p ≡ 552 → (planAnswer s p ps ls .number ≡ 13 → ⊥) → (planAnswer s p ps ls .number ≡ 0 → ⊥) → planString s p ps ls ≡ zeroBytes 552) ⌝ }
+    ensures kept { λ _. ⌜ ((s p ps ls : List ℕ) → planAnswer s p ps ls .number ≡ 13 → planString s p ps ls ≡ p) ⌝ }
+    ensures other { λ _. ⌜ ((s p ps ls : List ℕ) → (length p ≡ 552 → ⊥) → planString s p ps ls ≡ p) ⌝ }
+    ensures lists { λ _. ⌜ ((s p ps ls : List ℕ) → (planAnswer s p ps ls .number ≡ 0 → ⊥) → (positionsString s p ps ls ≡ ps) × (leadsString s p ps ls ≡ ls)) ⌝ }
+{}
