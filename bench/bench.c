@@ -12,7 +12,7 @@
 #include <string.h>
 #include <time.h>
 
-enum { REPETITIONS = 301, BATCH_NS = 30000, MAX_BATCH = 4096 };
+enum { REPETITIONS = 300, BATCH_NS = 30000, MAX_BATCH = 4096 };
 
 static struct input input;
 static struct strings strings[TWINS];
@@ -63,12 +63,12 @@ static void lend_desks(struct strings *s)
 }
 
 /* Nanoseconds a call over a batch; desks are made fresh before it and not within its time. */
-static double time_batch(call *c, int twin, size_t batch, filmdisk_answer *a)
+static double time_batch(call *c, int twin, int copy, size_t batch, filmdisk_answer *a)
 {
     lend_desks(&strings[twin]);
     double start = now();
     for (size_t i = 0; i < batch; i++)
-        *a = c(&twins[twin], &input, &strings[twin], i % DESKS);
+        *a = c(&twins[twin][copy], &input, &strings[twin], i % DESKS);
     return (now() - start) / (double)batch;
 }
 
@@ -84,7 +84,7 @@ static void compare(const char *name, const filmdisk_answer answers[TWINS], int 
         if (answers[t].number != expected || !same_answer(answers[t], answers[PLAIN_C]) ||
             memcmp(&strings[t], &strings[PLAIN_C], sizeof strings[t]) != 0) {
             fprintf(stderr, "bench: %s: %s answers %u and not as C or not %u, or writes other bytes\n", name,
-                    twins[t].name, answers[t].number, expected);
+                    twin_names[t], answers[t].number, expected);
             exit(1);
         }
     }
@@ -94,7 +94,7 @@ static void compare(const char *name, const filmdisk_answer answers[TWINS], int 
 static size_t batch_size(call *c, bool in_place)
 {
     filmdisk_answer a;
-    double one = time_batch(c, PLAIN_C, DESKS, &a);
+    double one = time_batch(c, PLAIN_C, 0, DESKS, &a);
     if (in_place || one * DESKS >= BATCH_NS)
         return DESKS;
     size_t batch = (size_t)(BATCH_NS / one);
@@ -109,7 +109,9 @@ static void repeat(const char *name, call *c, bool in_place, int first, uint32_t
     for (int r = 0; r < REPETITIONS; r++) {
         for (int k = first; k < TWINS; k++) {
             int twin = first + (k + r) % (TWINS - first);
-            times[twin][r] = time_batch(c, twin, batch, &answers[twin]);
+            /* every copy of the library meets every copy of the others */
+            int copy = twin == LIBRARY ? r % COPIES : r / COPIES % COPIES;
+            times[twin][r] = time_batch(c, twin, copy, batch, &answers[twin]);
         }
         compare(name, answers, first, expected);
     }
@@ -129,7 +131,7 @@ static void print_ratio(int other)
 static void measure(const char *name, call *c, bool in_place, uint32_t expected)
 {
     bool desk_call = c != call_read && c != call_plan;
-    int first = desk_call && twins[LIBRARY].open == NULL ? PLAIN_C : LIBRARY;
+    int first = desk_call && twins[LIBRARY][0].open == NULL ? PLAIN_C : LIBRARY;
     repeat(name, c, in_place, first, expected);
     printf("| %s |", name);
     for (int t = LIBRARY; t < TWINS; t++) {
@@ -260,10 +262,10 @@ static void print_stack(const char *name, call *c, uint32_t phase, uint32_t firs
     printf("| %s |", name);
     for (int t = LIBRARY; t < TWINS; t++) {
         lend_desks(&strings[t]);
-        if (c != call_plan && twins[t].open == NULL)
+        if (c != call_plan && twins[t][0].open == NULL)
             printf(" - |");
         else
-            printf(" %zu |", stack_of(c, &twins[t], &input, &strings[t]));
+            printf(" %zu |", stack_of(c, &twins[t][0], &input, &strings[t]));
     }
     printf("\n");
 }

@@ -1,15 +1,32 @@
 #include "twins.h"
 #include "plain.h"
 
-/* Entry points that the library does not have yet are null. */
-#pragma weak filmdisk_open
-#pragma weak filmdisk_join
-#pragma weak filmdisk_leave
-#pragma weak filmdisk_begin
-#pragma weak filmdisk_end
+/* The copies' entry points, renamed at the build from filmdisk_, plain_ and rust_. */
+DECLARE_TWIN(library0)
+DECLARE_TWIN(library1)
+DECLARE_TWIN(plain0)
+DECLARE_TWIN(plain1)
+DECLARE_TWIN(rust0)
+DECLARE_TWIN(rust1)
 
-const struct twin twins[TWINS] = {
-    { "library", filmdisk_plan, filmdisk_open, filmdisk_join, filmdisk_leave, filmdisk_begin, filmdisk_end },
-    { "C", plain_plan, plain_open, plain_join, plain_leave, plain_begin, plain_end },
-    { "Rust", rust_plan, rust_open, rust_join, rust_leave, rust_begin, rust_end },
+/* Null where the library does not have the entry point yet. */
+#pragma weak library0_open
+#pragma weak library0_join
+#pragma weak library0_leave
+#pragma weak library0_begin
+#pragma weak library0_end
+#pragma weak library1_open
+#pragma weak library1_join
+#pragma weak library1_leave
+#pragma weak library1_begin
+#pragma weak library1_end
+
+#define TWIN(prefix) { prefix##_plan, prefix##_open, prefix##_join, prefix##_leave, prefix##_begin, prefix##_end }
+
+const struct twin twins[TWINS][COPIES] = {
+    { TWIN(library0), TWIN(library1) },
+    { TWIN(plain0), TWIN(plain1) },
+    { TWIN(rust0), TWIN(rust1) },
 };
+
+const char *const twin_names[TWINS] = { "library", "C", "Rust" };

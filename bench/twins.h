@@ -6,8 +6,13 @@
 
 enum { LIBRARY, PLAIN_C, PLAIN_RUST, TWINS };
 
+/*
+ * Each implementation is linked twice, the second copy 16 bytes further: where a loop lies against borders of 32 bytes can
+ * nearly double its time, and no caller chooses that.
+ */
+enum { COPIES = 2 };
+
 struct twin {
-    const char *name;
     filmdisk_answer (*plan)(const uint8_t *, size_t, uint8_t *, size_t, uint8_t *, size_t, uint8_t *, size_t);
     filmdisk_answer (*open)(const uint8_t *, size_t, const uint8_t *, size_t, const uint8_t *, size_t, uint8_t *, size_t);
     filmdisk_answer (*join)(uint8_t *, size_t, const uint8_t *, size_t, const uint8_t *, size_t, uint32_t, uint32_t);
@@ -16,6 +21,7 @@ struct twin {
     filmdisk_answer (*end)(uint8_t *, size_t, const uint8_t *, size_t, const uint8_t *, size_t, const uint8_t *, size_t);
 };
 
-extern const struct twin twins[TWINS];
+extern const struct twin twins[TWINS][COPIES];
+extern const char *const twin_names[TWINS];
 
 #endif
