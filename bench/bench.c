@@ -12,13 +12,13 @@
 #include <string.h>
 #include <time.h>
 
-enum { REPETITIONS = 300, BATCH_NS = 30000, MAX_BATCH = 4096 };
+enum { REPETITIONS = 201, BATCH_NS = 30000, MAX_BATCH = 4096 };
 
 static struct input input;
 static struct strings strings[TWINS];
 
 /* Measured times of a case: nanoseconds a call in each repetition. */
-static double times[TWINS][REPETITIONS];
+static double times[TWINS][COPIES][REPETITIONS];
 
 static int rows, missed;
 
@@ -47,13 +47,23 @@ static struct range range_of(const double values[REPETITIONS])
     return (struct range){ sorted[REPETITIONS / 4], sorted[REPETITIONS / 2], sorted[REPETITIONS * 3 / 4] };
 }
 
-/* Ratios are taken within a repetition, in which all three met the same load of the machine. */
-static struct range ratio(int one, int other)
+/* Ratios are taken within a repetition, in which all met the same load of the machine. */
+static struct range ratio(int one, int one_copy, int other, int other_copy)
 {
     double ratios[REPETITIONS];
     for (int r = 0; r < REPETITIONS; r++)
-        ratios[r] = times[one][r] / times[other][r];
+        ratios[r] = times[one][one_copy][r] / times[other][other_copy][r];
     return range_of(ratios);
+}
+
+/* The copy whose place in memory suits it better. */
+static int better(int twin)
+{
+    int best = 0;
+    for (int copy = 1; copy < COPIES; copy++)
+        if (ratio(twin, copy, twin, best).median < 1)
+            best = copy;
+    return best;
 }
 
 static void lend_desks(struct strings *s)
@@ -101,26 +111,34 @@ static size_t batch_size(call *c, bool in_place)
     return batch < MAX_BATCH ? batch : MAX_BATCH;
 }
 
+/* Times every copy in turn; the turns move on with each repetition. */
 static void repeat(const char *name, call *c, bool in_place, int first, uint32_t expected)
 {
     size_t batch = batch_size(c, in_place);
     filmdisk_answer answers[TWINS];
     memset(strings, 0xA5, sizeof strings);
     for (int r = 0; r < REPETITIONS; r++) {
-        for (int k = first; k < TWINS; k++) {
-            int twin = first + (k + r) % (TWINS - first);
-            /* every copy of the library meets every copy of the others */
-            int copy = twin == LIBRARY ? r % COPIES : r / COPIES % COPIES;
-            times[twin][r] = time_batch(c, twin, copy, batch, &answers[twin]);
+        for (int copy = 0; copy < COPIES; copy++) {
+            for (int k = 0; k < TWINS - first; k++) {
+                int twin = first + (k + r) % (TWINS - first);
+                times[twin][copy][r] = time_batch(c, twin, copy, batch, &answers[twin]);
+            }
+            compare(name, answers, first, expected);
         }
-        compare(name, answers, first, expected);
     }
 }
 
+/* The ratio at the better places, and the least and greatest median over all places. */
 static void print_ratio(int other)
 {
-    struct range r = ratio(LIBRARY, other);
-    printf(" %.2f (%.2f to %.2f) |", r.median, r.low, r.high);
+    struct range r = ratio(LIBRARY, better(LIBRARY), other, better(other));
+    double least = r.median, greatest = r.median;
+    for (int k = 0; k < COPIES * COPIES; k++) {
+        double median = ratio(LIBRARY, k / COPIES, other, k % COPIES).median;
+        least = median < least ? median : least;
+        greatest = median > greatest ? median : greatest;
+    }
+    printf(" %.2f (%.2f to %.2f) | %.2f to %.2f |", r.median, r.low, r.high, least, greatest);
     if (other == PLAIN_C) {
         rows++;
         missed += r.median > 1.1;
@@ -138,13 +156,13 @@ static void measure(const char *name, call *c, bool in_place, uint32_t expected)
         if (t < first)
             printf(" - |");
         else
-            printf(" %.0f |", range_of(times[t]).median);
+            printf(" %.0f |", range_of(times[t][better(t)]).median);
     }
     if (first == LIBRARY) {
         print_ratio(PLAIN_C);
         print_ratio(PLAIN_RUST);
     } else {
-        printf(" - | - |");
+        printf(" - | - | - | - |");
     }
     printf("\n");
     fflush(stdout);
@@ -152,8 +170,8 @@ static void measure(const char *name, call *c, bool in_place, uint32_t expected)
 
 static void head(const char *title)
 {
-    printf("\n%s\n\n| Case | Library, ns | C, ns | Rust, ns | Library / C | Library / Rust |\n|---|---|---|---|---|---|\n",
-           title);
+    printf("\n%s\n\n| Case | Library, ns | C, ns | Rust, ns | Library / C | over places | Library / Rust | over places |\n", title);
+    printf("|---|---|---|---|---|---|---|---|\n");
 }
 
 /* The measurements. */
@@ -284,8 +302,8 @@ static void print_stacks(void)
 
 int main(void)
 {
-    printf("Median nanoseconds a call and ratios (median, quartiles) of %d repetitions, the three in turn in each.\n",
-           REPETITIONS);
+    printf("Median nanoseconds a call, and ratios (median, quartiles) of %d repetitions, all in turn in each.\n", REPETITIONS);
+    printf("Each implementation stands at two places in memory; times are of the better one.\n");
     printf("Strings are not cleared between calls; each in-place call gets a fresh desk, copied outside the time.\n");
     measure_cards();
     measure_plans();
