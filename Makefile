@@ -1,5 +1,5 @@
 # Commands of the repository. `make test` is the gate; `make run` shows the product's main job.
-.PHONY: test run fmt
+.PHONY: test run bench fmt
 
 test:
 	@sh tests/run
@@ -10,6 +10,10 @@ run:
 	@mkdir -p target
 	@rt check listing >target/run.log 2>&1 || { cat target/run.log; exit 1; }
 	@target/bin/listing <crates/listing/stdin
+
+# The library against plain C and plain Rust, in one run; docs/BENCH.md tells how. Not part of the gate.
+bench:
+	@sh bench/run
 
 fmt:
 	@rt fmt

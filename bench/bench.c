@@ -272,6 +272,31 @@ static void measure_sweeps(void)
     }
 }
 
+/* How cost grows with one of N, zones and streams, the others fixed. */
+static void measure_growth(void)
+{
+    static const uint32_t growing_sizes[] = { 512, 1024, 2048, 4096, 8192, 16384 };
+    static const uint32_t growing_counts[] = { 2, 4, 8, 16, 32, 64 };
+    char name[80];
+    head("Growth with N (7 zones, 16 streams), with zones (N 1000, 16 streams), with streams (N 1000, 7 zones)");
+    EACH(blocks, growing_sizes) {
+        make_film(&input, *blocks, 7, 16);
+        snprintf(name, sizeof name, "plan, N %u", *blocks);
+        measure(name, call_plan, false, FILMDISK_ACCEPTED);
+        measure_sweep("begin", call_begin, 0, *blocks, 7, 16);
+    }
+    EACH(zones, growing_counts) {
+        make_film(&input, 1000, *zones, 16);
+        snprintf(name, sizeof name, "plan, %u zones", *zones);
+        measure(name, call_plan, false, FILMDISK_ACCEPTED);
+        measure_sweep("begin", call_begin, 0, 1000, *zones, 16);
+    }
+    EACH(streams, growing_counts) {
+        measure_sweep("begin", call_begin, 0, 1000, 7, *streams);
+        measure_sweep("end", call_end, 1, 1000, 7, *streams);
+    }
+}
+
 static void print_stack(const char *name, call *c, uint32_t phase, uint32_t first_free)
 {
     make_film(&input, 1000, 64, 256);
@@ -310,6 +335,7 @@ int main(void)
     measure_checks();
     measure_joins();
     measure_sweeps();
+    measure_growth();
     print_stacks();
     printf("\n%d rows with the library, %d above 1.1 x C\n", rows, missed);
     return 0;
