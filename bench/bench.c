@@ -88,9 +88,9 @@ static bool same_answer(filmdisk_answer a, filmdisk_answer b)
 }
 
 /* Ends the run where two implementations differ. */
-static void compare(const char *name, const filmdisk_answer answers[TWINS], int first, uint32_t expected)
+static void compare(const char *name, const filmdisk_answer answers[TWINS], uint32_t expected)
 {
-    for (int t = first; t < TWINS; t++) {
+    for (int t = 0; t < TWINS; t++) {
         if (answers[t].number != expected || !same_answer(answers[t], answers[PLAIN_C]) ||
             memcmp(&strings[t], &strings[PLAIN_C], sizeof strings[t]) != 0) {
             fprintf(stderr, "bench: %s: %s answers %u and not as C or not %u, or writes other bytes\n", name,
@@ -112,18 +112,18 @@ static size_t batch_size(call *c, bool in_place)
 }
 
 /* Times every copy in turn; the turns move on with each repetition. */
-static void repeat(const char *name, call *c, bool in_place, int first, uint32_t expected)
+static void repeat(const char *name, call *c, bool in_place, uint32_t expected)
 {
     size_t batch = batch_size(c, in_place);
     filmdisk_answer answers[TWINS];
     memset(strings, 0xA5, sizeof strings);
     for (int r = 0; r < REPETITIONS; r++) {
         for (int copy = 0; copy < COPIES; copy++) {
-            for (int k = 0; k < TWINS - first; k++) {
-                int twin = first + (k + r) % (TWINS - first);
+            for (int k = 0; k < TWINS; k++) {
+                int twin = (k + r) % TWINS;
                 times[twin][copy][r] = time_batch(c, twin, copy, batch, &answers[twin]);
             }
-            compare(name, answers, first, expected);
+            compare(name, answers, expected);
         }
     }
 }
@@ -145,25 +145,15 @@ static void print_ratio(int other)
     }
 }
 
-/* Measures one call on the input and prints its row; without the library where it has no such call yet. */
+/* Measures one call on the input and prints its row. */
 static void measure(const char *name, call *c, bool in_place, uint32_t expected)
 {
-    bool desk_call = c != call_read && c != call_plan;
-    int first = desk_call && twins[LIBRARY][0].open == NULL ? PLAIN_C : LIBRARY;
-    repeat(name, c, in_place, first, expected);
+    repeat(name, c, in_place, expected);
     printf("| %s |", name);
-    for (int t = LIBRARY; t < TWINS; t++) {
-        if (t < first)
-            printf(" - |");
-        else
-            printf(" %.0f |", range_of(times[t][better(t)]).median);
-    }
-    if (first == LIBRARY) {
-        print_ratio(PLAIN_C);
-        print_ratio(PLAIN_RUST);
-    } else {
-        printf(" - | - | - | - |");
-    }
+    for (int t = 0; t < TWINS; t++)
+        printf(" %.0f |", range_of(times[t][better(t)]).median);
+    print_ratio(PLAIN_C);
+    print_ratio(PLAIN_RUST);
     printf("\n");
     fflush(stdout);
 }
@@ -303,12 +293,9 @@ static void print_stack(const char *name, call *c, uint32_t phase, uint32_t firs
     make_players(&input, phase, first_free);
     make_draws(&input, 1000);
     printf("| %s |", name);
-    for (int t = LIBRARY; t < TWINS; t++) {
+    for (int t = 0; t < TWINS; t++) {
         lend_desks(&strings[t]);
-        if (c != call_plan && twins[t][0].open == NULL)
-            printf(" - |");
-        else
-            printf(" %zu |", stack_of(c, &twins[t][0], &input, &strings[t]));
+        printf(" %zu |", stack_of(c, &twins[t][0], &input, &strings[t]));
     }
     printf("\n");
 }
@@ -337,6 +324,6 @@ int main(void)
     measure_sweeps();
     measure_growth();
     print_stacks();
-    printf("\n%d rows with the library, %d above 1.1 x C\n", rows, missed);
+    printf("\n%d rows, %d above 1.1 x C\n", rows, missed);
     return 0;
 }

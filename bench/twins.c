@@ -9,18 +9,6 @@ DECLARE_TWIN(plain1)
 DECLARE_TWIN(rust0)
 DECLARE_TWIN(rust1)
 
-/* Null where the library does not have the entry point yet. */
-#pragma weak library0_open
-#pragma weak library0_join
-#pragma weak library0_leave
-#pragma weak library0_begin
-#pragma weak library0_end
-#pragma weak library1_open
-#pragma weak library1_join
-#pragma weak library1_leave
-#pragma weak library1_begin
-#pragma weak library1_end
-
 #define TWIN(prefix) { prefix##_plan, prefix##_open, prefix##_join, prefix##_leave, prefix##_begin, prefix##_end }
 
 const struct twin twins[TWINS][COPIES] = {
