@@ -1,5 +1,5 @@
 # Commands of the repository. `make test` is the gate; `make run` shows the product's main job.
-.PHONY: test run fuzz fmt
+.PHONY: test run fuzz bench fmt
 
 test:
 	@sh tests/run
@@ -18,6 +18,10 @@ fuzz:
 	@mkdir -p target
 	@rt staticlib filmdisk >target/fuzz.log 2>&1 || { cat target/fuzz.log; exit 1; }
 	@sh tests/fuzz/run target/staticlib target-tests/fuzz $(FUZZ_SECONDS)
+
+# The library against plain C and plain Rust, in one run; docs/BENCH.md tells how. Not part of the gate.
+bench:
+	@sh bench/run
 
 fmt:
 	@rt fmt

@@ -1,0 +1,20 @@
+#include "twins.h"
+#include "plain.h"
+
+/* The copies' entry points, renamed at the build from filmdisk_, plain_ and rust_. */
+DECLARE_TWIN(library0)
+DECLARE_TWIN(library1)
+DECLARE_TWIN(plain0)
+DECLARE_TWIN(plain1)
+DECLARE_TWIN(rust0)
+DECLARE_TWIN(rust1)
+
+#define TWIN(prefix) { prefix##_plan, prefix##_open, prefix##_join, prefix##_leave, prefix##_begin, prefix##_end }
+
+const struct twin twins[TWINS][COPIES] = {
+    { TWIN(library0), TWIN(library1) },
+    { TWIN(plain0), TWIN(plain1) },
+    { TWIN(rust0), TWIN(rust1) },
+};
+
+const char *const twin_names[TWINS] = { "library", "C", "Rust" };
