@@ -1,5 +1,5 @@
 # Commands of the repository. `make test` is the gate; `make run` shows the product's main job.
-.PHONY: test run fuzz bench fmt
+.PHONY: test run cases fuzz bench fmt
 
 test:
 	@sh tests/run
@@ -10,6 +10,14 @@ run:
 	@mkdir -p target
 	@rt check listing >target/run.log 2>&1 || { cat target/run.log; exit 1; }
 	@target/bin/listing <crates/listing/stdin
+
+# The library against the model for some minutes, from another seed each time; CASES is another count.
+CASES = 200000
+cases:
+	@sh tests/tools rt cc cargo
+	@mkdir -p target
+	@{ rt staticlib filmdisk && sh tests/host/build target/staticlib target-tests/host; } >target/cases.log 2>&1 || { cat target/cases.log; exit 1; }
+	@target-tests/host/rust/release/library_cases $$(date +%s) $(CASES)
 
 # The C entry points against their plain C twin on inputs that a fuzzer makes, for a minute; FUZZ_SECONDS is another time.
 FUZZ_SECONDS = 60
