@@ -214,15 +214,15 @@ module _ (card : List ℕ) (place i : ℕ) where
 
   pub before-done : length card ≤ i → numbersIn (drop i (take place card)) ≡ 0
   unfolding numbersIn
-  before-done h = rw (drop-of-length-le (take place card) {i} (omega (arith, length-take place card)))
+  before-done h = rw (drop-of-length-le (take place card) {i = i} (omega (arith, length-take place card)))
 
   pub before-place : place ≤ i → numbersIn (drop i (take place card)) ≡ 0
   unfolding numbersIn
-  before-place h = rw (drop-of-length-le (take place card) {i} (omega (arith, length-take place card)))
+  before-place h = rw (drop-of-length-le (take place card) {i = i} (omega (arith, length-take place card)))
 
 -- ---- the card in the buffer
 
-module _ {out bs : List ℕ} {n : ℕ} {y : List ℕ} (e : n ≡ length bs) (q : y ≡ overwrite out 0 bs) where
+module _ (out bs : List ℕ) {n : ℕ} {y : List ℕ} (e : n ≡ length bs) (q : y ≡ overwrite out 0 bs) where
   pub card-taken : take n y ≡ bs
   card-taken = rw (e, q, overwrite-front out bs) (take-append-seam bs (drop (length bs) out))
 

@@ -48,11 +48,7 @@ fn grow(value: u64, byte: u8) -> u64
         return 4294967296;
     }
     let next = value * 10 + (byte - b'0') as u64;
-    if next < 4294967296 {
-        next
-    } else {
-        4294967296
-    }
+    if next < 4294967296 { next } else { 4294967296 }
 }
 
 // Keeps the word that ends here, if there is one.

@@ -12,10 +12,10 @@ use Rattle.mkcard.proofs.make.make_card.Statement.{statement}
 use Rattle.mkcard.proofs.make.make_card.Tie as tie
 
 taken : (c : tie.After-write-words) → take (c .write-words .result) (c .write-words .last .1 .0) ≡ cardOfWords (c .before .before .before .args .s)
-taken c = card-taken (c .write-words .ensures .0) (c .write-words .ensures .1)
+taken c = card-taken (c .before .before .before .args .out .now) _ (c .write-words .ensures .0) (c .write-words .ensures .1)
 
 fits : (c : tie.After-write-words) → c .write-words .result ≤ length (c .write-words .last .1 .0)
-fits c = card-fits (c .write-words .ensures .0) (c .write-words .ensures .1) (omega (arith, card-long (c .before .before .before .args .s), c .before .before .before .pre))
+fits c = card-fits (c .before .before .before .args .out .now) _ (c .write-words .ensures .0) (c .write-words .ensures .1) (omega (arith, card-long (c .before .before .before .args .s), c .before .before .before .pre))
 
 read : (c : tie.After-read-card) → c .read-card .result ≡ readCard (cardOfWords (c .before .before .before .before .before .before .before .args .s))
 read c = c .read-card .ensures ∙ ap readCard (taken (c .before .before .before .before))

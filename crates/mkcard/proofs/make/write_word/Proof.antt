@@ -11,13 +11,13 @@ cast-write-number : tie.Need-cast-write-number
 cast-write-number c = search needs
 
 write-number-requires : tie.Need-write-number-requires
-write-number-requires c κs = let a = c .before .before .before .args in omega (arith, groups-long (a .value) (c .before .before .if1 .taken), c .before .before .before .pre)
+write-number-requires c κs = let a = c .before .before .before .args in omega (arith, groups-long (a .value) (c .before .if1 .taken), c .before .before .before .pre)
 
 same-length : tie.Need-same-length
 same-length c = search needs
 
 returns : tie.Need-returns
-returns c = let a = c .before .before .before .before .before .before .args in rw (capped-small (a .value) (c .before .before .before .before .before .if1 .taken)) (c .before .before .write-number .ensures)
+returns c = let a = c .before .before .before .before .before .before .args in rw (capped-small (a .value) (c .before .before .before .before .if1 .taken)) (c .before .before .write-number .ensures)
 
 slice-write-out : tie.Need-slice-write-out
 slice-write-out c = search needs
@@ -34,7 +34,7 @@ same-length-2 c = let a = c .before .before .before .before .before .before .arg
 returns-2 : tie.Need-returns-2
 returns-2 c = let a = c .before .before .before .before .before .before .args in
     let e = c .before .before .write-number2 .ensures in
-    let h = c .before .before .before .before .before .if1 .left in
+    let h = c .before .before .before .before .if1 .left in
     (omega (arith, e .0, ap length (capped-great (a .value) h)), e .1 ∙ put-great (a .out .now) (a .at) (a .value) (c .before .before .before .before .before .before .pre) h)
 
 pub write-word-spec : {M : Type 1} → statement M
