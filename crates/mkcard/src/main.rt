@@ -10,25 +10,45 @@ use libc::STDERR_FILENO;
 use libc::STDIN_FILENO;
 use libc::STDOUT_FILENO;
 
-// Document 01's cause of a refusal.
-fn print_cause(number: u32) {
-    match number {
-        1 => say(b"text ends too early\n"),
-        2 => say(b"not a decimal number, or above 4,294,967,295\n"),
-        3 => say(b"kind not 1\n"),
-        4 => say(b"zones out of range\n"),
-        5 => say(b"zone without positions, or total so far too great\n"),
-        6 => say(b"zone time out of range\n"),
-        7 => say(b"zone time above the one before\n"),
-        8 => say(b"film blocks out of range\n"),
-        9 => say(b"film blocks above positions\n"),
-        10 => say(b"block bytes, rate, hop or return out of range\n"),
-        _ => say(b"numbers left over\n"),
+fn say(text: &[u8]) {
+    io::write_all(STDERR_FILENO, text);
+}
+
+// Says the n-th line of a text, from 1 on, with its line feed.
+fn say_line(text: &[u8], n: u32) {
+    let mut line: u32 = 1;
+    let mut start: usize = 0;
+    let mut end: usize = 0;
+    while end < text.len() {
+        let byte = text[end];
+        end += 1;
+        if byte == b'\n' {
+            if n <= line {
+                say(&text[start..end]);
+                return;
+            }
+            line += 1;
+            start = end;
+        }
     }
 }
 
-fn say(text: &[u8]) {
-    io::write_all(STDERR_FILENO, text);
+// Says document 01's cause of a refusal, 1 to 11.
+fn say_cause(number: u32) {
+    say_line(
+        b"text ends too early\n\
+        not a decimal number, or above 4,294,967,295\n\
+        kind not 1\n\
+        zones out of range\n\
+        zone without positions, or total so far too great\n\
+        zone time out of range\n\
+        zone time above the one before\n\
+        film blocks out of range\n\
+        film blocks above positions\n\
+        block bytes, rate, hop or return out of range\n\
+        numbers left over\n",
+        number,
+    );
 }
 
 fn print_refusal(number: u32, line: u64) {
@@ -37,7 +57,7 @@ fn print_refusal(number: u32, line: u64) {
     say(b" at line ");
     io::print_decimal(STDERR_FILENO, line);
     say(b": ");
-    print_cause(number);
+    say_cause(number);
 }
 
 // Writes the card of the words, or says why there is none.

@@ -1,5 +1,7 @@
 // The card of the words of a text.
+use crate::scan::NO_NUMBER;
 use crate::scan::Scan;
+use crate::scan::WORDS;
 use leb128::write_number;
 ghost use mathlib.Core.Path.{_≡_};
 ghost use Prim.Native.Nat.{_+_, _≤_};
@@ -20,7 +22,7 @@ fn write_word(out: &mut [u8], at: usize, value: u64) -> usize
     requires { ⌜ at + 5 ≤ length (now out) ⌝ }
     ensures { λ r. ⌜ (r ≡ at + length (groups (capped value))) × (now (out .exit) ≡ overwrite (now (out .entry)) at (groups (capped value))) ⌝ }
 {
-    if value < 4294967296 {
+    if value < NO_NUMBER {
         return write_number(out, at, value as u32);
     }
     // 80 80 80 80 10 (hex): 4,294,967,296, of which the last four bytes are 33,554,432
@@ -35,7 +37,7 @@ fn write_words(s: Scan, out: &mut [u8]) -> usize
 {
     let mut at: usize = 0;
     let mut i: usize = 0;
-    while i < 136 {
+    while i < WORDS {
         if s.count <= i {
             return at;
         }
@@ -70,7 +72,7 @@ fn line_of(s: Scan, i: usize) -> u64
     if s.count <= i {
         return s.line;
     }
-    if 136 <= i {
+    if WORDS <= i {
         return s.line;
     }
     s.lines[i]

@@ -2,7 +2,13 @@
 ghost use mathlib.Core.Path.{_≡_};
 ghost use Rattle.mkcard.specs.Scan.{begun, grown, ended, stepped, scanned};
 
-// What has been read of a text. A card has at most 135 numbers, so one word more is left over, and words after that change no answer.
+// The most words that are kept. A card has at most 135 numbers, so one word more is left over, and words after that change no answer.
+pub const WORDS: usize = 136;
+
+// The value of a word that is no number of 32 bits.
+pub const NO_NUMBER: u64 = 4294967296;
+
+// What has been read of a text.
 pub struct Scan {
     // The line of the next byte, from 1 on.
     pub line: u64,
@@ -10,13 +16,13 @@ pub struct Scan {
     pub comment: bool,
     // In a word.
     pub inside: bool,
-    // The value of the word so far, 4,294,967,296 where it is no number of 32 bits; 0 outside of words.
+    // The value of the word so far; 0 outside of words.
     pub value: u64,
     // How many words are kept.
     pub count: usize,
     // The value and the line of each word.
-    pub values: [u64; 136],
-    pub lines: [u64; 136],
+    pub values: [u64; WORDS],
+    pub lines: [u64; WORDS],
 }
 
 // Before the first byte.
@@ -29,8 +35,8 @@ pub fn start() -> Scan
         inside: false,
         value: 0,
         count: 0,
-        values: [0u64; 136],
-        lines: [0u64; 136],
+        values: [0u64; WORDS],
+        lines: [0u64; WORDS],
     }
 }
 
@@ -39,16 +45,16 @@ fn grow(value: u64, byte: u8) -> u64
     ensures { λ r. ⌜ r ≡ grown value byte ⌝ }
 {
     if byte < b'0' {
-        return 4294967296;
+        return NO_NUMBER;
     }
     if b'9' < byte {
-        return 4294967296;
+        return NO_NUMBER;
     }
-    if 4294967296 <= value {
-        return 4294967296;
+    if NO_NUMBER <= value {
+        return NO_NUMBER;
     }
     let next = value * 10 + (byte - b'0') as u64;
-    if next < 4294967296 { next } else { 4294967296 }
+    if next < NO_NUMBER { next } else { NO_NUMBER }
 }
 
 // Keeps the word that ends here, if there is one.
@@ -62,7 +68,7 @@ pub fn end_word(s: Scan) -> Scan
     let mut next = s;
     next.inside = false;
     next.value = 0;
-    if 136 <= i {
+    if WORDS <= i {
         return next;
     }
     next.values[i] = s.value;
