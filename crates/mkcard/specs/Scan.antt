@@ -1,6 +1,6 @@
 -- A text of figures: which words it has, and the value and the line of each.
-use Prim.Native.Nat.{ℕ, zero, suc, _+_, _-_, _*_}
-use mathlib.Core.List.{List, [], _∷_}
+use Prim.Native.Nat.{ℕ, zero, suc, _+_, _-_, _*_, _/_, _%_, _^_, _<_}
+use mathlib.Core.List.{List, [], _∷_, _++_}
 use mathlib.Core.Bool.{Bool, true, false, cond, _&&_, _||_}
 use lib.ListN.{length, getD, set, take, replicate}
 use lib.Dec.{leb, ltb, eqb}
@@ -84,3 +84,24 @@ madeBy s (suc k) place = record { number = suc k; line = lineOf s (numbersIn (ta
 -- THE ANSWER TO A TEXT THAT IS READ: what the reader says of its card
 unfoldable pub made : Scan → Made
 made s = madeBy s (readCard (cardOfWords s) .verdict .number) (readCard (cardOfWords s) .verdict .place)
+
+-- ---- the text of numbers
+
+-- the last k decimal digits of a number, the most significant first
+unfoldable pub digits : ℕ → ℕ → List ℕ
+digits zero v = []
+digits (suc k) v = digits k (v / 10) ++ ((48 + v % 10) ∷ [])
+
+-- numbers in decimal, each on a line of its own, with `more v` digits before the last one of v; zeros in front are allowed
+unfoldable pub textOf : (ℕ → ℕ) → List ℕ → List ℕ
+textOf more [] = []
+textOf more (v ∷ vs) = digits (suc (more v)) v ++ (10 ∷ textOf more vs)
+
+-- the numbers have 32 bits, and enough digits
+unfoldable pub Spelled : (ℕ → ℕ) → List ℕ → Type 0
+Spelled more [] = Unit
+Spelled more (v ∷ vs) = (v < 4294967296) × (v < 10 ^ suc (more v)) × Spelled more vs
+
+-- THE CARD OF A TEXT, from its first byte to its last
+unfoldable pub cardOfText : List ℕ → List ℕ
+cardOfText text = cardOfWords (ended (scanned begun text))

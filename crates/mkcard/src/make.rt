@@ -4,11 +4,13 @@ use crate::scan::Scan;
 use crate::scan::WORDS;
 use leb128::write_number;
 ghost use mathlib.Core.Path.{_≡_};
-ghost use Prim.Native.Nat.{_+_, _≤_};
+ghost use mathlib.Core.List.{List};
+ghost use Prim.Native.Nat.{ℕ, _+_, _≤_};
 ghost use lib.ListN.{length, take};
 ghost use Rattle.laws.specs.Overwrite.{overwrite};
 ghost use Rattle.leb128.specs.Number.{groups};
-ghost use Rattle.mkcard.specs.Scan.{capped, numbersIn, lineOf, cardOfWords, made};
+ghost use Rattle.card.specs.Card.{bytesOf};
+ghost use Rattle.mkcard.specs.Scan.{capped, numbersIn, lineOf, cardOfWords, made, textOf, Spelled, cardOfText};
 
 // Document 01's number and the line of the text, or 0 and the length of the card.
 pub struct Made {
@@ -100,3 +102,8 @@ pub fn make_card(s: Scan, out: &mut [u8]) -> Made
         length: 0,
     }
 }
+
+// A text of at most 136 numbers of 32 bits in decimal, a line for each, makes the bytes of these numbers: of figures in the card's order, their card.
+fn text_makes_its_card()
+    ensures { λ _. ⌜ ((more : ℕ → ℕ) (vs : List ℕ) → length vs ≤ 136 → Spelled more vs → cardOfText (textOf more vs) ≡ bytesOf vs) ⌝ }
+{}
