@@ -25,12 +25,14 @@ run:
 programs:
 	@sh tests/tools rt
 	@mkdir -p target
+	@echo 'proving and building the programs; the first time takes minutes'
 	@rt check listing mkcard >target/programs.log 2>&1 || { cat target/programs.log; exit 1; }
 
 # target/staticlib/libfilmdisk.a, proved
 library:
 	@sh tests/tools rt
 	@mkdir -p target
+	@echo 'proving and building the library; the first time takes minutes'
 	@rt staticlib filmdisk >target/library.log 2>&1 || { cat target/library.log; exit 1; }
 
 build: programs library

@@ -243,3 +243,11 @@ module _ (s : Scan) (r : CardRead) (e : r ≡ readCard (cardOfWords s)) where
           → _≡_ {A = Made} (record { number = k; line = lineOf s (numbersIn (take (r .verdict .place) (cardOfWords s))); length = 0 }) (madeBy s k (r .verdict .place))
       by zero h = absurd (h refl)
       by (suc k) h = unfold madeBy in refl
+
+pub made-short : (s : Scan) → made s .length ≤ 680
+unfolding made madeBy
+made-short s = by (readCard (cardOfWords s) .verdict .number)
+  where
+    by : (k : ℕ) → madeBy s k (readCard (cardOfWords s) .verdict .place) .length ≤ 680
+    by zero = card-long s
+    by (suc k) = omega arith

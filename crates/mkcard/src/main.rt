@@ -69,10 +69,8 @@ fn answer(s: Scan) {
         return;
     }
     let length = made.length;
-    if length <= 4096 {
-        if !io::write_all(STDOUT_FILENO, &out[..length]) {
-            say(b"mkcard: cannot write the card\n");
-        }
+    if !io::write_all(STDOUT_FILENO, &out[..length]) {
+        say(b"mkcard: cannot write the card\n");
     }
 }
 
