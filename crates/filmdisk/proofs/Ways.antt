@@ -11,8 +11,9 @@ use Rattle.plan.specs.declared.Planned.{Planned}
 use Rattle.plan.specs.Plan.{positionsOf, leadsOf}
 use Rattle.plan.specs.Answer.{refusal, answer, filled, planned, positionsAfter, leadsAfter}
 use Rattle.layout.specs.Layout.{planWords}
-use Rattle.filmdisk.specs.declared.FilmdiskAnswer.{FilmdiskAnswer}
-use Rattle.filmdisk.specs.Entry.{verdictAnswer, planFaultOf, plannedOf, planFilled, planAnswer, planString, positionsString, leadsString}
+use Rattle.layout.specs.declared.FilmdiskAnswer.{FilmdiskAnswer}
+use Rattle.layout.specs.Answers.{verdictAnswer}
+use Rattle.filmdisk.specs.Entry.{planFaultOf, plannedOf, planFilled, planAnswer, planString, positionsString, leadsString}
 
 -- the answer and the later contents of the three strings
 abbrev pub Outcome : List ℕ → List ℕ → List ℕ → List ℕ → FilmdiskAnswer → List ℕ → List ℕ → List ℕ → Type 0

@@ -5,18 +5,14 @@ use mathlib.Core.Bool.{cond, not, _&&_}
 use lib.ListN.{length}
 use lib.Dec.{eqb}
 use Rattle.words.specs.Words.{withWords}
-use Rattle.card.specs.declared.Verdict.{Verdict}
 use Rattle.card.specs.declared.CardRead.{CardRead}
 use Rattle.card.specs.Read.{readCard}
 use Rattle.plan.specs.declared.Planned.{Planned}
 use Rattle.plan.specs.Plan.{positionsOf, leadsOf}
 use Rattle.plan.specs.Answer.{faultAfter, answer, filled}
 use Rattle.layout.specs.Layout.{planWords}
-use Rattle.filmdisk.specs.declared.FilmdiskAnswer.{FilmdiskAnswer}
-
--- the answer of a call that has no count and no bound
-unfoldable pub verdictAnswer : Verdict → FilmdiskAnswer
-verdictAnswer v = record { number = v .number; place = v .place; count = 0; bound = 0 }
+use Rattle.layout.specs.declared.FilmdiskAnswer.{FilmdiskAnswer}
+use Rattle.layout.specs.Answers.{verdictAnswer}
 
 -- ---- plan: a card as it was read, the plan string p, and both lists
 

@@ -22,7 +22,8 @@ use Rattle.plan.specs.Answer.{refusal, answer, filled}
 use Rattle.layout.specs.Layout.{planWords, planIn, zeroBytes}
 use Rattle.layout.specs.Laws.{plan-written, plan-zero}
 use Rattle.layout.specs.Legal.{legal-sized, legal-words}
-use Rattle.filmdisk.specs.Entry.{verdictAnswer, planFaultOf, plannedOf, planFilled, planAnswer, planString, positionsString, leadsString}
+use Rattle.layout.specs.Answers.{verdictAnswer}
+use Rattle.filmdisk.specs.Entry.{planFaultOf, plannedOf, planFilled, planAnswer, planString, positionsString, leadsString}
 
 -- ---- the planner's answer, by its two numbers
 

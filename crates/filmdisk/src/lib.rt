@@ -1,6 +1,8 @@
 // The planner and the desk for C: numbers and byte strings, whose layouts docs/LAYOUT.md fixes. Strings lent to one call share no byte.
 use card::Verdict;
+use layout::FilmdiskAnswer;
 use layout::PLAN_BYTES;
+use layout::verdict_answer;
 use layout::write_plan;
 use plan::plan_card;
 ghost use mathlib.Core.Path.{_≡_};
@@ -11,30 +13,7 @@ ghost use Rattle.words.specs.Words.{Bytes, wordsOf};
 ghost use Rattle.card.specs.Read.{readCard};
 ghost use Rattle.plan.specs.Plan.{planOf};
 ghost use Rattle.layout.specs.Layout.{planIn, zeroBytes};
-ghost use Rattle.filmdisk.specs.Entry.{verdictAnswer, planAnswer, planString, positionsString, leadsString};
-
-// The answer of every call: document 01's refusal number and what is returned with it, and what a begin answers. All zero but for what the call says.
-#[repr(C)]
-pub struct FilmdiskAnswer {
-    pub number: u32,
-    pub place: usize,
-    // Fetch entries.
-    pub count: u32,
-    // The sweep bound, in microseconds.
-    pub bound: u32,
-}
-
-// An answer with no count and no bound.
-fn verdict_answer(verdict: Verdict) -> FilmdiskAnswer
-    ensures { λ r. ⌜ r ≡ verdictAnswer verdict ⌝ }
-{
-    FilmdiskAnswer {
-        number: verdict.number,
-        place: verdict.place,
-        count: 0,
-        bound: 0,
-    }
-}
+ghost use Rattle.filmdisk.specs.Entry.{planAnswer, planString, positionsString, leadsString};
 
 // Plans a card: 1 to 11, then 13, then 12.
 #[no_mangle]

@@ -1,7 +1,8 @@
-// Plans and desks in lent byte strings: 32-bit words, lowest byte first, without padding.
+// What C and the library exchange: plans and desks in lent byte strings, as 32-bit words, lowest byte first, without padding; and the answer.
 mod offsets; // the word at which each field starts
 
 use card::Figures;
+use card::Verdict;
 use desk::Desk;
 use plan::Plan;
 use words::put_word;
@@ -19,6 +20,31 @@ ghost use Rattle.plan.specs.declared.Plan.{Plan};
 ghost use Rattle.desk.specs.declared.Desk.{Desk};
 ghost use Rattle.layout.specs.Layout.{planWords, planIn, deskWords, deskIn};
 ghost use Rattle.layout.specs.Laws.{PlanSized, DeskSized};
+ghost use Rattle.layout.specs.Answers.{verdictAnswer};
+
+// The answer of every call from C: document 01's refusal number and what is returned with it, and what a begin answers. All zero but
+// for what the call says.
+#[repr(C)]
+pub struct FilmdiskAnswer {
+    pub number: u32,
+    pub place: usize,
+    // Fetch entries.
+    pub count: u32,
+    // The sweep bound, in microseconds.
+    pub bound: u32,
+}
+
+// An answer with no count and no bound.
+pub fn verdict_answer(verdict: Verdict) -> FilmdiskAnswer
+    ensures { λ r. ⌜ r ≡ verdictAnswer verdict ⌝ }
+{
+    FilmdiskAnswer {
+        number: verdict.number,
+        place: verdict.place,
+        count: 0,
+        bound: 0,
+    }
+}
 
 // Bytes of a plan and of a desk.
 pub const PLAN_BYTES: usize = 552;

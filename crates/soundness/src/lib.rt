@@ -16,8 +16,9 @@ use plan::Plan;
 ghost use mathlib.Core.Path.{_≡_};
 ghost use mathlib.Core.Bool.{true};
 ghost use Rattle.plan.specs.Answer.{isPlan};
-ghost use Rattle.desk.specs.Desk.{openDesk, joinDesk, leaveDesk};
+ghost use Rattle.desk.specs.Desk.{blankDesk, openDesk, joinDesk, leaveDesk};
 ghost use Rattle.desk.specs.Ready.{Ready, Gathers};
+ghost use Rattle.soundness.specs.Answers.{answers};
 ghost use Rattle.soundness.specs.Facts.{soundDesk};
 ghost use Rattle.soundness.specs.Gather.{InRange};
 
@@ -66,12 +67,19 @@ pub fn gather(desk: Desk, positions: &[u8], leads: &[u8]) -> Gathered
     }
 }
 
+// A refused opening: a desk that is all zero, and 14.
+pub fn not_opened() -> Answer
+    ensures { λ r. ⌜ r ≡ answers blankDesk 14 0 ⌝ }
+{
+    answer(blank_desk(), 14, 0)
+}
+
 // Opens a desk: 14 where the record and the lists are not the plan of its figures; the new desk is then all zero.
 pub fn open(plan: Plan, positions: &[u8], leads: &[u8]) -> Answer
     ensures { λ r. ⌜ r ≡ openDesk plan (now (positions .entry)) (now (leads .entry)) ⌝ }
 {
     if !plan::is_plan(plan, positions, leads) {
-        return answer(blank_desk(), 14, 0);
+        return not_opened();
     }
     answer(fresh_desk(plan), 0, 0)
 }

@@ -2,7 +2,7 @@ use mathlib.Core.Path.{sym, ap, _∙_}
 use native.Mathlib.Omega.{arith}
 use Rattle.card.specs.declared.CardRead.{CardRead}
 use Rattle.words.specs.Laws.{words-length}
-use Rattle.filmdisk.specs.Entry.{verdictAnswer}
+use Rattle.layout.specs.Answers.{verdictAnswer}
 use Rattle.filmdisk.proofs.Ways.{other-refused, other-accepted, short-list, judged-plan}
 use borrow.Author.Needs.{needs}
 use Rattle.filmdisk.proofs.filmdisk_plan.Statement.{statement}

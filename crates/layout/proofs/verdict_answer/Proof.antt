@@ -1,7 +1,7 @@
 use mathlib.Core.Path.{refl}
-use Rattle.filmdisk.specs.Entry.{verdictAnswer}
-use Rattle.filmdisk.proofs.verdict_answer.Statement.{statement}
-use Rattle.filmdisk.proofs.verdict_answer.Tie as tie
+use Rattle.layout.specs.Answers.{verdictAnswer}
+use Rattle.layout.proofs.verdict_answer.Statement.{statement}
+use Rattle.layout.proofs.verdict_answer.Tie as tie
 
 returns : tie.Need-returns
 unfolding verdictAnswer

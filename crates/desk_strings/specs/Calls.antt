@@ -1,0 +1,81 @@
+-- What the desk's calls answer on byte strings, and what they leave in each. In a call D is the desk string, ps and ls are the lists.
+use Prim.Native.Nat.{ℕ, _/_}
+use mathlib.Core.List.{List}
+use mathlib.Core.Bool.{cond}
+use lib.ListN.{length}
+use lib.Dec.{eqb}
+use Rattle.words.specs.Words.{wordsOf, withWords}
+use Rattle.card.specs.declared.Verdict.{Verdict}
+use Rattle.desk.specs.declared.Desk.{Desk}
+use Rattle.desk.specs.declared.Answer.{Answer}
+use Rattle.desk.specs.declared.Begun.{Begun}
+use Rattle.desk.specs.Desk.{verdict, blankDesk, openDesk, joinDesk, leaveDesk, beginDesk, fetchListAfter, endDesk}
+use Rattle.layout.specs.declared.FilmdiskAnswer.{FilmdiskAnswer}
+use Rattle.layout.specs.Answers.{verdictAnswer}
+use Rattle.layout.specs.Layout.{planIn, deskWords, deskIn}
+
+-- a refusal with no place
+unfoldable pub refusedBy : ℕ → FilmdiskAnswer
+refusedBy k = verdictAnswer (verdict k 0)
+
+-- ---- open, with the plan string P
+
+-- `of another length is 14 where it is read`
+unfoldable pub openedFrom : List ℕ → List ℕ → List ℕ → Answer
+openedFrom P ps ls = cond (eqb (length P) 552) (openDesk (planIn (wordsOf P)) ps ls) (record { verdict = verdict 14 0; desk = blankDesk })
+
+-- `13 where it is only written`, after 14
+unfoldable pub openVerdict : Answer → Verdict
+openVerdict a = cond (eqb (a .verdict .number) 0) (verdict 13 0) (a .verdict)
+
+unfoldable pub openAnswer : List ℕ → List ℕ → List ℕ → List ℕ → FilmdiskAnswer
+openAnswer P ps ls D = let a = openedFrom P ps ls in verdictAnswer (cond (eqb (length D) 3628) (a .verdict) (openVerdict a))
+
+unfoldable pub openString : List ℕ → List ℕ → List ℕ → List ℕ → List ℕ
+openString P ps ls D = cond (eqb (length D) 3628) (withWords D 0 (deskWords (openedFrom P ps ls .desk))) D
+
+-- ---- the other calls: the call on the desk that the bytes say, written back. A desk of another length is 14
+
+unfoldable pub said : List ℕ → Desk
+said D = deskIn (wordsOf D)
+
+-- the answer, and the desk string after it
+unfoldable pub answerBy : List ℕ → FilmdiskAnswer → FilmdiskAnswer
+answerBy D a = cond (eqb (length D) 3628) a (refusedBy 14)
+
+unfoldable pub stringBy : List ℕ → Desk → List ℕ
+stringBy D d = cond (eqb (length D) 3628) (withWords D 0 (deskWords d)) D
+
+unfoldable pub joinAnswer : List ℕ → List ℕ → List ℕ → ℕ → ℕ → FilmdiskAnswer
+joinAnswer D ps ls slot block = answerBy D (verdictAnswer (joinDesk (said D) ps ls slot block .verdict))
+
+unfoldable pub joinString : List ℕ → List ℕ → List ℕ → ℕ → ℕ → List ℕ
+joinString D ps ls slot block = stringBy D (joinDesk (said D) ps ls slot block .desk)
+
+unfoldable pub leaveAnswer : List ℕ → List ℕ → List ℕ → ℕ → FilmdiskAnswer
+leaveAnswer D ps ls slot = answerBy D (verdictAnswer (leaveDesk (said D) ps ls slot .verdict))
+
+unfoldable pub leaveString : List ℕ → List ℕ → List ℕ → ℕ → List ℕ
+leaveString D ps ls slot = stringBy D (leaveDesk (said D) ps ls slot .desk)
+
+unfoldable pub endAnswer : List ℕ → List ℕ → List ℕ → List ℕ → FilmdiskAnswer
+endAnswer D ps ls draws = answerBy D (verdictAnswer (endDesk (said D) ps ls draws .verdict))
+
+unfoldable pub endString : List ℕ → List ℕ → List ℕ → List ℕ → List ℕ
+endString D ps ls draws = stringBy D (endDesk (said D) ps ls draws .desk)
+
+-- begin, with the fetch string F: whole entries of three words are its room
+unfoldable pub roomIn : List ℕ → ℕ
+roomIn F = length (wordsOf F) / 3
+
+unfoldable pub begunAnswer : Begun → FilmdiskAnswer
+begunAnswer b = record { number = b .verdict .number; place = b .verdict .place; count = b .fetches .count; bound = b .bound }
+
+unfoldable pub beginAnswer : List ℕ → List ℕ → List ℕ → List ℕ → FilmdiskAnswer
+beginAnswer D ps ls F = answerBy D (begunAnswer (beginDesk (said D) ps ls (roomIn F)))
+
+unfoldable pub beginString : List ℕ → List ℕ → List ℕ → List ℕ → List ℕ
+beginString D ps ls F = stringBy D (beginDesk (said D) ps ls (roomIn F) .desk)
+
+unfoldable pub fetchString : List ℕ → List ℕ → List ℕ → List ℕ → List ℕ
+fetchString D ps ls F = cond (eqb (length D) 3628) (fetchListAfter (said D) ps ls (roomIn F) F) F

@@ -1,0 +1,127 @@
+// The calls of the desk on lent byte strings: what the bytes say, called, and written back. Strings lent to one call share no byte.
+use card::Verdict;
+use desk::Answer;
+use desk::Begun;
+use layout::DESK_BYTES;
+use layout::FilmdiskAnswer;
+use layout::PLAN_BYTES;
+use layout::read_desk;
+use layout::read_plan;
+use layout::verdict_answer;
+use layout::write_desk;
+ghost use mathlib.Core.Path.{_≡_};
+ghost use Prim.Native.Nat.{_≤_};
+ghost use lib.ListN.{length};
+ghost use Rattle.words.specs.Words.{wordsOf, withWords};
+ghost use Rattle.layout.specs.Layout.{deskWords};
+ghost use Rattle.layout.specs.Answers.{verdictAnswer};
+ghost use Rattle.desk_strings.specs.Calls.{refusedBy, begunAnswer, openedFrom, openAnswer, openString, joinAnswer, joinString, leaveAnswer, leaveString, beginAnswer, beginString, fetchString, endAnswer, endString};
+
+// A refusal with no place.
+fn refused(number: u32) -> FilmdiskAnswer
+    ensures { λ r. ⌜ r ≡ refusedBy number ⌝ }
+{
+    verdict_answer(Verdict {
+        number: number,
+        place: 0,
+    })
+}
+
+// Writes the desk of an answer.
+fn write_back(desk: &mut [u8], answer: Answer) -> FilmdiskAnswer
+    requires { ⌜ 907 ≤ length (wordsOf (now desk)) ⌝ }
+    ensures { λ r. ⌜ (r ≡ verdictAnswer (answer .verdict)) × (now (desk .exit) ≡ withWords (now (desk .entry)) 0 (deskWords (answer .desk))) ⌝ }
+{
+    write_desk(desk, answer.desk);
+    verdict_answer(answer.verdict)
+}
+
+// Opens what a plan string says; 14 where it has another length.
+fn open_plan(plan: &[u8], positions: &[u8], leads: &[u8]) -> Answer
+    ensures { λ r. ⌜ r ≡ openedFrom (now (plan .entry)) (now (positions .entry)) (now (leads .entry)) ⌝ }
+{
+    if plan.len() != PLAN_BYTES {
+        return soundness::not_opened();
+    }
+    soundness::open(read_plan(plan), positions, leads)
+}
+
+// Opens a desk: 14, then 13 where the desk string has another length.
+pub fn open(plan: &[u8], positions: &[u8], leads: &[u8], desk: &mut [u8]) -> FilmdiskAnswer
+    ensures { λ r. ⌜ (r ≡ openAnswer (now (plan .entry)) (now (positions .entry)) (now (leads .entry)) (now (desk .entry)))
+        × (now (desk .exit) ≡ openString (now (plan .entry)) (now (positions .entry)) (now (leads .entry)) (now (desk .entry))) ⌝ }
+{
+    let opened = open_plan(plan, positions, leads);
+    if desk.len() == DESK_BYTES {
+        return write_back(desk, opened);
+    }
+    let verdict = opened.verdict;
+    if verdict.number != 0 {
+        return verdict_answer(verdict);
+    }
+    refused(13)
+}
+
+// A free slot becomes asked: 14 to 18.
+pub fn join(desk: &mut [u8], positions: &[u8], leads: &[u8], slot: u32, block: u32) -> FilmdiskAnswer
+    ensures { λ r. ⌜ (r ≡ joinAnswer (now (desk .entry)) (now (positions .entry)) (now (leads .entry)) slot block)
+        × (now (desk .exit) ≡ joinString (now (desk .entry)) (now (positions .entry)) (now (leads .entry)) slot block) ⌝ }
+{
+    if desk.len() != DESK_BYTES {
+        return refused(14);
+    }
+    let answer = soundness::join(read_desk(desk), positions, leads, slot, block);
+    write_back(desk, answer)
+}
+
+// An occupied slot becomes free: 14 to 17.
+pub fn leave(desk: &mut [u8], positions: &[u8], leads: &[u8], slot: u32) -> FilmdiskAnswer
+    ensures { λ r. ⌜ (r ≡ leaveAnswer (now (desk .entry)) (now (positions .entry)) (now (leads .entry)) slot)
+        × (now (desk .exit) ≡ leaveString (now (desk .entry)) (now (positions .entry)) (now (leads .entry)) slot) ⌝ }
+{
+    if desk.len() != DESK_BYTES {
+        return refused(14);
+    }
+    let answer = soundness::leave(read_desk(desk), positions, leads, slot);
+    write_back(desk, answer)
+}
+
+// What a begin answers, without its fetches.
+fn begun_answer(begun: Begun) -> FilmdiskAnswer
+    ensures { λ r. ⌜ r ≡ begunAnswer begun ⌝ }
+{
+    let verdict = begun.verdict;
+    let fetches = begun.fetches;
+    FilmdiskAnswer {
+        number: verdict.number,
+        place: verdict.place,
+        count: fetches.count,
+        bound: begun.bound,
+    }
+}
+
+// Begins a sweep: 14, 15, 13.
+pub fn begin(desk: &mut [u8], positions: &[u8], leads: &[u8], fetches: &mut [u8]) -> FilmdiskAnswer
+    ensures { λ r. ⌜ (r ≡ beginAnswer (now (desk .entry)) (now (positions .entry)) (now (leads .entry)) (now (fetches .entry)))
+        × (now (desk .exit) ≡ beginString (now (desk .entry)) (now (positions .entry)) (now (leads .entry)) (now (fetches .entry)))
+        × (now (fetches .exit) ≡ fetchString (now (desk .entry)) (now (positions .entry)) (now (leads .entry)) (now (fetches .entry))) ⌝ }
+{
+    if desk.len() != DESK_BYTES {
+        return refused(14);
+    }
+    let begun = scheduler::begin_into(read_desk(desk), positions, leads, fetches);
+    write_desk(desk, begun.desk);
+    begun_answer(begun)
+}
+
+// Ends a sweep: 14, 15, 19, 20, 21.
+pub fn end(desk: &mut [u8], positions: &[u8], leads: &[u8], draws: &[u8]) -> FilmdiskAnswer
+    ensures { λ r. ⌜ (r ≡ endAnswer (now (desk .entry)) (now (positions .entry)) (now (leads .entry)) (now (draws .entry)))
+        × (now (desk .exit) ≡ endString (now (desk .entry)) (now (positions .entry)) (now (leads .entry)) (now (draws .entry))) ⌝ }
+{
+    if desk.len() != DESK_BYTES {
+        return refused(14);
+    }
+    let answer = scheduler::end(read_desk(desk), positions, leads, draws);
+    write_back(desk, answer)
+}
