@@ -63,7 +63,13 @@ pub fn open(plan: &[u8], positions: &[u8], leads: &[u8], desk: &mut [u8]) -> Fil
 }
 
 // A free slot becomes asked: 14 to 18.
-pub fn join(desk: &mut [u8], positions: &[u8], leads: &[u8], slot: u32, block: u32) -> FilmdiskAnswer
+pub fn join(
+    desk: &mut [u8],
+    positions: &[u8],
+    leads: &[u8],
+    slot: u32,
+    block: u32,
+) -> FilmdiskAnswer
     ensures { λ r. ⌜ (r ≡ joinAnswer (now (desk .entry)) (now (positions .entry)) (now (leads .entry)) slot block)
         × (now (desk .exit) ≡ joinString (now (desk .entry)) (now (positions .entry)) (now (leads .entry)) slot block) ⌝ }
 {
