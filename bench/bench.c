@@ -12,7 +12,7 @@
 #include <string.h>
 #include <time.h>
 
-enum { REPETITIONS = 201, BATCH_NS = 30000, MAX_BATCH = 4096 };
+enum { REPETITIONS = 101, BATCH_NS = 30000, MAX_BATCH = 4096 };
 
 static struct input input;
 static struct strings strings[TWINS];
@@ -56,8 +56,8 @@ static struct range ratio(int one, int one_copy, int other, int other_copy)
     return range_of(ratios);
 }
 
-/* The copy whose place in memory suits it better. */
-static int better(int twin)
+/* The copy whose place in memory suits it best. */
+static int best_copy(int twin)
 {
     int best = 0;
     for (int copy = 1; copy < COPIES; copy++)
@@ -100,15 +100,13 @@ static void compare(const char *name, const filmdisk_answer answers[TWINS], uint
     }
 }
 
-/* Calls in a batch; those in place have no more than there are desks. */
+/* Calls in a batch: short against the machine's other work; those in place have no more than there are desks. */
 static size_t batch_size(call *c, bool in_place)
 {
     filmdisk_answer a;
-    double one = time_batch(c, PLAIN_C, 0, DESKS, &a);
-    if (in_place || one * DESKS >= BATCH_NS)
-        return DESKS;
-    size_t batch = (size_t)(BATCH_NS / one);
-    return batch < MAX_BATCH ? batch : MAX_BATCH;
+    size_t most = in_place ? DESKS : MAX_BATCH;
+    size_t batch = (size_t)(BATCH_NS / time_batch(c, PLAIN_C, 0, DESKS, &a));
+    return batch < 1 ? 1 : batch < most ? batch : most;
 }
 
 /* Times every copy in turn; the turns move on with each repetition. */
@@ -128,10 +126,10 @@ static void repeat(const char *name, call *c, bool in_place, uint32_t expected)
     }
 }
 
-/* The ratio at the better places, and the least and greatest median over all places. */
+/* The ratio at the best places, and the least and greatest median over all places. */
 static void print_ratio(int other)
 {
-    struct range r = ratio(LIBRARY, better(LIBRARY), other, better(other));
+    struct range r = ratio(LIBRARY, best_copy(LIBRARY), other, best_copy(other));
     double least = r.median, greatest = r.median;
     for (int k = 0; k < COPIES * COPIES; k++) {
         double median = ratio(LIBRARY, k / COPIES, other, k % COPIES).median;
@@ -151,7 +149,7 @@ static void measure(const char *name, call *c, bool in_place, uint32_t expected)
     repeat(name, c, in_place, expected);
     printf("| %s |", name);
     for (int t = 0; t < TWINS; t++)
-        printf(" %.0f |", range_of(times[t][better(t)]).median);
+        printf(" %.0f |", range_of(times[t][best_copy(t)]).median);
     print_ratio(PLAIN_C);
     print_ratio(PLAIN_RUST);
     printf("\n");
@@ -315,7 +313,7 @@ static void print_stacks(void)
 int main(void)
 {
     printf("Median nanoseconds a call, and ratios (median, quartiles) of %d repetitions, all in turn in each.\n", REPETITIONS);
-    printf("Each implementation stands at two places in memory; times are of the better one.\n");
+    printf("Each implementation stands at three places in memory; times are of its best one.\n");
     printf("Strings are not cleared between calls; each in-place call gets a fresh desk, copied outside the time.\n");
     measure_cards();
     measure_plans();
