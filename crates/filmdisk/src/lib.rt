@@ -2,7 +2,7 @@
 use card::Verdict;
 use layout::PLAN_BYTES;
 use layout::write_plan;
-use plan::plan_card;
+use planner::plan_card;
 ghost use mathlib.Core.Path.{_≡_};
 ghost use Prim.Native.Nat.{ℕ};
 ghost use mathlib.Core.List.{List};

@@ -75,7 +75,7 @@ fn read_plan(text: &[u8], start: usize) -> Plan {
 
 // Is this the plan of its figures, with its lists?
 fn check(plan: Plan, positions: &[u8], leads: &[u8]) {
-    if plan::is_plan(plan, positions, leads) {
+    if planner::is_plan(plan, positions, leads) {
         print(b" yes");
         return;
     }
@@ -110,7 +110,7 @@ fn plan_film(text: &[u8], letter: u8, start: usize, positions: &mut [u8], leads:
     fill(leads);
     if letter == b'r' {
         print_answer(
-            plan::plan_record(read_record(text, start), positions, leads),
+            planner::plan_record(read_record(text, start), positions, leads),
             positions,
             leads,
         );
@@ -119,7 +119,7 @@ fn plan_film(text: &[u8], letter: u8, start: usize, positions: &mut [u8], leads:
     let mut card = io::buffer();
     let n = read_bytes(text, start, &mut card);
     print_answer(
-        plan::plan_card(&card[..n], positions, leads),
+        planner::plan_card(&card[..n], positions, leads),
         positions,
         leads,
     );
