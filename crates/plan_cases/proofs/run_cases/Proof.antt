@@ -1,11 +1,12 @@
 use Prim.Native.Nat.{_-_, _≤_}
+use mathlib.Core.Path.{_≡_}
 use lib.ListN.{length}
 use borrow.Author.Needs.{needs}
 use Rattle.plan_cases.proofs.run_cases.Statement.{statement}
 use Rattle.plan_cases.proofs.run_cases.Tie as tie
 
 abbrev Inv-loop : tie.InvT-loop
-Inv-loop text positions₀ leads₀ letter₀ start₀ at₀ positions leads letter start at = at ≤ length text
+Inv-loop text positions₀ leads₀ letter₀ start₀ at₀ positions leads letter start at = (length positions ≡ length positions₀) × (length leads ≡ length leads₀) × (at ≤ length text)
 
 abbrev μ-loop : tie.MeasureT-loop
 μ-loop text positions₀ leads₀ letter₀ start₀ at₀ positions leads letter start at = length text - at
