@@ -138,8 +138,18 @@ fn run_with(text: &[u8], letter: u8, start: usize, positions: &mut [u8], leads: 
     plan_film(text, letter, start, positions, leads);
 }
 
-// The same, with as many bytes of the lists as the case says.
-fn run_case(text: &[u8], letter: u8, start: usize, positions: &mut [u8], leads: &mut [u8]) {
+// The same at the end of a case's line, with as many bytes of the lists as the case says.
+fn run_case(
+    text: &[u8],
+    byte: u8,
+    letter: u8,
+    start: usize,
+    positions: &mut [u8],
+    leads: &mut [u8],
+) {
+    if byte != b'\n' {
+        return;
+    }
     if letter == 0 {
         return;
     }
@@ -165,8 +175,8 @@ fn run_cases(text: &[u8], positions: &mut [u8], leads: &mut [u8]) {
     while at < text.len() {
         let byte = text[at];
         at += 1;
+        run_case(text, byte, letter, start, positions, leads);
         if byte == b'\n' {
-            run_case(text, letter, start, positions, leads);
             letter = 0;
         }
         if letter == 0 {
