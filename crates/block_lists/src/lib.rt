@@ -1,4 +1,5 @@
 // The two lent lists: the positions and the leads of the film's blocks.
+use streams::lead;
 use words::put_word;
 use words::word_at;
 use zones::zone_down;
@@ -15,18 +16,6 @@ ghost use Rattle.words.specs.Words.{wordsOf, withWord, withWords};
 ghost use Rattle.plan.specs.Plan.{row};
 ghost use Rattle.plan.specs.Answer.{begins};
 ghost use Rattle.plan.specs.Cursors.{Film, leadAt};
-
-// The lead of a block that takes `time`, in half microseconds.
-fn lead(time: u32, worst2: u32) -> u32
-    requires { ⌜ time ≤ 4000000 ⌝ }
-    ensures { λ r. ⌜ r ≡ 2 * time - worst2 ⌝ }
-{
-    let twice = 2 * time;
-    if twice < worst2 {
-        return 0;
-    }
-    twice - worst2
-}
 
 // Writes the position q and the lead of block b, which lies in a zone.
 fn put_block(

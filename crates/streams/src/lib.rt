@@ -1,4 +1,4 @@
-// The formula of streams and the buffer, in 32 and 64 bits.
+// The formula of streams, the buffer and the leads, in 32 and 64 bits.
 ghost use mathlib.Core.Path.{_≡_};
 ghost use Prim.Native.Nat.{_+_, _-_, _*_, _≤_, _<_};
 ghost use Rattle.pacing.specs.Streams.{overhead, load, streams, bufferOf};
@@ -51,4 +51,16 @@ pub fn buffer_size(rate: u32, n: u32, margin: u32, bytes: u32) -> u32
     ensures { λ r. ⌜ r ≡ bufferOf rate n margin bytes ⌝ }
 {
     3 * bytes + ((product(rate, n * margin) + 1999999) / 2000000) as u32
+}
+
+// The lead of a block that takes `time`, in half microseconds.
+pub fn lead(time: u32, worst2: u32) -> u32
+    requires { ⌜ time ≤ 4000000 ⌝ }
+    ensures { λ r. ⌜ r ≡ 2 * time - worst2 ⌝ }
+{
+    let twice = 2 * time;
+    if twice < worst2 {
+        return 0;
+    }
+    twice - worst2
 }
