@@ -1,6 +1,6 @@
 // What the lent lists and the zones say of a block.
-use plan::time_at;
 use words::word_at;
+use zones::time_at;
 ghost use Prim.Native.Nat.{_≤_};
 ghost use Rattle.plan.specs.Cursors.{Zoned};
 ghost use Rattle.soundness.specs.Gather.{Reach, Found};

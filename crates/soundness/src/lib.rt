@@ -27,7 +27,7 @@ ghost use Rattle.soundness.specs.Gather.{InRange};
 pub fn is_sound(desk: Desk, positions: &[u8], leads: &[u8]) -> bool
     ensures { λ r. ⌜ r ≡ soundDesk desk (now (positions .entry)) (now (leads .entry)) ⌝ }
 {
-    if !plan::is_plan(desk.plan, positions, leads) {
+    if !planner::is_plan(desk.plan, positions, leads) {
         return false;
     }
     slots::slots_sound(desk, leads)
@@ -78,7 +78,7 @@ pub fn not_opened() -> Answer
 pub fn open(plan: Plan, positions: &[u8], leads: &[u8]) -> Answer
     ensures { λ r. ⌜ r ≡ openDesk plan (now (positions .entry)) (now (leads .entry)) ⌝ }
 {
-    if !plan::is_plan(plan, positions, leads) {
+    if !planner::is_plan(plan, positions, leads) {
         return not_opened();
     }
     answer(fresh_desk(plan), 0, 0)

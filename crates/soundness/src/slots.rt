@@ -1,6 +1,6 @@
 // The test of the slots of a record.
 use desk::Desk;
-use plan::product;
+use streams::product;
 use words::word_at;
 ghost use mathlib.Core.Path.{_≡_};
 ghost use Prim.Native.Nat.{_+_, _*_, _≤_, _<_};

@@ -2,7 +2,7 @@
 use crate::marks::low_water;
 use desk::Desk;
 use desk::Gathered;
-use plan::product;
+use streams::product;
 ghost use mathlib.Core.Path.{_≡_};
 ghost use mathlib.Core.Bool.{_&&_};
 ghost use Prim.Native.Nat.{ℕ, _+_, _*_, _≤_};

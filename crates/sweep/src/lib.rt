@@ -19,7 +19,7 @@ use card::Verdict;
 use desk::Begun;
 use desk::Desk;
 use desk::Gathered;
-use plan::product;
+use streams::product;
 use words::entries;
 ghost use mathlib.Core.Path.{_≡_};
 ghost use Rattle.words.specs.Words.{wordsOf};

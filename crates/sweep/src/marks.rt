@@ -1,7 +1,7 @@
 // The low-water mark (01: the floor) in two-millionths of a byte, and the least that a playing slot holds.
 use desk::Desk;
 use desk::Gathered;
-use plan::product;
+use streams::product;
 ghost use mathlib.Core.Path.{_≡_};
 ghost use Prim.Native.Nat.{ℕ, _+_, _*_, _≤_, min};
 ghost use Rattle.safety.specs.Supply.{Supply};
