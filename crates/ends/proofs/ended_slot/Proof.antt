@@ -5,10 +5,10 @@ use Rattle.ends.proofs.ended_slot.Statement.{statement}
 use Rattle.ends.proofs.ended_slot.Tie as tie
 
 swept-requires : tie.Need-swept-requires
-swept-requires c κs = let a = c .before in (omega arith, omega arith, a .pre .0, a .pre .3 (omega arith) (omega arith), a .pre .4, a .pre .5)
+swept-requires c κs = let a = c .before in (omega arith, omega arith, omega arith, a .pre .3 (omega arith) (omega arith), omega arith, omega arith)
 
 swept-requires-2 : tie.Need-swept-requires-2
-swept-requires-2 c κs = let a = c .before in (omega arith, omega arith, a .pre .0, a .pre .3 (omega arith) (omega arith), a .pre .4, a .pre .5)
+swept-requires-2 c κs = let a = c .before in (omega arith, omega arith, omega arith, a .pre .3 (omega arith) (omega arith), omega arith, omega arith)
 
 drained-requires : tie.Need-drained-requires
 drained-requires c κs = search needs
