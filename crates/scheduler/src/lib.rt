@@ -1,10 +1,9 @@
 // Begin and end of a sweep. (Open, join and leave stand in crate admission.)
-mod lists; // the fetch list in bytes
-
 use desk::Answer;
 use desk::Begun;
 use desk::Desk;
 use draws::judge_draws;
+use fetch_bytes::write_entries;
 use floor::sum_leads;
 use gather::gather;
 use records::answer;
@@ -45,7 +44,7 @@ pub fn begin_into(desk: Desk, positions: &[u8], leads: &[u8], fetches: &mut [u8]
     let room = words::entries(fetches) / 3;
     let begun = begin(desk, positions, leads, room);
     let list = begun.fetches;
-    lists::write_entries(list, fetches);
+    write_entries(list, fetches);
     begun
 }
 

@@ -1,10 +1,10 @@
-// The fetch list in bytes.
+// The fetch list in bytes: twelve an entry, position, slot, block.
 use desk::Fetches;
 ghost use mathlib.Core.Path.{_≡_};
 ghost use Prim.Native.Nat.{_*_, _≤_};
 ghost use lib.ListN.{length};
 ghost use Rattle.words.specs.Words.{wordsOf, withWords};
-ghost use Rattle.scheduler.specs.Lists.{rows};
+ghost use Rattle.fetch_bytes.specs.Lists.{rows};
 
 // Writes the entries into a lent byte string; what stands past them stays.
 pub fn write_entries(fetches: Fetches, out: &mut [u8])

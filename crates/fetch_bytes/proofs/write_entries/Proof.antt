@@ -6,9 +6,9 @@ use lib.ListN.{length, getD}
 use mathlib.Core.List.{List}
 use Rattle.words.specs.Words.{withWord, withWords}
 use Rattle.words.specs.Laws.{words-length, withWord-length}
-use Rattle.scheduler.specs.Lists.{rows, rows-more, rows-done}
-use Rattle.scheduler.proofs.lists.write_entries.Statement.{statement}
-use Rattle.scheduler.proofs.lists.write_entries.Tie as tie
+use Rattle.fetch_bytes.specs.Lists.{rows, rows-more, rows-done}
+use Rattle.fetch_bytes.proofs.write_entries.Statement.{statement}
+use Rattle.fetch_bytes.proofs.write_entries.Tie as tie
 
 abbrev Inv-loop : tie.InvT-loop
 Inv-loop out₀ fetches count i₀ out i =
