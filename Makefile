@@ -1,5 +1,15 @@
 # Commands of the repository. `make test` is the gate; `make run` shows the product's main job.
-.PHONY: test run fmt
+.PHONY: test run programs library build install uninstall cases fuzz bench fmt
+
+VERSION = 0.1.0
+
+# Where `make install` puts things; DESTDIR goes before each of them.
+PREFIX ?= /usr/local
+BINDIR ?= $(PREFIX)/bin
+LIBDIR ?= $(PREFIX)/lib
+INCLUDEDIR ?= $(PREFIX)/include
+PKGCONFIGDIR ?= $(LIBDIR)/pkgconfig
+MANDIR ?= $(PREFIX)/share/man
 
 test:
 	@sh tests/run
@@ -10,6 +20,61 @@ run:
 	@mkdir -p target
 	@rt check listing >target/run.log 2>&1 || { cat target/run.log; exit 1; }
 	@target/bin/listing <crates/listing/stdin
+
+# target/bin/listing and target/bin/mkcard, proved and tried
+programs:
+	@sh tests/tools rt
+	@mkdir -p target
+	@echo 'proving and building the programs; the first time takes minutes'
+	@rt check listing mkcard >target/programs.log 2>&1 || { cat target/programs.log; exit 1; }
+
+# target/staticlib/libfilmdisk.a, proved
+library:
+	@sh tests/tools rt
+	@mkdir -p target
+	@echo 'proving and building the library; the first time takes minutes'
+	@rt staticlib filmdisk >target/library.log 2>&1 || { cat target/library.log; exit 1; }
+
+build: programs library
+
+# Installs what `make build` made; it needs neither rt nor a compiler.
+install:
+	@for made in target/bin/listing target/bin/mkcard target/staticlib/libfilmdisk.a; do \
+	    [ -f $$made ] || { echo "no $$made: run 'make build' first"; exit 1; }; done
+	install -d '$(DESTDIR)$(BINDIR)' '$(DESTDIR)$(LIBDIR)' '$(DESTDIR)$(INCLUDEDIR)' \
+	    '$(DESTDIR)$(PKGCONFIGDIR)' '$(DESTDIR)$(MANDIR)/man1' '$(DESTDIR)$(MANDIR)/man3'
+	install -m 755 target/bin/listing target/bin/mkcard '$(DESTDIR)$(BINDIR)'
+	install -m 644 target/staticlib/libfilmdisk.a '$(DESTDIR)$(LIBDIR)'
+	install -m 644 include/filmdisk.h '$(DESTDIR)$(INCLUDEDIR)'
+	sed -e 's|@PREFIX@|$(PREFIX)|' -e 's|@LIBDIR@|$(LIBDIR)|' -e 's|@INCLUDEDIR@|$(INCLUDEDIR)|' \
+	    -e 's|@VERSION@|$(VERSION)|' filmdisk.pc.in >'$(DESTDIR)$(PKGCONFIGDIR)/filmdisk.pc'
+	sed 's|@VERSION@|$(VERSION)|' man/listing.1 >'$(DESTDIR)$(MANDIR)/man1/listing.1'
+	sed 's|@VERSION@|$(VERSION)|' man/mkcard.1 >'$(DESTDIR)$(MANDIR)/man1/mkcard.1'
+	sed 's|@VERSION@|$(VERSION)|' man/filmdisk.3 >'$(DESTDIR)$(MANDIR)/man3/filmdisk.3'
+
+# Removes what `make install` with the same places put there; folders stay, as others may use them.
+uninstall:
+	rm -f '$(DESTDIR)$(BINDIR)/listing' '$(DESTDIR)$(BINDIR)/mkcard' '$(DESTDIR)$(LIBDIR)/libfilmdisk.a' \
+	    '$(DESTDIR)$(INCLUDEDIR)/filmdisk.h' '$(DESTDIR)$(PKGCONFIGDIR)/filmdisk.pc' \
+	    '$(DESTDIR)$(MANDIR)/man1/listing.1' '$(DESTDIR)$(MANDIR)/man1/mkcard.1' \
+	    '$(DESTDIR)$(MANDIR)/man3/filmdisk.3'
+
+# The library against the model for some minutes, from another seed each time; CASES is another count.
+CASES = 200000
+cases: library
+	@sh tests/tools cc cargo
+	@sh tests/host/build target/staticlib target-tests/host >target/cases.log 2>&1 || { cat target/cases.log; exit 1; }
+	@target-tests/host/rust/release/library_cases $$(date +%s) $(CASES)
+
+# The C entry points against their plain C twin on inputs that a fuzzer makes, for a minute; FUZZ_SECONDS is another time.
+FUZZ_SECONDS = 60
+fuzz: library
+	@sh tests/tools cc
+	@sh tests/fuzz/run target/staticlib target-tests/fuzz $(FUZZ_SECONDS)
+
+# The library against plain C and plain Rust, in one run; docs/BENCH.md tells how. Not part of the gate.
+bench:
+	@sh bench/run
 
 fmt:
 	@rt fmt

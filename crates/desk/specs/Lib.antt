@@ -2,4 +2,5 @@ pub mod Desk
 pub mod Entries
 pub mod Promise
 pub mod Ready
+pub mod Slots
 pub mod View

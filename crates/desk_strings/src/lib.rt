@@ -9,6 +9,8 @@ use layout::read_desk;
 use layout::read_plan;
 use layout::verdict_answer;
 use layout::write_desk;
+use records::answer;
+use records::blank_desk;
 ghost use mathlib.Core.Path.{_≡_};
 ghost use Prim.Native.Nat.{_≤_};
 ghost use lib.ListN.{length};
@@ -41,9 +43,9 @@ fn open_plan(plan: &[u8], positions: &[u8], leads: &[u8]) -> Answer
     ensures { λ r. ⌜ r ≡ openedFrom (now (plan .entry)) (now (positions .entry)) (now (leads .entry)) ⌝ }
 {
     if plan.len() != PLAN_BYTES {
-        return soundness::not_opened();
+        return answer(blank_desk(), 14, 0);
     }
-    soundness::open(read_plan(plan), positions, leads)
+    admission::open(read_plan(plan), positions, leads)
 }
 
 // Opens a desk: 14, then 13 where the desk string has another length.
@@ -76,8 +78,8 @@ pub fn join(
     if desk.len() != DESK_BYTES {
         return refused(14);
     }
-    let answer = soundness::join(read_desk(desk), positions, leads, slot, block);
-    write_back(desk, answer)
+    let answered = admission::join(read_desk(desk), positions, leads, slot, block);
+    write_back(desk, answered)
 }
 
 // An occupied slot becomes free: 14 to 17.
@@ -88,8 +90,8 @@ pub fn leave(desk: &mut [u8], positions: &[u8], leads: &[u8], slot: u32) -> Film
     if desk.len() != DESK_BYTES {
         return refused(14);
     }
-    let answer = soundness::leave(read_desk(desk), positions, leads, slot);
-    write_back(desk, answer)
+    let answered = admission::leave(read_desk(desk), positions, leads, slot);
+    write_back(desk, answered)
 }
 
 // What a begin answers, without its fetches.
@@ -128,6 +130,6 @@ pub fn end(desk: &mut [u8], positions: &[u8], leads: &[u8], draws: &[u8]) -> Fil
     if desk.len() != DESK_BYTES {
         return refused(14);
     }
-    let answer = scheduler::end(read_desk(desk), positions, leads, draws);
-    write_back(desk, answer)
+    let answered = scheduler::end(read_desk(desk), positions, leads, draws);
+    write_back(desk, answered)
 }

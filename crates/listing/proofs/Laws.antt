@@ -21,7 +21,7 @@ use Rattle.plan.specs.Cursors.{Zoned}
 use Rattle.plan.specs.Legal.{legal-zoned, place-below, total-is}
 use Rattle.plan.specs.Answer.{planFault, faultAfter, refusal, answer, planned, positionsAfter, leadsAfter, isPlan}
 use Rattle.plan.specs.Check.{checked, checked-legal, plan-passes}
-use Rattle.plan.proofs.Answers.{short-positions, short-leads, no-stream, card-legal}
+use Rattle.plan.specs.Ways.{short-positions, short-leads, no-stream, card-legal}
 
 -- ---- a plan with its lists
 

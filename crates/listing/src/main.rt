@@ -36,7 +36,7 @@ fn print_block(plan: Plan, positions: &[u8], leads: &[u8], b: u32)
 {
     let figures = plan.figures;
     let position = words::word_at(positions, b as usize);
-    let time = plan::time_at(&figures.positions, &figures.times, position);
+    let time = zones::time_at(&figures.positions, &figures.times, position);
     let lead = words::word_at(leads, b as usize);
     let start = put_next(put_number(empty(), b as u64), position as u64);
     print(put_next(put_next(start, time as u64), lead as u64));
@@ -60,7 +60,7 @@ fn print_blocks(plan: Plan, positions: &[u8], leads: &[u8])
 fn list(card: &[u8]) {
     let mut positions = io::large_buffer();
     let mut leads = io::large_buffer();
-    let planned = plan::plan_card(card, &mut positions, &mut leads);
+    let planned = planner::plan_card(card, &mut positions, &mut leads);
     let verdict = planned.verdict;
     if verdict.number != 0 {
         print_refusal(verdict);

@@ -6,7 +6,7 @@ use mathlib.Core.List.{List}
 use lib.ListN.{length, getD, take}
 use Rattle.placement.specs.Placement.{place}
 use Rattle.placement.specs.Zones.{total, timeAt}
-use Rattle.plan.specs.declared.zones.Zone.{Zone}
+use Rattle.plan.specs.declared.Zone.{Zone}
 
 -- the zones of a disk: each up to the last position has positions of its own, and there are few enough in all
 pub record Zoned (ps : List ℕ) : Type 0 where

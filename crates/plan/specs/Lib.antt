@@ -4,5 +4,5 @@ pub mod Cursors
 pub mod Legal
 pub mod Plan
 pub mod Promise
-pub mod Ranges
 pub mod Rows
+pub mod Ways

@@ -1,364 +1,198 @@
-// Runs the planner on the cases of document 01, on real disks and on refusals, and the check of a plan on altered plans. Each answer
-// is a line: streams, buffer, worst2 and margin, or the refusal, then a sum of each list, which was filled with a pattern before.
-mod films; // the films of the cases
-mod lists; // patterns, sums, bytes altered
-
-use crate::films::alike;
-use crate::films::barracuda;
-use crate::films::bench_film;
-use crate::films::deskstar;
-use crate::films::example_one_zone;
-use crate::films::example_six_zones;
-use crate::films::two_two_one;
-use crate::lists::fill;
-use crate::lists::print_sum;
-use card::Figures;
-use libc::STDOUT_FILENO;
+// Runs the planner on the cases of document 01, on real disks and on refusals, and the check of a plan on altered plans. Standard input
+// has a case on each line: its name, which has no colon, then a colon, a letter for what is done, and what it is done to. P and L are the
+// bytes of the lists of positions and leads, 65,536 at most. RECORD is zones N B c hop return, then positions and time of each zone; what
+// is missing is 0. PLAN is streams, buffer, worst2 and margin, then RECORD.
+//
+//     NAME: r P L RECORD    plans a record, with lists of a pattern
+//     NAME: c P L CARD      plans a card, its bytes in hexadecimal, with lists of a pattern
+//     NAME: k P L PLAN      is this the plan of its figures, with the first bytes of the lists as the last plan left them?
+//     NAME: b P L PLAN      the same with each of the first 28 bytes altered, of the positions and of the leads in turn
+//
+// A line is printed for each: its name and the answer, which of a planned film is streams, buffer, worst2 and margin, or the refusal, then
+// a sum of each list.
+use case_text::next_letter;
+use case_text::print;
+use case_text::print_byte;
+use case_text::print_number;
+use case_text::print_refusal;
+use case_text::read_bytes;
+use case_text::read_number;
+use case_text::read_record;
+use case_text::wide;
+use libc::STDIN_FILENO;
 use plan::Plan;
 use plan::Planned;
 
-fn print(text: &[u8]) {
-    io::write_all(STDOUT_FILENO, text);
+// Fills a list with a pattern.
+fn fill(list: &mut [u8]) {
+    let mut i: usize = 0;
+    while i < list.len() {
+        list[i] = (i % 251) as u8;
+        i += 1;
+    }
 }
 
-fn print_number(n: u32) {
-    print(b" ");
-    io::print_decimal(STDOUT_FILENO, n as u64);
+// A sum of a list that each byte and its place alter.
+fn sum_of(list: &[u8]) -> u64 {
+    let mut sum: u64 = 0;
+    let mut i: usize = 0;
+    while i < list.len() {
+        sum = (sum * 257 + wide(list[i]) + 1) % 1000003;
+        i += 1;
+    }
+    sum
 }
 
-fn print_refusal(planned: Planned) {
-    let verdict = planned.verdict;
-    print(b" refused");
-    print_number(verdict.number);
-    print(b" at ");
-    io::print_decimal(STDOUT_FILENO, verdict.place as u64);
-}
-
-// An accepted plan's figures, or the refusal.
-fn print_answer(planned: Planned) {
+// The refusal, if there is one, the plan's figures and the sum of each list.
+fn print_answer(planned: Planned, positions: &[u8], leads: &[u8]) {
     let verdict = planned.verdict;
     if verdict.number != 0 {
-        print_refusal(planned);
+        print_refusal(verdict);
     }
     let plan = planned.plan;
-    print_number(plan.streams);
-    print_number(plan.buffer);
-    print_number(plan.worst2);
-    print_number(plan.margin);
+    print_number(plan.streams as u64);
+    print_number(plan.buffer as u64);
+    print_number(plan.worst2 as u64);
+    print_number(plan.margin as u64);
+    print_number(sum_of(positions));
+    print_number(sum_of(leads));
 }
 
-fn print_lists(positions: &[u8], leads: &[u8]) {
-    print_sum(positions);
-    print_sum(leads);
-    print(b"\n");
-}
-
-// Plans a record, with lists of a pattern.
-fn show_record(figures: Figures, positions: &mut [u8], leads: &mut [u8]) {
-    fill(positions);
-    fill(leads);
-    print_answer(plan::plan_record(figures, positions, leads));
-    print_lists(positions, leads);
-}
-
-// Plans a card, with lists of a pattern.
-fn show_card(card: &[u8], positions: &mut [u8], leads: &mut [u8]) {
-    fill(positions);
-    fill(leads);
-    print_answer(plan::plan_card(card, positions, leads));
-    print_lists(positions, leads);
-}
-
-// A long film, with lists of 16,384 entries.
-fn long_film(name: &[u8], figures: Figures) {
-    print(name);
-    let mut positions = io::large_buffer();
-    let mut leads = io::large_buffer();
-    show_record(figures, &mut positions, &mut leads);
-}
-
-// A record, with lists of so many bytes, 4,096 at most.
-fn record_in(name: &[u8], figures: Figures, positions_size: isize, leads_size: isize) {
-    print(name);
-    let mut positions = io::buffer();
-    let mut leads = io::buffer();
-    let p = io::count(positions_size, &positions);
-    let l = io::count(leads_size, &leads);
-    show_record(figures, &mut positions[..p], &mut leads[..l]);
-}
-
-// A card, with lists of so many bytes, 4,096 at most.
-fn card_in(name: &[u8], card: &[u8], positions_size: isize, leads_size: isize) {
-    print(name);
-    let mut positions = io::buffer();
-    let mut leads = io::buffer();
-    let p = io::count(positions_size, &positions);
-    let l = io::count(leads_size, &leads);
-    show_card(card, &mut positions[..p], &mut leads[..l]);
-}
-
-fn real_disks() {
-    long_film(b"Barracuda 9, N 8871:", barracuda(8871));
-    long_film(b"Barracuda 9, N 3600:", barracuda(3600));
-    long_film(b"Deskstar 120GXP:", deskstar());
-}
-
-// Example 1 of document 001: the least B for 12 streams, and a byte less.
-fn paper_examples() {
-    record_in(
-        b"example 1, one zone, B 286921:",
-        example_one_zone(286921),
-        8,
-        8,
-    );
-    record_in(
-        b"example 1, one zone, B 286920:",
-        example_one_zone(286920),
-        8,
-        8,
-    );
-    record_in(
-        b"example 1, six zones, B 180659:",
-        example_six_zones(180659),
-        24,
-        24,
-    );
-    record_in(
-        b"example 1, six zones, B 180658:",
-        example_six_zones(180658),
-        24,
-        24,
-    );
-}
-
-// 13: either list an entry short.
-fn short_lists() {
-    record_in(b"positions one entry short:", bench_film(), 23, 24);
-    record_in(b"leads one entry short:", bench_film(), 24, 23);
-    record_in(b"no lists:", bench_film(), 0, 0);
-}
-
-// Longer lists are fine: entries past N and spare bytes stay.
-fn long_lists() {
-    record_in(b"lists that just fit:", bench_film(), 24, 24);
-    record_in(b"spare bytes:", bench_film(), 27, 25);
-    record_in(b"long lists:", bench_film(), 4096, 400);
-}
-
-// The order of refusals: the figures' own, then 13, then 12. Both lists stay.
-fn order_of_refusals() {
-    let slow = alike(2, 23834);
-    record_in(b"no stream:", slow, 8, 8);
-    record_in(b"no stream, short list:", slow, 8, 7);
-    let mut no_hop = slow;
-    no_hop.hop = 0;
-    record_in(b"no stream, short list, hop 0:", no_hop, 8, 7);
-}
-
-fn small_films() {
-    record_in(b"times 2 2 1:", two_two_one(), 12, 12);
-    record_in(b"one stream:", alike(2, 23835), 8, 8);
-    let mut no_block = bench_film();
-    no_block.blocks = 1;
-    record_in(b"N 1:", no_block, 24, 24);
-}
-
-// The same from cards: a refusal has its offset, 13 and 12 have 0.
-fn cards() {
-    card_in(
-        b"card of the bench film:",
-        b"\x01\x06\x01\xfe\xad\x01\x01\xc6\xa0\x01\x01\x92\x95\x01\x01\x92\x8b\x01\x01\xbc\x82\x01\x01\xe8\x7a\x06\x80\x80\x10\xa0\xc2\x1e\xfe\x62\x98\x75",
-        28,
-        28,
-    );
-    card_in(
-        b"card, short list:",
-        b"\x01\x06\x01\xfe\xad\x01\x01\xc6\xa0\x01\x01\x92\x95\x01\x01\x92\x8b\x01\x01\xbc\x82\x01\x01\xe8\x7a\x06\x80\x80\x10\xa0\xc2\x1e\xfe\x62\x98\x75",
-        20,
-        28,
-    );
-    card_in(
-        b"card, second time 0, short list:",
-        b"\x01\x06\x01\xfe\xad\x01\x01\x00\x01\x92\x95\x01\x01\x92\x8b\x01\x01\xbc\x82\x01\x01\xe8\x7a\x06\x80\x80\x10\xa0\xc2\x1e\xfe\x62\x98\x75",
-        20,
-        28,
-    );
-}
-
-fn slow_cards() {
-    card_in(
-        b"card, no stream:",
-        b"\x01\x01\x02\xa0\x9c\x01\x02\x9a\xba\x01\xa0\xc2\x1e\xfe\x62\x98\x75",
-        8,
-        8,
-    );
-    card_in(
-        b"card, no stream, bytes left over:",
-        b"\x01\x01\x02\xa0\x9c\x01\x02\x9a\xba\x01\xa0\xc2\x1e\xfe\x62\x98\x75\x00",
-        8,
-        8,
-    );
+// A plan: streams, buffer, worst2, margin, and its record.
+fn read_plan(text: &[u8], start: usize) -> Plan {
+    let streams = read_number(text, start);
+    let buffer = read_number(text, streams.next);
+    let worst2 = read_number(text, buffer.next);
+    let margin = read_number(text, worst2.next);
+    Plan {
+        figures: read_record(text, margin.next),
+        streams: streams.value,
+        buffer: buffer.value,
+        worst2: worst2.value,
+        margin: margin.value,
+    }
 }
 
 // Is this the plan of its figures, with its lists?
 fn check(plan: Plan, positions: &[u8], leads: &[u8]) {
-    if plan::is_plan(plan, positions, leads) {
+    if planner::is_plan(plan, positions, leads) {
         print(b" yes");
         return;
     }
     print(b" no");
 }
 
-// Each number altered.
-fn check_numbers(plan: Plan, positions: &[u8], leads: &[u8]) {
-    print(b"numbers altered:");
-    let mut streams = plan;
-    streams.streams = 15;
-    check(streams, positions, leads);
-    let mut buffer = plan;
-    buffer.buffer = 812631;
-    check(buffer, positions, leads);
-    let mut worst2 = plan;
-    worst2.worst2 = 40080;
-    check(worst2, positions, leads);
-    let mut margin = plan;
-    margin.margin = 0;
-    check(margin, positions, leads);
-    print(b"\n");
-}
-
-// The plan with other figures.
-fn with_figures(plan: Plan, figures: Figures) -> Plan {
-    let mut other = plan;
-    other.figures = figures;
-    other
-}
-
-// Figures altered: a return with which all numbers stay, and a B with another buffer.
-fn check_figures(plan: Plan, positions: &[u8], leads: &[u8]) {
-    print(b"figures altered:");
-    let mut back = plan.figures;
-    back.back = 15001;
-    check(with_figures(plan, back), positions, leads);
-    let mut bytes = plan.figures;
-    bytes.bytes = 262145;
-    check(with_figures(plan, bytes), positions, leads);
-}
-
-// Figures out of range, and a rate that feeds no stream.
-fn check_refused_figures(plan: Plan, positions: &[u8], leads: &[u8]) {
-    let mut zones = plan.figures;
-    zones.zones = 65;
-    check(with_figures(plan, zones), positions, leads);
-    let mut rate = plan.figures;
-    rate.rate = 10000000;
-    let mut none = with_figures(plan, rate);
-    none.streams = 0;
-    none.buffer = 786432;
-    check(none, positions, leads);
-    print(b"\n");
-}
-
-// A byte of a list altered, which then gets its value back.
-fn check_position(plan: Plan, positions: &mut [u8], leads: &[u8], at: usize) {
-    if positions.len() <= at {
-        return;
-    }
-    let old = positions[at];
-    positions[at] = 77;
-    check(plan, positions, leads);
-    positions[at] = old;
-}
-
-fn check_lead(plan: Plan, positions: &[u8], leads: &mut [u8], at: usize) {
-    if leads.len() <= at {
-        return;
-    }
-    let old = leads[at];
-    leads[at] = 77;
-    check(plan, positions, leads);
-    leads[at] = old;
-}
-
-// Each byte of the six entries altered, then those of the entry past N.
-fn check_positions(plan: Plan, positions: &mut [u8], leads: &[u8]) {
-    print(b"positions altered, then past N:");
+// The same with each byte altered, which then gets its value back.
+fn check_altered(plan: Plan, positions: &mut [u8], leads: &mut [u8]) {
     let mut at: usize = 0;
     while at < 28 {
-        check_position(plan, positions, leads, at);
+        if positions.len() <= at {
+            return;
+        }
+        if leads.len() <= at {
+            return;
+        }
+        let position = positions[at];
+        positions[at] = 77;
+        check(plan, positions, leads);
+        positions[at] = position;
+        let lead = leads[at];
+        leads[at] = 77;
+        check(plan, positions, leads);
+        leads[at] = lead;
         at += 1;
     }
-    print(b"\n");
 }
 
-fn check_leads(plan: Plan, positions: &[u8], leads: &mut [u8]) {
-    print(b"leads altered, then past N:");
-    let mut at: usize = 0;
-    while at < 28 {
-        check_lead(plan, positions, leads, at);
-        at += 1;
+// Plans the record or the card that stands from `start` on, with lists of a pattern.
+fn plan_film(text: &[u8], letter: u8, start: usize, positions: &mut [u8], leads: &mut [u8]) {
+    fill(positions);
+    fill(leads);
+    if letter == b'r' {
+        print_answer(
+            planner::plan_record(read_record(text, start), positions, leads),
+            positions,
+            leads,
+        );
+        return;
     }
-    print(b"\n");
+    let mut card = io::buffer();
+    let n = read_bytes(text, start, &mut card);
+    print_answer(
+        planner::plan_card(&card[..n], positions, leads),
+        positions,
+        leads,
+    );
 }
 
-// The first bytes of both lists.
-fn check_part(
-    plan: Plan,
-    positions: &[u8],
-    leads: &[u8],
-    positions_size: isize,
-    leads_size: isize,
+// Does what the letter says to what stands from `start` on, with these lists.
+fn run_with(text: &[u8], letter: u8, start: usize, positions: &mut [u8], leads: &mut [u8]) {
+    if letter == b'k' {
+        check(read_plan(text, start), positions, leads);
+        return;
+    }
+    if letter == b'b' {
+        check_altered(read_plan(text, start), positions, leads);
+        return;
+    }
+    plan_film(text, letter, start, positions, leads);
+}
+
+// The same at the end of a case's line, with as many bytes of the lists as the case says.
+fn run_case(
+    text: &[u8],
+    byte: u8,
+    letter: u8,
+    start: usize,
+    positions: &mut [u8],
+    leads: &mut [u8],
 ) {
-    let p = io::count(positions_size, positions);
-    let l = io::count(leads_size, leads);
-    check(plan, &positions[..p], &leads[..l]);
+    if byte != b'\n' {
+        return;
+    }
+    if letter == 0 {
+        return;
+    }
+    let size = read_number(text, start);
+    let p = io::count(size.value as isize, positions);
+    let other = read_number(text, size.next);
+    let l = io::count(other.value as isize, leads);
+    run_with(
+        text,
+        letter,
+        other.next,
+        &mut positions[..p],
+        &mut leads[..l],
+    );
 }
 
-fn check_parts(plan: Plan, positions: &[u8], leads: &[u8]) {
-    print(b"lists that just fit, then short:");
-    check_part(plan, positions, leads, 24, 24);
-    check_part(plan, positions, leads, 23, 24);
-    check_part(plan, positions, leads, 24, 23);
-    check_part(plan, positions, leads, 0, 0);
-    print(b"\n");
-}
-
-fn check_own(plan: Plan, positions: &[u8], leads: &[u8]) {
-    print(b"own plan:");
-    check(plan, positions, leads);
-    print(b"\n");
-}
-
-fn check_record(plan: Plan, positions: &[u8], leads: &[u8]) {
-    check_own(plan, positions, leads);
-    check_numbers(plan, positions, leads);
-    check_figures(plan, positions, leads);
-    check_refused_figures(plan, positions, leads);
-    check_parts(plan, positions, leads);
-}
-
-fn check_lists(plan: Plan, positions: &mut [u8], leads: &mut [u8]) {
-    check_record(plan, positions, leads);
-    check_positions(plan, positions, leads);
-    check_leads(plan, positions, leads);
-}
-
-// The check of the bench film's plan, and of altered ones.
-fn checks() {
-    let mut positions = io::buffer();
-    let mut leads = io::buffer();
-    let planned = plan::plan_record(bench_film(), &mut positions, &mut leads);
-    check_lists(planned.plan, &mut positions, &mut leads);
+// Every line: its name up to the colon, then the answer.
+fn run_cases(text: &[u8], positions: &mut [u8], leads: &mut [u8]) {
+    // The letter of the case, 0 in its name and a colon after that, and where what follows it begins.
+    let mut letter: u8 = 0;
+    let mut start: usize = 0;
+    let mut at: usize = 0;
+    while at < text.len() {
+        let byte = text[at];
+        at += 1;
+        run_case(text, byte, letter, start, positions, leads);
+        if byte == b'\n' {
+            letter = 0;
+        }
+        if letter == 0 {
+            print_byte(byte);
+        }
+        if letter == b':' {
+            start = at;
+        }
+        letter = next_letter(letter, byte);
+    }
 }
 
 fn main() {
-    real_disks();
-    paper_examples();
-    short_lists();
-    long_lists();
-    order_of_refusals();
-    small_films();
-    cards();
-    slow_cards();
-    checks();
+    let mut input = io::large_buffer();
+    let count = io::read_full(STDIN_FILENO, &mut input);
+    let mut positions = io::large_buffer();
+    let mut leads = io::large_buffer();
+    run_cases(&input[..count], &mut positions, &mut leads);
 }

@@ -4,7 +4,7 @@ use layout::FilmdiskAnswer;
 use layout::PLAN_BYTES;
 use layout::verdict_answer;
 use layout::write_plan;
-use plan::plan_card;
+use planner::plan_card;
 ghost use mathlib.Core.Path.{_≡_};
 ghost use Rattle.plan_strings.specs.Calls.{planAnswer, planString, positionsString, leadsString};
 

@@ -16,17 +16,14 @@ use Rattle.safety.specs.Lists.{answer-accepted, answer-refused}
 use Rattle.safety.specs.Verdicts.{refusals-strict}
 use Rattle.safety.specs.Rows.{refuse, begin-phase, begin-short, begin-accepted, end-phase}
 use Rattle.desk.specs.declared.Desk.{Desk}
-use Rattle.desk.specs.declared.Begun.{Begun}
 use Rattle.desk.specs.Desk.{supplyOf, viewOf, deskOf, verdict, fetchesOf, answerOf, answered, beginDesk, endDesk}
 use Rattle.desk.specs.View.{Wide, desk-of-view}
 use Rattle.desk.specs.Promise.{supply-named}
+use Rattle.records.specs.Records.{answers, notBegun}
 use Rattle.soundness.specs.Facts.{soundDesk}
-use Rattle.soundness.specs.Answers.{answers}
-use Rattle.sweep.specs.Steps.{begunDesk, judgedDraws, Drawn, endedDesk}
-
--- a begin that is refused: the desk it was given, no fetches and no bound
-unfoldable pub notBegun : Desk → ℕ → Begun
-notBegun d k = record { verdict = verdict k 0; desk = d; bound = 0; fetches = fetchesOf [] }
+use Rattle.draws.specs.Draws.{judgedDraws}
+use Rattle.ends.specs.Ends.{Drawn}
+use Rattle.sweep.specs.Steps.{begunDesk, endedDesk}
 
 module _ (d : Desk) (w : Wide d) (ps ls : List ℕ) where
   abbrev judges : ℕ → Call ℕ → refusals.Verdict

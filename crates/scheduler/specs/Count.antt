@@ -20,10 +20,11 @@ use Rattle.desk.specs.declared.Begun.{Begun}
 use Rattle.desk.specs.Desk.{supplyOf, viewOf, fetchesOf, beginDesk}
 use Rattle.desk.specs.View.{Wide}
 use Rattle.desk.specs.Ready.{Ready, ready-lawful}
+use Rattle.records.specs.Records.{notBegun}
 use Rattle.soundness.specs.Facts.{soundDesk}
 use Rattle.soundness.specs.Ready.{sound-ready, sound-plan, plan-streams}
 use Rattle.sweep.specs.Steps.{begunDesk}
-use Rattle.scheduler.specs.Answers.{notBegun, begin-unsound, begin-in-sweep, begin-no-room, begin-begun}
+use Rattle.scheduler.specs.Answers.{begin-unsound, begin-in-sweep, begin-no-room, begin-begun}
 
 -- a sweep fetches at most n blocks
 one-each : (p : Plan) (ss : List (Slot ℕ)) → length (entries (supplyOf p) ss) ≡ fetchCount (supplyOf p) ss * 1

@@ -1,69 +1,21 @@
-// Begin and end of a sweep. (Open, join and leave stand in crate soundness.)
-mod lists; // the fetch list in bytes
-
-use card::Verdict;
+// Begin and end of a sweep. (Open, join and leave stand in crate admission.)
 use desk::Answer;
 use desk::Begun;
 use desk::Desk;
-use desk::Fetches;
-use soundness::gather;
+use draws::judge_draws;
+use fetch_bytes::write_entries;
+use floor::sum_leads;
+use gather::gather;
+use records::answer;
+use records::not_begun;
 use soundness::is_sound;
 use sweep::begin_sweep;
 use sweep::end_sweep;
-use sweep::judge_draws;
 ghost use mathlib.Core.Path.{_≡_};
-ghost use mathlib.Core.List.{[]};
 ghost use Prim.Native.Nat.{_/_};
 ghost use lib.ListN.{length};
 ghost use Rattle.words.specs.Words.{wordsOf};
-ghost use Rattle.desk.specs.Desk.{zeros, fetchesOf, beginDesk, fetchListAfter, endDesk};
-ghost use Rattle.soundness.specs.Answers.{answers};
-ghost use Rattle.scheduler.specs.Answers.{notBegun};
-
-fn zeros() -> [u32; 256]
-    ensures { λ r. ⌜ r ≡ zeros ⌝ }
-{
-    [0u32; 256]
-}
-
-fn no_fetches() -> Fetches
-    ensures { λ r. ⌜ r ≡ fetchesOf [] ⌝ }
-{
-    Fetches {
-        count: 0,
-        positions: zeros(),
-        slots: zeros(),
-        blocks: zeros(),
-    }
-}
-
-// A refused begin: the desk it was given, no fetches and no bound.
-fn not_begun(desk: Desk, number: u32) -> Begun
-    ensures { λ r. ⌜ r ≡ notBegun desk number ⌝ }
-{
-    Begun {
-        verdict: Verdict {
-            number: number,
-            place: 0,
-        },
-        desk: desk,
-        bound: 0,
-        fetches: no_fetches(),
-    }
-}
-
-// A desk with a number and no place.
-fn answer(desk: Desk, number: u32) -> Answer
-    ensures { λ r. ⌜ r ≡ answers desk number 0 ⌝ }
-{
-    Answer {
-        verdict: Verdict {
-            number: number,
-            place: 0,
-        },
-        desk: desk,
-    }
-}
+ghost use Rattle.desk.specs.Desk.{beginDesk, fetchListAfter, endDesk};
 
 // Begins a sweep, where the caller has room for so many fetch entries: 14, 15, 13.
 pub fn begin(desk: Desk, positions: &[u8], leads: &[u8], room: usize) -> Begun
@@ -80,7 +32,8 @@ pub fn begin(desk: Desk, positions: &[u8], leads: &[u8], room: usize) -> Begun
         return not_begun(desk, 13);
     }
     let g = gather(desk, positions, leads);
-    begin_sweep(desk, g)
+    let sum = sum_leads(desk, leads);
+    begin_sweep(desk, g, sum)
 }
 
 // Begins a sweep and writes its fetches into a lent byte string, twelve bytes an entry: position, slot, block.
@@ -91,7 +44,7 @@ pub fn begin_into(desk: Desk, positions: &[u8], leads: &[u8], fetches: &mut [u8]
     let room = words::entries(fetches) / 3;
     let begun = begin(desk, positions, leads, room);
     let list = begun.fetches;
-    lists::write_entries(list, fetches);
+    write_entries(list, fetches);
     begun
 }
 
@@ -100,10 +53,10 @@ pub fn end(desk: Desk, positions: &[u8], leads: &[u8], draws: &[u8]) -> Answer
     ensures { λ r. ⌜ r ≡ endDesk desk (now (positions .entry)) (now (leads .entry)) (now (draws .entry)) ⌝ }
 {
     if !is_sound(desk, positions, leads) {
-        return answer(desk, 14);
+        return answer(desk, 14, 0);
     }
     if desk.phase != 1 {
-        return answer(desk, 15);
+        return answer(desk, 15, 0);
     }
     let g = gather(desk, positions, leads);
     let verdict = judge_draws(desk, g, draws);
@@ -113,5 +66,5 @@ pub fn end(desk: Desk, positions: &[u8], leads: &[u8], draws: &[u8]) -> Answer
             desk: desk,
         };
     }
-    answer(end_sweep(desk, draws), 0)
+    answer(end_sweep(desk, draws), 0, 0)
 }

@@ -4,16 +4,12 @@ use Prim.Native.Nat.{ℕ, _*_, _≤_, _<_}
 use mathlib.Core.Path.{_≡_}
 use mathlib.Core.Bool.{Bool, true, false, _&&_}
 use mathlib.Core.List.{List}
-use lib.ListN.{length, getD, take}
-use Rattle.card.specs.declared.Figures.{Figures}
-use Rattle.words.specs.Words.{wordsOf}
-use Rattle.plan.specs.Plan.{leadOf}
+use lib.ListN.{getD}
 use Rattle.plan.specs.Answer.{isPlan}
-use Rattle.safety.specs.Scheduler.{leads}
 use Rattle.safety.specs.Order.{bySlot}
 use Rattle.safety.specs.Sound.{sound}
 use Rattle.desk.specs.declared.Desk.{Desk}
-use Rattle.desk.specs.Desk.{supplyOf, slotsIn, viewOf}
+use Rattle.desk.specs.Desk.{supplyOf, viewOf}
 
 -- the phase and the slots are sound
 abbrev pub slotsSound : Desk → Bool
@@ -22,14 +18,6 @@ slotsSound d = sound (supplyOf (d .plan)) (bySlot (supplyOf (d .plan))) (viewOf 
 -- THE RECORD IS SOUND with its lent lists
 abbrev pub soundDesk : Desk → List ℕ → List ℕ → Bool
 soundDesk d ps ls = isPlan (d .plan) ps ls && slotsSound d
-
--- the leads at the next blocks of all filling and playing slots, added up
-abbrev pub leadSum : Desk → ℕ
-leadSum d = leads (supplyOf (d .plan)) (slotsIn d)
-
--- those of the first i slots
-abbrev pub leadsTo : Desk → ℕ → ℕ
-leadsTo d i = leads (supplyOf (d .plan)) (take i (slotsIn d))
 
 -- a test tells whether a fact holds
 pub record Tells (r : Bool) (P : Type 0) : Type 0 where
@@ -59,14 +47,3 @@ pub record AllTidy (d : Desk) : Type 0 where
 -- `each playing slot holds at least the floor`, x being the floor in two-millionths of a byte
 abbrev pub PlayersHold : Desk → ℕ → Type 0
 PlayersHold d x = (i : ℕ) → i < 256 → getD (d .kinds) i 0 ≡ 3 → x ≤ 2000000 * getD (d .held) i 0
-
--- a list of leads that begins with the film's: long enough, each entry the lead of its block and in its range
-pub record LeadList (f : Figures) (ls : List ℕ) : Type 0 where
-  pub long : f .blocks ≤ length (wordsOf ls)
-  pub here : (b : ℕ) → b < f .blocks → getD (wordsOf ls) b 0 ≡ leadOf f b
-  pub small : (b : ℕ) → b < f .blocks → leadOf f b ≤ 3999999
-
--- what a slot of kind k with next block x adds to the leads: the lead at x where it is filling or playing
-pub record LeadIs (ls : List ℕ) (k x r : ℕ) : Type 0 where
-  pub reading : 2 ≤ k → k ≤ 3 → r ≡ getD (wordsOf ls) x 0
-  pub other : (2 ≤ k → k ≤ 3 → ⊥) → r ≡ 0

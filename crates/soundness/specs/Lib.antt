@@ -1,5 +1,3 @@
-pub mod Answers
 pub mod Facts
-pub mod Gather
 pub mod Laws
 pub mod Ready

@@ -18,7 +18,8 @@ use Rattle.desk.specs.declared.Desk.{Desk}
 use Rattle.desk.specs.Desk.{supplyOf, viewOf}
 use Rattle.desk.specs.Promise.{supply-named}
 use Rattle.desk.specs.Ready.{Ready}
-use Rattle.soundness.specs.Facts.{soundDesk, LeadList}
+use Rattle.floor.specs.Floor.{LeadList}
+use Rattle.soundness.specs.Facts.{soundDesk}
 
 -- the lent leads of a plan
 pub plan-leads : (p : Plan) (ps ls : List ℕ) → legality.Wide (p .figures) → isPlan p ps ls ≡ true → LeadList (p .figures) ls

@@ -1,13 +1,12 @@
 // The test of the slots of a record.
 use desk::Desk;
-use plan::product;
-use words::word_at;
+use floor::low_water;
+use floor::sum_leads;
+use streams::product;
 ghost use mathlib.Core.Path.{_≡_};
-ghost use Prim.Native.Nat.{_+_, _*_, _≤_, _<_};
-ghost use lib.ListN.{length};
-ghost use Rattle.words.specs.Words.{wordsOf};
 ghost use Rattle.card.specs.Card.{Legal};
-ghost use Rattle.soundness.specs.Facts.{slotsSound, leadSum, Tells, Tidy, AllTidy, PlayersHold, LeadList, LeadIs};
+ghost use Rattle.floor.specs.Floor.{LeadList};
+ghost use Rattle.soundness.specs.Facts.{slotsSound, Tells, Tidy, AllTidy, PlayersHold};
 
 // Is a slot sound but for the low-water mark (01: the floor)? `blocks` is N.
 fn is_tidy(blocks: u32, buffer: u32, kind: u32, next: u32, held: u32) -> bool
@@ -86,44 +85,6 @@ fn players_hold(desk: Desk, mark: u64) -> bool
         i += 1;
     }
     true
-}
-
-// The lead that a slot adds to the sum: that of its next block where it is filling or playing, else 0.
-fn lead_of(kind: u32, next: u32, leads: &[u8]) -> u32
-    requires { ⌜ (2 ≤ kind → kind ≤ 3 → next < length (wordsOf (now leads))) ⌝ }
-    ensures { λ r. ⌜ LeadIs (now (leads .entry)) kind next r ⌝ }
-{
-    if kind < 2 {
-        return 0;
-    }
-    if kind > 3 {
-        return 0;
-    }
-    word_at(leads, next as usize)
-}
-
-// The leads at the next blocks of all filling and playing slots, added up.
-fn sum_leads(desk: Desk, leads: &[u8]) -> u32
-    requires { ⌜ (AllTidy desk) × (LeadList (desk .plan .figures) (now leads)) ⌝ }
-    ensures { λ r. ⌜ (r ≡ leadSum desk) × (r ≤ 1023999744) ⌝ }
-{
-    let mut sum: u32 = 0;
-    let mut i: usize = 0;
-    while i < 256 {
-        let kind = desk.kinds[i];
-        let next = desk.next[i];
-        sum += lead_of(kind, next, leads);
-        i += 1;
-    }
-    sum
-}
-
-// The low-water mark (01: the floor) in two-millionths of a byte, for leads that add up to `sum`.
-pub fn low_water(bytes: u32, rate: u32, sum: u32) -> u64
-    requires { ⌜ (rate ≤ 10000000) × (sum ≤ 1023999744) ⌝ }
-    ensures { λ r. ⌜ r ≡ 2000000 * bytes + rate * sum ⌝ }
-{
-    product(2000000, bytes) + product(rate, sum)
 }
 
 // Are the phase and the slots sound? The record's figures are legal, and its leads are lent.

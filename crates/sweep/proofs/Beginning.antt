@@ -17,12 +17,10 @@ use Rattle.desk.specs.declared.Fetches.{Fetches}
 use Rattle.desk.specs.declared.Gathered.{Gathered}
 use Rattle.desk.specs.Desk.{supplyOf, slotsIn, viewOf, deskOf, verdict, fetchesOf}
 use Rattle.desk.specs.View.{Wide}
-use Rattle.desk.specs.Ready.{Ready, Gathers}
-use Rattle.sweep.specs.Steps.{InRange, Stage, withSlots, begunDesk}
-use Rattle.sweep.proofs.Slots.{length-in, slot-in, slots-with, load-kind, load-next}
-
-pub stage-of : (d : Desk) (g : Gathered) → Ready d → Gathers d g → InRange g → Stage d g
-stage-of d g r u h = record { legal = r .legal; some = r .some; planned = r .planned; gathers = u; range = h }
+use Rattle.desk.specs.Ready.{Ready, Stage}
+use Rattle.desk.specs.Slots.{withSlots, length-in, kind-in, next-in, slots-with, load-kind, load-next}
+use Rattle.floor.specs.Floor.{mark-is}
+use Rattle.sweep.specs.Steps.{begunDesk}
 
 -- what a begin keeps of slot i
 record Same (d : Desk) (ts : List (Slot ℕ)) (i : ℕ) : Type 0 where
@@ -34,13 +32,12 @@ same-slot : (d : Desk) → Wide d → (ts : List (Slot ℕ)) → Both Kept (slot
 same-slot d w ts h i =
     let p = supplyOf (d .plan) in
     let k = both-at Kept (slotsIn d) ts i (freeSlot p) (freeSlot p) h (kept-refl (freeSlot p)) in
-    let s = slot-in d w i in
-    let kind = ap (λ (s : Slot ℕ). s .kind) s in
+    let kind = kind-in d w i in
     let now = load-kind d ts (withSlots d ts) refl i in
     record {
       asked = λ l. omega (arith, kind, now, k .occupied);
       most = λ l. omega (arith, kind, now, k .rises);
-      next = sym (ap (λ (s : Slot ℕ). s .next) s) ∙ sym (k .next) ∙ sym (load-next d ts (withSlots d ts) refl i);
+      next = sym (next-in d w i) ∙ sym (k .next) ∙ sym (load-next d ts (withSlots d ts) refl i);
     }
 
 -- what was gathered stays true
@@ -58,11 +55,10 @@ stage-kept d w g o ts h = record {
   range = o .range;
 }
 
--- the mark
-pub mark-is : (d : Desk) (mark sum : ℕ) → mark ≡ 2000000 * d .plan .figures .bytes + d .plan .figures .rate * sum → sum ≡ leads (supplyOf (d .plan)) (slotsIn d)
+-- the floor
+pub floor-is : (d : Desk) (mark sum : ℕ) → mark ≡ 2000000 * d .plan .figures .bytes + d .plan .figures .rate * sum → sum ≡ leads (supplyOf (d .plan)) (slotsIn d)
     → mark ≡ lowWater (supplyOf (d .plan)) (leads (supplyOf (d .plan)) (slotsIn d))
-unfolding lowWater supplyOf
-mark-is d mark sum e q = e ∙ ap (λ (n : ℕ). 2000000 * d .plan .figures .bytes + d .plan .figures .rate * n) q
+floor-is d mark sum e q = e ∙ sym (mark-is (d .plan) sum) ∙ ap (lowWater (supplyOf (d .plan))) q
 
 -- e is d after filling slots started to play
 module _ (d : Desk) (w : Wide d) (x : ℕ) (e : Desk) (q : e ≡ withSlots d (started (supplyOf (d .plan)) x (slotsIn d))) where

@@ -6,7 +6,7 @@
 //! - `plan`: laying, streams, leads, buffer; the plan of a card or a record.
 //! - `desk`: soundness and the calls open, join, leave, begin and end.
 //! - `book`: lists of calls, the book of demand 3 and the checker of its claim.
-//! - `listing`: the text of the listing program.
+//! - `listing`: the text of the listing program. `text`: the card of a text of figures.
 //! - `bench`: fixed cards. `rng`: random inputs of every sort from a seed.
 //!
 //! Answers are values: a refusal has 01's number and place, and leaves what was lent. An accepted
@@ -20,6 +20,7 @@ pub mod listing;
 pub mod plan;
 pub mod refusal;
 pub mod rng;
+pub mod text;
 
 pub use book::{answer, check_claim, Answer, Book, Call, Row, Run, Step};
 pub use card::{card_bytes, judge_record, read_card, write_card, Figures};
@@ -28,3 +29,4 @@ pub use listing::listing;
 pub use plan::{fill_lent, is_plan, plan_card, plan_record, Plan, Planned};
 pub use refusal::{cause, Refusal};
 pub use rng::Rng;
+pub use text::{card_of_text, mkcard, TextRefusal};

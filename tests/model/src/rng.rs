@@ -3,6 +3,7 @@
 pub mod cards;
 pub mod desks;
 pub mod figures;
+pub mod texts;
 
 /// Splitmix64.
 #[derive(Clone, Debug)]

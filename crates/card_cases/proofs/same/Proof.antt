@@ -1,4 +1,4 @@
-use Prim.Native.Nat.{_≤_, _-_}
+use Prim.Native.Nat.{_-_, _≤_}
 use borrow.Author.Needs.{needs}
 use Rattle.card_cases.proofs.same.Statement.{statement}
 use Rattle.card_cases.proofs.same.Tie as tie

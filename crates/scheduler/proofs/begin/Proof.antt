@@ -4,11 +4,9 @@ use mathlib.Core.Bool.{true}
 use borrow.Author.Tests.{not-true, not-false}
 use Rattle.round_trip.specs.Legality as legality
 use Rattle.desk.specs.View.{Wide}
-use Rattle.desk.specs.declared.Gathered.{Gathered}
 use Rattle.soundness.specs.Facts.{soundDesk}
-use Rattle.soundness.specs.Gather as gathered
-use Rattle.soundness.specs.Ready.{sound-ready, sound-plan}
-use Rattle.sweep.specs.Steps.{InRange}
+use Rattle.soundness.specs.Laws.{sound-tidy, tidy-named}
+use Rattle.soundness.specs.Ready.{plan-leads, sound-ready, sound-plan}
 use Rattle.scheduler.specs.Answers.{begin-unsound, begin-in-sweep, begin-no-room, begin-begun}
 use borrow.Author.Needs.{needs}
 use Rattle.scheduler.proofs.begin.Statement.{statement}
@@ -23,10 +21,6 @@ slim c = (search needs, search needs)
 -- past the test of soundness
 passed : (c : tie.Else1) → (let a = c .before .before .before .before .args in soundDesk (a .desk) (a .positions .now) (a .leads .now) ≡ true)
 passed c = sym (c .before .is-sound .ensures) ∙ not-false _ (c .if1 .left)
-
--- what is gathered is in range
-ranged : (g : Gathered) → gathered.InRange g → InRange g
-ranged g r = record { leads = r .leads; times = r .times; positions = λ i. omega (arith, r .positions i) }
 
 is-sound-requires : tie.Need-is-sound-requires
 is-sound-requires c κs = search needs
@@ -66,17 +60,26 @@ gather-requires c κs =
     let s = e .before .before .before .before in
     (sound-ready _ _ _ (slim s) (passed e), sound-plan _ _ _ (passed e))
 
-begin-sweep-requires : tie.Need-begin-sweep-requires
-begin-sweep-requires c κs =
+sum-leads-requires : tie.Need-sum-leads-requires
+sum-leads-requires c κs =
     let e = c .before .before .before .before .before .before in
     let s = e .before .before .before .before in
-    (sound-ready _ _ _ (slim s) (passed e), c .gather .ensures .0, ranged _ (c .gather .ensures .1), c .before .before .before .before .if2 .left)
+    let d = s .args .desk in
+    (tidy-named d (wide s) (sound-tidy d (wide s) (sound-ready _ _ _ (slim s) (passed e) .sound)), plan-leads _ _ _ (slim s) (sound-plan _ _ _ (passed e)))
+
+begin-sweep-requires : tie.Need-begin-sweep-requires
+begin-sweep-requires c κs =
+    let e = c .before .before .before .before .before .before .before in
+    let s = e .before .before .before .before in
+    let g = c .before .gather in
+    let l = c .sum-leads in
+    (sound-ready _ _ _ (slim s) (passed e), g .ensures .0, g .ensures .1, l .ensures .0, l .ensures .1, c .before .before .before .before .before .if2 .left)
 
 returns-4 : tie.Need-returns-4
 returns-4 c =
-    let e = c .before .before .before .before .before .before .before in
+    let e = c .before .before .before .before .before .before .before .before in
     let s = e .before .before .before .before in
-    c .begin-sweep .ensures ∙ begin-begun (s .args .desk) (wide s) _ _ _ (passed e) (c .before .before .before .before .before .if2 .left) (c .before .before .if3 .left)
+    c .begin-sweep .ensures ∙ begin-begun (s .args .desk) (wide s) _ _ _ (passed e) (c .before .before .before .before .before .before .if2 .left) (c .before .before .before .if3 .left)
 
 pub begin-spec : {M : Type 1} → statement M
 begin-spec =
@@ -91,5 +94,6 @@ begin-spec =
     not-begun-requires-3
     returns-3
     gather-requires
+    sum-leads-requires
     begin-sweep-requires
     returns-4)

@@ -4,13 +4,10 @@ use mathlib.Core.Bool.{true}
 use borrow.Author.Tests.{not-true, not-false}
 use Rattle.round_trip.specs.Legality as legality
 use Rattle.desk.specs.View.{Wide}
-use Rattle.desk.specs.declared.Gathered.{Gathered}
 use Rattle.soundness.specs.Facts.{soundDesk}
-use Rattle.soundness.specs.Gather as gathered
 use Rattle.soundness.specs.Ready.{sound-ready, sound-plan}
-use Rattle.sweep.specs.Steps.{InRange}
 use Rattle.desk.specs.declared.Desk.{Desk}
-use Rattle.soundness.specs.Answers.{answers}
+use Rattle.records.specs.Records.{answers}
 use Rattle.scheduler.specs.Answers.{end-unsound, end-between, end-refused, end-drawn, end-ended}
 use borrow.Author.Needs.{needs}
 use Rattle.scheduler.proofs.end.Statement.{statement}
@@ -25,10 +22,6 @@ slim c = (search needs, search needs)
 -- past the test of soundness
 passed : (c : tie.Else1) → (let a = c .before .before .before .before .before .args in soundDesk (a .desk) (a .positions .now) (a .leads .now) ≡ true)
 passed c = sym (c .before .is-sound .ensures) ∙ not-false _ (c .if1 .left)
-
--- what is gathered is in range
-ranged : (g : Gathered) → gathered.InRange g → InRange g
-ranged g r = record { leads = r .leads; times = r .times; positions = λ i. omega (arith, r .positions i) }
 
 is-sound-requires : tie.Need-is-sound-requires
 is-sound-requires c κs = search needs
@@ -60,7 +53,7 @@ judge-draws-requires : tie.Need-judge-draws-requires
 judge-draws-requires c κs =
     let e = c .before .before .before in
     let s = e .before .before .before .before .before in
-    (sound-ready _ _ _ (slim s) (passed e), c .gather .ensures .0, ranged _ (c .gather .ensures .1), c .before .if2 .left)
+    (sound-ready _ _ _ (slim s) (passed e), c .gather .ensures .0, c .gather .ensures .1, c .before .if2 .left)
 
 returns-3 : tie.Need-returns-3
 returns-3 c =

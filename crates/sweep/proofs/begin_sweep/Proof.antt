@@ -2,8 +2,9 @@ use mathlib.Core.Path.{_≡_}
 use Rattle.desk.specs.View.{Wide}
 use Rattle.safety.specs.Scheduler.{begun}
 use Rattle.desk.specs.Desk.{supplyOf, slotsIn}
-use Rattle.sweep.specs.Steps.{Stage, withSlots}
-use Rattle.sweep.proofs.Beginning.{stage-of, mark-is, stage-started, leads-started, begun-all, stage-begun, begun-is}
+use Rattle.desk.specs.Ready.{Stage, stage-of}
+use Rattle.desk.specs.Slots.{withSlots}
+use Rattle.sweep.proofs.Beginning.{floor-is, stage-started, leads-started, begun-all, stage-begun, begun-is}
 use borrow.Author.Needs.{needs}
 use Rattle.sweep.proofs.begin_sweep.Statement.{statement}
 use Rattle.sweep.proofs.begin_sweep.Tie as tie
@@ -16,15 +17,14 @@ stage : (c : tie.Start) → Stage (c .args .desk) (c .args .g)
 stage c = stage-of _ _ (c .pre .0) (c .pre .1) (c .pre .2)
 
 -- both steps are done
-all : (c : tie.After-grant-asked) → (let d = c .before .before .before .before .before .args .desk in c .grant-asked .result ≡ withSlots d (begun (supplyOf (d .plan)) (slotsIn d)))
+all : (c : tie.After-grant-asked) → (let d = c .before .before .before .before .args .desk in c .grant-asked .result ≡ withSlots d (begun (supplyOf (d .plan)) (slotsIn d)))
 all c =
-    let s = c .before .before .before .before .before in
+    let s = c .before .before .before .before in
     let d = s .args .desk in
-    begun-all d (wide s) (c .before .before .before .low-water .result) (c .before .before .start-playing .result) (c .before .before .start-playing .ensures) (c .grant-asked .result) (c .grant-asked .ensures)
-    (mark-is d (c .before .before .before .low-water .result) (c .before .before .before .before .sum-leads .result) (c .before .before .before .low-water .ensures) (c .before .before .before .before .sum-leads .ensures .0))
-
-sum-leads-requires : tie.Need-sum-leads-requires
-sum-leads-requires c κs = search needs
+    let m = c .before .before .before .low-water in
+    let e = c .before .before .start-playing in
+    begun-all d (wide s) (m .result) (e .result) (e .ensures) (c .grant-asked .result) (c .grant-asked .ensures)
+    (floor-is d (m .result) (s .args .sum) (m .ensures) (s .pre .3))
 
 low-water-requires : tie.Need-low-water-requires
 low-water-requires c κs = search needs
@@ -36,20 +36,20 @@ least-level-requires : tie.Need-least-level-requires
 least-level-requires c κs = search needs
 
 grant-asked-requires : tie.Need-grant-asked-requires
-grant-asked-requires c κs = let s = c .before .before .before .before in
-    let e = c .before .start-playing in
-    let l = c .before .before .before .sum-leads in (
-      stage-started (s .args .desk) (wide s) (c .before .before .low-water .result) (e .result) (e .ensures) (s .args .g) (stage s),
-      leads-started (s .args .desk) (wide s) (c .before .before .low-water .result) (e .result) (e .ensures) (l .result) (l .ensures .0),
-      l .ensures .1,
+grant-asked-requires c κs = let s = c .before .before .before in
+    let m = c .before .before .low-water in
+    let e = c .before .start-playing in (
+      stage-started (s .args .desk) (wide s) (m .result) (e .result) (e .ensures) (s .args .g) (stage s),
+      leads-started (s .args .desk) (wide s) (m .result) (e .result) (e .ensures) (s .args .sum) (s .pre .3),
+      s .pre .4,
       c .least-level .ensures,
     )
 
 sweep-bound-requires : tie.Need-sweep-bound-requires
-sweep-bound-requires c κs = let s = c .before .before .before .before .before in stage-begun (s .args .desk) (c .grant-asked .result) (all c) (wide s) (s .args .g) (s .pre .0) (stage s)
+sweep-bound-requires c κs = let s = c .before .before .before .before in stage-begun (s .args .desk) (c .grant-asked .result) (all c) (wide s) (s .args .g) (s .pre .0) (stage s)
 
 list-fetches-requires : tie.Need-list-fetches-requires
-list-fetches-requires c κs = let s = c .before .before .before .before .before .before in stage-begun (s .args .desk) (c .before .grant-asked .result) (all (c .before)) (wide s) (s .args .g) (s .pre .0) (stage s)
+list-fetches-requires c κs = let s = c .before .before .before .before .before in stage-begun (s .args .desk) (c .before .grant-asked .result) (all (c .before)) (wide s) (s .args .g) (s .pre .0) (stage s)
 
 returns : tie.Need-returns
 returns c = begun-is _ (c .before .before .grant-asked .result) (all (c .before .before)) (c .before .sweep-bound .result) (c .list-fetches .result) (c .before .sweep-bound .ensures) (c .list-fetches .ensures)
@@ -58,7 +58,6 @@ pub begin-sweep-spec : {M : Type 1} → statement M
 begin-sweep-spec =
     tie.close
     (tie.spec
-    sum-leads-requires
     low-water-requires
     start-playing-requires
     least-level-requires

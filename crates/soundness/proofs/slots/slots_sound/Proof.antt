@@ -2,7 +2,7 @@ use native.Mathlib.Omega.{arith}
 use borrow.Author.Needs.{needs}
 use borrow.Author.Tests.{not-true, not-false}
 use Rattle.desk.specs.View.{Wide}
-use Rattle.soundness.specs.Laws.{unsound-phase, unsound-slots, sound-told}
+use Rattle.soundness.specs.Laws.{tidy-named, unsound-phase, unsound-slots, sound-told}
 use Rattle.soundness.proofs.slots.slots_sound.Statement.{statement}
 use Rattle.soundness.proofs.slots.slots_sound.Tie as tie
 
@@ -21,10 +21,12 @@ returns-2 c =
     unsound-slots (s .args .desk) (wide s) (c .before .all-tidy .ensures .no (not-true _ (c .if2 .taken)))
 
 sum-leads-requires : tie.Need-sum-leads-requires
-sum-leads-requires c κs = (c .before .before .before .all-tidy .ensures .yes (not-false _ (c .before .before .if2 .left)), c .before .before .before .before .before .before .before .pre .1)
+sum-leads-requires c κs =
+    let s = c .before .before .before .before .before .before .before in
+    (tidy-named (s .args .desk) (wide s) (c .before .before .before .all-tidy .ensures .yes (not-false _ (c .before .before .if2 .left))), s .pre .1)
 
 low-water-requires : tie.Need-low-water-requires
-low-water-requires c κs = let s = c .before .before .before .before .before .before .before .before in (omega (arith, s .pre .0 .rate), c .sum-leads .ensures .1)
+low-water-requires c κs = let s = c .before .before .before .before .before .before .before .before in (s .pre .0 .bytes .1, s .pre .0 .rate .1)
 
 players-hold-requires : tie.Need-players-hold-requires
 players-hold-requires c κs = search needs

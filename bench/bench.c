@@ -1,0 +1,327 @@
+/*
+ * The library against plain C and plain Rust doing the same checks: same input, one run, the three in turn. Prints times a call,
+ * ratios with their quartiles, and stack use. Each repetition compares what the three answered and wrote, byte for byte.
+ */
+#define _XOPEN_SOURCE 700
+#include "calls.h"
+#include "stack.h"
+
+#include <stdbool.h>
+#include <stdio.h>
+#include <stdlib.h>
+#include <string.h>
+#include <time.h>
+
+enum { REPETITIONS = 101, BATCH_NS = 30000, MAX_BATCH = 4096 };
+
+static struct input input;
+static struct strings strings[TWINS];
+
+/* Measured times of a case: nanoseconds a call in each repetition. */
+static double times[TWINS][COPIES][REPETITIONS];
+
+static int rows, missed;
+
+struct range {
+    double low, median, high; /* quartiles */
+};
+
+static double now(void)
+{
+    struct timespec t;
+    clock_gettime(CLOCK_MONOTONIC, &t);
+    return (double)t.tv_sec * 1e9 + (double)t.tv_nsec;
+}
+
+static int by_size(const void *a, const void *b)
+{
+    double x = *(const double *)a, y = *(const double *)b;
+    return (x > y) - (x < y);
+}
+
+static struct range range_of(const double values[REPETITIONS])
+{
+    double sorted[REPETITIONS];
+    memcpy(sorted, values, sizeof sorted);
+    qsort(sorted, REPETITIONS, sizeof sorted[0], by_size);
+    return (struct range){ sorted[REPETITIONS / 4], sorted[REPETITIONS / 2], sorted[REPETITIONS * 3 / 4] };
+}
+
+/* Ratios are taken within a repetition, in which all met the same load of the machine. */
+static struct range ratio(int one, int one_copy, int other, int other_copy)
+{
+    double ratios[REPETITIONS];
+    for (int r = 0; r < REPETITIONS; r++)
+        ratios[r] = times[one][one_copy][r] / times[other][other_copy][r];
+    return range_of(ratios);
+}
+
+/* The copy whose place in memory suits it best. */
+static int best_copy(int twin)
+{
+    int best = 0;
+    for (int copy = 1; copy < COPIES; copy++)
+        if (ratio(twin, copy, twin, best).median < 1)
+            best = copy;
+    return best;
+}
+
+static void lend_desks(struct strings *s)
+{
+    for (size_t i = 0; i < DESKS; i++)
+        memcpy(s->desks[i], input.desk, sizeof input.desk);
+}
+
+/* Nanoseconds a call over a batch; desks are made fresh before it and not within its time. */
+static double time_batch(call *c, int twin, int copy, size_t batch, filmdisk_answer *a)
+{
+    lend_desks(&strings[twin]);
+    double start = now();
+    for (size_t i = 0; i < batch; i++)
+        *a = c(&twins[twin][copy], &input, &strings[twin], i % DESKS);
+    return (now() - start) / (double)batch;
+}
+
+static bool same_answer(filmdisk_answer a, filmdisk_answer b)
+{
+    return a.number == b.number && a.place == b.place && a.count == b.count && a.bound == b.bound;
+}
+
+/* Ends the run where two implementations differ. */
+static void compare(const char *name, const filmdisk_answer answers[TWINS], uint32_t expected)
+{
+    for (int t = 0; t < TWINS; t++) {
+        if (answers[t].number != expected || !same_answer(answers[t], answers[PLAIN_C]) ||
+            memcmp(&strings[t], &strings[PLAIN_C], sizeof strings[t]) != 0) {
+            fprintf(stderr, "bench: %s: %s answers %u and not as C or not %u, or writes other bytes\n", name,
+                    twin_names[t], answers[t].number, expected);
+            exit(1);
+        }
+    }
+}
+
+/* Calls in a batch: short against the machine's other work; those in place have no more than there are desks. */
+static size_t batch_size(call *c, bool in_place)
+{
+    filmdisk_answer a;
+    size_t most = in_place ? DESKS : MAX_BATCH;
+    size_t batch = (size_t)(BATCH_NS / time_batch(c, PLAIN_C, 0, DESKS, &a));
+    return batch < 1 ? 1 : batch < most ? batch : most;
+}
+
+/* Times every copy in turn; the turns move on with each repetition. */
+static void repeat(const char *name, call *c, bool in_place, uint32_t expected)
+{
+    size_t batch = batch_size(c, in_place);
+    filmdisk_answer answers[TWINS];
+    memset(strings, 0xA5, sizeof strings);
+    for (int r = 0; r < REPETITIONS; r++) {
+        for (int copy = 0; copy < COPIES; copy++) {
+            for (int k = 0; k < TWINS; k++) {
+                int twin = (k + r) % TWINS;
+                times[twin][copy][r] = time_batch(c, twin, copy, batch, &answers[twin]);
+            }
+            compare(name, answers, expected);
+        }
+    }
+}
+
+/* The ratio at the best places, and the least and greatest median over all places. */
+static void print_ratio(int other)
+{
+    struct range r = ratio(LIBRARY, best_copy(LIBRARY), other, best_copy(other));
+    double least = r.median, greatest = r.median;
+    for (int k = 0; k < COPIES * COPIES; k++) {
+        double median = ratio(LIBRARY, k / COPIES, other, k % COPIES).median;
+        least = median < least ? median : least;
+        greatest = median > greatest ? median : greatest;
+    }
+    printf(" %.2f (%.2f to %.2f) | %.2f to %.2f |", r.median, r.low, r.high, least, greatest);
+    if (other == PLAIN_C) {
+        rows++;
+        missed += r.median > 1.1;
+    }
+}
+
+/* Measures one call on the input and prints its row. */
+static void measure(const char *name, call *c, bool in_place, uint32_t expected)
+{
+    repeat(name, c, in_place, expected);
+    printf("| %s |", name);
+    for (int t = 0; t < TWINS; t++)
+        printf(" %.0f |", range_of(times[t][best_copy(t)]).median);
+    print_ratio(PLAIN_C);
+    print_ratio(PLAIN_RUST);
+    printf("\n");
+    fflush(stdout);
+}
+
+static void head(const char *title)
+{
+    printf("\n%s\n\n| Case | Library, ns | C, ns | Rust, ns | Library / C | over places | Library / Rust | over places |\n", title);
+    printf("|---|---|---|---|---|---|---|---|\n");
+}
+
+/* The measurements. */
+
+static const uint32_t sizes[] = { 6, 1000, 16384 };
+static const uint32_t zone_counts[] = { 1, 7, 64 };
+static const uint32_t stream_counts[] = { 1, 16, 256 };
+
+#define EACH(item, list) \
+    for (const uint32_t *item = list; item < list + sizeof list / sizeof list[0]; item++)
+
+static void measure_cards(void)
+{
+    char name[80];
+    head("Reading a card (plan call without lists: all of it read, then 13), and refusing a damaged one");
+    EACH(zones, zone_counts) {
+        make_film(&input, 1000, *zones, 16);
+        snprintf(name, sizeof name, "%u zones, %zu bytes", *zones, input.card_len);
+        measure(name, call_read, false, FILMDISK_TOO_SHORT);
+        input.card[input.card_len - 1] |= 128;
+        snprintf(name, sizeof name, "%u zones, cut off in its last number", *zones);
+        measure(name, call_read, false, FILMDISK_CARD_ENDS);
+    }
+    make_film(&input, 1000, 7, 16);
+    input.card[0] = 2;
+    measure("7 zones, wrong kind", call_read, false, FILMDISK_KIND);
+}
+
+static void measure_plans(void)
+{
+    char name[80];
+    head("Planning (16 streams)");
+    EACH(blocks, sizes) EACH(zones, zone_counts) {
+        make_film(&input, *blocks, *zones, 16);
+        snprintf(name, sizeof name, "N %u, %u zones", *blocks, *zones);
+        measure(name, call_plan, false, FILMDISK_ACCEPTED);
+    }
+    head("Planning, by streams (N 6, 7 zones)");
+    EACH(streams, stream_counts) {
+        make_film(&input, 6, 7, *streams);
+        snprintf(name, sizeof name, "%u streams", *streams);
+        measure(name, call_plan, false, FILMDISK_ACCEPTED);
+    }
+}
+
+static void measure_checks(void)
+{
+    char name[80];
+    head("The check behind 14 (16 streams): leave of a free slot, 17; open; a wrong last lead, 14");
+    EACH(blocks, sizes) EACH(zones, zone_counts) {
+        make_film(&input, *blocks, *zones, 16);
+        make_players(&input, 0, 15);
+        snprintf(name, sizeof name, "leave, N %u, %u zones", *blocks, *zones);
+        measure(name, call_leave, true, FILMDISK_SLOT_STATE);
+    }
+    EACH(blocks, sizes) {
+        make_film(&input, *blocks, 7, 16);
+        snprintf(name, sizeof name, "open, N %u, 7 zones", *blocks);
+        measure(name, call_open, false, FILMDISK_ACCEPTED);
+        input.leads[input.list_len - 1] ^= 1;
+        snprintf(name, sizeof name, "open refused, N %u, 7 zones", *blocks);
+        measure(name, call_open, false, FILMDISK_NOT_SOUND);
+    }
+}
+
+static void measure_joins(void)
+{
+    char name[80];
+    head("Join of a free slot, the others playing (7 zones)");
+    EACH(blocks, sizes) EACH(streams, stream_counts) {
+        make_film(&input, *blocks, 7, *streams);
+        make_players(&input, 0, *streams - 1);
+        snprintf(name, sizeof name, "N %u, %u streams", *blocks, *streams);
+        measure(name, call_join, true, FILMDISK_ACCEPTED);
+    }
+}
+
+static void measure_sweep(const char *text, call *c, uint32_t phase, uint32_t blocks, uint32_t zones, uint32_t streams)
+{
+    char name[80];
+    make_film(&input, blocks, zones, streams);
+    make_players(&input, phase, streams);
+    make_draws(&input, 1000);
+    snprintf(name, sizeof name, "%s, N %u, %u zones, %u streams", text, blocks, zones, streams);
+    measure(name, c, true, FILMDISK_ACCEPTED);
+}
+
+static void measure_sweeps(void)
+{
+    head("Begin and end, all slots playing and fetched for");
+    EACH(blocks, sizes) EACH(streams, stream_counts) {
+        measure_sweep("begin", call_begin, 0, *blocks, 7, *streams);
+        measure_sweep("end", call_end, 1, *blocks, 7, *streams);
+    }
+    EACH(zones, zone_counts) {
+        measure_sweep("begin", call_begin, 0, 1000, *zones, 256);
+        measure_sweep("end", call_end, 1, 1000, *zones, 256);
+    }
+}
+
+/* How cost grows with one of N, zones and streams, the others fixed. */
+static void measure_growth(void)
+{
+    static const uint32_t growing_sizes[] = { 512, 1024, 2048, 4096, 8192, 16384 };
+    static const uint32_t growing_counts[] = { 2, 4, 8, 16, 32, 64 };
+    char name[80];
+    head("Growth with N (7 zones, 16 streams), with zones (N 1000, 16 streams), with streams (N 1000, 7 zones)");
+    EACH(blocks, growing_sizes) {
+        make_film(&input, *blocks, 7, 16);
+        snprintf(name, sizeof name, "plan, N %u", *blocks);
+        measure(name, call_plan, false, FILMDISK_ACCEPTED);
+        measure_sweep("begin", call_begin, 0, *blocks, 7, 16);
+    }
+    EACH(zones, growing_counts) {
+        make_film(&input, 1000, *zones, 16);
+        snprintf(name, sizeof name, "plan, %u zones", *zones);
+        measure(name, call_plan, false, FILMDISK_ACCEPTED);
+        measure_sweep("begin", call_begin, 0, 1000, *zones, 16);
+    }
+    EACH(streams, growing_counts) {
+        measure_sweep("begin", call_begin, 0, 1000, 7, *streams);
+        measure_sweep("end", call_end, 1, 1000, 7, *streams);
+    }
+}
+
+static void print_stack(const char *name, call *c, uint32_t phase, uint32_t first_free)
+{
+    make_film(&input, 1000, 64, 256);
+    make_players(&input, phase, first_free);
+    make_draws(&input, 1000);
+    printf("| %s |", name);
+    for (int t = 0; t < TWINS; t++) {
+        lend_desks(&strings[t]);
+        printf(" %zu |", stack_of(c, &twins[t][0], &input, &strings[t]));
+    }
+    printf("\n");
+}
+
+static void print_stacks(void)
+{
+    printf("\nStack of an accepted call, in bytes (N 1000, 64 zones, 256 streams)\n\n");
+    printf("| Call | Library | C | Rust |\n|---|---|---|---|\n");
+    print_stack("plan", call_plan, 0, 0);
+    print_stack("open", call_open, 0, 0);
+    print_stack("join", call_join, 0, 255);
+    print_stack("leave", call_leave, 0, 256);
+    print_stack("begin", call_begin, 0, 256);
+    print_stack("end", call_end, 1, 256);
+}
+
+int main(void)
+{
+    printf("Median nanoseconds a call, and ratios (median, quartiles) of %d repetitions, all in turn in each.\n", REPETITIONS);
+    printf("Each implementation stands at three places in memory; times are of its best one.\n");
+    printf("Strings are not cleared between calls; each in-place call gets a fresh desk, copied outside the time.\n");
+    measure_cards();
+    measure_plans();
+    measure_checks();
+    measure_joins();
+    measure_sweeps();
+    measure_growth();
+    print_stacks();
+    printf("\n%d rows, %d above 1.1 x C\n", rows, missed);
+    return 0;
+}

@@ -1,0 +1,42 @@
+#include "calls.h"
+
+/* A card is read in full and then refused by 13, for no list is lent. */
+filmdisk_answer call_read(const struct twin *t, const struct input *in, struct strings *s, size_t i)
+{
+    (void)i;
+    return t->plan(in->card, in->card_len, s->plan, sizeof s->plan, NULL, 0, NULL, 0);
+}
+
+filmdisk_answer call_plan(const struct twin *t, const struct input *in, struct strings *s, size_t i)
+{
+    (void)i;
+    return t->plan(in->card, in->card_len, s->plan, sizeof s->plan, s->positions, in->list_len, s->leads, in->list_len);
+}
+
+filmdisk_answer call_open(const struct twin *t, const struct input *in, struct strings *s, size_t i)
+{
+    return t->open(in->plan, sizeof in->plan, in->positions, in->list_len, in->leads, in->list_len, s->desks[i],
+                   sizeof s->desks[i]);
+}
+
+filmdisk_answer call_join(const struct twin *t, const struct input *in, struct strings *s, size_t i)
+{
+    return t->join(s->desks[i], sizeof s->desks[i], in->positions, in->list_len, in->leads, in->list_len, last_slot(in), 1);
+}
+
+filmdisk_answer call_leave(const struct twin *t, const struct input *in, struct strings *s, size_t i)
+{
+    return t->leave(s->desks[i], sizeof s->desks[i], in->positions, in->list_len, in->leads, in->list_len, last_slot(in));
+}
+
+filmdisk_answer call_begin(const struct twin *t, const struct input *in, struct strings *s, size_t i)
+{
+    return t->begin(s->desks[i], sizeof s->desks[i], in->positions, in->list_len, in->leads, in->list_len, s->fetches,
+                    sizeof s->fetches);
+}
+
+filmdisk_answer call_end(const struct twin *t, const struct input *in, struct strings *s, size_t i)
+{
+    return t->end(s->desks[i], sizeof s->desks[i], in->positions, in->list_len, in->leads, in->list_len, in->draws,
+                  in->draws_len);
+}

@@ -1,0 +1,36 @@
+/* The calls that are measured, each on one input and on strings of the implementation's own. */
+#ifndef CALLS_H
+#define CALLS_H
+
+#include "inputs.h"
+#include "twins.h"
+
+/* Desks lent in one batch: calls that alter a desk in place each get a fresh one. */
+enum { DESKS = 16 };
+
+/* Strings that an implementation writes. */
+struct strings {
+    uint8_t plan[FILMDISK_PLAN_BYTES];
+    uint8_t positions[FILMDISK_MAX_BLOCKS * FILMDISK_ENTRY_BYTES];
+    uint8_t leads[FILMDISK_MAX_BLOCKS * FILMDISK_ENTRY_BYTES];
+    uint8_t fetches[FILMDISK_MAX_STREAMS * FILMDISK_FETCH_BYTES];
+    uint8_t desks[DESKS][FILMDISK_DESK_BYTES];
+};
+
+typedef filmdisk_answer call(const struct twin *t, const struct input *in, struct strings *s, size_t i);
+
+filmdisk_answer call_read(const struct twin *t, const struct input *in, struct strings *s, size_t i);
+filmdisk_answer call_plan(const struct twin *t, const struct input *in, struct strings *s, size_t i);
+filmdisk_answer call_open(const struct twin *t, const struct input *in, struct strings *s, size_t i);
+filmdisk_answer call_join(const struct twin *t, const struct input *in, struct strings *s, size_t i);
+filmdisk_answer call_leave(const struct twin *t, const struct input *in, struct strings *s, size_t i);
+filmdisk_answer call_begin(const struct twin *t, const struct input *in, struct strings *s, size_t i);
+filmdisk_answer call_end(const struct twin *t, const struct input *in, struct strings *s, size_t i);
+
+/* The last of the used slots: join and leave are tried on it. */
+static inline uint32_t last_slot(const struct input *in)
+{
+    return filmdisk_word(in->plan, FILMDISK_PLAN_STREAMS) - 1;
+}
+
+#endif

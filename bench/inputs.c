@@ -1,0 +1,87 @@
+#include "inputs.h"
+#include "plain.h"
+
+#include <stdio.h>
+#include <stdlib.h>
+#include <string.h>
+
+enum { BLOCK_BYTES = 262144, HOP = 12670, RETURN = 15000, SLOWEST = 22270, FASTEST = 11135 };
+
+static void put_number(struct input *in, uint32_t value)
+{
+    for (; value >= 128; value /= 128)
+        in->card[in->card_len++] = (uint8_t)(value % 128 + 128);
+    in->card[in->card_len++] = (uint8_t)value;
+}
+
+/* Zones of like size with evenly falling times; the last takes what is left over. */
+static void put_zones(struct input *in, uint32_t zones, uint32_t total)
+{
+    put_number(in, zones);
+    for (uint32_t i = 0; i < zones; i++) {
+        put_number(in, i + 1 < zones ? total / zones : total - (zones - 1) * (total / zones));
+        put_number(in, SLOWEST - i * (SLOWEST - FASTEST) / zones);
+    }
+}
+
+static void put_card(struct input *in, uint32_t blocks, uint32_t zones, uint32_t rate)
+{
+    in->card_len = 0;
+    put_number(in, 1);
+    put_zones(in, zones, blocks > zones ? blocks : zones);
+    put_number(in, blocks);
+    put_number(in, BLOCK_BYTES);
+    put_number(in, rate);
+    put_number(in, HOP);
+    put_number(in, RETURN);
+}
+
+static void plan_input(struct input *in)
+{
+    filmdisk_answer a = plain_plan(in->card, in->card_len, in->plan, sizeof in->plan, in->positions,
+                                   sizeof in->positions, in->leads, sizeof in->leads);
+    if (a.number != FILMDISK_ACCEPTED) {
+        fprintf(stderr, "bench: the film's card is refused: %s\n", filmdisk_meaning(a.number));
+        exit(1);
+    }
+}
+
+void make_film(struct input *in, uint32_t blocks, uint32_t zones, uint32_t streams)
+{
+    put_card(in, blocks, zones, 1);
+    plan_input(in);
+    uint32_t worst2 = filmdisk_word(in->plan, FILMDISK_PLAN_WORST2);
+    uint64_t load = (uint64_t)streams * worst2 + 2 * ((uint64_t)streams * HOP + RETURN);
+    put_card(in, blocks, zones, (uint32_t)(UINT64_C(2000000) * BLOCK_BYTES / load));
+    plan_input(in);
+    if (filmdisk_word(in->plan, FILMDISK_PLAN_STREAMS) != streams) {
+        fprintf(stderr, "bench: a film of %u blocks has not %u streams\n", blocks, streams);
+        exit(1);
+    }
+    in->list_len = (size_t)blocks * FILMDISK_ENTRY_BYTES;
+    memcpy(in->desk, in->plan, sizeof in->plan);
+    memset(in->desk + sizeof in->plan, 0, sizeof in->desk - sizeof in->plan);
+}
+
+/* What a slot holds is the most with which a block is fetched for it; that is never below the floor. */
+void make_players(struct input *in, uint32_t phase, uint32_t first_free)
+{
+    uint32_t blocks = filmdisk_word(in->plan, FILMDISK_PLAN_BLOCKS);
+    uint32_t held = filmdisk_word(in->plan, FILMDISK_PLAN_BUFFER) - BLOCK_BYTES;
+    uint32_t seed = 1;
+    filmdisk_put_word(in->desk, FILMDISK_DESK_PHASE, phase);
+    for (uint32_t i = 0; i < first_free; i++) {
+        seed = seed * 1664525 + 1013904223;
+        filmdisk_put_word(in->desk, FILMDISK_DESK_KINDS + i, FILMDISK_PLAYING);
+        filmdisk_put_word(in->desk, FILMDISK_DESK_NEXT + i, (seed >> 8) % blocks);
+        filmdisk_put_word(in->desk, FILMDISK_DESK_HELD + i, held);
+    }
+}
+
+void make_draws(struct input *in, uint32_t draw)
+{
+    uint32_t streams = filmdisk_word(in->plan, FILMDISK_PLAN_STREAMS);
+    in->draws_len = (size_t)streams * FILMDISK_ENTRY_BYTES;
+    for (uint32_t i = 0; i < streams; i++)
+        filmdisk_put_word(in->draws, i, draw);
+}

@@ -1,0 +1,29 @@
+/* Inputs of the benchmark: cards of films of any size, and desks with all slots occupied. */
+#ifndef INPUTS_H
+#define INPUTS_H
+
+#include "filmdisk.h"
+
+/* What is lent to a call, and to what it is held. */
+struct input {
+    uint8_t card[FILMDISK_MAX_CARD_BYTES];
+    size_t card_len;
+    uint8_t plan[FILMDISK_PLAN_BYTES];
+    uint8_t positions[FILMDISK_MAX_BLOCKS * FILMDISK_ENTRY_BYTES];
+    uint8_t leads[FILMDISK_MAX_BLOCKS * FILMDISK_ENTRY_BYTES];
+    size_t list_len;
+    uint8_t desk[FILMDISK_DESK_BYTES];
+    uint8_t draws[FILMDISK_MAX_STREAMS * FILMDISK_ENTRY_BYTES];
+    size_t draws_len;
+};
+
+/* A film over all zones of a disk, its rate the greatest that feeds so many streams; its plan, lists and an open desk. */
+void make_film(struct input *in, uint32_t blocks, uint32_t zones, uint32_t streams);
+
+/* A desk in a phase on which the slots from `first_free` on are free and the others play, each with room for a block. */
+void make_players(struct input *in, uint32_t phase, uint32_t first_free);
+
+/* The draws of a sweep: each slot draws a little. */
+void make_draws(struct input *in, uint32_t draw);
+
+#endif

@@ -1,0 +1,24 @@
+/* The interface of filmdisk.h under other prefixes: plain_ in plain C, rust_ in plain Rust. Yardsticks of the benchmark. */
+#ifndef PLAIN_H
+#define PLAIN_H
+
+#include "filmdisk.h"
+
+#define DECLARE_TWIN(prefix) \
+    filmdisk_answer prefix##_plan(const uint8_t *card, size_t card_len, uint8_t *plan, size_t plan_len, \
+                                  uint8_t *positions, size_t positions_len, uint8_t *leads, size_t leads_len); \
+    filmdisk_answer prefix##_open(const uint8_t *plan, size_t plan_len, const uint8_t *positions, size_t positions_len, \
+                                  const uint8_t *leads, size_t leads_len, uint8_t *desk, size_t desk_len); \
+    filmdisk_answer prefix##_join(uint8_t *desk, size_t desk_len, const uint8_t *positions, size_t positions_len, \
+                                  const uint8_t *leads, size_t leads_len, uint32_t slot, uint32_t block); \
+    filmdisk_answer prefix##_leave(uint8_t *desk, size_t desk_len, const uint8_t *positions, size_t positions_len, \
+                                   const uint8_t *leads, size_t leads_len, uint32_t slot); \
+    filmdisk_answer prefix##_begin(uint8_t *desk, size_t desk_len, const uint8_t *positions, size_t positions_len, \
+                                   const uint8_t *leads, size_t leads_len, uint8_t *fetches, size_t fetches_len); \
+    filmdisk_answer prefix##_end(uint8_t *desk, size_t desk_len, const uint8_t *positions, size_t positions_len, \
+                                 const uint8_t *leads, size_t leads_len, const uint8_t *draws, size_t draws_len);
+
+DECLARE_TWIN(plain)
+DECLARE_TWIN(rust)
+
+#endif

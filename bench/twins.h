@@ -1,0 +1,27 @@
+/* The three implementations of the interface that the benchmark runs side by side. */
+#ifndef TWINS_H
+#define TWINS_H
+
+#include "filmdisk.h"
+
+enum { LIBRARY, PLAIN_C, PLAIN_RUST, TWINS };
+
+/*
+ * Each implementation is linked three times: as it comes, 16 bytes further, and with each function at a multiple of 32. Where a
+ * loop's jumps lie against borders of 32 bytes can nearly double its time, and no caller chooses that.
+ */
+enum { COPIES = 3 };
+
+struct twin {
+    filmdisk_answer (*plan)(const uint8_t *, size_t, uint8_t *, size_t, uint8_t *, size_t, uint8_t *, size_t);
+    filmdisk_answer (*open)(const uint8_t *, size_t, const uint8_t *, size_t, const uint8_t *, size_t, uint8_t *, size_t);
+    filmdisk_answer (*join)(uint8_t *, size_t, const uint8_t *, size_t, const uint8_t *, size_t, uint32_t, uint32_t);
+    filmdisk_answer (*leave)(uint8_t *, size_t, const uint8_t *, size_t, const uint8_t *, size_t, uint32_t);
+    filmdisk_answer (*begin)(uint8_t *, size_t, const uint8_t *, size_t, const uint8_t *, size_t, uint8_t *, size_t);
+    filmdisk_answer (*end)(uint8_t *, size_t, const uint8_t *, size_t, const uint8_t *, size_t, const uint8_t *, size_t);
+};
+
+extern const struct twin twins[TWINS][COPIES];
+extern const char *const twin_names[TWINS];
+
+#endif

@@ -1,0 +1,147 @@
+-- The answers of open, join and leave, a law for each way that their code can take: the rows of 01's table, then what an accepted call makes.
+-- Assumes nothing.
+use Prim.Native.Nat.{ℕ, _≤_, _<_}
+use mathlib.Core.Path.{_≡_, sym, ap, _∙_}
+use mathlib.Core.Logic.{_≢_}
+use mathlib.Core.Bool.{Bool, true, false, cond}
+use mathlib.Core.List.{List}
+use native.Mathlib.Omega.{arith}
+use lib.ListN.{getD, set, length-set}
+use borrow.Author.Tests.{lt-ltb, le-ltb}
+use Rattle.plan.specs.declared.Plan.{Plan}
+use Rattle.plan.specs.Answer.{isPlan}
+use Rattle.safety.specs.Scheduler.{Call, join, leave, joined, left}
+use Rattle.safety.specs.Order.{bySlot}
+use Rattle.safety.specs.Arrays.{slots-set}
+use Rattle.safety.specs.Refusals as refusals
+use Rattle.safety.specs.Calls as calls
+use Rattle.safety.specs.Lists.{answer-accepted, answer-refused}
+use Rattle.safety.specs.Rows.{refuse, join-phase, join-slot, join-occupied, join-fault, join-accepted, leave-phase, leave-slot, leave-free, leave-accepted}
+use Rattle.desk.specs.declared.Desk.{Desk}
+use Rattle.desk.specs.Desk.{supplyOf, slotsIn, viewOf, deskOf, freshDesk, blankDesk, verdict, openDesk, answerOf, answered, joinDesk, leaveDesk}
+use Rattle.desk.specs.View.{Wide, same-length, desk-of-view}
+use Rattle.desk.specs.Slots.{kind-in}
+use Rattle.records.specs.Records.{answers, withSlot}
+use Rattle.soundness.specs.Facts.{soundDesk}
+
+-- ---- open
+
+pub open-unfit : (p : Plan) (ps ls : List ℕ) → isPlan p ps ls ≡ false → answers blankDesk 14 0 ≡ openDesk p ps ls
+unfolding openDesk
+open-unfit p ps ls e = rw e
+
+pub open-done : (p : Plan) (ps ls : List ℕ) → isPlan p ps ls ≡ true → answers (freshDesk p) 0 0 ≡ openDesk p ps ls
+unfolding openDesk
+open-done p ps ls e = rw e
+
+-- ---- join and leave
+
+module _ (d : Desk) (w : Wide d) (ps ls : List ℕ) where
+  abbrev judges : Call ℕ → refusals.Verdict
+  judges c = refusals.verdict (supplyOf (d .plan)) (bySlot (supplyOf (d .plan))) (viewOf d) (isPlan (d .plan) ps ls) 0 c
+
+  -- a refused call answers the desk it was given
+  refused-is : (c : Call ℕ) (k i : ℕ) → 0 < k → judges c ≡ refuse k i → answered d (answerOf d ps ls 0 c) ≡ answers d k i
+  unfolding answered answerOf calls.refusals
+  refused-is c k i h e =
+      let p = supplyOf (d .plan) in
+      ap (answered d) (answer-refused p (bySlot p) (calls.refusals p (bySlot p)) (viewOf d) (record { call = c; fair = isPlan (d .plan) ps ls; room = 0 }) k i h e)
+      ∙ λ t. record { verdict = verdict k i; desk = desk-of-view d w t }
+
+  -- the record with a slot set, and its view
+  set-wide : (i k x : ℕ) → Wide (withSlot d i k x)
+  unfolding withSlot
+  set-wide i k x = record {
+    kinds = length-set (d .kinds) i k ∙ w .kinds;
+    next = length-set (d .next) i x ∙ w .next;
+    held = length-set (d .held) i 0 ∙ w .held;
+  }
+
+  set-slots : (i k x : ℕ) → d .phase ≡ 0
+      → deskOf (d .plan) (record { phase = 0; slots = set (slotsIn d) i (record { kind = k; next = x; buffered = 0 }); queue = tt }) ≡ withSlot d i k x
+  unfolding withSlot viewOf
+  set-slots i k x e =
+      let p = supplyOf (d .plan) in
+      (λ t. deskOf (d .plan)
+      (record { phase = sym e t; slots = sym (slots-set p (d .kinds) (d .next) (d .held) (same-length d w) i k x 0) t; queue = tt }))
+      ∙ desk-of-view (withSlot d i k x) (set-wide i k x)
+
+  -- ---- 14
+
+  unsound-row : (c : Call ℕ) → soundDesk d ps ls ≡ false → judges c ≡ refuse 14 0
+  unfolding refusals.verdict
+  unsound-row c e = rw e
+
+  sound-row : (c : Call ℕ) → soundDesk d ps ls ≡ true → judges c ≡ refusals.judged (supplyOf (d .plan)) (viewOf d) 0 c
+  unfolding refusals.verdict
+  sound-row c e = rw e
+
+  -- ---- join
+
+  module _ (slot block : ℕ) where
+    pub join-unsound : soundDesk d ps ls ≡ false → answers d 14 0 ≡ joinDesk d ps ls slot block
+    unfolding joinDesk
+    join-unsound e = sym (refused-is (join slot block) 14 0 (omega arith) (unsound-row (join slot block) e))
+
+    module _ (s : soundDesk d ps ls ≡ true) where
+      pub join-in-sweep : d .phase ≢ 0 → answers d 15 0 ≡ joinDesk d ps ls slot block
+      unfolding joinDesk viewOf
+      join-in-sweep h =
+          sym (refused-is (join slot block) 15 0 (omega arith) (sound-row (join slot block) s ∙ join-phase (supplyOf (d .plan)) (viewOf d) 0 slot block h))
+
+      pub join-no-slot : d .phase ≡ 0 → d .plan .streams ≤ slot → answers d 16 slot ≡ joinDesk d ps ls slot block
+      unfolding joinDesk viewOf supplyOf
+      join-no-slot h l =
+          sym (refused-is (join slot block) 16 slot (omega arith) (sound-row (join slot block) s ∙ join-slot (supplyOf (d .plan)) (viewOf d) 0 slot block h l))
+
+      pub join-taken : d .phase ≡ 0 → slot < d .plan .streams → getD (d .kinds) slot 0 ≢ 0 → answers d 17 slot ≡ joinDesk d ps ls slot block
+      unfolding joinDesk viewOf supplyOf
+      join-taken h l k =
+          sym (refused-is (join slot block) 17 slot (omega arith)
+          (sound-row (join slot block) s ∙ join-occupied (supplyOf (d .plan)) (viewOf d) 0 slot block h l (λ e. k (sym (kind-in d w slot) ∙ e))))
+
+      pub join-past-end : d .phase ≡ 0 → slot < d .plan .streams → getD (d .kinds) slot 0 ≡ 0 → d .plan .figures .blocks ≤ block → answers d 18 slot ≡ joinDesk d ps ls slot block
+      unfolding joinDesk viewOf supplyOf
+      join-past-end h l k b =
+          let f : supplyOf (d .plan) .fault block ≡ 18 = ap (λ (t : Bool). cond t 0 18) (le-ltb block (d .plan .figures .blocks) b) in
+          sym (refused-is (join slot block) 18 slot (omega arith)
+          (sound-row (join slot block) s ∙ join-fault (supplyOf (d .plan)) (viewOf d) 0 slot block h l (kind-in d w slot ∙ k) (λ z. omega arith) ∙ ap (λ (n : ℕ). refuse n slot) f))
+
+      pub join-done : d .phase ≡ 0 → slot < d .plan .streams → getD (d .kinds) slot 0 ≡ 0 → block < d .plan .figures .blocks
+          → answers (withSlot d slot 1 block) 0 0 ≡ joinDesk d ps ls slot block
+      unfolding joinDesk viewOf supplyOf answered answerOf calls.refusals calls.accepted joined bySlot
+      join-done h l k b =
+          let p = supplyOf (d .plan) in
+          let f : p .fault block ≡ 0 = ap (λ (t : Bool). cond t 0 18) (lt-ltb block (d .plan .figures .blocks) b) in
+          let v : judges (join slot block) ≡ refusals.accept = sound-row (join slot block) s ∙ join-accepted p (viewOf d) 0 slot block h l (kind-in d w slot ∙ k) f in
+          sym (ap (answered d) (answer-accepted p (bySlot p) (calls.refusals p (bySlot p)) (viewOf d) (record { call = join slot block; fair = isPlan (d .plan) ps ls; room = 0 }) (ap (λ (u : refusals.Verdict). u .number) v))
+          ∙ λ t. record { verdict = verdict 0 0; desk = set-slots slot 1 block h t })
+
+  -- ---- leave
+
+  module _ (slot : ℕ) where
+    pub leave-unsound : soundDesk d ps ls ≡ false → answers d 14 0 ≡ leaveDesk d ps ls slot
+    unfolding leaveDesk
+    leave-unsound e = sym (refused-is (leave slot) 14 0 (omega arith) (unsound-row (leave slot) e))
+
+    module _ (s : soundDesk d ps ls ≡ true) where
+      pub leave-in-sweep : d .phase ≢ 0 → answers d 15 0 ≡ leaveDesk d ps ls slot
+      unfolding leaveDesk viewOf
+      leave-in-sweep h = sym (refused-is (leave slot) 15 0 (omega arith) (sound-row (leave slot) s ∙ leave-phase (supplyOf (d .plan)) (viewOf d) 0 slot h))
+
+      pub leave-no-slot : d .phase ≡ 0 → d .plan .streams ≤ slot → answers d 16 slot ≡ leaveDesk d ps ls slot
+      unfolding leaveDesk viewOf supplyOf
+      leave-no-slot h l = sym (refused-is (leave slot) 16 slot (omega arith) (sound-row (leave slot) s ∙ leave-slot (supplyOf (d .plan)) (viewOf d) 0 slot h l))
+
+      pub leave-vacant : d .phase ≡ 0 → slot < d .plan .streams → getD (d .kinds) slot 0 ≡ 0 → answers d 17 slot ≡ leaveDesk d ps ls slot
+      unfolding leaveDesk viewOf supplyOf
+      leave-vacant h l k =
+          sym (refused-is (leave slot) 17 slot (omega arith) (sound-row (leave slot) s ∙ leave-free (supplyOf (d .plan)) (viewOf d) 0 slot h l (kind-in d w slot ∙ k)))
+
+      pub leave-done : d .phase ≡ 0 → slot < d .plan .streams → getD (d .kinds) slot 0 ≢ 0 → answers (withSlot d slot 0 0) 0 0 ≡ leaveDesk d ps ls slot
+      unfolding leaveDesk viewOf supplyOf answered answerOf calls.refusals calls.accepted left bySlot
+      leave-done h l k =
+          let p = supplyOf (d .plan) in
+          let v : judges (leave slot) ≡ refusals.accept = sound-row (leave slot) s ∙ leave-accepted p (viewOf d) 0 slot h l (λ e. k (sym (kind-in d w slot) ∙ e)) in
+          sym (ap (answered d) (answer-accepted p (bySlot p) (calls.refusals p (bySlot p)) (viewOf d) (record { call = leave slot; fair = isPlan (d .plan) ps ls; room = 0 }) (ap (λ (u : refusals.Verdict). u .number) v))
+          ∙ λ t. record { verdict = verdict 0 0; desk = set-slots slot 0 0 h t })

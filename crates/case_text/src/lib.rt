@@ -1,0 +1,172 @@
+// The text of worked cases: numbers, records and cards are read from a line, answers printed on one.
+use card::Figures;
+use card::Verdict;
+use libc::STDOUT_FILENO;
+ghost use Prim.Native.Nat.{_≤_, _<_};
+ghost use lib.ListN.{length};
+
+// A number of a line, and where the next one may begin.
+pub struct Entry {
+    pub value: u32,
+    pub next: usize,
+}
+
+// What a digit stands for, a to f being 10 to 15; 16 for any other byte.
+fn digit(byte: u8) -> u32
+    ensures { λ r. ⌜ r < 17 ⌝ }
+{
+    if byte < b'0' {
+        return 16;
+    }
+    if byte <= b'9' {
+        return (byte - b'0') as u32;
+    }
+    if byte < b'a' {
+        return 16;
+    }
+    if byte <= b'f' {
+        return (byte - b'a') as u32 + 10;
+    }
+    16
+}
+
+// The first place from `start` on that has no space.
+fn past_spaces(text: &[u8], start: usize) -> usize {
+    let mut at = start;
+    while at < text.len() {
+        if text[at] != b' ' {
+            break;
+        }
+        at += 1;
+    }
+    at
+}
+
+// The decimal number from `start` on, spaces before it skipped; 0 where there is none. It has nine digits at most.
+pub fn read_number(text: &[u8], start: usize) -> Entry {
+    let mut at = past_spaces(text, start);
+    let mut value: u32 = 0;
+    while at < text.len() {
+        let d = digit(text[at]);
+        if 9 < d {
+            break;
+        }
+        value = value % 100000000 * 10 + d;
+        at += 1;
+    }
+    Entry {
+        value: value,
+        next: at,
+    }
+}
+
+fn no_zones() -> [u32; 64] {
+    [0u32; 64]
+}
+
+// A record of figures: zones, N, B, c, hop, return, then positions and time of each zone. What is missing is 0.
+pub fn read_record(text: &[u8], start: usize) -> Figures {
+    let zones = read_number(text, start);
+    let blocks = read_number(text, zones.next);
+    let bytes = read_number(text, blocks.next);
+    let rate = read_number(text, bytes.next);
+    let hop = read_number(text, rate.next);
+    let back = read_number(text, hop.next);
+    let mut positions = no_zones();
+    let mut times = no_zones();
+    let mut at = back.next;
+    let mut i: usize = 0;
+    while i < 64 {
+        let count = read_number(text, at);
+        let time = read_number(text, count.next);
+        positions[i] = count.value;
+        times[i] = time.value;
+        at = time.next;
+        i += 1;
+    }
+    Figures {
+        zones: zones.value,
+        positions: positions,
+        times: times,
+        blocks: blocks.value,
+        bytes: bytes.value,
+        rate: rate.value,
+        hop: hop.value,
+        back: back.value,
+    }
+}
+
+// Puts the bytes of a card, two hexadecimal digits each, at the start of `out`, and answers how many there are.
+pub fn read_bytes(text: &[u8], start: usize, out: &mut [u8]) -> usize
+    ensures { λ r. ⌜ r ≤ length (now (out .exit)) ⌝ }
+{
+    let mut at = past_spaces(text, start);
+    let mut count: usize = 0;
+    while count < out.len() {
+        if text.len() <= at {
+            break;
+        }
+        let high = digit(text[at]);
+        at += 1;
+        if text.len() <= at {
+            break;
+        }
+        let low = digit(text[at]);
+        at += 1;
+        if 15 < high {
+            break;
+        }
+        if 15 < low {
+            break;
+        }
+        out[count] = (high * 16 + low) as u8;
+        count += 1;
+    }
+    count
+}
+
+// The letter of a case after one more byte of its line: 0 within the name, a colon after it, then the first byte that is no space.
+pub fn next_letter(letter: u8, byte: u8) -> u8 {
+    if letter == 0 {
+        if byte == b':' {
+            return byte;
+        }
+        return letter;
+    }
+    if letter == b':' {
+        if byte != b' ' {
+            return byte;
+        }
+    }
+    letter
+}
+
+// A byte as a number of 64 bits.
+pub fn wide(byte: u8) -> u64
+    ensures { λ r. ⌜ r < 256 ⌝ }
+{
+    byte as u64
+}
+
+pub fn print(text: &[u8]) {
+    io::write_all(STDOUT_FILENO, text);
+}
+
+// One byte as it is.
+pub fn print_byte(byte: u8) {
+    let one = [byte];
+    io::write_all(STDOUT_FILENO, &one);
+}
+
+// A space and the number.
+pub fn print_number(number: u64) {
+    io::write_all(STDOUT_FILENO, b" ");
+    io::print_decimal(STDOUT_FILENO, number);
+}
+
+pub fn print_refusal(verdict: Verdict) {
+    print(b" refused");
+    print_number(verdict.number as u64);
+    print(b" at");
+    print_number(verdict.place as u64);
+}

@@ -1,0 +1,92 @@
+-- A record's three arrays as its slots: loads and stores.
+-- Assumes nothing.
+use Prim.Native.Nat.{ℕ, zero, suc}
+use mathlib.Core.Path.{_≡_, refl, sym, ap, _∙_}
+use mathlib.Core.List.{List, [], _∷_, map}
+use lib.ListN.{length, getD, set, List·getD-map}
+use lib.Seq.{map-set-same}
+use Rattle.safety.specs.Scheduler.{Slot, freeSlot, at}
+use Rattle.safety.specs.Arrays.{slotOf, length-slots, slot-at, slots-back}
+use Rattle.desk.specs.declared.Desk.{Desk}
+use Rattle.desk.specs.Desk.{supplyOf, slotsIn, viewOf, deskOf}
+use Rattle.desk.specs.View.{Wide, same-length, desk-of-view}
+
+-- the record with other slots
+abbrev pub withSlots : Desk → List (Slot ℕ) → Desk
+withSlots d ss = deskOf (d .plan) (record { phase = d .phase; slots = ss; queue = tt })
+
+pub length-in : (d : Desk) → Wide d → length (slotsIn d) ≡ 256
+length-in d w = length-slots (supplyOf (d .plan)) (d .kinds) (d .next) (d .held) ∙ w .kinds
+
+-- a load
+pub slot-in : (d : Desk) → Wide d → (i : ℕ)
+    → at (supplyOf (d .plan)) (slotsIn d) i ≡ slotOf (supplyOf (d .plan)) (getD (d .kinds) i 0) (getD (d .next) i 0) (getD (d .held) i 0)
+unfolding supplyOf
+slot-in d w i = slot-at (supplyOf (d .plan)) (d .kinds) (d .next) (d .held) (same-length d w) i
+
+pub kind-in : (d : Desk) → Wide d → (i : ℕ) → at (supplyOf (d .plan)) (slotsIn d) i .kind ≡ getD (d .kinds) i 0
+kind-in d w i = ap (λ (s : Slot ℕ). s .kind) (slot-in d w i)
+
+pub next-in : (d : Desk) → Wide d → (i : ℕ) → at (supplyOf (d .plan)) (slotsIn d) i .next ≡ getD (d .next) i 0
+next-in d w i = ap (λ (s : Slot ℕ). s .next) (slot-in d w i)
+
+pub held-in : (d : Desk) → Wide d → (i : ℕ) → at (supplyOf (d .plan)) (slotsIn d) i .buffered ≡ getD (d .held) i 0
+held-in d w i = ap (λ (s : Slot ℕ). s .buffered) (slot-in d w i)
+
+-- the slots of a desk are those that it was given
+pub slots-with : (d : Desk) (ts : List (Slot ℕ)) → slotsIn (withSlots d ts) ≡ ts
+unfolding deskOf
+slots-with d ts = slots-back (supplyOf (d .plan)) ts
+
+pub with-own : (d : Desk) → Wide d → d ≡ withSlots d (slotsIn d)
+unfolding viewOf
+with-own d w = sym (desk-of-view d w)
+
+map-set : {A C : Type 0} (f : A → C) (xs : List A) (i : ℕ) (a : A) → map f (set xs i a) ≡ set (map f xs) i (f a)
+map-set f [] i a = refl
+map-set f (x ∷ xs) zero a = refl
+map-set f (x ∷ xs) (suc i) a = ap (λ r. f x ∷ r) (map-set f xs i a)
+
+-- e is d with the slots ts
+module _ (d : Desk) (ts : List (Slot ℕ)) (e : Desk) (q : e ≡ withSlots d ts) (i : ℕ) where
+  pub load-kind : getD (e .kinds) i 0 ≡ at (supplyOf (d .plan)) ts i .kind
+  unfolding deskOf supplyOf
+  load-kind = ap (λ (x : Desk). getD (x .kinds) i 0) q ∙ List·getD-map (λ s. s .kind) ts i (freeSlot (supplyOf (d .plan)))
+
+  pub load-next : getD (e .next) i 0 ≡ at (supplyOf (d .plan)) ts i .next
+  unfolding deskOf supplyOf
+  load-next = ap (λ (x : Desk). getD (x .next) i 0) q ∙ List·getD-map (λ s. s .next) ts i (freeSlot (supplyOf (d .plan)))
+
+  pub load-held : getD (e .held) i 0 ≡ at (supplyOf (d .plan)) ts i .buffered
+  unfolding deskOf supplyOf
+  load-held = ap (λ (x : Desk). getD (x .held) i 0) q ∙ List·getD-map (λ s. s .buffered) ts i (freeSlot (supplyOf (d .plan)))
+
+  -- a store of the kind alone
+  pub store-kind : (k : ℕ) (v : Slot ℕ) → v ≡ slotOf (supplyOf (d .plan)) k (at (supplyOf (d .plan)) ts i .next) (at (supplyOf (d .plan)) ts i .buffered)
+      → record { plan = e .plan; phase = e .phase; kinds = set (e .kinds) i k; next = e .next; held = e .held } ≡ withSlots d (set ts i v)
+  unfolding deskOf supplyOf
+  store-kind k v u =
+      let F = freeSlot (supplyOf (d .plan)) in
+      rw (q, u)
+      (λ j. record {
+        plan = d .plan;
+        phase = d .phase;
+        kinds = sym (map-set (λ s. s .kind) ts i (slotOf (supplyOf (d .plan)) k (getD ts i F .next) (getD ts i F .buffered))) j;
+        next = sym (map-set-same (λ s. s .next) ts i (slotOf (supplyOf (d .plan)) k (getD ts i F .next) (getD ts i F .buffered)) F refl) j;
+        held = sym (map-set-same (λ s. s .buffered) ts i (slotOf (supplyOf (d .plan)) k (getD ts i F .next) (getD ts i F .buffered)) F refl) j;
+      })
+
+  -- a store of all three
+  pub store-slot : (v : Slot ℕ)
+      → record { plan = e .plan; phase = e .phase; kinds = set (e .kinds) i (v .kind); next = set (e .next) i (v .next); held = set (e .held) i (v .buffered) }
+      ≡ withSlots d (set ts i v)
+  unfolding deskOf
+  store-slot v =
+      rw q
+      (λ j. record {
+        plan = d .plan;
+        phase = d .phase;
+        kinds = sym (map-set (λ s. s .kind) ts i v) j;
+        next = sym (map-set (λ s. s .next) ts i v) j;
+        held = sym (map-set (λ s. s .buffered) ts i v) j;
+      })

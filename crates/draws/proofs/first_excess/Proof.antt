@@ -1,0 +1,87 @@
+use native.Mathlib.Omega.{arith}
+use Prim.Native.Nat.{ℕ, _-_, _≤_, _<_}
+use mathlib.Core.Path.{_≡_}
+use borrow.Author.Needs.{needs}
+use borrow.Author.Count.{below-more}
+use lib.ListN.{length, getD}
+use Rattle.words.specs.Words.{wordsOf}
+use Rattle.safety.specs.Scheduler.{at, drawLimit}
+use Rattle.desk.specs.View.{Wide}
+use Rattle.desk.specs.Desk.{supplyOf, slotsIn}
+use Rattle.draws.proofs.Drawing.{limit-in}
+use Rattle.draws.proofs.first_excess.Statement.{statement}
+use Rattle.draws.proofs.first_excess.Tie as tie
+
+-- the first i draws are allowed
+abbrev Inv-loop : tie.InvT-loop
+Inv-loop most draws desk count i₀ i = (count ≡ length (wordsOf draws)) × (i ≤ count) × ((j : ℕ) → j < i → getD (wordsOf draws) j 0 ≤ drawLimit (supplyOf (desk .plan)) most (at (supplyOf (desk .plan)) (slotsIn desk) j))
+
+abbrev μ-loop : tie.MeasureT-loop
+μ-loop most draws desk count i₀ i = count - i
+
+-- the arrays have 256 entries
+wide : (c : tie.Start Inv-loop μ-loop) → Wide (c .args .t1)
+wide c = record { kinds = search needs; next = search needs; held = search needs }
+
+entries-requires : tie.Need-entries-requires Inv-loop μ-loop
+entries-requires c κs = search needs
+
+loop-holds : tie.Need-loop-holds Inv-loop μ-loop
+loop-holds c = (c .entries .ensures, omega arith, λ j l. absurd (omega arith))
+
+mul-draw-limit : tie.Need-mul-draw-limit Inv-loop μ-loop
+mul-draw-limit c = omega arith
+
+element-copy-out-draw-limit : tie.Need-element-copy-out-draw-limit Inv-loop μ-loop
+element-copy-out-draw-limit c = omega (arith, c .before .before .before .before .pre)
+
+draw-limit-requires : tie.Need-draw-limit-requires Inv-loop μ-loop
+draw-limit-requires c κs = search needs
+
+word-at-requires : tie.Need-word-at-requires Inv-loop μ-loop
+word-at-requires c κs = omega (arith, c .before .before .before .loop .inv .0, c .before .before .loop-test .taken)
+
+cast-if1 : tie.Need-cast-if1 Inv-loop μ-loop
+cast-if1 c = search needs
+
+returns : tie.Need-returns Inv-loop μ-loop
+returns c = let l = c .before .before .before .before .before .loop in
+    let a = c .before .before .before .before .before .before .before .before in
+    record {
+      inside = omega arith;
+      below = l .inv .2;
+      above = λ _. omega (arith, limit-in (a .args .t1) (wide a) (a .args .most) (l .i) (c .before .before .draw-limit .result) (c .before .before .draw-limit .ensures), c .before .word-at .ensures);
+    }
+
+add-i : tie.Need-add-i Inv-loop μ-loop
+add-i c = omega arith
+
+loop-less : tie.Need-loop-less Inv-loop μ-loop
+loop-less c = omega arith
+
+loop-again : tie.Need-loop-again Inv-loop μ-loop
+loop-again c = let l = c .before .before .before .before .before .loop in
+    let a = c .before .before .before .before .before .before .before .before in
+    (l .inv .0, omega arith, below-more _ _ (l .inv .2) (omega (arith, limit-in (a .args .t1) (wide a) (a .args .most) (l .i) (c .before .before .draw-limit .result) (c .before .before .draw-limit .ensures), c .before .word-at .ensures)))
+
+returns-2 : tie.Need-returns-2 Inv-loop μ-loop
+returns-2 c = let l = c .before .loop in record { inside = omega arith; below = l .inv .2; above = λ z. absurd (omega arith) }
+
+pub first-excess-spec : {M : Type 1} → statement M
+first-excess-spec =
+    tie.close
+    (tie.spec
+    Inv-loop
+    μ-loop
+    entries-requires
+    loop-holds
+    mul-draw-limit
+    element-copy-out-draw-limit
+    draw-limit-requires
+    word-at-requires
+    cast-if1
+    returns
+    add-i
+    loop-less
+    loop-again
+    returns-2)

@@ -1,0 +1,156 @@
+-- A slot after a sweep, and one turn of the loop over the slots.
+-- Assumes nothing.
+use Prim.Native.Nat.{ℕ, suc, _+_, _-_, _≤_, _<_}
+use mathlib.Core.Path.{_≡_, refl, sym, ap, _∙_}
+use mathlib.Core.List.{List}
+use native.Mathlib.Omega.{arith}
+use lib.ListN.{length, getD, set}
+use borrow.Author.Tests.{ltb-true, eq-eqb, ne-eqb}
+use Rattle.laws.specs.Each.{each-at}
+use Rattle.laws.specs.Places.{each-of-allFrom, eachFrom-at}
+use Rattle.plan.specs.declared.Plan.{Plan}
+use Rattle.safety.specs.Scheduler as S
+use Rattle.safety.specs.Scheduler.{freeSlot, at, leads, endedSlot, ended, mostDrawn}
+use Rattle.safety.specs.Sound.{Good, good-free}
+use Rattle.safety.specs.Refusals.{drawAllowed, drawHeld}
+use Rattle.safety.specs.Slots.{fetched-full, fetched-other}
+use Rattle.safety.specs.Turns.{ended-fetched, ended-last, ended-empty, ended-other, endedTo, endedTo-none, endedTo-at, endedTo-next, endedTo-rest}
+use Rattle.safety.specs.Safety.{Drawable, drawable-of}
+use Rattle.desk.specs.declared.Desk.{Desk}
+use Rattle.desk.specs.Desk.{supplyOf, slotsIn, viewOf}
+use Rattle.desk.specs.View.{Wide}
+use Rattle.desk.specs.Ready.{Ready, ready-lawful, buffer-has}
+use Rattle.desk.specs.Slots.{withSlots, length-in, load-kind, load-next, load-held, store-slot, with-own}
+use Rattle.ends.specs.declared.Slot.{Slot}
+use Rattle.ends.specs.Ends.{Drawn, slotIn, Film}
+
+-- ---- one slot
+
+module _ (p : Plan) (blocks bytes room : ℕ) (film : Film p blocks bytes room) (s : Slot) (draw : ℕ) (k : 2 ≤ s .kind) (l : s .kind ≤ 3) where
+  -- its buffer is too full
+  pub swept-full : room < s .held → slotIn p (record { kind = s .kind; next = s .next; held = s .held - draw }) ≡ endedSlot (supplyOf p) (slotIn p s) draw
+  unfolding supplyOf
+  swept-full h =
+      sym (ended-other (supplyOf p) (slotIn p s) draw (fetched-full (supplyOf p) (slotIn p s) (omega (arith, film .size, film .left))) (λ z. absurd (omega arith)))
+
+  -- its last block was fetched, and another
+  pub swept-last : s .held ≤ room → 1 ≤ bytes → s .next + 1 ≡ blocks
+      → slotIn p (record { kind = 4; next = s .next + 1; held = s .held - draw + bytes }) ≡ endedSlot (supplyOf p) (slotIn p s) draw
+  unfolding supplyOf
+  swept-last h b e =
+      let q : suc (s .next) ≡ p .figures .blocks = omega (arith, film .last) in
+      let n : s .next + 1 ≡ suc (s .next) = omega arith in
+      sym
+      (ended-last (supplyOf p) (slotIn p s) draw k l (omega (arith, film .size, film .left)) (eq-eqb (suc (s .next)) (p .figures .blocks) q) (omega (arith, film .size))
+      ∙ λ j. record { kind = 4; next = sym n j; buffered = ap (λ (m : ℕ). s .held - draw + m) (film .size) j })
+
+  pub swept-on : s .held ≤ room → (s .next + 1 ≡ blocks → ⊥)
+      → slotIn p (record { kind = s .kind; next = s .next + 1; held = s .held - draw + bytes }) ≡ endedSlot (supplyOf p) (slotIn p s) draw
+  unfolding supplyOf
+  swept-on h e =
+      let n : s .next + 1 ≡ suc (s .next) = omega arith in
+      sym
+      (ended-fetched (supplyOf p) (slotIn p s) draw k l (omega (arith, film .size, film .left))
+      (ne-eqb (suc (s .next)) (p .figures .blocks) (λ z. e (omega (arith, film .last, z))))
+      ∙ λ j. record { kind = s .kind; next = sym n j; buffered = ap (λ (m : ℕ). s .held - draw + m) (film .size) j })
+
+module _ (p : Plan) (s : Slot) (draw : ℕ) where
+  pub drained-empty : s .kind ≡ 4 → s .held ≡ draw → slotIn p (record { kind = 0; next = 0; held = 0 }) ≡ endedSlot (supplyOf p) (slotIn p s) draw
+  unfolding supplyOf
+  drained-empty k h = sym (ended-empty (supplyOf p) (slotIn p s) draw k (omega arith))
+
+  pub drained-on : s .kind ≡ 4 → draw < s .held → slotIn p (record { kind = s .kind; next = s .next; held = s .held - draw }) ≡ endedSlot (supplyOf p) (slotIn p s) draw
+  drained-on k h = sym (ended-other (supplyOf p) (slotIn p s) draw (fetched-other (supplyOf p) (slotIn p s) (λ a b. omega arith)) (λ _. h))
+
+  -- a free or asked slot
+  pub still : s .kind ≤ 1 → draw ≡ 0 → slotIn p s ≡ endedSlot (supplyOf p) (slotIn p s) draw
+  still k h =
+      let n : s .held - draw ≡ s .held = omega arith in
+      sym
+      (ended-other (supplyOf p) (slotIn p s) draw (fetched-other (supplyOf p) (slotIn p s) (λ a b. omega arith)) (λ z. absurd (omega arith))
+      ∙ λ j. record { kind = s .kind; next = s .next; buffered = n j })
+
+-- ---- the loop
+
+-- the first i slots are done
+unfoldable pub endedUpTo : Desk → List ℕ → ℕ → Desk
+endedUpTo d ds i = withSlots d (endedTo (supplyOf (d .plan)) ds i (slotsIn d))
+
+pub ends-none : (d : Desk) → Wide d → (ds : List ℕ) → d ≡ endedUpTo d ds 0
+unfolding endedUpTo
+ends-none d w ds = with-own d w ∙ ap (withSlots d) (sym (endedTo-none (supplyOf (d .plan)) ds (slotsIn d)))
+
+pub film-of : (d : Desk) → Ready d → Film (d .plan) (d .plan .figures .blocks) (d .plan .figures .bytes) (d .plan .buffer - d .plan .figures .bytes)
+film-of d r = record { last = refl; size = refl; left = omega (arith, buffer-has (d .plan) (r .planned)) }
+
+-- as many draws as streams
+pub drawn-count : (d : Desk) (ds : List ℕ) → Drawn d ds → length ds ≡ d .plan .streams
+unfolding supplyOf
+drawn-count d ds o = o .1
+
+-- a slot of d and its draw
+pub record Fair (d : Desk) (s : Slot) (draw : ℕ) : Type 0 where
+  pub drawn : draw ≤ s .held
+  pub none : s .kind < 3 → draw ≡ 0
+  pub kinds : s .kind ≤ 4
+  pub named : 2 ≤ s .kind → s .kind ≤ 3 → s .next < d .plan .figures .blocks
+
+module _ (d : Desk) (w : Wide d) (r : Ready d) (ds : List ℕ) (o : Drawn d ds) (i : ℕ) (l : i < 256) (e : Desk) (q : e ≡ endedUpTo d ds i) where
+  -- slot i is as it was
+  pub slot-now : at (supplyOf (d .plan)) (slotsIn d) i ≡ slotIn (d .plan) (record { kind = getD (e .kinds) i 0; next = getD (e .next) i 0; held = getD (e .held) i 0 })
+  unfolding endedUpTo
+  slot-now =
+      let p = supplyOf (d .plan) in
+      let ts = endedTo p ds i (slotsIn d) in
+      sym (endedTo-at p ds i (slotsIn d))
+      ∙ λ j. record { kind = sym (load-kind d ts e q i) j; next = sym (load-next d ts e q i) j; buffered = sym (load-held d ts e q i) j }
+
+  drawable : Drawable (supplyOf (d .plan)) (ready-lawful d r) (mostDrawn (supplyOf (d .plan)) (slotsIn d)) (at (supplyOf (d .plan)) (slotsIn d) i) (getD ds i 0)
+  unfolding viewOf
+  drawable =
+      let p = supplyOf (d .plan) in
+      let m = mostDrawn p (slotsIn d) in
+      let u : i < length (slotsIn d) = omega (arith, length-in d w) in
+      drawable-of p (ready-lawful d r) m ds i (at p (slotsIn d) i)
+      (eachFrom-at _ (freeSlot p) (slotsIn d) i (each-of-allFrom (drawAllowed p m ds) 0 (slotsIn d) (o .2)) u)
+      (eachFrom-at _ (freeSlot p) (slotsIn d) i (each-of-allFrom (drawHeld p ds) 0 (slotsIn d) (o .3)) u)
+
+  good : Good (supplyOf (d .plan)) (leads (supplyOf (d .plan)) (slotsIn d)) (at (supplyOf (d .plan)) (slotsIn d) i)
+  unfolding viewOf
+  good = let p = supplyOf (d .plan) in each-at (Good p (leads p (slotsIn d))) (slotsIn d) i (freeSlot p) (r .sound .slots) (good-free p _)
+
+  pub fair-now : Fair d (record { kind = getD (e .kinds) i 0; next = getD (e .next) i 0; held = getD (e .held) i 0 }) (getD ds i 0)
+  unfolding supplyOf
+  fair-now =
+      let k = ap (λ (s : S.Slot ℕ). s .kind) slot-now in
+      let n = ap (λ (s : S.Slot ℕ). s .next) slot-now in
+      let h = ap (λ (s : S.Slot ℕ). s .buffered) slot-now in
+      record {
+        drawn = omega (arith, drawable .held, h);
+        none = λ z. drawable .still (omega (arith, k));
+        kinds = omega (arith, good .kinds, k);
+        named = λ a b. omega (arith, ltb-true (at (supplyOf (d .plan)) (slotsIn d) i .next) (d .plan .figures .blocks) (good .named (omega (arith, k)) (omega (arith, k))), n);
+      }
+
+  -- one slot more
+  pub ends-turn : (draw : ℕ) → draw ≡ getD ds i 0 → (after : Slot)
+      → ((p : Plan) → Film p (d .plan .figures .blocks) (d .plan .figures .bytes) (d .plan .buffer - d .plan .figures .bytes)
+      → slotIn p after ≡ endedSlot (supplyOf p) (slotIn p (record { kind = getD (e .kinds) i 0; next = getD (e .next) i 0; held = getD (e .held) i 0 })) draw)
+      → record { plan = e .plan; phase = e .phase; kinds = set (e .kinds) i (after .kind); next = set (e .next) i (after .next); held = set (e .held) i (after .held) }
+      ≡ endedUpTo d ds (i + 1)
+  unfolding endedUpTo
+  ends-turn draw g after h =
+      let p = supplyOf (d .plan) in
+      let v = slotIn (d .plan) after in
+      let u : endedSlot p (at p (slotsIn d) i) (getD ds i 0) ≡ v =
+      ap (endedSlot p (at p (slotsIn d) i)) (sym g) ∙ ap (λ (s : S.Slot ℕ). endedSlot p s draw) slot-now ∙ sym (h (d .plan) (film-of d r))
+      in
+      store-slot d (endedTo p ds i (slotsIn d)) e q i v
+      ∙ ap (withSlots d) (endedTo-next p ds i (slotsIn d) v (omega (arith, length-in d w)) u)
+
+-- the slots from n on stay
+pub ends-all : (d : Desk) → Ready d → (ds : List ℕ) → Drawn d ds → (e : Desk) → e ≡ endedUpTo d ds (d .plan .streams)
+    → e ≡ withSlots d (ended (supplyOf (d .plan)) (slotsIn d) ds)
+unfolding endedUpTo viewOf supplyOf
+ends-all d r ds o e q =
+    q ∙ ap (withSlots d) (endedTo-rest (supplyOf (d .plan)) ds (d .plan .streams) (slotsIn d) (r .sound .unused) (omega (arith, o .1)))

@@ -1,0 +1,143 @@
+use native.Mathlib.Omega.{arith}
+use Prim.Native.Nat.{_-_, _≤_, _<_}
+use mathlib.Core.Path.{_≡_, refl, ap, _∙_}
+use borrow.Author.Needs.{needs}
+use lib.ListN.{length, getD}
+use Rattle.words.specs.Words.{wordsOf}
+use Rattle.desk.specs.View.{Wide}
+use Rattle.desk.specs.Ready.{streams-are, buffer-has, buffer-most}
+use Rattle.ends.proofs.Ending.{endedUpTo, ends-none, drawn-count, fair-now, ends-turn, ends-all}
+use Rattle.ends.proofs.end_slots.Statement.{statement}
+use Rattle.ends.proofs.end_slots.Tie as tie
+
+-- the first i slots are done
+abbrev Inv-loop : tie.InvT-loop
+Inv-loop draws blocks bytes room count d₀ i₀ d i = (count ≡ d₀ .plan .streams) × (i ≤ count) × (d ≡ endedUpTo d₀ (wordsOf draws) i)
+
+abbrev μ-loop : tie.MeasureT-loop
+μ-loop draws blocks bytes room count d₀ i₀ d i = count - i
+
+-- the arrays have 256 entries
+wide : (c : tie.Start Inv-loop μ-loop) → Wide (c .args .desk)
+wide c = record { kinds = search needs; next = search needs; held = search needs }
+
+-- n slots, and as many draws
+inside : (c : tie.In-loop Inv-loop μ-loop) → (c .before .loop .i < 256) × (c .before .loop .i < length (wordsOf (c .before .before .before .before .before .args .draws .now)))
+inside c =
+    let a = c .before .before .before .before .before in
+    omega (arith, streams-are (a .args .desk) (a .pre .0), drawn-count (a .args .desk) (wordsOf (a .args .draws .now)) (a .pre .1))
+
+sub-room : tie.Need-sub-room Inv-loop μ-loop
+sub-room c = omega (arith, buffer-has (c .before .before .args .desk .plan) (c .before .before .pre .0 .planned))
+
+cast-count : tie.Need-cast-count Inv-loop μ-loop
+cast-count c = search needs
+
+loop-holds : tie.Need-loop-holds Inv-loop μ-loop
+loop-holds c = let a = c .before .before .before in (refl, omega arith, ends-none _ (wide a) _)
+
+mul-ended-slot : tie.Need-mul-ended-slot Inv-loop μ-loop
+mul-ended-slot c = omega (arith, inside c)
+
+element-copy-out-ended-slot : tie.Need-element-copy-out-ended-slot Inv-loop μ-loop
+element-copy-out-ended-slot c = inside c .0
+
+mul-t16 : tie.Need-mul-t16 Inv-loop μ-loop
+mul-t16 c = omega (arith, inside (c .before))
+
+element-copy-out-t19 : tie.Need-element-copy-out-t19 Inv-loop μ-loop
+element-copy-out-t19 c = inside (c .before) .0
+
+mul-t20 : tie.Need-mul-t20 Inv-loop μ-loop
+mul-t20 c = omega (arith, inside (c .before .before))
+
+element-copy-out-t23 : tie.Need-element-copy-out-t23 Inv-loop μ-loop
+element-copy-out-t23 c = inside (c .before .before) .0
+
+word-at-requires : tie.Need-word-at-requires Inv-loop μ-loop
+word-at-requires c κs = inside (c .before .before .before) .1
+
+ended-slot-requires : tie.Need-ended-slot-requires Inv-loop μ-loop
+ended-slot-requires c κs = let a = c .before .before .before .before .before .before .before .before .before in
+    let l = c .before .before .before .before .before .loop in
+    let d = a .args .desk in
+    let ds = wordsOf (a .args .draws .now) in
+    let f = fair-now d (wide a) (a .pre .0) ds (a .pre .1) (l .i) (inside (c .before .before .before .before) .0) (l .d) (l .inv .2) in
+    let e : c .word-at .result ≡ getD ds (l .i) 0 = c .word-at .ensures in (
+      omega (arith, f .drawn),
+      λ z. e ∙ f .none z,
+      f .kinds,
+      f .named,
+      omega (arith, buffer-has (d .plan) (a .pre .0 .planned), buffer-most (d .plan) (a .pre .0 .legal) (a .pre .0 .planned)),
+      a .pre .0 .legal .bytes .0,
+    )
+
+mul-d : tie.Need-mul-d Inv-loop μ-loop
+mul-d c = omega (arith, inside (c .before .before .before .before .before))
+
+element-write-d : tie.Need-element-write-d Inv-loop μ-loop
+element-write-d c = inside (c .before .before .before .before .before) .0
+
+mul-d-2 : tie.Need-mul-d-2 Inv-loop μ-loop
+mul-d-2 c = omega (arith, inside (c .before .before .before .before .before))
+
+element-write-d-2 : tie.Need-element-write-d-2 Inv-loop μ-loop
+element-write-d-2 c = inside (c .before .before .before .before .before) .0
+
+mul-d-3 : tie.Need-mul-d-3 Inv-loop μ-loop
+mul-d-3 c = omega (arith, inside (c .before .before .before .before .before))
+
+element-write-d-3 : tie.Need-element-write-d-3 Inv-loop μ-loop
+element-write-d-3 c = inside (c .before .before .before .before .before) .0
+
+add-i : tie.Need-add-i Inv-loop μ-loop
+add-i c = omega (arith, inside (c .before .before .before .before .before))
+
+loop-less : tie.Need-loop-less Inv-loop μ-loop
+loop-less c = omega arith
+
+loop-again : tie.Need-loop-again Inv-loop μ-loop
+loop-again c = let a = c .before .before .before .before .before .before .before .before .before .before in
+    let l = c .before .before .before .before .before .before .loop in
+    let d = a .args .desk in
+    let ds = wordsOf (a .args .draws .now) in (
+      refl,
+      omega (arith, c .before .before .before .before .before .loop-test .taken),
+      ends-turn d (wide a) (a .pre .0) ds (a .pre .1) (l .i) (inside (c .before .before .before .before .before) .0) (l .d) (l .inv .2)
+          (c .before .word-at .result) (c .before .word-at .ensures) (c .ended-slot .result) (c .ended-slot .ensures),
+    )
+
+returns : tie.Need-returns Inv-loop μ-loop
+returns c = let a = c .before .before .before .before .before in
+    let l = c .before .loop in
+    let ds = wordsOf (a .args .draws .now) in
+    let e : l .i ≡ a .args .desk .plan .streams = omega arith in
+    ends-all (a .args .desk) (a .pre .0) ds (a .pre .1) (l .d) (l .inv .2 ∙ ap (endedUpTo (a .args .desk) ds) e)
+
+pub end-slots-spec : {M : Type 1} → statement M
+end-slots-spec =
+    tie.close
+    (tie.spec
+    Inv-loop
+    μ-loop
+    sub-room
+    cast-count
+    loop-holds
+    mul-ended-slot
+    element-copy-out-ended-slot
+    mul-t16
+    element-copy-out-t19
+    mul-t20
+    element-copy-out-t23
+    word-at-requires
+    ended-slot-requires
+    mul-d
+    element-write-d
+    mul-d-2
+    element-write-d-2
+    mul-d-3
+    element-write-d-3
+    add-i
+    loop-less
+    loop-again
+    returns)

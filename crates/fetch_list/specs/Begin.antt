@@ -1,0 +1,22 @@
+-- What a lent list of entries holds after a begin.
+-- Assumes nothing.
+use Prim.Native.Nat.{ℕ}
+use mathlib.Core.Path.{_≡_, ap}
+use mathlib.Core.List.{List}
+use lib.ListN.{length}
+use Rattle.desk.specs.declared.Desk.{Desk}
+use Rattle.desk.specs.declared.Begun.{Begun}
+use Rattle.desk.specs.declared.Fetch.{Fetch}
+use Rattle.desk.specs.Desk.{beginDesk}
+use Rattle.fetch_list.specs.Fetches.{written}
+
+-- `handed back as a lent list of entries`: the list has room for as many entries as it is long
+unfoldable pub listAfter : Desk → List ℕ → List ℕ → List Fetch → List Fetch
+listAfter d ps ls out =
+    let f = beginDesk d ps ls (length out) .fetches in
+    written f (f .count) out
+
+-- the fetches of an answer, written
+pub list-after : (d : Desk) (ps ls : List ℕ) (out : List Fetch) (b : Begun) → b ≡ beginDesk d ps ls (length out) → written (b .fetches) (b .fetches .count) out ≡ listAfter d ps ls out
+unfolding listAfter
+list-after d ps ls out b e = ap (λ (x : Begun). written (x .fetches) (x .fetches .count) out) e

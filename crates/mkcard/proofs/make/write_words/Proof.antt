@@ -1,0 +1,74 @@
+use borrow.Author.Needs.{needs}
+use Prim.Native.Nat.{ℕ, _+_, _*_, _≤_, _-_}
+use mathlib.Core.List.{_∷_}
+use mathlib.Core.Path.{_∙_}
+use native.Mathlib.Omega.{arith}
+use lib.ListN.{getD}
+use Rattle.card_writer.proofs.Laws.{Writes, writes-start, writes-next}
+use Rattle.mkcard.specs.Scan.{capped, numbersFrom, cardOfWords}
+use Rattle.mkcard.proofs.Laws.{numbers-kept, numbers-end, numbers-done, capped-long, card-room, words-done}
+use Rattle.mkcard.proofs.make.write_words.Statement.{statement}
+use Rattle.mkcard.proofs.make.write_words.Tie as tie
+
+abbrev Inv-loop : tie.InvT-loop
+Inv-loop out₀ s at₀ i₀ out at i = (i ≤ 136) × (at ≤ 5 * i) × Writes out₀ 0 (numbersFrom 136 0 s) out at (numbersFrom (136 - i) i s)
+
+abbrev μ-loop : tie.MeasureT-loop
+μ-loop out₀ s at₀ i₀ out at i = 136 - i
+
+loop-holds : tie.Need-loop-holds Inv-loop μ-loop
+loop-holds c = let a = c .before .args in (omega arith, omega arith, writes-start (a .out .now) 0 (numbersFrom 136 0 (a .t1)))
+
+same-length : tie.Need-same-length Inv-loop μ-loop
+same-length c = c .before .before .loop .inv .2 .long
+
+returns : tie.Need-returns Inv-loop μ-loop
+returns c = let l = c .before .before .loop in let s = c .before .before .before .before .args .t1 in words-done s (numbersFrom (136 - l .i) (l .i) s) (numbers-end s (136 - l .i) (l .i) (c .if1 .taken)) (l .inv .2)
+
+mul-write-word : tie.Need-mul-write-word Inv-loop μ-loop
+mul-write-word c = search needs
+
+element-copy-out-write-word : tie.Need-element-copy-out-write-word Inv-loop μ-loop
+element-copy-out-write-word c = search needs
+
+write-word-requires : tie.Need-write-word-requires Inv-loop μ-loop
+write-word-requires c κs = let l = c .before .before .before .before .loop in omega (arith, l .inv .1, l .inv .2 .long, c .before .before .before .before .before .before .pre)
+
+add-i : tie.Need-add-i Inv-loop μ-loop
+add-i c = search needs
+
+loop-less : tie.Need-loop-less Inv-loop μ-loop
+loop-less c = search needs
+
+loop-again : tie.Need-loop-again Inv-loop μ-loop
+loop-again c = let l = c .before .before .before .before .before .before .before .loop in
+    let a = c .before .before .before .before .before .before .before .before .before in
+    let s = a .args .t1 in
+    let e = c .before .before .write-word .ensures in
+    let w : Writes (a .args .out .now) 0 (numbersFrom 136 0 s) (l .out) (l .at) (capped (getD (s .values) (l .i) 0) ∷ numbersFrom (136 - (l .i + 1)) (l .i + 1) s) =
+    rw (numbers-kept s (136 - l .i) (l .i) (omega arith) (omega arith) (omega arith)) at (l .inv .2) in
+    (omega arith, omega (arith, l .inv .1, e .0, capped-long (getD (s .values) (l .i) 0)), writes-next w (card-room s (omega (arith, a .pre))) (e .0) (e .1))
+
+same-length-2 : tie.Need-same-length-2 Inv-loop μ-loop
+same-length-2 c = c .before .loop .inv .2 .long
+
+returns-2 : tie.Need-returns-2 Inv-loop μ-loop
+returns-2 c = let l = c .before .loop in let s = c .before .before .before .args .t1 in words-done s (numbersFrom (136 - l .i) (l .i) s) (numbers-done s (136 - l .i) (l .i) (omega arith)) (l .inv .2)
+
+pub write-words-spec : {M : Type 1} → statement M
+write-words-spec =
+    tie.close
+    (tie.spec
+    Inv-loop
+    μ-loop
+    loop-holds
+    same-length
+    returns
+    mul-write-word
+    element-copy-out-write-word
+    write-word-requires
+    add-i
+    loop-less
+    loop-again
+    same-length-2
+    returns-2)

@@ -1,0 +1,109 @@
+use Prim.Native.Nat.{ℕ, _+_, _-_, _*_, _/_, _≤_}
+use mathlib.Core.Path.{_≡_, refl, sym, ap, ap₂, _∙_}
+use native.Mathlib.Omega.{arith}
+use Rattle.laws.specs.Greatest.{greatestOf}
+use Rattle.card.specs.declared.Figures.{Figures}
+use Rattle.card.specs.Card.{totalPositions}
+use Rattle.pacing.specs.Streams.{streams, bufferOf}
+use Rattle.plan.specs.Plan.{timeOn, overOf, worst2Of, marginOf, streamsOf, bufferSize, planOf}
+use Rattle.plan.specs.Legal.{total-is, legal-zoned, legal-disk, worst2-small, worst2-quick, time-small, margin-is, margin-exact, margin-less, streams-few, buffer-small}
+use borrow.Author.Needs.{needs}
+use Rattle.planner.proofs.film.plan_of.Statement.{statement}
+use Rattle.planner.proofs.film.plan_of.Tie as tie
+
+abbrev start : (c : tie.After-time-at) → tie.Start
+start c = c .before .before .before .before .before .before .before .before
+
+-- worst2 and the margin, as the two calls find them
+record Found (f : Figures) (w t : ℕ) : Type 0 where
+  pair : w ≡ worst2Of f
+  time : t ≤ 4000000
+  exact : w ≤ 2 * t
+  margin : 2 * t - w ≡ marginOf f
+
+found : (c : tie.After-time-at) → Found (start c .args .t1) (c .before .before .before .before .worst-pair .result) (c .time-at .result)
+found c =
+    let s = start c in
+    let f = s .args .t1 in
+    let w = c .before .before .before .before .worst-pair .result in
+    let ok = s .pre .0 in
+    let pair : w ≡ worst2Of f =
+    c .before .before .before .before .worst-pair .ensures .0
+    ∙ ap (λ (P : ℕ). greatestOf (λ i. timeOn f (P - f .blocks + i) + timeOn f (P - 1 - i)) (f .blocks / 2)) (s .pre .1)
+    ∙ sym (worst2-quick f ok) in
+    let time : c .time-at .result ≡ timeOn f (totalPositions f - f .blocks) = c .time-at .ensures ∙ ap (λ (P : ℕ). timeOn f (P - f .blocks)) (s .pre .1) in
+    record {
+      pair = pair;
+      time = omega (arith, time-small f ok (totalPositions f - f .blocks) (omega (arith, ok .room, ok .blocks)));
+      exact = omega (arith, margin-exact f ok);
+      margin = omega (arith, margin-is f ok);
+    }
+
+streams-are : (c : tie.After-time-at) → (let f = start c .args .t1 in streams (f .rate) (c .before .before .before .before .worst-pair .result) (overOf f) (f .bytes) ≡ streamsOf f)
+unfolding streamsOf
+streams-are c = let f = start c .args .t1 in ap (λ (w : ℕ). streams (f .rate) w (overOf f) (f .bytes)) (found c .pair)
+
+buffer-are : (f : Figures) → bufferOf (f .rate) (streamsOf f) (marginOf f) (f .bytes) ≡ bufferSize f
+unfolding bufferSize
+buffer-are f = refl
+
+sub-first : tie.Need-sub-first
+sub-first c = search needs
+
+sub-worst-pair : tie.Need-sub-worst-pair
+sub-worst-pair c = search needs
+
+worst-pair-requires : tie.Need-worst-pair-requires
+worst-pair-requires c κs = let s = c .before .before .before in
+    let f = s .args .t1 in
+    let e = total-is f (s .pre .0) in
+    (legal-disk f (s .pre .0), omega (arith, s .pre .0 .room, s .pre .0 .blocks, s .pre .1), omega (arith, s .pre .0 .room, s .pre .0 .blocks, s .pre .1), omega (arith, s .pre .0 .room, s .pre .0 .blocks, s .pre .1))
+
+time-at-requires : tie.Need-time-at-requires
+time-at-requires c κs = let s = c .before .before .before .before .before .before .before in
+    let f = s .args .t1 in
+    let e = total-is f (s .pre .0) in
+    (legal-zoned f (s .pre .0), omega (arith, s .pre .0 .room, s .pre .0 .blocks, s .pre .1))
+
+mul-margin : tie.Need-mul-margin
+mul-margin c = omega (arith, found c .time)
+
+sub-margin : tie.Need-sub-margin
+sub-margin c = omega (arith, found c .exact)
+
+count-streams-requires : tie.Need-count-streams-requires
+count-streams-requires c κs = let s = start c in
+    record { pair = omega (arith, found c .pair, worst2-small (s .args .t1) (s .pre .0)); hops = s .pre .0 .hop .1; backs = s .pre .0 .back .1 }
+
+buffer-size-requires : tie.Need-buffer-size-requires
+buffer-size-requires c κs = let s = start (c .before) in
+    let f = s .args .t1 in
+    let w = found (c .before) in
+    let n = c .count-streams .ensures ∙ streams-are (c .before) in (
+      omega (arith, streams-few f (s .pre .0)),
+      omega (arith, w .margin, margin-less f (s .pre .0), worst2-small f (s .pre .0)),
+      omega (arith, ap₂ (λ (n m : ℕ). bufferOf (f .rate) n m (f .bytes)) n (w .margin), buffer-are f, buffer-small f (s .pre .0), s .pre .0 .bytes .1),
+    )
+
+returns : tie.Need-returns
+unfolding planOf
+returns c = let t = c .before .before in
+    let f = start t .args .t1 in
+    let w = found t in
+    let n = c .before .count-streams .ensures ∙ streams-are t in
+    let b = c .buffer-size .ensures ∙ ap₂ (λ (n m : ℕ). bufferOf (f .rate) n m (f .bytes)) n (w .margin) ∙ buffer-are f in
+    λ i. record { figures = f; streams = n i; buffer = b i; worst2 = w .pair i; margin = w .margin i }
+
+pub plan-of-spec : {M : Type 1} → statement M
+plan-of-spec =
+    tie.close
+    (tie.spec
+    sub-first
+    sub-worst-pair
+    worst-pair-requires
+    time-at-requires
+    mul-margin
+    sub-margin
+    count-streams-requires
+    buffer-size-requires
+    returns)

@@ -1,0 +1,96 @@
+// The answer to figures that were read or judged.
+use crate::film::plan_of;
+use block_lists::write_lists;
+use card::CardRead;
+use card::Figures;
+use card::Verdict;
+use plan::Plan;
+use plan::Planned;
+use zones::sum_positions;
+ghost use mathlib.Core.Path.{_≡_};
+ghost use Rattle.card.specs.Card.{Legal};
+ghost use Rattle.card.specs.Read.{blankZones};
+ghost use Rattle.plan.specs.Plan.{blankPlan};
+ghost use Rattle.plan.specs.Answer.{refusal, planned, positionsAfter, leadsAfter};
+
+fn blank_zones() -> [u32; 64]
+    ensures { λ r. ⌜ r ≡ blankZones ⌝ }
+{
+    [0u32; 64]
+}
+
+fn blank_plan() -> Plan
+    ensures { λ r. ⌜ r ≡ blankPlan ⌝ }
+{
+    Plan {
+        figures: Figures {
+            zones: 0,
+            positions: blank_zones(),
+            times: blank_zones(),
+            blocks: 0,
+            bytes: 0,
+            rate: 0,
+            hop: 0,
+            back: 0,
+        },
+        streams: 0,
+        buffer: 0,
+        worst2: 0,
+        margin: 0,
+    }
+}
+
+// A refusal.
+fn refused(number: u32, place: usize) -> Planned
+    ensures { λ r. ⌜ r ≡ refusal number place ⌝ }
+{
+    Planned {
+        verdict: Verdict {
+            number: number,
+            place: place,
+        },
+        plan: blank_plan(),
+    }
+}
+
+// Plans figures that were read or judged: their refusal, else 13, then 12.
+pub fn plan_figures(read: CardRead, positions: &mut [u8], leads: &mut [u8]) -> Planned
+    requires { ⌜ (read .verdict .number ≡ 0 → Legal (read .figures)) ⌝ }
+    ensures { λ r. ⌜ (r ≡ planned read (now (positions .entry)) (now (leads .entry)))
+        × (now (positions .exit) ≡ positionsAfter read (now (positions .entry)) (now (leads .entry)))
+        × (now (leads .exit) ≡ leadsAfter read (now (positions .entry)) (now (leads .entry))) ⌝ }
+{
+    let verdict = read.verdict;
+    if verdict.number != 0 {
+        return refused(verdict.number, verdict.place);
+    }
+    let figures = read.figures;
+    let blocks = figures.blocks as usize;
+    if words::entries(positions) < blocks {
+        return refused(13, 0);
+    }
+    if words::entries(leads) < blocks {
+        return refused(13, 0);
+    }
+    let total = sum_positions(&figures.positions, figures.zones);
+    let plan = plan_of(figures, total);
+    if plan.streams == 0 {
+        return refused(12, 0);
+    }
+    write_lists(
+        &figures.positions,
+        &figures.times,
+        total,
+        figures.blocks,
+        plan.worst2,
+        positions,
+        leads,
+    );
+    Planned {
+        verdict: Verdict {
+            number: 0,
+            place: 0,
+        },
+        plan: plan,
+    }
+}

@@ -1,0 +1,41 @@
+use Prim.Native.Nat.{ℕ, _+_, _*_, _≤_}
+use mathlib.Core.Path.{_∙_, ap}
+use native.Mathlib.Omega.{arith}
+use native.Mathlib.Nat.{mul-le-mul}
+use Rattle.pacing.specs.Streams.{overhead, load}
+use borrow.Author.Needs.{needs}
+use Rattle.streams.proofs.load.Statement.{statement}
+use Rattle.streams.proofs.load.Tie as tie
+
+mul-product : tie.Need-mul-product
+mul-product c = let p : c .args .n * c .args .worst2 ≤ 256 * 8000000 = mul-le-mul (c .pre .1) (c .pre .0 .pair) in omega arith
+
+overhead-requires : tie.Need-overhead-requires
+unfolding overhead
+overhead-requires c κs = let p : c .args .n * c .args .hop ≤ 256 * 1000000 = mul-le-mul (c .pre .1) (c .pre .0 .hops) in omega (arith, c .pre .0 .backs)
+
+mul-product-2 : tie.Need-mul-product-2
+unfolding overhead
+mul-product-2 c = let a = c .before .args in
+    let p : a .n * a .hop ≤ 256 * 1000000 = mul-le-mul (c .before .pre .1) (c .before .pre .0 .hops) in
+    omega (arith, c .before .pre .0 .backs, c .overhead .ensures)
+
+add-product : tie.Need-add-product
+unfolding overhead
+add-product c = let a = c .before .args in
+    let p : a .n * a .hop ≤ 256 * 1000000 = mul-le-mul (c .before .pre .1) (c .before .pre .0 .hops) in
+    let q : a .n * a .worst2 ≤ 256 * 8000000 = mul-le-mul (c .before .pre .1) (c .before .pre .0 .pair) in
+    omega (arith, c .before .pre .0 .backs, c .overhead .ensures)
+
+product-requires : tie.Need-product-requires
+product-requires c κs = search needs
+
+returns : tie.Need-returns
+unfolding load
+returns c = let a = c .before .before .args in
+    c .product .ensures ∙ ap (λ (o : ℕ). a .rate * (a .n * a .worst2 + 2 * o)) (c .before .overhead .ensures)
+
+pub load-spec : {M : Type 1} → statement M
+load-spec =
+    tie.close
+    (tie.spec mul-product overhead-requires mul-product-2 add-product product-requires returns)

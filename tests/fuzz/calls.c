@@ -1,0 +1,283 @@
+/*
+ * Fuzz target: the bytes of an input are read as a card and then as calls on its desk, with damage to strings between them. Each call
+ * is made of the library and of its plain C twin (bench/plain.c); answers and strings must be the same. The twin is built with
+ * coverage, which leads the fuzzer; the library's strings touch pages that may not be touched.
+ */
+#include "guarded.h"
+#include "plain.h"
+
+#include <stdio.h>
+#include <stdlib.h>
+#include <string.h>
+
+#define MOST_BYTES (FILMDISK_MAX_BLOCKS * FILMDISK_ENTRY_BYTES + 64)
+#define COUNT(array) (sizeof(array) / sizeof *(array))
+
+int LLVMFuzzerTestOneInput(const uint8_t *data, size_t size);
+
+enum lent { CARD, PLAN, POSITIONS, LEADS, DESK, FETCHES, DRAWS, STRINGS };
+enum sort { CALL_PLAN, CALL_OPEN, CALL_JOIN, CALL_LEAVE, CALL_BEGIN, CALL_END };
+
+struct call {
+    enum sort sort;
+    uint32_t slot;
+    uint32_t block;
+};
+
+/* What the library and its twin have alike. */
+struct interface {
+    __typeof__(filmdisk_plan) *plan;
+    __typeof__(filmdisk_open) *open;
+    __typeof__(filmdisk_join) *join;
+    __typeof__(filmdisk_leave) *leave;
+    __typeof__(filmdisk_begin) *begin;
+    __typeof__(filmdisk_end) *end;
+};
+
+static const struct interface library = {filmdisk_plan,  filmdisk_open,  filmdisk_join,
+                                         filmdisk_leave, filmdisk_begin, filmdisk_end};
+static const struct interface twin = {plain_plan, plain_open, plain_join, plain_leave, plain_begin, plain_end};
+
+static uint8_t contents[STRINGS][MOST_BYTES];
+static size_t lengths[STRINGS];
+static guarded lent[STRINGS];
+static uint32_t last_bound;
+
+/* The input. Past its end all bytes are 0. */
+static const uint8_t *input;
+static size_t input_left;
+
+static uint32_t take(void)
+{
+    if (input_left == 0)
+        return 0;
+    input_left--;
+    return *input++;
+}
+
+/* A byte, or now and then a number of 32 bits. */
+static uint32_t take_number(void)
+{
+    uint32_t value = take();
+    return value < 250 ? value : value * 0x01010101u + take();
+}
+
+/* Calls. */
+
+static filmdisk_answer make(const struct interface *of, const struct call *call, uint8_t *const *s)
+{
+    const size_t *n = lengths;
+    switch (call->sort) {
+    case CALL_PLAN:
+        return of->plan(s[CARD], n[CARD], s[PLAN], n[PLAN], s[POSITIONS], n[POSITIONS], s[LEADS], n[LEADS]);
+    case CALL_OPEN:
+        return of->open(s[PLAN], n[PLAN], s[POSITIONS], n[POSITIONS], s[LEADS], n[LEADS], s[DESK], n[DESK]);
+    case CALL_JOIN:
+        return of->join(s[DESK], n[DESK], s[POSITIONS], n[POSITIONS], s[LEADS], n[LEADS], call->slot, call->block);
+    case CALL_LEAVE:
+        return of->leave(s[DESK], n[DESK], s[POSITIONS], n[POSITIONS], s[LEADS], n[LEADS], call->slot);
+    case CALL_BEGIN:
+        return of->begin(s[DESK], n[DESK], s[POSITIONS], n[POSITIONS], s[LEADS], n[LEADS], s[FETCHES], n[FETCHES]);
+    default:
+        return of->end(s[DESK], n[DESK], s[POSITIONS], n[POSITIONS], s[LEADS], n[LEADS], s[DRAWS], n[DRAWS]);
+    }
+}
+
+static void differ(const struct call *call, const char *words, size_t which)
+{
+    fprintf(stderr, "call of sort %d (slot %u, block %u): %s, string %zu\n", (int)call->sort, call->slot, call->block, words, which);
+    abort();
+}
+
+static filmdisk_answer call_library(const struct call *call, int edge)
+{
+    uint8_t *strings[STRINGS];
+    for (size_t i = 0; i < STRINGS; i++)
+        strings[i] = guarded_lend(&lent[i], contents[i], lengths[i], edge);
+    filmdisk_answer answer = make(&library, call, strings);
+    for (size_t i = 0; i < STRINGS; i++)
+        if (!guarded_beside_kept(&lent[i]))
+            differ(call, "a byte beside the string was written", i);
+    return answer;
+}
+
+/* The twin writes the contents themselves. */
+static filmdisk_answer call_twin(const struct call *call)
+{
+    uint8_t *strings[STRINGS];
+    for (size_t i = 0; i < STRINGS; i++)
+        strings[i] = contents[i];
+    return make(&twin, call, strings);
+}
+
+static filmdisk_answer call_both(enum sort sort, uint32_t slot, uint32_t block)
+{
+    const struct call call = {sort, slot, block};
+    filmdisk_answer got = call_library(&call, (int)(slot + sort + input_left) & 1);
+    filmdisk_answer wanted = call_twin(&call);
+    if (got.number != wanted.number || got.place != wanted.place || got.count != wanted.count || got.bound != wanted.bound) {
+        fprintf(stderr, "library %u at %zu, %u, %u; twin %u at %zu, %u, %u\n", got.number, got.place, got.count, got.bound,
+                wanted.number, wanted.place, wanted.count, wanted.bound);
+        differ(&call, "other answers", STRINGS);
+    }
+    for (size_t i = 0; i < STRINGS; i++)
+        if (lengths[i] > 0 && memcmp(lent[i].bytes, contents[i], lengths[i]) != 0)
+            differ(&call, "other contents", i);
+    return got;
+}
+
+/* Inputs as calls. */
+
+/* A string of bytes without meaning. */
+static void set_noise(enum lent which, size_t length)
+{
+    lengths[which] = length;
+    for (size_t i = 0; i < length; i++)
+        contents[which][i] = (uint8_t)(i * 31 + 7);
+}
+
+static void take_card(void)
+{
+    lengths[CARD] = take();
+    if (lengths[CARD] == 255)
+        lengths[CARD] += take();
+    if (lengths[CARD] > input_left)
+        lengths[CARD] = input_left;
+    for (size_t i = 0; i < lengths[CARD]; i++)
+        contents[CARD][i] = (uint8_t)take();
+}
+
+/* The lengths for a plan: mostly enough for a short film, at times for any or none. */
+static void take_lengths(void)
+{
+    static const size_t entries[] = {64, 64, 64, FILMDISK_MAX_BLOCKS, 6, 5, 1, 0};
+    uint32_t choice = take();
+    set_noise(POSITIONS, entries[choice % 8] * FILMDISK_ENTRY_BYTES + choice / 64);
+    set_noise(LEADS, entries[choice / 8 % 8] * FILMDISK_ENTRY_BYTES + choice / 64);
+    set_noise(PLAN, FILMDISK_PLAN_BYTES - (take() % 8 == 1));
+    set_noise(DESK, FILMDISK_DESK_BYTES - (take() % 8 == 1));
+}
+
+static uint32_t word(enum lent which, size_t index)
+{
+    return filmdisk_word(contents[which], index);
+}
+
+/* The draw of a slot: nothing, its limit, what it holds, and one beside these. */
+static uint32_t choose_draw(uint32_t slot, uint32_t choice)
+{
+    uint64_t limit = (uint64_t)word(DESK, FILMDISK_PLAN_RATE) * last_bound / 1000000;
+    uint32_t kind = word(DESK, FILMDISK_DESK_KINDS + slot), held = word(DESK, FILMDISK_DESK_HELD + slot);
+    if (kind != FILMDISK_PLAYING && kind != FILMDISK_TAIL)
+        return choice % 16 == 15;
+    uint32_t most = held < limit ? held : (uint32_t)limit;
+    const uint32_t draws[] = {most, most, most, 0, most / 2, (uint32_t)limit, (uint32_t)limit + 1, held + 1};
+    return draws[choice % COUNT(draws)];
+}
+
+/* One choice for all slots but one. */
+static void end_sweep(void)
+{
+    uint32_t all = take() % 5, one = take(), slot = take();
+    for (uint32_t i = 0; i < FILMDISK_MAX_STREAMS; i++)
+        filmdisk_put_word(contents[DRAWS], i, choose_draw(i, i == slot ? one : all));
+    call_both(CALL_END, 0, 0);
+}
+
+/* Takes some bytes off a string's end or adds some. */
+static void resize(enum lent which, size_t choice)
+{
+    static const size_t steps[] = {1, 4, 12, 3};
+    size_t step = steps[choice % 4];
+    if (choice / 4 % 2 == 0 && lengths[which] >= step) {
+        lengths[which] -= step;
+    } else if (lengths[which] + step <= MOST_BYTES) {
+        memset(contents[which] + lengths[which], 0, step);
+        lengths[which] += step;
+    }
+}
+
+/* Damages one byte of what is lent, or gives it another length. */
+static void damage(void)
+{
+    enum lent which = take() % STRINGS;
+    size_t at = take() * 16 + take();
+    uint8_t change = (uint8_t)take();
+    if (change % 4 == 0)
+        resize(which, at);
+    else if (lengths[which] > 0)
+        contents[which][at % lengths[which]] ^= change;
+}
+
+/* Sets a word of a slot. */
+static void set_slot(void)
+{
+    static const size_t fields[] = {FILMDISK_DESK_KINDS, FILMDISK_DESK_NEXT, FILMDISK_DESK_HELD};
+    size_t field = fields[take() % 3] + take();
+    uint32_t value = take_number();
+    if (field >= FILMDISK_DESK_HELD)
+        value *= word(DESK, FILMDISK_PLAN_BLOCK_BYTES) / 16;
+    filmdisk_put_word(contents[DESK], field, value);
+}
+
+static void take_call(void)
+{
+    filmdisk_answer answer;
+    uint32_t slot;
+    switch (take() % 8) {
+    case 0:
+    case 1:
+        slot = take_number();
+        call_both(CALL_JOIN, slot, take_number());
+        break;
+    case 2:
+        call_both(CALL_LEAVE, take_number(), 0);
+        break;
+    case 3:
+    case 4:
+        answer = call_both(CALL_BEGIN, 0, 0);
+        last_bound = answer.number == 0 ? answer.bound : last_bound;
+        break;
+    case 5:
+        end_sweep();
+        break;
+    case 6:
+        damage();
+        break;
+    default:
+        set_slot();
+    }
+}
+
+/* The calls on a desk that was opened. */
+static void run_desk(void)
+{
+    size_t streams = word(DESK, FILMDISK_PLAN_STREAMS);
+    set_noise(FETCHES, streams * FILMDISK_FETCH_BYTES);
+    set_noise(DRAWS, streams * FILMDISK_ENTRY_BYTES);
+    while (input_left > 0)
+        take_call();
+}
+
+int LLVMFuzzerTestOneInput(const uint8_t *data, size_t size)
+{
+    if (lent[0].room == NULL)
+        for (size_t i = 0; i < STRINGS; i++)
+            guarded_make(&lent[i], MOST_BYTES);
+    input = data;
+    input_left = size;
+    last_bound = 0;
+    set_noise(FETCHES, 0);
+    set_noise(DRAWS, 0);
+    take_lengths();
+    take_card();
+    if (call_both(CALL_PLAN, 0, 0).number != 0)
+        return 0;
+    size_t list_bytes = (size_t)word(PLAN, FILMDISK_PLAN_BLOCKS) * FILMDISK_ENTRY_BYTES;
+    lengths[POSITIONS] = lengths[LEADS] = list_bytes;
+    for (uint32_t more = take(); more >= 200; more = take())
+        damage();
+    if (call_both(CALL_OPEN, 0, 0).number == 0)
+        run_desk();
+    return 0;
+}

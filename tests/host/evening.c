@@ -1,0 +1,776 @@
+/*
+ * The library as the playout process uses it: a plan, a desk, an evening of sweeps with joins and leaves, a film to its end, and each
+ * refusal. Written from filmdisk.h and docs/LAYOUT.md. Arguments: names of tests to run alone, before them 'heap' under valgrind.
+ */
+#include "host.h"
+
+#include <string.h>
+
+#define STREAMS 16
+#define BLOCKS 6
+#define BLOCK_BYTES 262144u
+#define BUFFER 812632u
+#define RETURN 15000u
+#define NOBODY 0xFFFFFFFFu
+#define COUNT(array) (sizeof(array) / sizeof *(array))
+
+static uint32_t kind(uint32_t slot)
+{
+    return word(DESK, FILMDISK_DESK_KINDS + slot);
+}
+
+static uint32_t next(uint32_t slot)
+{
+    return word(DESK, FILMDISK_DESK_NEXT + slot);
+}
+
+static uint32_t held(uint32_t slot)
+{
+    return word(DESK, FILMDISK_DESK_HELD + slot);
+}
+
+static void expect_slot(uint32_t slot, uint32_t its_kind, uint32_t its_next, uint32_t its_held)
+{
+    check(kind(slot) == its_kind && next(slot) == its_next && held(slot) == its_held,
+          "slot %u: expected kind %u, next %u, held %u; got %u, %u, %u", slot, its_kind, its_next, its_held, kind(slot), next(slot),
+          held(slot));
+}
+
+static void put_slot(uint32_t slot, uint32_t its_kind, uint32_t its_next, uint32_t its_held)
+{
+    put(DESK, FILMDISK_DESK_KINDS + slot, its_kind);
+    put(DESK, FILMDISK_DESK_NEXT + slot, its_next);
+    put(DESK, FILMDISK_DESK_HELD + slot, its_held);
+}
+
+static void expect_begun(filmdisk_answer answer, uint32_t count, uint32_t bound)
+{
+    expect(answer, 0, 0);
+    check(answer.count == count && answer.bound == bound, "expected count %u, bound %u; got %u, %u", count, bound, answer.count,
+          answer.bound);
+    check(word(DESK, FILMDISK_DESK_PHASE) == 1, "the desk is in a sweep");
+}
+
+static void expect_fetch(size_t entry, uint32_t position, uint32_t slot, uint32_t block)
+{
+    const size_t first = 3 * entry;
+    check(word(FETCHES, first + FILMDISK_FETCH_POSITION) == position && word(FETCHES, first + FILMDISK_FETCH_SLOT) == slot &&
+              word(FETCHES, first + FILMDISK_FETCH_BLOCK) == block,
+          "fetch %zu: expected %u, %u, %u; got %u, %u, %u", entry, position, slot, block, word(FETCHES, first),
+          word(FETCHES, first + 1), word(FETCHES, first + 2));
+}
+
+static void bench_desk(void)
+{
+    open_desk(bench_film, BENCH_NUMBERS);
+}
+
+/* All that a plan call is lent for the bench film, with noise where it writes. */
+static void lend_bench(void)
+{
+    lend_card(bench_film, BENCH_NUMBERS);
+    lend_noise(PLAN, FILMDISK_PLAN_BYTES);
+    lend_noise(POSITIONS, (BLOCKS + 2) * FILMDISK_ENTRY_BYTES + 3);
+    lend_noise(LEADS, BLOCKS * FILMDISK_ENTRY_BYTES + 1);
+}
+
+/* Plans. */
+
+static void expect_words(enum lent which, size_t first, const uint32_t *words, size_t count)
+{
+    for (size_t i = 0; i < count; i++)
+        check(word(which, first + i) == words[i], "word %zu: expected %u, got %u", first + i, words[i], word(which, first + i));
+}
+
+static void plan_of_the_bench_film(void)
+{
+    static const uint32_t others[] = {6, 262144, 500000, 12670, 15000, 16, 812632, 37990, 6550};
+    static const uint32_t positions[] = {0, 5, 1, 4, 2, 3};
+    static const uint32_t leads[] = {6550, 0, 3110, 0, 190, 0};
+    uint32_t zones[1 + 2 * FILMDISK_MAX_ZONES] = {6};
+    for (size_t zone = 0; zone < 6; zone++) {
+        zones[1 + zone] = 1;
+        zones[1 + FILMDISK_MAX_ZONES + zone] = bench_film[BENCH_ZONE_TIME(zone)];
+    }
+    lend_bench();
+    expect(host_plan(), 0, 0);
+    expect_words(PLAN, FILMDISK_PLAN_ZONES, zones, COUNT(zones));
+    expect_words(PLAN, FILMDISK_PLAN_BLOCKS, others, COUNT(others));
+    expect_words(POSITIONS, 0, positions, COUNT(positions));
+    expect_words(LEADS, 0, leads, COUNT(leads));
+}
+
+/* Plans the bench film with one number changed, which it accepts. */
+static void plan_with(size_t index, uint32_t value, uint32_t streams, uint32_t buffer)
+{
+    uint32_t numbers[BENCH_NUMBERS];
+    memcpy(numbers, bench_film, sizeof numbers);
+    numbers[index] = value;
+    lend_bench();
+    lend_card(numbers, BENCH_NUMBERS);
+    expect(host_plan(), 0, 0);
+    check(word(PLAN, FILMDISK_PLAN_STREAMS) == streams && word(PLAN, FILMDISK_PLAN_BUFFER) == buffer,
+          "expected %u streams, buffer %u; got %u, %u", streams, buffer, word(PLAN, FILMDISK_PLAN_STREAMS),
+          word(PLAN, FILMDISK_PLAN_BUFFER));
+}
+
+static void plans_at_the_limit_of_a_stream(void)
+{
+    plan_with(BENCH_BLOCK_BYTES, 260820, 16, 808660);
+    plan_with(BENCH_BLOCK_BYTES, 260819, 15, 807020);
+}
+
+/* The desk. */
+
+static void opening(void)
+{
+    bench_desk();
+    check(memcmp(bytes_of(DESK), bytes_of(PLAN), FILMDISK_PLAN_BYTES) == 0, "the desk begins with the plan");
+    for (size_t i = FILMDISK_DESK_PHASE; i < FILMDISK_DESK_BYTES / 4; i++)
+        check(word(DESK, i) == 0, "word %zu is 0", i);
+}
+
+/* The scope's worked desk. */
+static void worked_desk(void)
+{
+    bench_desk();
+    expect(host_join(0, 0), 0, 0);
+    expect_slot(0, FILMDISK_ASKED, 0, 0);
+    expect_begun(host_begin(), 1, 49940);
+    expect_fetch(0, 0, 0, 0);
+    expect_slot(0, FILMDISK_FILLING, 0, 0);
+    expect(host_end(), 0, 0);
+    expect_slot(0, FILMDISK_FILLING, 1, 262144);
+    expect(host_join(1, 0), 0, 0);
+    expect_begun(host_begin(), 1, 43390);
+    expect_fetch(0, 5, 0, 1);
+    expect_slot(0, FILMDISK_PLAYING, 1, 262144);
+    expect_slot(1, FILMDISK_ASKED, 0, 0);
+    put(DRAWS, 0, 21696);
+    expect(host_end(), FILMDISK_DRAW_ABOVE_LIMIT, 0);
+    put(DRAWS, 0, 21695);
+    expect(host_end(), 0, 0);
+    expect_slot(0, FILMDISK_PLAYING, 2, 502593);
+    expect_begun(host_begin(), 2, 20550 + 22270 + 2 * 12670 + RETURN);
+    expect_fetch(0, 0, 1, 0);
+    expect_fetch(1, 1, 0, 2);
+    expect_slot(1, FILMDISK_FILLING, 0, 0);
+}
+
+/* lead(2) is 3110: it lifts the floor by 777.5 bytes, which are not rounded. */
+static void floor_to_the_half_byte(void)
+{
+    bench_desk();
+    put_slot(0, FILMDISK_PLAYING, 3, BLOCK_BYTES + 777);
+    put_slot(1, FILMDISK_FILLING, 2, BLOCK_BYTES + 777);
+    expect(host_begin(), FILMDISK_NOT_SOUND, 0);
+    put_slot(0, FILMDISK_PLAYING, 3, BLOCK_BYTES + 778);
+    expect(host_begin(), 0, 0);
+    expect_slot(1, FILMDISK_FILLING, 2, BLOCK_BYTES + 777);
+    put(DESK, FILMDISK_DESK_PHASE, 0);
+    put_slot(1, FILMDISK_FILLING, 2, BLOCK_BYTES + 778);
+    expect(host_begin(), 0, 0);
+    expect_slot(1, FILMDISK_PLAYING, 2, BLOCK_BYTES + 778);
+}
+
+/* Each of two asked slots lifts the floor by 1637.5 bytes; a slot that waits does not stop a later one without a lead. */
+static void grants_in_slot_order(void)
+{
+    static const uint32_t held[] = {BLOCK_BYTES + 1637, BLOCK_BYTES + 1638, BLOCK_BYTES + 3274, BLOCK_BYTES + 3275};
+    static const uint32_t granted[] = {0, 1, 1, 2};
+    for (size_t i = 0; i < COUNT(held); i++) {
+        bench_desk();
+        put_slot(0, FILMDISK_PLAYING, 1, held[i]);
+        put_slot(4, FILMDISK_ASKED, 0, 0);
+        put_slot(5, FILMDISK_ASKED, 0, 0);
+        put_slot(6, FILMDISK_ASKED, 3, 0);
+        expect(host_begin(), 0, 0);
+        check(kind(4) == (granted[i] > 0 ? FILMDISK_FILLING : FILMDISK_ASKED), "slot 4 with %u held", held[i]);
+        check(kind(5) == (granted[i] > 1 ? FILMDISK_FILLING : FILMDISK_ASKED), "slot 5 with %u held", held[i]);
+        check(kind(6) == FILMDISK_FILLING, "slot 6 is granted");
+    }
+}
+
+/* A block is fetched where held + B is at most the buffer. */
+static void fetched_while_it_fits(void)
+{
+    bench_desk();
+    put_slot(0, FILMDISK_FILLING, 1, BUFFER - BLOCK_BYTES);
+    put_slot(1, FILMDISK_FILLING, 1, BUFFER - BLOCK_BYTES + 1);
+    put_slot(2, FILMDISK_PLAYING, 3, BUFFER - BLOCK_BYTES);
+    expect_begun(host_begin(), 2, 16700 + 15720 + 2 * 12670 + RETURN);
+    expect_fetch(0, 4, 2, 3);
+    expect_fetch(1, 5, 0, 1);
+    expect(host_end(), 0, 0);
+    expect_slot(0, FILMDISK_PLAYING, 2, BUFFER);
+    expect_slot(1, FILMDISK_PLAYING, 1, BUFFER - BLOCK_BYTES + 1);
+}
+
+/* What happens before which sweep of the evening. */
+struct event {
+    unsigned sweep;
+    uint32_t slot;
+    uint32_t block; /* where a join starts; NOBODY: the slot leaves */
+};
+
+static const struct event events[] = {
+    {0, 0, 0},  {0, 5, 0},      {1, 15, 3}, {2, 1, 0},       {4, 5, NOBODY}, {4, 7, 5},
+    {6, 5, 2},  {9, 2, 0},      {9, 3, 0},  {10, 3, NOBODY}, {11, 3, 1},     {30, 0, 0},
+    {31, 4, 4}, {40, 0, NOBODY}, {41, 0, 0},
+};
+#define LAST_EVENT 41
+
+/* What the playout process knows of a screen: blocks it has left to get, bytes it has left to see. */
+struct screen {
+    uint32_t blocks;
+    uint64_t bytes;
+};
+
+/* The joins and leaves before a sweep. A screen that has seen its film to the end is free by itself. */
+static void make_events(unsigned sweep, struct screen *screens)
+{
+    for (size_t i = 0; i < COUNT(events); i++) {
+        const struct event *e = &events[i];
+        if (e->sweep != sweep)
+            continue;
+        if (e->block == NOBODY) {
+            expect(host_leave(e->slot), 0, 0);
+            screens[e->slot] = (struct screen){0, 0};
+        } else if (kind(e->slot) == FILMDISK_FREE) {
+            expect(host_join(e->slot, e->block), 0, 0);
+            screens[e->slot].blocks = BLOCKS - e->block;
+            screens[e->slot].bytes = (uint64_t)(BLOCKS - e->block) * BLOCK_BYTES;
+        } else {
+            expect(host_join(e->slot, e->block), FILMDISK_SLOT_STATE, e->slot);
+        }
+    }
+}
+
+/* Every screen that may draws all it may; the blocks and bytes that are left fall by what was fetched and drawn. */
+static void sweep_screens(struct screen *screens)
+{
+    filmdisk_answer answer = host_begin();
+    expect(answer, 0, 0);
+    uint64_t limit = 500000ull * answer.bound / 1000000;
+    for (uint32_t i = 0; i < answer.count; i++)
+        screens[word(FETCHES, 3 * i + FILMDISK_FETCH_SLOT)].blocks--;
+    for (uint32_t slot = 0; slot < STREAMS; slot++) {
+        int draws = kind(slot) == FILMDISK_PLAYING || kind(slot) == FILMDISK_TAIL;
+        uint32_t most = held(slot) < limit ? held(slot) : (uint32_t)limit;
+        put(DRAWS, slot, draws ? most : 0);
+        screens[slot].bytes -= word(DRAWS, slot);
+        check(kind(slot) != FILMDISK_PLAYING || held(slot) >= limit, "screen %u does not freeze", slot);
+    }
+    expect(host_end(), 0, 0);
+}
+
+static int anybody(void)
+{
+    for (uint32_t slot = 0; slot < STREAMS; slot++)
+        if (kind(slot) != FILMDISK_FREE)
+            return 1;
+    return 0;
+}
+
+static void an_evening(void)
+{
+    struct screen screens[STREAMS] = {{0, 0}};
+    unsigned sweep = 0;
+    bench_desk();
+    do {
+        make_events(sweep, screens);
+        sweep_screens(screens);
+        for (uint32_t slot = 0; slot < STREAMS; slot++)
+            if (kind(slot) == FILMDISK_FREE)
+                check(screens[slot].blocks == 0 && screens[slot].bytes == 0, "sweep %u: screen %u misses %u blocks and %llu bytes",
+                      sweep, slot, screens[slot].blocks, (unsigned long long)screens[slot].bytes);
+    } while (++sweep <= LAST_EVENT || (anybody() && sweep < 5000));
+    check(!anybody(), "every film came to its end");
+}
+
+/* Refusals of a card. */
+
+static void expect_card_refused(const uint8_t *card, size_t length, uint32_t number, size_t place)
+{
+    lend_bench();
+    lend(CARD, card, length);
+    expect(host_plan(), number, place);
+    /* Another plan string and no lists: the card is judged before them. */
+    lend_noise(PLAN, FILMDISK_PLAN_BYTES - 1);
+    lend_null(POSITIONS);
+    lend_null(LEADS);
+    expect(host_plan(), number, place);
+}
+
+/* The bench film with one number changed; the place is that number's. */
+static void refuse_with(size_t index, uint32_t value, uint32_t number)
+{
+    uint32_t numbers[BENCH_NUMBERS];
+    uint8_t card[FILMDISK_MAX_CARD_BYTES];
+    memcpy(numbers, bench_film, sizeof numbers);
+    numbers[index] = value;
+    lend_card(numbers, BENCH_NUMBERS);
+    size_t length = length_of(CARD);
+    memcpy(card, bytes_of(CARD), length);
+    expect_card_refused(card, length, number, offset_of(numbers, index));
+}
+
+static size_t bench_card(uint8_t *card)
+{
+    lend_card(bench_film, BENCH_NUMBERS);
+    memcpy(card, bytes_of(CARD), length_of(CARD));
+    return length_of(CARD);
+}
+
+static void refusal_1(void)
+{
+    uint8_t card[FILMDISK_MAX_CARD_BYTES];
+    size_t length = bench_card(card);
+    check(length == 36, "the bench card has 36 bytes, not %zu", length);
+    for (size_t cut = 0; cut < length; cut++)
+        expect_card_refused(card, cut, FILMDISK_CARD_ENDS, cut);
+    lend_bench();
+    lend_null(CARD);
+    expect(host_plan(), FILMDISK_CARD_ENDS, 0);
+}
+
+static void refusal_2(void)
+{
+    static const uint8_t longer[] = {0x81, 0x00};
+    static const uint8_t six[] = {1, 0x80, 0x80, 0x80, 0x80, 0x80, 0x01};
+    static const uint8_t five[] = {1, 0xFF, 0xFF, 0xFF, 0xFF, 0xFF};
+    static const uint8_t above[] = {1, 0xFF, 0xFF, 0xFF, 0xFF, 0x10};
+    static const uint8_t greatest[] = {1, 0xFF, 0xFF, 0xFF, 0xFF, 0x0F};
+    expect_card_refused(longer, sizeof longer, FILMDISK_NUMBER_FORM, 0);
+    expect_card_refused(six, sizeof six, FILMDISK_NUMBER_FORM, 1);
+    expect_card_refused(five, sizeof five, FILMDISK_NUMBER_FORM, 1);
+    expect_card_refused(above, sizeof above, FILMDISK_NUMBER_FORM, 1);
+    expect_card_refused(greatest, sizeof greatest, FILMDISK_ZONES, 1);
+}
+
+static void refusal_3(void)
+{
+    refuse_with(BENCH_KIND, 0, FILMDISK_KIND);
+    refuse_with(BENCH_KIND, 2, FILMDISK_KIND);
+}
+
+static void refusal_4(void)
+{
+    refuse_with(BENCH_ZONES, 0, FILMDISK_ZONES);
+    refuse_with(BENCH_ZONES, FILMDISK_MAX_ZONES + 1, FILMDISK_ZONES);
+}
+
+static void refusal_5(void)
+{
+    refuse_with(BENCH_ZONE_POSITIONS(0), 0, FILMDISK_ZONE_POSITIONS);
+    refuse_with(BENCH_ZONE_POSITIONS(0), 1048577, FILMDISK_ZONE_POSITIONS);
+    refuse_with(BENCH_ZONE_POSITIONS(5), 1048572, FILMDISK_ZONE_POSITIONS);
+}
+
+static void refusal_6(void)
+{
+    refuse_with(BENCH_ZONE_TIME(0), 4000001, FILMDISK_ZONE_TIME);
+    refuse_with(BENCH_ZONE_TIME(1), 0, FILMDISK_ZONE_TIME);
+    check(offset_of(bench_film, BENCH_ZONE_TIME(1)) == 7, "the second zone's time is at 7");
+}
+
+static void refusal_7(void)
+{
+    refuse_with(BENCH_ZONE_TIME(1), 22271, FILMDISK_ZONE_TIME_RISES);
+    refuse_with(BENCH_ZONE_TIME(5), 16701, FILMDISK_ZONE_TIME_RISES);
+}
+
+static void refusal_8(void)
+{
+    refuse_with(BENCH_BLOCKS, 1, FILMDISK_BLOCKS);
+    refuse_with(BENCH_BLOCKS, FILMDISK_MAX_BLOCKS + 1, FILMDISK_BLOCKS);
+}
+
+static void refusal_9(void)
+{
+    refuse_with(BENCH_BLOCKS, 7, FILMDISK_BLOCKS_ABOVE_POSITIONS);
+    refuse_with(BENCH_BLOCKS, FILMDISK_MAX_BLOCKS, FILMDISK_BLOCKS_ABOVE_POSITIONS);
+}
+
+static void refusal_10(void)
+{
+    static const uint32_t above[] = {4194305, 10000001, 1000001, 1000001};
+    for (size_t i = 0; i < COUNT(above); i++) {
+        refuse_with(BENCH_BLOCK_BYTES + i, 0, FILMDISK_MEASURE);
+        refuse_with(BENCH_BLOCK_BYTES + i, above[i], FILMDISK_MEASURE);
+    }
+}
+
+static void refusal_11(void)
+{
+    uint8_t card[FILMDISK_MAX_CARD_BYTES];
+    size_t length = bench_card(card);
+    card[length] = '\n';
+    card[length + 1] = 0x80;
+    expect_card_refused(card, length + 1, FILMDISK_CARD_GOES_ON, length);
+    expect_card_refused(card, length + 2, FILMDISK_CARD_GOES_ON, length);
+}
+
+static void refusal_12(void)
+{
+    uint32_t numbers[] = {1, 1, 2, 20000, 2, 23834, 500000, 12670, 15000};
+    lend_bench();
+    lend_card(numbers, COUNT(numbers));
+    expect(host_plan(), FILMDISK_NO_STREAM, 0);
+    resize(LEADS, 7);
+    expect(host_plan(), FILMDISK_TOO_SHORT, 0);
+    numbers[5] = 23835;
+    lend_bench();
+    lend_card(numbers, COUNT(numbers));
+    expect(host_plan(), 0, 0);
+    check(word(PLAN, FILMDISK_PLAN_STREAMS) == 1, "one stream fits");
+}
+
+/* Refusals of lengths. */
+
+/* The bench film's plan, with one string of another length. */
+static void plan_too_short(enum lent which, size_t length)
+{
+    lend_bench();
+    resize(which, length);
+    expect(host_plan(), FILMDISK_TOO_SHORT, 0);
+}
+
+static void refusal_13_of_plan(void)
+{
+    const size_t list_bytes = BLOCKS * FILMDISK_ENTRY_BYTES;
+    plan_too_short(POSITIONS, list_bytes - 1);
+    plan_too_short(POSITIONS, 0);
+    plan_too_short(LEADS, list_bytes - 1);
+    plan_too_short(LEADS, 0);
+    plan_too_short(PLAN, FILMDISK_PLAN_BYTES - 1);
+    plan_too_short(PLAN, FILMDISK_PLAN_BYTES + 1);
+    plan_too_short(PLAN, 0);
+    lend_bench();
+    lend_null(PLAN);
+    expect(host_plan(), FILMDISK_TOO_SHORT, 0);
+    lend_bench();
+    resize(POSITIONS, list_bytes);
+    expect(host_plan(), 0, 0);
+}
+
+static void refusal_13_of_open(void)
+{
+    static const size_t lengths[] = {0, FILMDISK_PLAN_BYTES, FILMDISK_DESK_BYTES - 1, FILMDISK_DESK_BYTES + 1};
+    bench_desk();
+    for (size_t i = 0; i < COUNT(lengths); i++) {
+        lend_noise(DESK, lengths[i]);
+        expect(host_open(), FILMDISK_TOO_SHORT, 0);
+    }
+    lend_null(DESK);
+    expect(host_open(), FILMDISK_TOO_SHORT, 0);
+    put(PLAN, FILMDISK_PLAN_STREAMS, 15);
+    expect(host_open(), FILMDISK_NOT_SOUND, 0);
+}
+
+static void refusal_13_of_begin(void)
+{
+    static const size_t lengths[] = {0, 12, STREAMS * FILMDISK_FETCH_BYTES - 1};
+    bench_desk();
+    expect(host_join(3, 1), 0, 0);
+    for (size_t i = 0; i < COUNT(lengths); i++) {
+        lend_noise(FETCHES, lengths[i]);
+        expect(host_begin(), FILMDISK_TOO_SHORT, 0);
+    }
+    lend_null(FETCHES);
+    expect(host_begin(), FILMDISK_TOO_SHORT, 0);
+    lend_noise(FETCHES, STREAMS * FILMDISK_FETCH_BYTES + 11);
+    expect_begun(host_begin(), 1, 15720 + 12670 + RETURN);
+}
+
+/* Records that are not sound. */
+
+static void expect_opening_refused(void)
+{
+    lend_noise(DESK, FILMDISK_DESK_BYTES);
+    expect(host_open(), FILMDISK_NOT_SOUND, 0);
+    lend_noise(DESK, FILMDISK_DESK_BYTES + 4);
+    expect(host_open(), FILMDISK_NOT_SOUND, 0);
+}
+
+/* With another time, hop or return the rest may still be the plan; with any other figure changed it is none. */
+static int makes_other_plan(enum lent which, size_t at)
+{
+    size_t its_word = at / 4;
+    int is_time = its_word >= FILMDISK_PLAN_TIMES && its_word < FILMDISK_PLAN_TIMES + 6;
+    return which != PLAN || !(is_time || its_word == FILMDISK_PLAN_HOP || its_word == FILMDISK_PLAN_RETURN);
+}
+
+/* Each byte of the plan and of both lists counts. */
+static void refusal_14_of_open(void)
+{
+    static const enum lent read[] = {PLAN, POSITIONS, LEADS};
+    bench_desk();
+    for (size_t i = 0; i < COUNT(read); i++) {
+        size_t length = length_of(read[i]);
+        for (size_t at = 0; at < length; at++) {
+            uint8_t old = bytes_of(read[i])[at];
+            if (!makes_other_plan(read[i], at))
+                continue;
+            bytes_of(read[i])[at] = (uint8_t)(old ^ 1u << below(8));
+            expect_opening_refused();
+            bytes_of(read[i])[at] = old;
+        }
+    }
+    lend_noise(DESK, FILMDISK_DESK_BYTES);
+    expect(host_open(), 0, 0);
+}
+
+static void refusal_14_of_lengths(void)
+{
+    static const enum lent read[] = {PLAN, POSITIONS, LEADS};
+    for (size_t i = 0; i < COUNT(read); i++) {
+        bench_desk();
+        resize(read[i], length_of(read[i]) - 1);
+        expect_opening_refused();
+        lend_null(read[i]);
+        expect_opening_refused();
+    }
+    bench_desk();
+    resize(PLAN, FILMDISK_PLAN_BYTES + 1);
+    expect_opening_refused();
+}
+
+/* All four calls refuse the desk with this number, whatever else is wrong. */
+static void expect_calls_refused(uint32_t number)
+{
+    expect(host_join(STREAMS, BLOCKS), number, 0);
+    expect(host_leave(STREAMS), number, 0);
+    expect(host_begin(), number, 0);
+    expect(host_end(), number, 0);
+}
+
+/* A desk with a slot of each kind, in a sweep or not. */
+static void mixed_desk(uint32_t phase)
+{
+    bench_desk();
+    put(DESK, FILMDISK_DESK_PHASE, phase);
+    put_slot(0, FILMDISK_ASKED, 5, 0);
+    put_slot(1, FILMDISK_FILLING, 1, BUFFER);
+    put_slot(2, FILMDISK_PLAYING, 3, BLOCK_BYTES);
+    put_slot(3, FILMDISK_TAIL, BLOCKS, 1);
+}
+
+struct unsound {
+    size_t word;
+    uint32_t value;
+};
+
+static const struct unsound unsound[] = {
+    {FILMDISK_PLAN_STREAMS, 15},
+    {FILMDISK_PLAN_BUFFER, BUFFER + 1},
+    {FILMDISK_PLAN_ZONES, 7},
+    {FILMDISK_PLAN_POSITIONS + 63, 1},
+    {FILMDISK_PLAN_RATE, 500001},
+    {FILMDISK_DESK_PHASE, 2},
+    {FILMDISK_DESK_KINDS + 4, 5},
+    {FILMDISK_DESK_KINDS + 0, 0x100},
+    {FILMDISK_DESK_NEXT + 4, 1},             /* a free slot is zero */
+    {FILMDISK_DESK_HELD + 15, 1},            /* the same */
+    {FILMDISK_DESK_KINDS + STREAMS, 1},      /* slots from n on are zero */
+    {FILMDISK_DESK_HELD + 255, 1},           /* the same */
+    {FILMDISK_DESK_HELD + 0, 1},             /* asked holds 0 */
+    {FILMDISK_DESK_NEXT + 0, BLOCKS},        /* next below N */
+    {FILMDISK_DESK_NEXT + 1, BLOCKS},        /* the same */
+    {FILMDISK_DESK_NEXT + 2, BLOCKS},        /* the same */
+    {FILMDISK_DESK_NEXT + 3, BLOCKS - 1},    /* N for a tail */
+    {FILMDISK_DESK_HELD + 3, 0},             /* a tail holds 1 or more */
+    {FILMDISK_DESK_HELD + 1, BUFFER + 1},    /* none above the buffer */
+    {FILMDISK_DESK_HELD + 2, BLOCK_BYTES - 1}, /* playing holds the floor */
+    {FILMDISK_DESK_NEXT + 1, 4},             /* a floor of 47.5 bytes more */
+};
+
+static void refusal_14_of_desks(void)
+{
+    mixed_desk(0);
+    expect(host_leave(4), FILMDISK_SLOT_STATE, 4);
+    for (size_t i = 0; i < COUNT(unsound); i++) {
+        mixed_desk((uint32_t)i % 2);
+        put(DESK, unsound[i].word, unsound[i].value);
+        expect_calls_refused(FILMDISK_NOT_SOUND);
+    }
+}
+
+static void refusal_14_of_desk_strings(void)
+{
+    static const enum lent read[] = {DESK, POSITIONS, LEADS};
+    for (size_t i = 0; i < COUNT(read); i++) {
+        mixed_desk(0);
+        bytes_of(read[i])[4] ^= 1;
+        expect_calls_refused(FILMDISK_NOT_SOUND);
+        mixed_desk(1);
+        resize(read[i], length_of(read[i]) - 1);
+        expect_calls_refused(FILMDISK_NOT_SOUND);
+        lend_null(read[i]);
+        expect_calls_refused(FILMDISK_NOT_SOUND);
+    }
+    mixed_desk(1);
+    resize(DESK, FILMDISK_DESK_BYTES + 1);
+    expect_calls_refused(FILMDISK_NOT_SOUND);
+}
+
+/* Refusals of a sound desk. */
+
+static void refusal_15(void)
+{
+    mixed_desk(1);
+    lend_null(FETCHES);
+    expect(host_join(STREAMS, BLOCKS), FILMDISK_WRONG_PHASE, 0);
+    expect(host_leave(STREAMS), FILMDISK_WRONG_PHASE, 0);
+    expect(host_begin(), FILMDISK_WRONG_PHASE, 0);
+    mixed_desk(0);
+    lend_null(DRAWS);
+    expect(host_end(), FILMDISK_WRONG_PHASE, 0);
+}
+
+static void refusal_16(void)
+{
+    static const uint32_t slots[] = {STREAMS, 255, 256, 0x80000000u, 0xFFFFFFFFu};
+    mixed_desk(0);
+    for (size_t i = 0; i < COUNT(slots); i++) {
+        expect(host_join(slots[i], BLOCKS), FILMDISK_NO_SUCH_SLOT, slots[i]);
+        expect(host_leave(slots[i]), FILMDISK_NO_SUCH_SLOT, slots[i]);
+    }
+}
+
+static void refusal_17(void)
+{
+    mixed_desk(0);
+    for (uint32_t slot = 0; slot < 4; slot++)
+        expect(host_join(slot, BLOCKS), FILMDISK_SLOT_STATE, slot);
+    expect(host_leave(4), FILMDISK_SLOT_STATE, 4);
+    expect(host_leave(STREAMS - 1), FILMDISK_SLOT_STATE, STREAMS - 1);
+}
+
+static void refusal_18(void)
+{
+    mixed_desk(0);
+    expect(host_join(4, BLOCKS), FILMDISK_NO_SUCH_BLOCK, 4);
+    expect(host_join(STREAMS - 1, 0xFFFFFFFFu), FILMDISK_NO_SUCH_BLOCK, STREAMS - 1);
+    expect(host_join(STREAMS - 1, BLOCKS - 1), 0, 0);
+    expect_slot(STREAMS - 1, FILMDISK_ASKED, BLOCKS - 1, 0);
+}
+
+/* A whole entry more or less; spare bytes are no entry. */
+static void refusal_19(void)
+{
+    static const size_t lengths[] = {0, 4, STREAMS * 4 - 1, STREAMS * 4 + 4, FILMDISK_MAX_STREAMS * 4};
+    mixed_desk(1);
+    for (size_t i = 0; i < COUNT(lengths); i++) {
+        lend_noise(DRAWS, lengths[i]);
+        expect(host_end(), FILMDISK_DRAW_COUNT, 0);
+    }
+    lend_null(DRAWS);
+    expect(host_end(), FILMDISK_DRAW_COUNT, 0);
+    lend_noise(DRAWS, STREAMS * 4 + 3);
+    memset(bytes_of(DRAWS), 0, STREAMS * 4);
+    expect(host_end(), 0, 0);
+}
+
+/* A sweep of the mixed desk: slot 2 alone is fetched for, block 3 in 16700. */
+#define MIXED_LIMIT ((16700 + 12670 + RETURN) / 2)
+
+static void refusal_20(void)
+{
+    static const uint32_t others[] = {0, 1, 4, 15};
+    mixed_desk(1);
+    for (size_t i = 0; i < COUNT(others); i++) {
+        put(DRAWS, others[i], 1);
+        expect(host_end(), FILMDISK_DRAW_ABOVE_LIMIT, others[i]);
+        put(DRAWS, others[i], 0);
+    }
+    put(DRAWS, 2, MIXED_LIMIT + 1);
+    put(DRAWS, 3, 0xFFFFFFFFu);
+    expect(host_end(), FILMDISK_DRAW_ABOVE_LIMIT, 2);
+    put(DRAWS, 2, MIXED_LIMIT);
+    expect(host_end(), FILMDISK_DRAW_ABOVE_LIMIT, 3);
+    put(DRAWS, 3, 1);
+    expect(host_end(), 0, 0);
+    expect_slot(2, FILMDISK_PLAYING, 4, 2 * BLOCK_BYTES - MIXED_LIMIT);
+    expect_slot(3, FILMDISK_FREE, 0, 0);
+}
+
+/* 20 goes over all slots before 21. */
+static void refusal_21(void)
+{
+    mixed_desk(1);
+    put_slot(7, FILMDISK_TAIL, BLOCKS, 100);
+    put(DRAWS, 7, 101);
+    expect(host_end(), FILMDISK_DRAW_ABOVE_HELD, 7);
+    put(DRAWS, 3, MIXED_LIMIT);
+    expect(host_end(), FILMDISK_DRAW_ABOVE_HELD, 3);
+    put(DRAWS, 15, 1);
+    expect(host_end(), FILMDISK_DRAW_ABOVE_LIMIT, 15);
+    put(DRAWS, 15, 0);
+    put(DRAWS, 3, 1);
+    put(DRAWS, 7, 99);
+    expect(host_end(), 0, 0);
+    expect_slot(7, FILMDISK_TAIL, BLOCKS, 1);
+}
+
+/* Longer lists than needed, with bytes that are no entry at their ends. */
+static void spare_bytes(void)
+{
+    bench_desk();
+    resize(POSITIONS, length_of(POSITIONS) + 3);
+    resize(LEADS, length_of(LEADS) + 9);
+    expect(host_join(0, 1), 0, 0);
+    resize(FETCHES, length_of(FETCHES) + 17);
+    expect_begun(host_begin(), 1, 15720 + 12670 + RETURN);
+    expect_fetch(0, 5, 0, 1);
+    resize(DRAWS, length_of(DRAWS) + 1);
+    expect(host_end(), 0, 0);
+    expect(host_leave(0), 0, 0);
+    lend_noise(DESK, FILMDISK_DESK_BYTES);
+    expect(host_open(), 0, 0);
+}
+
+#define TEST(name) {#name, name}
+
+static const test tests[] = {
+    TEST(plan_of_the_bench_film),
+    TEST(plans_at_the_limit_of_a_stream),
+    TEST(opening),
+    TEST(worked_desk),
+    TEST(floor_to_the_half_byte),
+    TEST(grants_in_slot_order),
+    TEST(fetched_while_it_fits),
+    TEST(an_evening),
+    TEST(refusal_1),
+    TEST(refusal_2),
+    TEST(refusal_3),
+    TEST(refusal_4),
+    TEST(refusal_5),
+    TEST(refusal_6),
+    TEST(refusal_7),
+    TEST(refusal_8),
+    TEST(refusal_9),
+    TEST(refusal_10),
+    TEST(refusal_11),
+    TEST(refusal_12),
+    TEST(refusal_13_of_plan),
+    TEST(refusal_13_of_open),
+    TEST(refusal_13_of_begin),
+    TEST(refusal_14_of_open),
+    TEST(refusal_14_of_lengths),
+    TEST(refusal_14_of_desks),
+    TEST(refusal_14_of_desk_strings),
+    TEST(refusal_15),
+    TEST(refusal_16),
+    TEST(refusal_17),
+    TEST(refusal_18),
+    TEST(refusal_19),
+    TEST(refusal_20),
+    TEST(refusal_21),
+    TEST(spare_bytes),
+};
+
+int main(int argc, char **argv)
+{
+    return run_tests(tests, COUNT(tests), argc, argv);
+}

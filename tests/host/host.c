@@ -1,0 +1,342 @@
+#include "host.h"
+
+#include "guarded.h"
+
+#include <stdarg.h>
+#include <stdio.h>
+#include <stdlib.h>
+#include <string.h>
+
+/* The longest string is a list of 16,384 entries with some to spare. */
+#define MOST_BYTES 80000
+#define MOST_CARD_NUMBERS 140
+
+const uint32_t bench_film[BENCH_NUMBERS] = {
+    1, 6, 1, 22270, 1, 20550, 1, 19090, 1, 17810, 1, 16700, 1, 15720, 6, 262144, 500000, 12670, 15000,
+};
+
+static const char *const names[STRINGS] = {"card", "plan", "positions", "leads", "desk", "fetches", "draws"};
+static guarded strings[STRINGS];
+static uint8_t before[STRINGS][MOST_BYTES];
+static int is_null[STRINGS];
+static unsigned calls;
+static int test_failed;
+static uint64_t state = 1;
+
+/* Tests. */
+
+void check(int met, const char *words, ...)
+{
+    va_list values;
+    if (met)
+        return;
+    test_failed = 1;
+    printf("  not so after call %u: ", calls);
+    va_start(values, words);
+    vprintf(words, values);
+    va_end(values);
+    printf("\n");
+}
+
+static int run_test(const test *one)
+{
+    test_failed = 0;
+    state = 1;
+    guarded_scene(one->name);
+    for (int which = 0; which < STRINGS; which++)
+        lend(which, NULL, 0);
+    one->run();
+    printf("%s: %s\n", one->name, test_failed ? "failed" : "passed");
+    fflush(stdout);
+    return !test_failed;
+}
+
+static int is_wanted(const test *one, int argc, char **argv)
+{
+    for (int i = 1; i < argc; i++)
+        if (strcmp(argv[i], one->name) == 0)
+            return 1;
+    return argc < 2;
+}
+
+int run_tests(const test *tests, size_t count, int argc, char **argv)
+{
+    unsigned passed = 0, failed = 0;
+    guarded_watch();
+    if (argc > 1 && strcmp(argv[1], "heap") == 0) {
+        guarded_use_heap();
+        argc--;
+        argv++;
+    }
+    for (int which = 0; which < STRINGS; which++)
+        guarded_make(&strings[which], MOST_BYTES);
+    for (size_t i = 0; i < count; i++) {
+        if (!is_wanted(&tests[i], argc, argv))
+            continue;
+        if (run_test(&tests[i]))
+            passed++;
+        else
+            failed++;
+    }
+    printf("%u passed, %u failed\n", passed, failed);
+    return failed > 0 || passed == 0;
+}
+
+uint32_t below(uint32_t end)
+{
+    state = state * 6364136223846793005u + 1442695040888963407u;
+    return (uint32_t)((state >> 33) % end);
+}
+
+/* Strings. */
+
+void lend(enum lent which, const void *contents, size_t length)
+{
+    is_null[which] = 0;
+    guarded_lend(&strings[which], contents, length, GUARDED_END);
+}
+
+void lend_noise(enum lent which, size_t length)
+{
+    for (size_t i = 0; i < length; i++)
+        before[which][i] = (uint8_t)below(256);
+    lend(which, before[which], length);
+}
+
+void lend_null(enum lent which)
+{
+    lend(which, NULL, 0);
+    is_null[which] = 1;
+}
+
+/* The same bytes, cut off or with noise after them. */
+void resize(enum lent which, size_t length)
+{
+    size_t old = length_of(which);
+    memcpy(before[which], bytes_of(which), old);
+    for (size_t i = old; i < length; i++)
+        before[which][i] = (uint8_t)below(256);
+    lend(which, before[which], length);
+}
+
+size_t length_of(enum lent which)
+{
+    return strings[which].length;
+}
+
+uint8_t *bytes_of(enum lent which)
+{
+    return strings[which].bytes;
+}
+
+uint32_t word(enum lent which, size_t index)
+{
+    return filmdisk_word(strings[which].bytes, index);
+}
+
+void put(enum lent which, size_t index, uint32_t value)
+{
+    filmdisk_put_word(strings[which].bytes, index, value);
+}
+
+/* A number's shortest form; answers its length. */
+static size_t write_number(uint8_t *bytes, uint32_t value)
+{
+    size_t length = 0;
+    while (value >= 128) {
+        bytes[length++] = (uint8_t)(value | 128);
+        value >>= 7;
+    }
+    bytes[length++] = (uint8_t)value;
+    return length;
+}
+
+size_t offset_of(const uint32_t *numbers, size_t index)
+{
+    uint8_t card[5 * MOST_CARD_NUMBERS];
+    size_t length = 0;
+    for (size_t i = 0; i < index; i++)
+        length += write_number(card + length, numbers[i]);
+    return length;
+}
+
+void lend_card(const uint32_t *numbers, size_t count)
+{
+    uint8_t card[5 * MOST_CARD_NUMBERS];
+    size_t length = 0;
+    for (size_t i = 0; i < count; i++)
+        length += write_number(card + length, numbers[i]);
+    lend(CARD, card, length);
+}
+
+/* What a call leaves. */
+
+/* Are the bytes of the string from `from` on what they were before the call? */
+static int kept(enum lent which, size_t from)
+{
+    size_t length = length_of(which);
+    return from >= length || memcmp(bytes_of(which) + from, before[which] + from, length - from) == 0;
+}
+
+static int all_zero(enum lent which)
+{
+    for (size_t i = 0; i < length_of(which); i++)
+        if (bytes_of(which)[i] != 0)
+            return 0;
+    return 1;
+}
+
+/* The call may have written only the first `written` bytes of this string. */
+static void check_kept(enum lent which, size_t written)
+{
+    check(kept(which, written), "%s is kept from byte %zu on", names[which], written);
+}
+
+/* All strings but those of the set are kept. */
+static void check_others_kept(unsigned but)
+{
+    for (int which = 0; which < STRINGS; which++)
+        if ((but >> which & 1) == 0)
+            check_kept(which, 0);
+}
+
+/* A string that a refusal clears if it has its right length. */
+static void check_cleared(enum lent which, size_t right_length)
+{
+    if (length_of(which) == right_length)
+        check(all_zero(which), "%s is all zero", names[which]);
+    else
+        check_kept(which, 0);
+    check_others_kept(1u << which);
+}
+
+/* Strings that the call may write are in the set; the others may not even be written with what they hold. */
+static void before_call(unsigned written)
+{
+    /* Which edge is guarded goes on without a pattern that calls could fall in with. */
+    int edge = (int)(++calls * 2654435761u >> 31);
+    for (int which = 0; which < STRINGS; which++) {
+        size_t length = length_of(which);
+        if (length > 0)
+            memcpy(before[which], bytes_of(which), length);
+        guarded_lend(&strings[which], before[which], length, edge);
+        if ((written >> which & 1) == 0)
+            guarded_seal(&strings[which], 1);
+    }
+}
+
+static void after_call(void)
+{
+    for (int which = 0; which < STRINGS; which++) {
+        guarded_seal(&strings[which], 0);
+        check(guarded_beside_kept(&strings[which]), "bytes beside %s are kept", names[which]);
+    }
+}
+
+static uint8_t *lent_bytes(enum lent which)
+{
+    return is_null[which] ? NULL : strings[which].bytes;
+}
+
+#define LENT(which) lent_bytes(which), length_of(which)
+
+/* The calls. */
+
+filmdisk_answer host_plan(void)
+{
+    before_call(1u << PLAN | 1u << POSITIONS | 1u << LEADS);
+    filmdisk_answer answer = filmdisk_plan(LENT(CARD), LENT(PLAN), LENT(POSITIONS), LENT(LEADS));
+    after_call();
+    if (answer.number == 0) {
+        size_t list_bytes = (size_t)word(PLAN, FILMDISK_PLAN_BLOCKS) * FILMDISK_ENTRY_BYTES;
+        check_kept(POSITIONS, list_bytes);
+        check_kept(LEADS, list_bytes);
+        check_others_kept(1u << PLAN | 1u << POSITIONS | 1u << LEADS);
+    } else if (answer.number == FILMDISK_TOO_SHORT) {
+        check_others_kept(0);
+    } else {
+        check_cleared(PLAN, FILMDISK_PLAN_BYTES);
+    }
+    return answer;
+}
+
+filmdisk_answer host_open(void)
+{
+    before_call(1u << DESK);
+    filmdisk_answer answer = filmdisk_open(LENT(PLAN), LENT(POSITIONS), LENT(LEADS), LENT(DESK));
+    after_call();
+    if (answer.number == 0)
+        check_others_kept(1u << DESK);
+    else if (answer.number == FILMDISK_TOO_SHORT)
+        check_others_kept(0);
+    else
+        check_cleared(DESK, FILMDISK_DESK_BYTES);
+    return answer;
+}
+
+/* Join, leave and end write the desk alone, and only if accepted. */
+static filmdisk_answer desk_answer(filmdisk_answer answer)
+{
+    after_call();
+    check_others_kept(answer.number == 0 ? 1u << DESK : 0);
+    check(answer.count == 0 && answer.bound == 0, "count and bound are 0, not %u and %u", answer.count, answer.bound);
+    return answer;
+}
+
+filmdisk_answer host_join(uint32_t slot, uint32_t block)
+{
+    before_call(1u << DESK);
+    return desk_answer(filmdisk_join(LENT(DESK), LENT(POSITIONS), LENT(LEADS), slot, block));
+}
+
+filmdisk_answer host_leave(uint32_t slot)
+{
+    before_call(1u << DESK);
+    return desk_answer(filmdisk_leave(LENT(DESK), LENT(POSITIONS), LENT(LEADS), slot));
+}
+
+filmdisk_answer host_end(void)
+{
+    before_call(1u << DESK);
+    return desk_answer(filmdisk_end(LENT(DESK), LENT(POSITIONS), LENT(LEADS), LENT(DRAWS)));
+}
+
+filmdisk_answer host_begin(void)
+{
+    before_call(1u << DESK | 1u << FETCHES);
+    filmdisk_answer answer = filmdisk_begin(LENT(DESK), LENT(POSITIONS), LENT(LEADS), LENT(FETCHES));
+    after_call();
+    if (answer.number == 0) {
+        check_kept(FETCHES, (size_t)answer.count * FILMDISK_FETCH_BYTES);
+        check_others_kept(1u << DESK | 1u << FETCHES);
+    } else {
+        check_others_kept(0);
+    }
+    return answer;
+}
+
+void expect(filmdisk_answer answer, uint32_t number, size_t place)
+{
+    check(answer.number == number && answer.place == place, "expected %u (%s) at %zu, got %u (%s) at %zu", number,
+          filmdisk_meaning(number), place, answer.number, filmdisk_meaning(answer.number), answer.place);
+    if (number != 0)
+        check(answer.count == 0 && answer.bound == 0, "a refused answer has count %u, bound %u", answer.count, answer.bound);
+}
+
+void open_desk(const uint32_t *numbers, size_t count)
+{
+    lend_card(numbers, count);
+    lend_noise(PLAN, FILMDISK_PLAN_BYTES);
+    lend_noise(POSITIONS, FILMDISK_MAX_BLOCKS * FILMDISK_ENTRY_BYTES);
+    lend_noise(LEADS, FILMDISK_MAX_BLOCKS * FILMDISK_ENTRY_BYTES);
+    expect(host_plan(), 0, 0);
+    size_t list_bytes = (size_t)word(PLAN, FILMDISK_PLAN_BLOCKS) * FILMDISK_ENTRY_BYTES;
+    size_t streams = word(PLAN, FILMDISK_PLAN_STREAMS);
+    resize(POSITIONS, list_bytes);
+    resize(LEADS, list_bytes);
+    lend_noise(DESK, FILMDISK_DESK_BYTES);
+    lend_noise(FETCHES, streams * FILMDISK_FETCH_BYTES);
+    expect(host_open(), 0, 0);
+    lend_noise(DRAWS, streams * FILMDISK_ENTRY_BYTES);
+    memset(bytes_of(DRAWS), 0, length_of(DRAWS));
+}

@@ -1,0 +1,71 @@
+/*
+ * What the host programs share: the lent strings, the library's calls over them, and the count of tests.
+ * After every call all strings are held against docs/LAYOUT.md's table of what a call leaves in each.
+ */
+#ifndef HOST_H
+#define HOST_H
+
+#include "filmdisk.h"
+
+#include <stdint.h>
+
+/* The strings that calls are lent. */
+enum lent { CARD, PLAN, POSITIONS, LEADS, DESK, FETCHES, DRAWS, STRINGS };
+
+/* A test has a name by which it can be run alone. */
+typedef struct test {
+    const char *name;
+    void (*run)(void);
+} test;
+
+/* Runs the tests named by the arguments, or all; the first argument may be 'heap'. Answers the exit status. */
+int run_tests(const test *tests, size_t count, int argc, char **argv);
+
+/* One demand of a test; if it is not met the words and the values are printed, and the test fails. */
+void check(int met, const char *words, ...) __attribute__((format(printf, 2, 3)));
+
+/* Contents of the strings, between calls. Noise is bytes of no meaning. */
+void lend(enum lent which, const void *contents, size_t length);
+void lend_noise(enum lent which, size_t length);
+void lend_null(enum lent which);
+void resize(enum lent which, size_t length);
+size_t length_of(enum lent which);
+uint8_t *bytes_of(enum lent which);
+uint32_t word(enum lent which, size_t index);
+void put(enum lent which, size_t index, uint32_t value);
+
+/* The card of these numbers; where a number of it begins. */
+void lend_card(const uint32_t *numbers, size_t count);
+size_t offset_of(const uint32_t *numbers, size_t index);
+
+/* The library's calls over the strings. */
+filmdisk_answer host_plan(void);
+filmdisk_answer host_open(void);
+filmdisk_answer host_join(uint32_t slot, uint32_t block);
+filmdisk_answer host_leave(uint32_t slot);
+filmdisk_answer host_begin(void);
+filmdisk_answer host_end(void);
+
+/* Number and place of an answer; the rest of a refused one is 0. */
+void expect(filmdisk_answer answer, uint32_t number, size_t place);
+
+/* Lends a card with noise in all that a plan call writes, plans it and opens a desk with room for its fetches and draws. */
+void open_desk(const uint32_t *numbers, size_t count);
+
+/* Numbers that repeat in every run: below `end`. */
+uint32_t below(uint32_t end);
+
+/* The bench film of the scope. */
+#define BENCH_NUMBERS 19
+#define BENCH_KIND 0
+#define BENCH_ZONES 1
+#define BENCH_ZONE_POSITIONS(zone) (2 + 2 * (zone))
+#define BENCH_ZONE_TIME(zone) (3 + 2 * (zone))
+#define BENCH_BLOCKS 14
+#define BENCH_BLOCK_BYTES 15
+#define BENCH_RATE 16
+#define BENCH_HOP 17
+#define BENCH_RETURN 18
+extern const uint32_t bench_film[BENCH_NUMBERS];
+
+#endif

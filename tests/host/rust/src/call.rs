@@ -1,0 +1,84 @@
+//! A call, the strings that it is lent, and what comes of it.
+
+/// The strings of all calls, by name.
+pub type Strings = [Vec<u8>; 7];
+pub const CARD: usize = 0;
+pub const PLAN: usize = 1;
+pub const POSITIONS: usize = 2;
+pub const LEADS: usize = 3;
+pub const DESK: usize = 4;
+pub const FETCHES: usize = 5;
+pub const DRAWS: usize = 6;
+pub const NAMES: [&str; 7] = ["card", "plan", "positions", "leads", "desk", "fetches", "draws"];
+
+#[derive(Clone, Copy, Debug, PartialEq, Eq)]
+pub enum Call {
+    Plan,
+    Open,
+    Join { slot: u32, block: u32 },
+    Leave { slot: u32 },
+    Begin,
+    End,
+}
+
+impl Call {
+    /// The place of the call's sort in a tally.
+    pub fn sort(&self) -> usize {
+        match self {
+            Call::Plan => 0,
+            Call::Open => 1,
+            Call::Join { .. } => 2,
+            Call::Leave { .. } => 3,
+            Call::Begin => 4,
+            Call::End => 5,
+        }
+    }
+
+    /// The strings that the call is lent; the true ones it may write.
+    pub fn lent(&self) -> &'static [(usize, bool)] {
+        match self {
+            Call::Plan => &[(CARD, false), (PLAN, true), (POSITIONS, true), (LEADS, true)],
+            Call::Open => &[(PLAN, false), (POSITIONS, false), (LEADS, false), (DESK, true)],
+            Call::Join { .. } | Call::Leave { .. } => {
+                &[(DESK, true), (POSITIONS, false), (LEADS, false)]
+            }
+            Call::Begin => &[(DESK, true), (POSITIONS, false), (LEADS, false), (FETCHES, true)],
+            Call::End => &[(DESK, true), (POSITIONS, false), (LEADS, false), (DRAWS, false)],
+        }
+    }
+}
+
+pub const SORTS: [&str; 6] = ["plan", "open", "join", "leave", "begin", "end"];
+
+/// The answer of a call and all strings after it.
+#[derive(Clone, Debug, PartialEq, Eq)]
+pub struct Outcome {
+    pub number: u32,
+    pub place: u64,
+    pub count: u32,
+    pub bound: u32,
+    pub strings: Strings,
+}
+
+impl Outcome {
+    fn answer(&self) -> String {
+        let Outcome { number, place, count, bound, .. } = self;
+        format!("number {number}, place {place}, count {count}, bound {bound}")
+    }
+
+    /// What differs from the expected outcome, if anything does.
+    pub fn compare(&self, expected: &Outcome) -> Result<(), String> {
+        if self.answer() != expected.answer() {
+            return Err(format!("expected {}; got {}", expected.answer(), self.answer()));
+        }
+        for (name, (got, wanted)) in NAMES.iter().zip(self.strings.iter().zip(&expected.strings)) {
+            if let Some(at) = (0..wanted.len()).find(|&at| got.get(at) != wanted.get(at)) {
+                let (word, wanted, got) = (at / 4, wanted[at], got[at]);
+                return Err(format!(
+                    "{name}: byte {at} (word {word}): expected {wanted}, got {got}"
+                ));
+            }
+        }
+        Ok(())
+    }
+}

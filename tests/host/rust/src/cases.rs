@@ -1,0 +1,207 @@
+//! Random and damaged calls. Strings that a call writes hold noise before it, so that a byte that is left or written wrongly shows.
+
+use crate::call::{Call, Strings, CARD, DESK, DRAWS, FETCHES, LEADS, PLAN, POSITIONS};
+use crate::layout::{
+    bytes_of, desk_bytes, plan_bytes, DESK_BYTES, ENTRY_BYTES, FETCH_BYTES, PLAN_BYTES,
+};
+use film_disk_model::desk::{floor, ASKED, BETWEEN, FILLING, PLAYING};
+use film_disk_model::plan::TWO_MILLION;
+use film_disk_model::rng::cards::any_card;
+use film_disk_model::rng::desks::{alter_plan, any_step, longer_list, sound_desk, spoiled_list};
+use film_disk_model::rng::figures::{desk_plan, large_desk_plan};
+use film_disk_model::{read_card, Desk, Planned, Rng, Step};
+
+/// Bytes of no meaning.
+pub fn noise(rng: &mut Rng, length: usize) -> Vec<u8> {
+    let mut bytes: Vec<u8> = Vec::with_capacity(length + 8);
+    while bytes.len() < length {
+        bytes.extend(rng.bits().to_le_bytes());
+    }
+    bytes.truncate(length);
+    bytes
+}
+
+/// Adds fewer bytes than an entry has.
+fn add_spare(rng: &mut Rng, bytes: &mut Vec<u8>, entry: usize) {
+    let spare = if rng.once_in(2) { 0 } else { rng.below(entry) };
+    bytes.extend(noise(rng, spare));
+}
+
+/// Changes one byte.
+fn change_byte(rng: &mut Rng, bytes: &mut [u8]) {
+    if bytes.is_empty() {
+        return;
+    }
+    let at = rng.below(bytes.len());
+    bytes[at] = match rng.below(4) {
+        0 => bytes[at].wrapping_add(1),
+        1 => bytes[at].wrapping_sub(1),
+        2 => bytes[at] ^ (1 << rng.below(8)),
+        _ => bytes[at] ^ rng.between(1, 255) as u8,
+    };
+}
+
+/// Another length than the right one.
+fn other_length(rng: &mut Rng, right: usize) -> usize {
+    rng.pick(&[0, 1, right - 1, right + 1, right - 4, right + 4, 2 * right])
+}
+
+/// A string that is only written: noise, rarely of another length.
+fn written_string(rng: &mut Rng, right: usize) -> Vec<u8> {
+    let length = if rng.once_in(8) { other_length(rng, right) } else { right };
+    noise(rng, length)
+}
+
+/// A record that is read: rarely with a byte changed, or cut off, or with bytes after it.
+fn read_string(rng: &mut Rng, mut bytes: Vec<u8>) -> Vec<u8> {
+    match rng.below(16) {
+        0..=2 => change_byte(rng, &mut bytes),
+        3 => {
+            let length = other_length(rng, bytes.len());
+            let more = noise(rng, length.saturating_sub(bytes.len()));
+            bytes.extend(more);
+            bytes.truncate(length);
+        }
+        _ => {}
+    }
+    bytes
+}
+
+/// A list that is read: spare bytes; rarely a byte changed, or its last entry not whole.
+pub fn read_list(rng: &mut Rng, words: &[u32], damaged: usize) -> Vec<u8> {
+    let mut bytes = bytes_of(words);
+    if rng.once_in(damaged) && !bytes.is_empty() {
+        if rng.once_in(2) {
+            change_byte(rng, &mut bytes);
+        } else {
+            let cut = 1 + rng.below(ENTRY_BYTES);
+            bytes.truncate(bytes.len() - cut);
+        }
+        return bytes;
+    }
+    add_spare(rng, &mut bytes, ENTRY_BYTES);
+    bytes
+}
+
+/// A list that is written: noise, with N entries or more, or fewer.
+fn written_list(rng: &mut Rng, blocks: usize) -> Vec<u8> {
+    let entries = match rng.below(12) {
+        0 => blocks - 1,
+        1 => rng.below(blocks),
+        2..=4 => blocks + rng.below(20),
+        _ => blocks,
+    };
+    let mut bytes = noise(rng, entries * ENTRY_BYTES);
+    add_spare(rng, &mut bytes, ENTRY_BYTES);
+    bytes
+}
+
+/// Any card.
+pub fn plan_case(rng: &mut Rng) -> (Call, Strings) {
+    let mut strings = Strings::default();
+    strings[CARD] = any_card(rng);
+    let blocks = match read_card(&strings[CARD]) {
+        Ok(figures) => figures.blocks as usize,
+        Err(_) => 1 + rng.below(10),
+    };
+    strings[PLAN] = written_string(rng, PLAN_BYTES);
+    strings[POSITIONS] = written_list(rng, blocks);
+    strings[LEADS] = written_list(rng, blocks);
+    (Call::Plan, strings)
+}
+
+/// A plan for a desk; rarely a great one.
+pub fn some_plan(rng: &mut Rng) -> Planned {
+    if rng.once_in(40) {
+        large_desk_plan(rng)
+    } else {
+        desk_plan(rng)
+    }
+}
+
+/// One of the plan's lists, longer or spoiled at times.
+fn some_list(rng: &mut Rng, list: &[u32]) -> Vec<u8> {
+    let list = match rng.below(8) {
+        0 => longer_list(rng, list),
+        1 => spoiled_list(rng, list),
+        _ => list.to_vec(),
+    };
+    read_list(rng, &list, 12)
+}
+
+/// An opening, of the plan of its figures or of another record.
+pub fn open_case(rng: &mut Rng) -> (Call, Strings) {
+    let planned = some_plan(rng);
+    let mut plan = planned.plan.clone();
+    if rng.once_in(5) {
+        alter_plan(rng, &mut plan);
+    }
+    let mut strings = Strings::default();
+    strings[PLAN] = read_string(rng, plan_bytes(&plan));
+    strings[POSITIONS] = some_list(rng, &planned.positions);
+    strings[LEADS] = some_list(rng, &planned.leads);
+    strings[DESK] = written_string(rng, DESK_BYTES);
+    (Call::Open, strings)
+}
+
+/// The strings of a step on the desk in `desk`. Once in `damaged` times a list is spoiled.
+pub fn step_strings(rng: &mut Rng, desk: Vec<u8>, step: &Step, damaged: usize) -> (Call, Strings) {
+    let mut strings = Strings::default();
+    strings[DESK] = desk;
+    strings[POSITIONS] = read_list(rng, &step.positions, damaged);
+    strings[LEADS] = read_list(rng, &step.leads, damaged);
+    let call = match &step.call {
+        film_disk_model::Call::Join { slot, block } => Call::Join { slot: *slot, block: *block },
+        film_disk_model::Call::Leave { slot } => Call::Leave { slot: *slot },
+        film_disk_model::Call::Begin { fetch_list } => {
+            strings[FETCHES] = noise(rng, fetch_list * FETCH_BYTES);
+            add_spare(rng, &mut strings[FETCHES], FETCH_BYTES);
+            Call::Begin
+        }
+        film_disk_model::Call::End { draws } => {
+            strings[DRAWS] = bytes_of(draws);
+            add_spare(rng, &mut strings[DRAWS], ENTRY_BYTES);
+            Call::End
+        }
+    };
+    (call, strings)
+}
+
+/// Any call on any desk: sound, reached or not, corrupted, noise.
+pub fn desk_case(rng: &mut Rng) -> (Call, Strings) {
+    let planned = some_plan(rng);
+    let (desk, step) = any_step(rng, &planned);
+    let desk = read_string(rng, desk_bytes(&desk));
+    step_strings(rng, desk, &step, 20)
+}
+
+/// The floor with the leads of the first few asked slots, in whole bytes, rounded up.
+fn some_level(rng: &mut Rng, planned: &Planned, desk: &Desk) -> u32 {
+    let asked = desk.used_slots().filter(|&slot| desk.kinds[slot] == ASKED);
+    let leads = asked.map(|slot| planned.leads[desk.next[slot] as usize] as u128);
+    let first = rng.pick(&[0, 0, 1, 1, 2, 3, 9]);
+    let granted: u128 = leads.take(first).sum();
+    let shares = floor(desk, &planned.leads) + planned.plan.figures.rate as u128 * granted;
+    shares.div_ceil(TWO_MILLION) as u32
+}
+
+/// A call, mostly a begin, on a desk whose slots hold just what decides: the floor with and without grants, or a byte beside it;
+/// or the greatest that a block is still fetched on.
+pub fn edge_case(rng: &mut Rng) -> (Call, Strings) {
+    let planned = some_plan(rng);
+    let (_, mut step) = any_step(rng, &planned);
+    let mut desk = sound_desk(rng, &planned);
+    if !rng.once_in(4) {
+        desk.phase = BETWEEN;
+        step.call = film_disk_model::Call::Begin { fetch_list: planned.plan.streams as usize };
+    }
+    let room = planned.plan.buffer - planned.plan.figures.block_bytes;
+    let level = if rng.once_in(6) { room } else { some_level(rng, &planned, &desk) };
+    let held = level + rng.pick(&[0, 0, 1]) - rng.once_in(3) as u32;
+    for slot in desk.used_slots() {
+        if matches!(desk.kinds[slot], FILLING | PLAYING) && !rng.once_in(4) {
+            desk.held[slot] = held;
+        }
+    }
+    step_strings(rng, desk_bytes(&desk), &step, 100)
+}

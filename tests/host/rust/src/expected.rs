@@ -1,0 +1,113 @@
+//! The outcome of a call by the model, with docs/LAYOUT.md's lengths and what is left in each string.
+
+use crate::call::{Call, Outcome, Strings, CARD, DESK, DRAWS, FETCHES, LEADS, PLAN, POSITIONS};
+use crate::layout::{
+    bytes_of, desk_bytes, fetch_bytes, plan_bytes, read_desk, read_plan, words_of, DESK_BYTES,
+    ENTRY_BYTES, FETCH_BYTES, PLAN_BYTES,
+};
+use film_disk_model::{answer, cause, open, plan_card, read_card, Refusal};
+
+/// Puts an answer at the start of a string; the rest keeps its contents.
+fn write(string: &mut [u8], bytes: &[u8]) {
+    string[..bytes.len()].copy_from_slice(bytes);
+}
+
+/// An accepted call with nothing more to say.
+fn accepted(strings: Strings) -> Outcome {
+    Outcome { number: 0, place: 0, count: 0, bound: 0, strings }
+}
+
+fn refused(strings: &Strings, refusal: Refusal) -> Outcome {
+    let Refusal { number, place } = refusal;
+    Outcome { number, place, count: 0, bound: 0, strings: strings.clone() }
+}
+
+/// Refused, and a string that has its length is all zero.
+fn cleared(strings: &Strings, refusal: Refusal, which: usize, length: usize) -> Outcome {
+    let mut outcome = refused(strings, refusal);
+    if outcome.strings[which].len() == length {
+        outcome.strings[which].fill(0);
+    }
+    outcome
+}
+
+fn expected_plan(strings: &Strings) -> Outcome {
+    let too_short = Refusal { number: cause::TOO_SHORT, place: 0 };
+    if let Err(refusal) = read_card(&strings[CARD]) {
+        return cleared(strings, refusal, PLAN, PLAN_BYTES);
+    }
+    if strings[PLAN].len() != PLAN_BYTES {
+        return refused(strings, too_short);
+    }
+    let entries = |which: usize| strings[which].len() / ENTRY_BYTES;
+    match plan_card(&strings[CARD], entries(POSITIONS), entries(LEADS)) {
+        Err(refusal) if refusal == too_short => refused(strings, refusal),
+        Err(refusal) => cleared(strings, refusal, PLAN, PLAN_BYTES),
+        Ok(planned) => {
+            let mut after = strings.clone();
+            write(&mut after[PLAN], &plan_bytes(&planned.plan));
+            write(&mut after[POSITIONS], &bytes_of(&planned.positions));
+            write(&mut after[LEADS], &bytes_of(&planned.leads));
+            accepted(after)
+        }
+    }
+}
+
+fn expected_open(strings: &Strings) -> Outcome {
+    let not_sound = Refusal { number: cause::NOT_SOUND, place: 0 };
+    if strings[PLAN].len() != PLAN_BYTES {
+        return cleared(strings, not_sound, DESK, DESK_BYTES);
+    }
+    let (positions, leads) = (words_of(&strings[POSITIONS]), words_of(&strings[LEADS]));
+    match open(&read_plan(&strings[PLAN]), &positions, &leads) {
+        Err(refusal) => cleared(strings, refusal, DESK, DESK_BYTES),
+        Ok(_) if strings[DESK].len() != DESK_BYTES => {
+            refused(strings, Refusal { number: cause::TOO_SHORT, place: 0 })
+        }
+        Ok(desk) => {
+            let mut after = strings.clone();
+            write(&mut after[DESK], &desk_bytes(&desk));
+            accepted(after)
+        }
+    }
+}
+
+/// The call as the model knows it: whole entries of the lent lists count.
+pub fn model_call(call: Call, strings: &Strings) -> film_disk_model::Call {
+    match call {
+        Call::Join { slot, block } => film_disk_model::Call::Join { slot, block },
+        Call::Leave { slot } => film_disk_model::Call::Leave { slot },
+        Call::Begin => {
+            film_disk_model::Call::Begin { fetch_list: strings[FETCHES].len() / FETCH_BYTES }
+        }
+        Call::End => film_disk_model::Call::End { draws: words_of(&strings[DRAWS]) },
+        Call::Plan | Call::Open => unreachable!("no call on a desk"),
+    }
+}
+
+fn expected_desk_call(call: Call, strings: &Strings) -> Outcome {
+    if strings[DESK].len() != DESK_BYTES {
+        return refused(strings, Refusal { number: cause::NOT_SOUND, place: 0 });
+    }
+    let desk = read_desk(&strings[DESK]);
+    let (positions, leads) = (words_of(&strings[POSITIONS]), words_of(&strings[LEADS]));
+    let answer = answer(&desk, &positions, &leads, &model_call(call, strings));
+    let mut after = strings.clone();
+    write(&mut after[DESK], &desk_bytes(&answer.desk));
+    write(&mut after[FETCHES], &fetch_bytes(&answer.entries));
+    Outcome {
+        number: answer.number,
+        place: answer.place,
+        count: answer.count,
+        bound: answer.bound,
+        strings: after,
+    }
+}
+
+pub fn expected(call: Call, strings: &Strings) -> Outcome {
+    match call {
+        Call::Plan => expected_plan(strings),
+        Call::Open => expected_open(strings),
+        _ => expected_desk_call(call, strings),
+    }
+}

@@ -1,0 +1,96 @@
+//! docs/LAYOUT.md: the model's records as byte strings, and back.
+
+use film_disk_model::{Desk, Entry, Figures, Plan, SLOTS};
+
+pub const PLAN_BYTES: usize = 552;
+pub const DESK_BYTES: usize = 3628;
+pub const ENTRY_BYTES: usize = 4;
+pub const FETCH_BYTES: usize = 12;
+
+/// Words of 32 bits, lowest byte first.
+pub fn bytes_of(words: &[u32]) -> Vec<u8> {
+    words.iter().flat_map(|word| word.to_le_bytes()).collect()
+}
+
+/// The whole words of a string; spare bytes at its end are no word.
+pub fn words_of(bytes: &[u8]) -> Vec<u32> {
+    bytes.chunks_exact(4).map(|b| u32::from_le_bytes([b[0], b[1], b[2], b[3]])).collect()
+}
+
+fn plan_words(plan: &Plan) -> Vec<u32> {
+    let figures = &plan.figures;
+    let mut words = vec![figures.zones];
+    words.extend(figures.positions);
+    words.extend(figures.times);
+    words.extend([figures.blocks, figures.block_bytes, figures.rate, figures.hop, figures.ret]);
+    words.extend([plan.streams, plan.buffer, plan.worst2, plan.margin]);
+    words
+}
+
+/// A part of the words as an array.
+fn array<const COUNT: usize>(words: &[u32], first: usize) -> [u32; COUNT] {
+    words[first..first + COUNT].try_into().expect("the part has that many words")
+}
+
+fn plan_in(words: &[u32]) -> Plan {
+    let figures = Figures {
+        zones: words[0],
+        positions: array(words, 1),
+        times: array(words, 65),
+        blocks: words[129],
+        block_bytes: words[130],
+        rate: words[131],
+        hop: words[132],
+        ret: words[133],
+    };
+    Plan {
+        figures,
+        streams: words[134],
+        buffer: words[135],
+        worst2: words[136],
+        margin: words[137],
+    }
+}
+
+pub fn plan_bytes(plan: &Plan) -> Vec<u8> {
+    bytes_of(&plan_words(plan))
+}
+
+/// The plan in a string of 552 bytes.
+pub fn read_plan(bytes: &[u8]) -> Plan {
+    plan_in(&words_of(bytes))
+}
+
+pub fn desk_bytes(desk: &Desk) -> Vec<u8> {
+    let mut words = plan_words(&desk.plan);
+    words.push(desk.phase);
+    words.extend(desk.kinds);
+    words.extend(desk.next);
+    words.extend(desk.held);
+    bytes_of(&words)
+}
+
+/// The desk in a string of 3,628 bytes.
+pub fn read_desk(bytes: &[u8]) -> Desk {
+    let words = words_of(bytes);
+    Desk {
+        plan: plan_in(&words),
+        phase: words[138],
+        kinds: array(&words, 139),
+        next: array(&words, 139 + SLOTS),
+        held: array(&words, 139 + 2 * SLOTS),
+    }
+}
+
+pub fn fetch_bytes(entries: &[Entry]) -> Vec<u8> {
+    let words: Vec<u32> =
+        entries.iter().flat_map(|entry| [entry.position, entry.slot, entry.block]).collect();
+    bytes_of(&words)
+}
+
+/// The first `count` entries of a fetch list.
+pub fn read_fetches(bytes: &[u8], count: u32) -> Vec<Entry> {
+    let words = words_of(bytes);
+    let entries = words.chunks_exact(3).take(count as usize);
+    entries.map(|e| Entry { position: e[0], slot: e[1], block: e[2] }).collect()
+}

@@ -1,0 +1,147 @@
+//! The static library, called over guarded strings.
+
+use crate::call::{
+    Call, Outcome, Strings, CARD, DESK, DRAWS, FETCHES, LEADS, NAMES, PLAN, POSITIONS,
+};
+use std::ffi::{c_char, c_int, CString};
+
+/// Room for the longest string of a case.
+const MOST_BYTES: usize = 80_000;
+
+#[repr(C)]
+struct FilmdiskAnswer {
+    number: u32,
+    place: usize,
+    count: u32,
+    bound: u32,
+}
+
+type Read = *const u8;
+type Write = *mut u8;
+
+#[rustfmt::skip]
+extern "C" {
+    fn filmdisk_plan(card: Read, card_len: usize, plan: Write, plan_len: usize, positions: Write, positions_len: usize, leads: Write, leads_len: usize) -> FilmdiskAnswer;
+    fn filmdisk_open(plan: Read, plan_len: usize, positions: Read, positions_len: usize, leads: Read, leads_len: usize, desk: Write, desk_len: usize) -> FilmdiskAnswer;
+    fn filmdisk_join(desk: Write, desk_len: usize, positions: Read, positions_len: usize, leads: Read, leads_len: usize, slot: u32, block: u32) -> FilmdiskAnswer;
+    fn filmdisk_leave(desk: Write, desk_len: usize, positions: Read, positions_len: usize, leads: Read, leads_len: usize, slot: u32) -> FilmdiskAnswer;
+    fn filmdisk_begin(desk: Write, desk_len: usize, positions: Read, positions_len: usize, leads: Read, leads_len: usize, fetches: Write, fetches_len: usize) -> FilmdiskAnswer;
+    fn filmdisk_end(desk: Write, desk_len: usize, positions: Read, positions_len: usize, leads: Read, leads_len: usize, draws: Read, draws_len: usize) -> FilmdiskAnswer;
+}
+
+/// guarded.h
+#[repr(C)]
+struct Guarded {
+    room: *mut u8,
+    capacity: usize,
+    bytes: *mut u8,
+    length: usize,
+}
+
+extern "C" {
+    fn guarded_make(string: *mut Guarded, most: usize);
+    fn guarded_lend(string: *mut Guarded, from: *const u8, length: usize, edge: c_int) -> *mut u8;
+    fn guarded_seal(string: *const Guarded, sealed: c_int);
+    fn guarded_beside_kept(string: *const Guarded) -> c_int;
+    fn guarded_watch();
+    fn guarded_scene(words: *const c_char);
+}
+
+/// How strings are lent: the edge that touches a forbidden page, and whether an empty one is NULL.
+#[derive(Clone, Copy, Debug)]
+pub struct Lending {
+    pub at_start: bool,
+    pub empty_is_null: bool,
+}
+
+/// The library with room for each string. One at a time: the strings are its own.
+pub struct Library {
+    lent: [Guarded; 7],
+    pointers: [*mut u8; 7],
+}
+
+/// What is said if the library touches a byte that it was not lent.
+pub fn set_scene(words: &str) {
+    let words = CString::new(words).expect("words without a zero byte");
+    // SAFETY: the words are copied.
+    unsafe { guarded_scene(words.as_ptr()) }
+}
+
+impl Library {
+    pub fn new() -> Library {
+        // SAFETY: sets the handlers of two signals.
+        unsafe { guarded_watch() };
+        let lent = NAMES.map(|_| {
+            let (room, bytes) = (std::ptr::null_mut(), std::ptr::null_mut());
+            let mut string = Guarded { room, capacity: 0, bytes, length: 0 };
+            // SAFETY: the record is written whole.
+            unsafe { guarded_make(&mut string, MOST_BYTES) };
+            string
+        });
+        Library { lent, pointers: [std::ptr::null_mut(); 7] }
+    }
+
+    fn lend(&mut self, which: usize, bytes: &[u8], is_written: bool, lending: Lending) {
+        let string = &mut self.lent[which];
+        let edge = lending.at_start as c_int;
+        // SAFETY: the contents have that length; guarded_lend ends the program if there is no room.
+        self.pointers[which] = unsafe {
+            let pointer = guarded_lend(string, bytes.as_ptr(), bytes.len(), edge);
+            guarded_seal(string, !is_written as c_int);
+            pointer
+        };
+        if bytes.is_empty() && lending.empty_is_null {
+            self.pointers[which] = std::ptr::null_mut();
+        }
+    }
+
+    /// The string after the call; its neighbour bytes must be as they were.
+    fn take_back(&mut self, which: usize) -> Result<Vec<u8>, String> {
+        let string = &self.lent[which];
+        // SAFETY: the string lies in its room, which may be read and written again.
+        let (is_kept, bytes) = unsafe {
+            guarded_seal(string, 0);
+            let bytes = std::slice::from_raw_parts(string.bytes, string.length).to_vec();
+            (guarded_beside_kept(string), bytes)
+        };
+        if is_kept == 0 {
+            return Err(format!("a byte beside {} was written", NAMES[which]));
+        }
+        Ok(bytes)
+    }
+
+    /// SAFETY: the strings of the call are lent.
+    #[rustfmt::skip]
+    unsafe fn make(&self, call: Call) -> FilmdiskAnswer {
+        let p = |which: usize| self.pointers[which];
+        let n = |which: usize| self.lent[which].length;
+        match call {
+            Call::Plan => filmdisk_plan(p(CARD), n(CARD), p(PLAN), n(PLAN), p(POSITIONS), n(POSITIONS), p(LEADS), n(LEADS)),
+            Call::Open => filmdisk_open(p(PLAN), n(PLAN), p(POSITIONS), n(POSITIONS), p(LEADS), n(LEADS), p(DESK), n(DESK)),
+            Call::Join { slot, block } => filmdisk_join(p(DESK), n(DESK), p(POSITIONS), n(POSITIONS), p(LEADS), n(LEADS), slot, block),
+            Call::Leave { slot } => filmdisk_leave(p(DESK), n(DESK), p(POSITIONS), n(POSITIONS), p(LEADS), n(LEADS), slot),
+            Call::Begin => filmdisk_begin(p(DESK), n(DESK), p(POSITIONS), n(POSITIONS), p(LEADS), n(LEADS), p(FETCHES), n(FETCHES)),
+            Call::End => filmdisk_end(p(DESK), n(DESK), p(POSITIONS), n(POSITIONS), p(LEADS), n(LEADS), p(DRAWS), n(DRAWS)),
+        }
+    }
+
+    /// Makes a call over copies of the strings. Those that it is not lent come back as they are.
+    pub fn call(
+        &mut self,
+        call: Call,
+        strings: &Strings,
+        lending: Lending,
+    ) -> Result<Outcome, String> {
+        for &(which, is_written) in call.lent() {
+            self.lend(which, &strings[which], is_written, lending);
+        }
+        // SAFETY: just lent.
+        let answer = unsafe { self.make(call) };
+        let mut after = strings.clone();
+        for &(which, _) in call.lent() {
+            after[which] = self.take_back(which)?;
+        }
+        let FilmdiskAnswer { number, place, count, bound } = answer;
+        Ok(Outcome { number, place: place as u64, count, bound, strings: after })
+    }
+}

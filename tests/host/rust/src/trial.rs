@@ -1,0 +1,89 @@
+//! A call made of the library and of the model, and the tally of what was answered.
+
+use crate::call::{Call, Outcome, Strings, NAMES, SORTS};
+use crate::expected::expected;
+use crate::library::{Lending, Library};
+use film_disk_model::Rng;
+
+/// Numbers of answers, 0 to 21.
+const NUMBERS: usize = 22;
+
+pub struct Trial {
+    library: Library,
+    /// For each sort of call, how often each number was answered.
+    tally: [[u64; NUMBERS]; 6],
+}
+
+/// The call and the lengths of what it was lent.
+fn describe(call: Call, strings: &Strings) -> String {
+    let lent = call.lent().iter();
+    let lengths: Vec<String> = lent
+        .map(|&(which, _)| format!("{} {} bytes", NAMES[which], strings[which].len()))
+        .collect();
+    format!("{call:?} with {}", lengths.join(", "))
+}
+
+impl Trial {
+    pub fn new() -> Trial {
+        Trial { library: Library::new(), tally: [[0; NUMBERS]; 6] }
+    }
+
+    /// Makes the call of both and compares the answer and every byte of every string.
+    pub fn both(
+        &mut self,
+        rng: &mut Rng,
+        call: Call,
+        strings: &Strings,
+    ) -> Result<(Outcome, Outcome), String> {
+        let lending = Lending { at_start: rng.once_in(2), empty_is_null: rng.once_in(2) };
+        let wanted = expected(call, strings);
+        self.tally[call.sort()][wanted.number as usize] += 1;
+        let got = self.library.call(call, strings, lending);
+        let got = got.map_err(|words| format!("{}: {words}", describe(call, strings)))?;
+        got.compare(&wanted).map_err(|words| format!("{}: {words}", describe(call, strings)))?;
+        Ok((got, wanted))
+    }
+
+    /// A call that both accept.
+    pub fn accepted(
+        &mut self,
+        rng: &mut Rng,
+        call: Call,
+        strings: &Strings,
+    ) -> Result<Outcome, String> {
+        let (got, _) = self.both(rng, call, strings)?;
+        if got.number != 0 {
+            return Err(format!("{}: refused {}", describe(call, strings), got.number));
+        }
+        Ok(got)
+    }
+
+    /// A line for each sort of call: how many, and how often each number was answered.
+    pub fn report(&self) {
+        for (sort, counts) in SORTS.iter().zip(&self.tally) {
+            let met = (0..NUMBERS).filter(|&number| counts[number] > 0);
+            let words: Vec<String> = met.map(|n| format!("{n} x {}", counts[n])).collect();
+            println!("{sort}: {} calls; numbers {}", counts.iter().sum::<u64>(), words.join(", "));
+        }
+    }
+
+    /// The numbers that each sort of call can answer and that no call was answered.
+    pub fn missing(&self) -> Vec<String> {
+        let plan: Vec<usize> = (0..=13).collect();
+        let answers: [&[usize]; 6] = [
+            &plan,
+            &[0, 13, 14],
+            &[0, 14, 15, 16, 17, 18],
+            &[0, 14, 15, 16, 17],
+            &[0, 13, 14, 15],
+            &[0, 14, 15, 19, 20, 21],
+        ];
+        let mut missing = Vec::new();
+        for (sort, numbers) in answers.iter().enumerate() {
+            for &number in numbers.iter().filter(|&&number| self.tally[sort][number] == 0) {
+                missing.push(format!("{} {number}", SORTS[sort]));
+            }
+        }
+        missing
+    }
+}

@@ -1,0 +1,151 @@
+/*
+ * Longer stories of a desk. Each sweep of a story is held against the scope's rules and promises (sweeps.c).
+ * Arguments: names of stories to run alone, before them 'heap' under valgrind.
+ */
+#include "sweeps.h"
+
+#define COUNT(array) (sizeof(array) / sizeof *(array))
+#define BENCH_BYTES 262144u
+
+static void bench_story(void)
+{
+    start_story(bench_film, BENCH_NUMBERS);
+}
+
+static void expect_kind(uint32_t slot, uint32_t its_kind)
+{
+    check(kind(slot) == its_kind, "slot %u: expected kind %u, got %u", slot, its_kind, kind(slot));
+}
+
+/* One screen sees all blocks and all bytes, with what it may draw and with less. */
+static void film_watched_to_its_end(void)
+{
+    for (enum draw draw = DRAW_ALL; draw <= DRAW_SOME; draw++) {
+        bench_story();
+        join_slot(9, 0);
+        unsigned sweeps = sweep_to_the_end(draw, 2000);
+        check(fetched(9) == 6 && drawn(9) == 6ull * BENCH_BYTES, "6 blocks were seen: %u, %llu bytes", fetched(9),
+              (unsigned long long)drawn(9));
+        check(sweeps > 6, "%u sweeps", sweeps);
+    }
+}
+
+/* A whole drive, its film watched from a few blocks before the end by screens that come one after another. */
+static void end_of_a_long_film(void)
+{
+    static const uint32_t drive[] = {
+        1,    7,     598,  135594, 776,  125000, 1163,    114286, 1363, 103897, 1606,
+        96386, 1080, 89888, 2285, 86957, 8871,   1048576, 524288, 8280, 10090,
+    };
+    start_story(drive, COUNT(drive));
+    check(blocks() == 8871, "the film fills the drive");
+    for (uint32_t slot = 0; slot < streams(); slot++) {
+        join_slot(slot, blocks() - 4 - slot % 7);
+        sweep(DRAW_ALL);
+    }
+    sweep_to_the_end(DRAW_ALL, 3000);
+}
+
+/* Slots of every kind leave; each may join again at once, and the others see their films to the end. */
+static void leaves_in_mid_film(void)
+{
+    bench_story();
+    join_slot(0, 0);
+    join_slot(3, 2);
+    join_slot(4, 5);
+    sweep(DRAW_ALL);
+    join_slot(1, 0);
+    join_slot(2, 0);
+    sweep(DRAW_ALL);
+    expect_kind(0, FILMDISK_PLAYING);
+    expect_kind(1, FILMDISK_ASKED);
+    expect_kind(4, FILMDISK_TAIL);
+    leave_slot(1);
+    leave_slot(0);
+    leave_slot(4);
+    sweep(DRAW_ALL);
+    expect_kind(2, FILMDISK_FILLING);
+    leave_slot(2);
+    join_slot(0, 4);
+    join_slot(2, 1);
+    leave_slot(2);
+    sweep_to_the_end(DRAW_ALL, 2000);
+    check(fetched(0) == 2 && fetched(3) == 4, "slot 0 came back for 2 blocks, slot 3 saw 4: %u, %u", fetched(0), fetched(3));
+}
+
+/* Screens that do not draw: their buffers fill, then nothing is fetched and the bound is the return alone. */
+static void full_buffers_without_fetch(void)
+{
+    bench_story();
+    for (uint32_t slot = 0; slot < 3; slot++)
+        join_slot(slot, 0);
+    for (unsigned i = 0; i < 3; i++)
+        check(sweep(DRAW_NOTHING) == 3, "sweep %u fetches for all", i);
+    for (unsigned i = 0; i < 20; i++)
+        check(sweep(DRAW_NOTHING) == 0, "full buffers, sweep %u", i);
+    for (uint32_t slot = 0; slot < 3; slot++) {
+        expect_kind(slot, FILMDISK_PLAYING);
+        check(held(slot) == 3 * BENCH_BYTES, "slot %u holds three blocks", slot);
+    }
+    /* Room for a fourth block comes when 236,712 bytes are drawn: 7,500 in each empty sweep. */
+    unsigned sweeps = 0;
+    while (sweep(DRAW_ALL) == 0 && sweeps < 100)
+        sweeps++;
+    check(sweeps == 32, "the first fetch comes after %u empty sweeps", sweeps);
+    sweep_to_the_end(DRAW_ALL, 2000);
+}
+
+/* Slot 0 gets its last block before it may play: from filling it goes to tail. So does slot 2 with its only block. */
+static void film_ends_while_filling(void)
+{
+    bench_story();
+    join_slot(0, 4);
+    join_slot(1, 1);
+    join_slot(2, 5);
+    sweep(DRAW_ALL);
+    expect_kind(0, FILMDISK_FILLING);
+    expect_kind(2, FILMDISK_TAIL);
+    /* Slot 1 is to get block 2, whose lead lifts the floor above one block. */
+    sweep(DRAW_ALL);
+    expect_kind(0, FILMDISK_TAIL);
+    check(held(0) == 2 * BENCH_BYTES, "slot 0 holds both blocks");
+    expect_kind(1, FILMDISK_FILLING);
+    sweep_to_the_end(DRAW_SOME, 2000);
+    check(drawn(0) == 2ull * BENCH_BYTES && drawn(2) == BENCH_BYTES, "both saw what they came for");
+}
+
+/* The greatest house: 256 streams just fit. Whoever ends is followed by another for some hundred sweeps. */
+static void house_of_256_streams(void)
+{
+    static const uint32_t house[] = {1, 2, 20, 3000, 20, 2000, 40, 1768000, 1000000, 500, 1000000};
+    start_story(house, COUNT(house));
+    check(streams() == 256, "%u streams", streams());
+    expect(host_join(256, 0), FILMDISK_NO_SUCH_SLOT, 256);
+    for (uint32_t slot = 0; slot < 256; slot++)
+        join_slot(slot, 0);
+    check(sweep(DRAW_ALL) == 256, "all fill");
+    for (unsigned i = 0; i < 400; i++) {
+        uint32_t slot = below(256);
+        if (kind(slot) == FILMDISK_FREE)
+            join_slot(slot, below(40));
+        else if (below(4) == 0)
+            leave_slot(slot);
+        sweep(i % 100 < 80 ? DRAW_ALL : DRAW_SOME);
+    }
+    for (uint32_t slot = 0; slot < 256; slot++)
+        if (kind(slot) == FILMDISK_FREE)
+            join_slot(slot, slot % 40);
+    sweep_to_the_end(DRAW_ALL, 1000);
+}
+
+#define TEST(name) {#name, name}
+
+static const test tests[] = {
+    TEST(film_watched_to_its_end), TEST(end_of_a_long_film),      TEST(leaves_in_mid_film),
+    TEST(full_buffers_without_fetch), TEST(film_ends_while_filling), TEST(house_of_256_streams),
+};
+
+int main(int argc, char **argv)
+{
+    return run_tests(tests, COUNT(tests), argc, argv);
+}

@@ -1,0 +1,301 @@
+#include "sweeps.h"
+
+#include <string.h>
+
+#define SLOTS FILMDISK_MAX_STREAMS
+#define SHARES 2000000ull /* the floor is compared in two-millionths of a byte */
+
+struct row {
+    int open;
+    uint32_t fetched;
+    uint64_t drawn;
+};
+
+static struct row book[SLOTS];
+static uint8_t desk_before[FILMDISK_DESK_BYTES];
+/* What the rules give: each slot's kind in the sweep, and whether a block is fetched for it. */
+static uint32_t kinds[SLOTS];
+static int is_fetched[SLOTS];
+
+static uint32_t figure(size_t index)
+{
+    return word(PLAN, index);
+}
+
+uint32_t streams(void)
+{
+    return figure(FILMDISK_PLAN_STREAMS);
+}
+
+uint32_t blocks(void)
+{
+    return figure(FILMDISK_PLAN_BLOCKS);
+}
+
+uint32_t kind(uint32_t slot)
+{
+    return word(DESK, FILMDISK_DESK_KINDS + slot);
+}
+
+uint32_t next(uint32_t slot)
+{
+    return word(DESK, FILMDISK_DESK_NEXT + slot);
+}
+
+uint32_t held(uint32_t slot)
+{
+    return word(DESK, FILMDISK_DESK_HELD + slot);
+}
+
+uint32_t fetched(uint32_t slot)
+{
+    return book[slot].fetched;
+}
+
+uint64_t drawn(uint32_t slot)
+{
+    return book[slot].drawn;
+}
+
+unsigned audience(void)
+{
+    unsigned count = 0;
+    for (uint32_t slot = 0; slot < SLOTS; slot++)
+        count += kind(slot) != FILMDISK_FREE;
+    return count;
+}
+
+void start_story(const uint32_t *numbers, size_t count)
+{
+    memset(book, 0, sizeof book);
+    open_desk(numbers, count);
+}
+
+/* Joins and leaves. */
+
+static void save_desk(void)
+{
+    memcpy(desk_before, bytes_of(DESK), sizeof desk_before);
+}
+
+/* The desk is the one before, but for the slot, which has these words. */
+static void check_slot_alone(uint32_t slot, uint32_t its_kind, uint32_t its_next)
+{
+    filmdisk_put_word(desk_before, FILMDISK_DESK_KINDS + slot, its_kind);
+    filmdisk_put_word(desk_before, FILMDISK_DESK_NEXT + slot, its_next);
+    filmdisk_put_word(desk_before, FILMDISK_DESK_HELD + slot, 0);
+    check(memcmp(desk_before, bytes_of(DESK), sizeof desk_before) == 0, "slot %u alone changes, to kind %u, next %u", slot, its_kind,
+          its_next);
+}
+
+void join_slot(uint32_t slot, uint32_t block)
+{
+    save_desk();
+    expect(host_join(slot, block), 0, 0);
+    check_slot_alone(slot, FILMDISK_ASKED, block);
+    book[slot] = (struct row){.open = 1};
+}
+
+void leave_slot(uint32_t slot)
+{
+    save_desk();
+    expect(host_leave(slot), 0, 0);
+    check_slot_alone(slot, FILMDISK_FREE, 0);
+    book[slot].open = 0;
+}
+
+/* Begin by the rules, worked out from the desk before it. */
+
+static uint64_t lead(uint32_t slot)
+{
+    return word(LEADS, next(slot));
+}
+
+static uint64_t floor_shares(void)
+{
+    uint64_t leads = 0;
+    for (uint32_t slot = 0; slot < streams(); slot++)
+        if (kinds[slot] == FILMDISK_FILLING || kinds[slot] == FILMDISK_PLAYING)
+            leads += lead(slot);
+    return SHARES * figure(FILMDISK_PLAN_BLOCK_BYTES) + figure(FILMDISK_PLAN_RATE) * leads;
+}
+
+static int all_playing_hold(uint64_t shares)
+{
+    for (uint32_t slot = 0; slot < streams(); slot++)
+        if (kinds[slot] == FILMDISK_PLAYING && SHARES * held(slot) < shares)
+            return 0;
+    return 1;
+}
+
+static void foresee_kinds(void)
+{
+    for (uint32_t slot = 0; slot < streams(); slot++)
+        kinds[slot] = kind(slot);
+    uint64_t shares = floor_shares();
+    for (uint32_t slot = 0; slot < streams(); slot++)
+        if (kinds[slot] == FILMDISK_FILLING && SHARES * held(slot) >= shares)
+            kinds[slot] = FILMDISK_PLAYING;
+    for (uint32_t slot = 0; slot < streams(); slot++)
+        if (kinds[slot] == FILMDISK_ASKED && all_playing_hold(floor_shares() + figure(FILMDISK_PLAN_RATE) * lead(slot)))
+            kinds[slot] = FILMDISK_FILLING;
+}
+
+static uint32_t time_at(uint32_t position)
+{
+    size_t zone = 0;
+    while (position >= figure(FILMDISK_PLAN_POSITIONS + zone))
+        position -= figure(FILMDISK_PLAN_POSITIONS + zone++);
+    return figure(FILMDISK_PLAN_TIMES + zone);
+}
+
+/* Marks the slots that a block is fetched for; answers their count and the bound. */
+static filmdisk_answer foresee_fetches(void)
+{
+    filmdisk_answer foreseen = {.bound = figure(FILMDISK_PLAN_RETURN)};
+    for (uint32_t slot = 0; slot < streams(); slot++) {
+        int wants = kinds[slot] == FILMDISK_FILLING || kinds[slot] == FILMDISK_PLAYING;
+        is_fetched[slot] = wants && held(slot) + figure(FILMDISK_PLAN_BLOCK_BYTES) <= figure(FILMDISK_PLAN_BUFFER);
+        if (!is_fetched[slot])
+            continue;
+        foreseen.count++;
+        foreseen.bound += time_at(word(POSITIONS, next(slot))) + figure(FILMDISK_PLAN_HOP);
+    }
+    return foreseen;
+}
+
+/* Entries by rising position, then slot; each of a slot that is fetched for, and of its next block. */
+static void check_entries(uint32_t count)
+{
+    uint64_t last = 0;
+    for (uint32_t i = 0; i < count; i++) {
+        uint32_t position = word(FETCHES, 3 * i + FILMDISK_FETCH_POSITION);
+        uint32_t slot = word(FETCHES, 3 * i + FILMDISK_FETCH_SLOT);
+        uint32_t block = word(FETCHES, 3 * i + FILMDISK_FETCH_BLOCK);
+        uint64_t order = (uint64_t)position << 32 | slot;
+        check(i == 0 || order > last, "entry %u rises", i);
+        last = order;
+        int is_its = slot < streams() && is_fetched[slot] && block == next(slot) && position == word(POSITIONS, block);
+        check(is_its, "entry %u is a fetch by the rules: position %u, slot %u, block %u", i, position, slot, block);
+    }
+}
+
+/* The phase rises, kinds go by the rules, all else of the desk stays. */
+static void check_begun_desk(void)
+{
+    filmdisk_put_word(desk_before, FILMDISK_DESK_PHASE, 1);
+    for (uint32_t slot = 0; slot < streams(); slot++)
+        filmdisk_put_word(desk_before, FILMDISK_DESK_KINDS + slot, kinds[slot]);
+    check(memcmp(desk_before, bytes_of(DESK), sizeof desk_before) == 0, "the desk of the begin is the one by the rules");
+}
+
+/* What a playing or tail slot may draw. */
+static uint64_t draw_limit(uint32_t bound)
+{
+    return (uint64_t)figure(FILMDISK_PLAN_RATE) * bound / 1000000;
+}
+
+static filmdisk_answer begin_sweep(void)
+{
+    save_desk();
+    foresee_kinds();
+    filmdisk_answer foreseen = foresee_fetches();
+    filmdisk_answer answer = host_begin();
+    expect(answer, 0, 0);
+    check(answer.count == foreseen.count && answer.bound == foreseen.bound, "count %u and bound %u by the rules, got %u and %u",
+          foreseen.count, foreseen.bound, answer.count, answer.bound);
+    check_entries(answer.count);
+    check_begun_desk();
+    for (uint32_t slot = 0; slot < streams(); slot++)
+        check(kind(slot) != FILMDISK_PLAYING || held(slot) >= draw_limit(answer.bound), "playing slot %u holds %u of %llu", slot,
+              held(slot), (unsigned long long)draw_limit(answer.bound));
+    return answer;
+}
+
+/* End by the rules. */
+
+static void choose_draws(enum draw draw, uint64_t limit)
+{
+    for (uint32_t slot = 0; slot < streams(); slot++) {
+        int draws = kind(slot) == FILMDISK_PLAYING || kind(slot) == FILMDISK_TAIL;
+        uint32_t most = !draws ? 0 : held(slot) < limit ? held(slot) : (uint32_t)limit;
+        put(DRAWS, slot, draw == DRAW_NOTHING ? 0 : draw == DRAW_ALL ? most : below(most + 1));
+    }
+}
+
+/* The slot after the end, worked out in the desk that was there before it. */
+static void foresee_end(uint32_t slot)
+{
+    uint32_t its_kind = kind(slot), its_next = next(slot), its_held = held(slot) - word(DRAWS, slot);
+    if (is_fetched[slot]) {
+        its_held += figure(FILMDISK_PLAN_BLOCK_BYTES);
+        its_next++;
+    }
+    if (is_fetched[slot] && its_next == blocks())
+        its_kind = FILMDISK_TAIL;
+    if (its_kind == FILMDISK_TAIL && its_held == 0)
+        its_kind = its_next = 0;
+    filmdisk_put_word(desk_before, FILMDISK_DESK_KINDS + slot, its_kind);
+    filmdisk_put_word(desk_before, FILMDISK_DESK_NEXT + slot, its_next);
+    filmdisk_put_word(desk_before, FILMDISK_DESK_HELD + slot, its_held);
+}
+
+/* The book's own end: a slot that has drawn all it was given is closed. */
+static void enter_end(void)
+{
+    for (uint32_t slot = 0; slot < streams(); slot++) {
+        struct row *row = &book[slot];
+        if (!row->open)
+            continue;
+        row->drawn += word(DRAWS, slot);
+        row->fetched += (uint32_t)is_fetched[slot];
+        if (row->fetched > 0 && (uint64_t)row->fetched * figure(FILMDISK_PLAN_BLOCK_BYTES) == row->drawn)
+            row->open = 0;
+    }
+}
+
+/* Occupied slots are the open ones; held + drawn = fetched x B; no buffer is overfull. */
+static void check_book(void)
+{
+    for (uint32_t slot = 0; slot < SLOTS; slot++) {
+        const struct row *row = &book[slot];
+        check((kind(slot) != FILMDISK_FREE) == row->open, "slot %u: kind %u, %s in the book", slot, kind(slot),
+              row->open ? "open" : "closed");
+        if (!row->open)
+            continue;
+        check(held(slot) + row->drawn == (uint64_t)row->fetched * figure(FILMDISK_PLAN_BLOCK_BYTES),
+              "slot %u: held %u, drawn %llu, fetched %u", slot, held(slot), (unsigned long long)row->drawn, row->fetched);
+        check(held(slot) <= figure(FILMDISK_PLAN_BUFFER), "slot %u: held %u above the buffer", slot, held(slot));
+    }
+}
+
+static void end_sweep(void)
+{
+    save_desk();
+    filmdisk_put_word(desk_before, FILMDISK_DESK_PHASE, 0);
+    for (uint32_t slot = 0; slot < streams(); slot++)
+        foresee_end(slot);
+    expect(host_end(), 0, 0);
+    check(memcmp(desk_before, bytes_of(DESK), sizeof desk_before) == 0, "the desk of the end is the one by the rules");
+    enter_end();
+    check_book();
+}
+
+uint32_t sweep(enum draw draw)
+{
+    filmdisk_answer answer = begin_sweep();
+    choose_draws(draw, draw_limit(answer.bound));
+    end_sweep();
+    return answer.count;
+}
+
+unsigned sweep_to_the_end(enum draw draw, unsigned most)
+{
+    unsigned sweeps = 0;
+    while (audience() > 0 && sweeps < most) {
+        sweep(draw);
+        sweeps++;
+    }
+    check(audience() == 0, "all films end within %u sweeps", most);
+    return sweeps;
+}

@@ -1,0 +1,39 @@
+/*
+ * Sweeps of a desk with the scope's promises checked from the outside: what begin and end do by the rules, and a book of what each
+ * slot was given and drew, which reads nothing of the desk.
+ */
+#ifndef SWEEPS_H
+#define SWEEPS_H
+
+#include "host.h"
+
+/* How the slots that may draw do so. */
+enum draw { DRAW_NOTHING, DRAW_ALL, DRAW_SOME };
+
+/* Opens a desk of a card, with an empty book. */
+void start_story(const uint32_t *numbers, size_t count);
+
+/* A join or leave that is accepted; it changes its slot alone. */
+void join_slot(uint32_t slot, uint32_t block);
+void leave_slot(uint32_t slot);
+
+/* A begin and an end. Answers how many blocks were fetched. */
+uint32_t sweep(enum draw draw);
+
+/* Sweeps until all slots are free, at most `most`. Answers how many. */
+unsigned sweep_to_the_end(enum draw draw, unsigned most);
+
+/* Occupied slots. */
+unsigned audience(void);
+
+uint32_t streams(void);
+uint32_t blocks(void);
+uint32_t kind(uint32_t slot);
+uint32_t next(uint32_t slot);
+uint32_t held(uint32_t slot);
+
+/* What the book has of a slot since it joined: blocks fetched, bytes drawn. */
+uint32_t fetched(uint32_t slot);
+uint64_t drawn(uint32_t slot);
+
+#endif
