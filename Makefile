@@ -1,5 +1,5 @@
 # Commands of the repository. `make test` is the gate; `make run` shows the product's main job.
-.PHONY: test run programs library build install uninstall cases fuzz bench fmt
+.PHONY: test run programs library build install uninstall cases fuzz bench mutants fmt
 
 VERSION = 0.1.0
 
@@ -75,6 +75,13 @@ fuzz: library
 # The library against plain C and plain Rust, in one run; docs/BENCH.md tells how. Not part of the gate.
 bench:
 	@sh bench/run
+
+# Changes the code, one small change at a time, and has the prover judge each; docs/MUTANTS.md tells how. MUTANTS is what else the tool is
+# told, as '--crate card --count 40'. Not part of the gate.
+MUTANTS = --count 12
+mutants:
+	@sh tests/tools rt python3
+	@python3 -B tests/mutants/mutants.py run $(MUTANTS)
 
 fmt:
 	@rt fmt
