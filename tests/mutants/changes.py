@@ -136,6 +136,8 @@ class Changes:
                     continue
                 for new in numbers_near(t.text):
                     self.add("constant", t.at, t.text, new)
+            elif t.kind == "char" and len(t.text) == 4 and t.text[2].isalnum():
+                self.add("constant", t.at, t.text, f"b'{chr(ord(t.text[2]) + 1)}'")
             elif t.text in ("true", "false"):
                 self.add("constant", t.at, t.text, "false" if t.text == "true" else "true")
 
