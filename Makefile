@@ -1,5 +1,5 @@
 # Commands of the repository. `make test` is the gate; `make run` shows the product's main job.
-.PHONY: test run programs library build install uninstall cases fuzz bench fmt
+.PHONY: test run programs library build install uninstall cases fuzz bench pictures fmt
 
 VERSION = 0.1.0
 
@@ -75,6 +75,11 @@ fuzz: library
 # The library against plain C and plain Rust, in one run; docs/BENCH.md tells how. Not part of the gate.
 bench:
 	@sh bench/run
+
+# The pictures of docs/PICTURES.md, drawn from calls of the library.
+pictures: library
+	@sh tests/tools cc
+	@sh pictures/run target/staticlib/libfilmdisk.a docs/pictures
 
 fmt:
 	@rt fmt
