@@ -1,5 +1,5 @@
 # Commands of the repository. `make test` is the gate; `make run` shows the product's main job.
-.PHONY: test run programs library build install uninstall cases fuzz bench mutants fmt
+.PHONY: test run programs library build install uninstall cases fuzz bench mutants pictures fmt
 
 VERSION = 0.1.0
 
@@ -82,6 +82,11 @@ MUTANTS = --count 12
 mutants:
 	@sh tests/tools rt python3
 	@python3 -B tests/mutants/mutants.py run $(MUTANTS)
+
+# The pictures of docs/PICTURES.md, drawn from calls of the library.
+pictures: library
+	@sh tests/tools cc
+	@sh pictures/run target/staticlib/libfilmdisk.a docs/pictures
 
 fmt:
 	@rt fmt

@@ -10,32 +10,36 @@ use Rattle.admission.proofs.open.Tie as tie
 is-plan-requires : tie.Need-is-plan-requires
 is-plan-requires c κs = search needs
 
-not-opened-requires : tie.Need-not-opened-requires
-not-opened-requires c κs = search needs
-
-returns : tie.Need-returns
-returns c =
-    let e = c .before in
-    c .not-opened .ensures ∙ open-unfit _ _ _ (sym (e .before .is-plan .ensures) ∙ not-true _ (e .if1 .taken))
-
-fresh-desk-requires : tie.Need-fresh-desk-requires
-fresh-desk-requires c κs = search needs
+blank-desk-requires : tie.Need-blank-desk-requires
+blank-desk-requires c κs = search needs
 
 answer-requires : tie.Need-answer-requires
 answer-requires c κs = search needs
 
+returns : tie.Need-returns
+returns c =
+    let e = c .before .before in
+    c .answer .ensures ∙ ap (λ (d : Desk). answers d 14 0) (c .before .blank-desk .ensures) ∙ open-unfit _ _ _ (sym (e .before .is-plan .ensures) ∙ not-true _ (e .if1 .taken))
+
+fresh-desk-requires : tie.Need-fresh-desk-requires
+fresh-desk-requires c κs = search needs
+
+answer-requires-2 : tie.Need-answer-requires-2
+answer-requires-2 c κs = search needs
+
 returns-2 : tie.Need-returns-2
 returns-2 c =
     let e = c .before .before in
-    c .answer .ensures ∙ ap (λ (d : Desk). answers d 0 0) (c .before .fresh-desk .ensures) ∙ open-done _ _ _ (sym (e .before .is-plan .ensures) ∙ not-false _ (e .if1 .left))
+    c .answer2 .ensures ∙ ap (λ (d : Desk). answers d 0 0) (c .before .fresh-desk .ensures) ∙ open-done _ _ _ (sym (e .before .is-plan .ensures) ∙ not-false _ (e .if1 .left))
 
 pub open-spec : {M : Type 1} → statement M
 open-spec =
     tie.close
     (tie.spec
     is-plan-requires
-    not-opened-requires
+    blank-desk-requires
+    answer-requires
     returns
     fresh-desk-requires
-    answer-requires
+    answer-requires-2
     returns-2)

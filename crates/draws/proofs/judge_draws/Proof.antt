@@ -6,7 +6,7 @@ use Rattle.words.specs.Words.{wordsOf}
 use Rattle.safety.specs.Scheduler.{mostDrawn}
 use Rattle.desk.specs.View.{Wide}
 use Rattle.desk.specs.Desk.{supplyOf, slotsIn}
-use Rattle.desk.specs.Ready.{streams-are, stage-of}
+use Rattle.desk.specs.Ready.{streams-are}
 use Rattle.draws.proofs.Drawing.{most-is, judged-length, judged-excess, judged-overdrawn, judged-accepted}
 use borrow.Author.Needs.{needs}
 use Rattle.draws.proofs.judge_draws.Statement.{statement}

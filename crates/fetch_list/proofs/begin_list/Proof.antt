@@ -2,7 +2,7 @@
 -- its answer and the lent list to `write_fetches`. The list is passed on at its own lifetime, share and ghost name, and so is given up for good: what
 -- `write_fetches` says of the last list, under that name, is what `begin_list` says. Of its callees the proof knows that they meet their contracts.
 -- Assumes nothing.
-use mathlib.Core.Path.{_≡_, refl, sym, ap, _∙_}
+use mathlib.Core.Path.{_≡_, refl, ap, _∙_}
 use Prim.Native.Nat.{ℕ, _≤_}
 use native.Mathlib.Omega.{arith}
 use mathlib.Core.List.{List, [], _∷_}
@@ -52,7 +52,7 @@ use Rattle.desk.proofs.Begun.Laws as B′
 use Rattle.desk.proofs.Fetch as T
 use Rattle.desk.proofs.Fetches as O
 use Rattle.desk.proofs.Fetches.Laws as O′
-use Rattle.fetch_list.specs.Fetches.{written, length-written}
+use Rattle.fetch_list.specs.Fetches.{written}
 use Rattle.fetch_list.specs.Begin.{listAfter, list-after}
 use Rattle.fetch_list.proofs.begin_within as begins
 use Rattle.fetch_list.proofs.begin_within.Symbol as begins-def

@@ -1,0 +1,11 @@
+/* The three pictures; each is drawn from calls of the library alone. */
+#ifndef PICTURES_PICTURES_H
+#define PICTURES_PICTURES_H
+
+#include <stdio.h>
+
+void draw_evening(FILE *out);
+void draw_plan(FILE *out);
+void draw_compare(FILE *out);
+
+#endif
