@@ -10,14 +10,16 @@ from collections import namedtuple
 
 Judged = namedtuple("Judged", "verdict seconds why")
 
-# An error that only says that the proof's text does not fit the code, or that follows from such an error.
-MISFIT = re.compile(r"that can be named from here|was not admitted|has no (?:field|constructor)|is not in scope")
-ERROR = re.compile(r"^(\S+): error: (.*)$", re.MULTILINE)
+# An error that only says that the proof's text does not fit the code, and one that only follows from another.
+MISFIT = re.compile(r"that can be named from here|has no (?:field|constructor)|is not in scope")
+FOLLOWS = re.compile(r"was not admitted")
+# An error in a written proof, and a need that the proof which rattle makes by itself does not close.
+ERROR = re.compile(r"^(?:(\S+): error: |note: (\S+): (?=it is not proved that))(.*)$", re.MULTILINE)
 
 
 def verdict_of(status, said):
     """What the prover says of a crate: proved, killed, misfit, uncompiled or undecided, and its first reason."""
-    errors = [(at, text) for at, text in ERROR.findall(said)]
+    errors = [(a or b, text) for a, b, text in ERROR.findall(said) if not FOLLOWS.search(text)]
     facts = [(at, text) for at, text in errors if not MISFIT.search(text)]
     if status == 0 and re.search(r"^logic=proved", said, re.MULTILINE):
         return "proved", ""
