@@ -156,35 +156,41 @@ def explanations():
 def report(names, all_sources, results):
     """The table of all results that hold for the crates as they are; returns the survivors without an explanation."""
     explained = explanations()
-    whole, open_ones, survivors = Counter(), [], []
-    print("| crate | killed / tried | by the proof | by its users | by its output | survived | undecided | not counted: misfit, uncompiled |")
-    print("|---|---|---|---|---|---|---|---|")
+    whole, survivors, same = Counter(), [], []
+    print("| crate | killed / tried | by the proof | by its users | by its output | survived | undecided | same program, refused | misfit | uncompiled |")
+    print("|---|---|---|---|---|---|---|---|---|---|")
     for crate in names:
         made = {changes.identity(m) for m in changes.mutants(crate, all_sources)}
-        rows = [row for row in results.of(crate) if row[4] in made]
-        n = Counter(row[2] for row in rows)
-        if rows:
+        n = Counter()
+        for row in results.of(crate):
+            if row[4] not in made:
+                continue
+            # a kill that is explained is one of a program that does the same
+            if row[2] in KILLED and row[5] in explained:
+                n["same"] += 1
+                same.append(row)
+                continue
+            n[row[2]] += 1
+            if row[2] in ("survived", "undecided"):
+                survivors.append(row)
+        if n:
             print(table_line(crate, n))
             whole.update(n)
-        survivors += [row for row in rows if row[2] in ("survived", "undecided")]
     print(table_line("all", whole))
-    print()
-    for row in survivors:
-        why = explained.get(row[5])
-        if not why:
-            open_ones.append(row)
-        print(f"- {row[2]} `{row[4]}`: {why or 'NOT EXPLAINED'}")
+    for title, rows in (("Survivors", survivors), ("Same program, refused", same)):
+        print(f"\n{title}:\n")
+        for row in rows:
+            print(f"- `{row[4]}`: {explained.get(row[5], 'NOT EXPLAINED')}")
+    open_ones = [row for row in survivors if row[5] not in explained]
     killed, tried = sum(whole[v] for v in KILLED), sum(whole[v] for v in TRIED)
-    print(f"killed {killed} / tried {tried}, {len(survivors)} survivors, {len(open_ones)} not explained")
+    print(f"\nkilled {killed} / tried {tried}, {len(survivors)} survivors, {len(open_ones)} not explained")
     return open_ones
 
 
 def table_line(name, n):
     killed, tried = sum(n[v] for v in KILLED), sum(n[v] for v in TRIED)
-    return (
-        f"| {name} | {killed} / {tried} | {n['killed']} | {n['users']} | {n['output']} | {n['survived']} | {n['undecided']} "
-        f"| {n['misfit']}, {n['uncompiled']} |"
-    )
+    counts = (n[v] for v in KILLED + ("survived", "undecided", "same", "misfit", "uncompiled"))
+    return f"| {name} | {killed} / {tried} | " + " | ".join(str(c) for c in counts) + " |"
 
 
 def main():
