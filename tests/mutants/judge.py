@@ -1,5 +1,6 @@
 """The judge: a private copy of the repository in which one change at a time is made, and the prover's answer to it."""
 
+import filecmp
 import os
 import re
 import shutil
@@ -41,21 +42,32 @@ class Room:
     def __init__(self, root, name, limit):
         self.root, self.limit = root, limit
         self.path = os.path.join(root, "target", "mutants", name)
-        os.makedirs(os.path.join(self.path, "target"), exist_ok=True)
+        os.makedirs(self.path, exist_ok=True)
         shutil.rmtree(os.path.join(self.path, "crates"), ignore_errors=True)
         shutil.copytree(os.path.join(root, "crates"), os.path.join(self.path, "crates"))
         shutil.copy(os.path.join(root, "crates.txt"), self.path)
-        for part in ("rlib", "stamp"):
-            proved, own = os.path.join(root, "target", part), os.path.join(self.path, "target", part)
-            if os.path.isdir(proved):
-                shutil.rmtree(own, ignore_errors=True)
-                shutil.copytree(proved, own, symlinks=True)
+        self.take_proved()
         self.kept = {}
+
+    def take_proved(self):
+        """The libraries that the repository has proved; rt proves in the room what is missing."""
+        proved, own = os.path.join(self.root, "target"), os.path.join(self.path, "target")
+        for part in ("rlib", "stamp"):
+            os.makedirs(os.path.join(own, part), exist_ok=True)
+        stamps = os.path.join(proved, "stamp")
+        for crate in os.listdir(stamps) if os.path.isdir(stamps) else []:
+            library = os.path.join(proved, "rlib", crate + ".rlib")
+            stamp = os.path.join(own, "stamp", crate)
+            if not os.path.isdir(library) or os.path.exists(stamp) and filecmp.cmp(stamp, os.path.join(stamps, crate), shallow=False):
+                continue
+            shutil.rmtree(os.path.join(own, "rlib", crate + ".rlib"), ignore_errors=True)
+            shutil.copytree(library, os.path.join(own, "rlib", crate + ".rlib"), symlinks=True)
+            shutil.copy(os.path.join(stamps, crate), stamp)
 
     def _file(self, crate, file):
         return os.path.join(self.path, "crates", crate, file)
 
-    def rt(self, *words):
+    def rt(self, *words, limit=None):
         """Runs rt in the room: exit status (none where it took too long), what it said, seconds."""
         began = time.monotonic()
         env = dict(os.environ, RT_JOBS="1", RT_CUT="0")
@@ -63,7 +75,7 @@ class Room:
             ["rt", *words], cwd=self.path, env=env, stdout=subprocess.PIPE, stderr=subprocess.STDOUT, start_new_session=True
         )
         try:
-            said, _ = run.communicate(timeout=self.limit)
+            said, _ = run.communicate(timeout=limit)
             status = run.returncode
         except subprocess.TimeoutExpired:
             os.killpg(run.pid, signal.SIGKILL)
@@ -71,8 +83,8 @@ class Room:
             status = None
         return status, said.decode("utf-8", "replace"), time.monotonic() - began
 
-    def dev(self, crate):
-        status, said, seconds = self.rt("dev", crate)
+    def dev(self, crate, limit=None):
+        status, said, seconds = self.rt("dev", crate, limit=limit)
         verdict, why = verdict_of(status, said)
         return Judged(verdict, seconds, why)
 
@@ -110,7 +122,7 @@ class Room:
         if not edits:
             return base
         with Changed(self, crate, edits):
-            judged = self.dev(crate)
+            judged = self.dev(crate, self.limit)
         if judged.verdict not in ("killed", "misfit"):
             raise RuntimeError(f"{crate} is {judged.verdict} with a must-fail edit")
         return base
@@ -118,7 +130,7 @@ class Room:
     def judge(self, crate, file, text, users):
         """The verdict on a crate of which a file's text is changed. `users`: crates whose proofs rest on what is changed."""
         with Changed(self, crate, [(os.path.join("src", file), text)]):
-            judged = self.dev(crate)
+            judged = self.dev(crate, self.limit)
             if judged.verdict != "proved":
                 return judged
             if os.path.exists(self._file(crate, "src/main.rt")):
@@ -126,7 +138,7 @@ class Room:
             return self.judge_users(users, judged)
 
     def run_program(self, crate, judged):
-        status, said, seconds = self.rt("check", crate)
+        status, said, seconds = self.rt("check", crate, limit=self.limit)
         seconds += judged.seconds
         if status == 0:
             return Judged("survived", seconds, "proved, and its output is the expected one")
@@ -143,7 +155,7 @@ class Room:
             shutil.copytree(os.path.join(self.path, "target", part), os.path.join(saved, part), symlinks=True)
         seconds, verdict, why = judged.seconds, "survived", "proved, and so are its users"
         for user in users:
-            status, said, more = self.rt("check", user)
+            status, said, more = self.rt("check", user, limit=3 * self.limit)
             seconds += more
             if status == 1 and "NOT PROVED" in said:
                 verdict, why = "users", f"proved; {user} is not"
