@@ -120,7 +120,7 @@ def users_of(m, crate_deps, all_sources):
 
 
 def try_crate(crate, options, crate_deps, all_sources, results, rooms):
-    order = ordered(changes.mutants(crate, all_sources), options.seed)
+    order = [m for m in ordered(changes.mutants(crate, all_sources), options.seed) if options.only in changes.identity(m)]
     if not order:
         return
     done = {row[4]: row[2] for row in results.of(crate)}
@@ -199,6 +199,7 @@ def main():
     p.add_argument("--crate", action="append", help="only this crate; may be given more than once")
     p.add_argument("--count", type=int, default=12, help="mutants to try of each crate, those of the results included (12)")
     p.add_argument("--jobs", type=int, default=1, help="crates to try at a time (1)")
+    p.add_argument("--only", default="", help="only mutants whose identity has this text")
     p.add_argument("--seed", default="1", help="fixes the choice (1)")
     p.add_argument("--limit", type=int, default=300, help="seconds for one answer of the prover (300)")
     p.add_argument("--results", default=os.path.join(ROOT, "target", "mutants", "results.tsv"), help="read and added to")
