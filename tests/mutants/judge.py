@@ -12,7 +12,7 @@ from collections import namedtuple
 Judged = namedtuple("Judged", "verdict seconds why")
 
 # An error that only says that the proof's text does not fit the code, and one that only follows from another.
-MISFIT = re.compile(r"that can be named from here|has no (?:field|constructor)|is not in scope")
+MISFIT = re.compile(r"that can be named from here|^`[^`]*`: record `|has no (?:field|constructor)|is not in scope")
 FOLLOWS = re.compile(r"was not admitted")
 # An error in a written proof, and a need that the proof which rattle makes by itself does not close.
 ERROR = re.compile(r"^(?:(\S+): error: |note: (\S+): (?=it is not proved that))(.*)$", re.MULTILINE)
