@@ -151,22 +151,25 @@ static size_t write_number(uint8_t *bytes, uint32_t value)
     return length;
 }
 
+/* The numbers one after another; answers their length. */
+static size_t write_numbers(uint8_t *bytes, const uint32_t *numbers, size_t count)
+{
+    size_t length = 0;
+    for (size_t i = 0; i < count; i++)
+        length += write_number(bytes + length, numbers[i]);
+    return length;
+}
+
 size_t offset_of(const uint32_t *numbers, size_t index)
 {
-    uint8_t card[5 * MOST_CARD_NUMBERS];
-    size_t length = 0;
-    for (size_t i = 0; i < index; i++)
-        length += write_number(card + length, numbers[i]);
-    return length;
+    uint8_t before_it[5 * MOST_CARD_NUMBERS];
+    return write_numbers(before_it, numbers, index);
 }
 
 void lend_card(const uint32_t *numbers, size_t count)
 {
     uint8_t card[5 * MOST_CARD_NUMBERS];
-    size_t length = 0;
-    for (size_t i = 0; i < count; i++)
-        length += write_number(card + length, numbers[i]);
-    lend(CARD, card, length);
+    lend(CARD, card, write_numbers(card, numbers, count));
 }
 
 /* What a call leaves. */
