@@ -139,6 +139,21 @@ void put(enum lent which, size_t index, uint32_t value)
     filmdisk_put_word(strings[which].bytes, index, value);
 }
 
+uint32_t kind(uint32_t slot)
+{
+    return word(DESK, FILMDISK_DESK_KINDS + slot);
+}
+
+uint32_t next(uint32_t slot)
+{
+    return word(DESK, FILMDISK_DESK_NEXT + slot);
+}
+
+uint32_t held(uint32_t slot)
+{
+    return word(DESK, FILMDISK_DESK_HELD + slot);
+}
+
 /* A number's shortest form; answers its length. */
 static size_t write_number(uint8_t *bytes, uint32_t value)
 {
