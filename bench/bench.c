@@ -6,6 +6,7 @@
 #include "calls.h"
 #include "stack.h"
 
+#include <stdarg.h>
 #include <stdbool.h>
 #include <stdio.h>
 #include <stdlib.h>
@@ -143,9 +144,14 @@ static void print_ratio(int other)
     }
 }
 
-/* Measures one call on the input and prints its row. */
-static void measure(const char *name, call *c, bool in_place, uint32_t expected)
+/* Measures one call on the input and prints its row, named by the format and what follows. */
+__attribute__((format(printf, 4, 5))) static void measure(call *c, bool in_place, uint32_t expected, const char *format, ...)
 {
+    char name[80];
+    va_list values;
+    va_start(values, format);
+    vsnprintf(name, sizeof name, format, values);
+    va_end(values);
     repeat(name, c, in_place, expected);
     printf("| %s |", name);
     for (int t = 0; t < TWINS; t++)
@@ -173,78 +179,64 @@ static const uint32_t stream_counts[] = { 1, 16, 256 };
 
 static void measure_cards(void)
 {
-    char name[80];
     head("Reading a card (plan call without lists: all of it read, then 13), and refusing a damaged one");
     EACH(zones, zone_counts) {
         make_film(&input, 1000, *zones, 16);
-        snprintf(name, sizeof name, "%u zones, %zu bytes", *zones, input.card_len);
-        measure(name, call_read, false, FILMDISK_TOO_SHORT);
+        measure(call_read, false, FILMDISK_TOO_SHORT, "%u zones, %zu bytes", *zones, input.card_len);
         input.card[input.card_len - 1] |= 128;
-        snprintf(name, sizeof name, "%u zones, cut off in its last number", *zones);
-        measure(name, call_read, false, FILMDISK_CARD_ENDS);
+        measure(call_read, false, FILMDISK_CARD_ENDS, "%u zones, cut off in its last number", *zones);
     }
     make_film(&input, 1000, 7, 16);
     input.card[0] = 2;
-    measure("7 zones, wrong kind", call_read, false, FILMDISK_KIND);
+    measure(call_read, false, FILMDISK_KIND, "7 zones, wrong kind");
 }
 
 static void measure_plans(void)
 {
-    char name[80];
     head("Planning (16 streams)");
     EACH(blocks, sizes) EACH(zones, zone_counts) {
         make_film(&input, *blocks, *zones, 16);
-        snprintf(name, sizeof name, "N %u, %u zones", *blocks, *zones);
-        measure(name, call_plan, false, FILMDISK_ACCEPTED);
+        measure(call_plan, false, FILMDISK_ACCEPTED, "N %u, %u zones", *blocks, *zones);
     }
     head("Planning, by streams (N 6, 7 zones)");
     EACH(streams, stream_counts) {
         make_film(&input, 6, 7, *streams);
-        snprintf(name, sizeof name, "%u streams", *streams);
-        measure(name, call_plan, false, FILMDISK_ACCEPTED);
+        measure(call_plan, false, FILMDISK_ACCEPTED, "%u streams", *streams);
     }
 }
 
 static void measure_checks(void)
 {
-    char name[80];
     head("The check behind 14 (16 streams): leave of a free slot, 17; open; a wrong last lead, 14");
     EACH(blocks, sizes) EACH(zones, zone_counts) {
         make_film(&input, *blocks, *zones, 16);
         make_players(&input, 0, 15);
-        snprintf(name, sizeof name, "leave, N %u, %u zones", *blocks, *zones);
-        measure(name, call_leave, true, FILMDISK_SLOT_STATE);
+        measure(call_leave, true, FILMDISK_SLOT_STATE, "leave, N %u, %u zones", *blocks, *zones);
     }
     EACH(blocks, sizes) {
         make_film(&input, *blocks, 7, 16);
-        snprintf(name, sizeof name, "open, N %u, 7 zones", *blocks);
-        measure(name, call_open, false, FILMDISK_ACCEPTED);
+        measure(call_open, false, FILMDISK_ACCEPTED, "open, N %u, 7 zones", *blocks);
         input.leads[input.list_len - 1] ^= 1;
-        snprintf(name, sizeof name, "open refused, N %u, 7 zones", *blocks);
-        measure(name, call_open, false, FILMDISK_NOT_SOUND);
+        measure(call_open, false, FILMDISK_NOT_SOUND, "open refused, N %u, 7 zones", *blocks);
     }
 }
 
 static void measure_joins(void)
 {
-    char name[80];
     head("Join of a free slot, the others playing (7 zones)");
     EACH(blocks, sizes) EACH(streams, stream_counts) {
         make_film(&input, *blocks, 7, *streams);
         make_players(&input, 0, *streams - 1);
-        snprintf(name, sizeof name, "N %u, %u streams", *blocks, *streams);
-        measure(name, call_join, true, FILMDISK_ACCEPTED);
+        measure(call_join, true, FILMDISK_ACCEPTED, "N %u, %u streams", *blocks, *streams);
     }
 }
 
 static void measure_sweep(const char *text, call *c, uint32_t phase, uint32_t blocks, uint32_t zones, uint32_t streams)
 {
-    char name[80];
     make_film(&input, blocks, zones, streams);
     make_players(&input, phase, streams);
     make_draws(&input, 1000);
-    snprintf(name, sizeof name, "%s, N %u, %u zones, %u streams", text, blocks, zones, streams);
-    measure(name, c, true, FILMDISK_ACCEPTED);
+    measure(c, true, FILMDISK_ACCEPTED, "%s, N %u, %u zones, %u streams", text, blocks, zones, streams);
 }
 
 static void measure_sweeps(void)
@@ -265,18 +257,15 @@ static void measure_growth(void)
 {
     static const uint32_t growing_sizes[] = { 512, 1024, 2048, 4096, 8192, 16384 };
     static const uint32_t growing_counts[] = { 2, 4, 8, 16, 32, 64 };
-    char name[80];
     head("Growth with N (7 zones, 16 streams), with zones (N 1000, 16 streams), with streams (N 1000, 7 zones)");
     EACH(blocks, growing_sizes) {
         make_film(&input, *blocks, 7, 16);
-        snprintf(name, sizeof name, "plan, N %u", *blocks);
-        measure(name, call_plan, false, FILMDISK_ACCEPTED);
+        measure(call_plan, false, FILMDISK_ACCEPTED, "plan, N %u", *blocks);
         measure_sweep("begin", call_begin, 0, *blocks, 7, 16);
     }
     EACH(zones, growing_counts) {
         make_film(&input, 1000, *zones, 16);
-        snprintf(name, sizeof name, "plan, %u zones", *zones);
-        measure(name, call_plan, false, FILMDISK_ACCEPTED);
+        measure(call_plan, false, FILMDISK_ACCEPTED, "plan, %u zones", *zones);
         measure_sweep("begin", call_begin, 0, 1000, *zones, 16);
     }
     EACH(streams, growing_counts) {

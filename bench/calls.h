@@ -17,15 +17,9 @@ struct strings {
     uint8_t desks[DESKS][FILMDISK_DESK_BYTES];
 };
 
+/* A call of an implementation; one on a desk takes desk i. */
 typedef filmdisk_answer call(const struct twin *t, const struct input *in, struct strings *s, size_t i);
-
-filmdisk_answer call_read(const struct twin *t, const struct input *in, struct strings *s, size_t i);
-filmdisk_answer call_plan(const struct twin *t, const struct input *in, struct strings *s, size_t i);
-filmdisk_answer call_open(const struct twin *t, const struct input *in, struct strings *s, size_t i);
-filmdisk_answer call_join(const struct twin *t, const struct input *in, struct strings *s, size_t i);
-filmdisk_answer call_leave(const struct twin *t, const struct input *in, struct strings *s, size_t i);
-filmdisk_answer call_begin(const struct twin *t, const struct input *in, struct strings *s, size_t i);
-filmdisk_answer call_end(const struct twin *t, const struct input *in, struct strings *s, size_t i);
+call call_read, call_plan, call_open, call_join, call_leave, call_begin, call_end;
 
 /* The last of the used slots: join and leave are tried on it. */
 static inline uint32_t last_slot(const struct input *in)

@@ -4,7 +4,7 @@
 
 #include "filmdisk.h"
 
-/* What is lent to a call, and to what it is held. */
+/* What is lent to the calls. */
 struct input {
     uint8_t card[FILMDISK_MAX_CARD_BYTES];
     size_t card_len;

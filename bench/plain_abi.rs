@@ -6,99 +6,32 @@ use plain::Answer;
 use std::slice::{from_raw_parts, from_raw_parts_mut};
 
 /// NULL with length 0 is an empty string.
-unsafe fn lent<'a>(bytes: *const u8, len: usize) -> &'a [u8] {
+unsafe fn read<'a>(bytes: *const u8, len: usize) -> &'a [u8] {
     if len == 0 { &[] } else { from_raw_parts(bytes, len) }
 }
 
-unsafe fn lent_mut<'a>(bytes: *mut u8, len: usize) -> &'a mut [u8] {
+unsafe fn written<'a>(bytes: *mut u8, len: usize) -> &'a mut [u8] {
     if len == 0 { &mut [] } else { from_raw_parts_mut(bytes, len) }
 }
 
-#[no_mangle]
-pub unsafe extern "C" fn rust_plan(
-    card: *const u8,
-    card_len: usize,
-    plan: *mut u8,
-    plan_len: usize,
-    positions: *mut u8,
-    positions_len: usize,
-    leads: *mut u8,
-    leads_len: usize,
-) -> Answer {
-    let (positions, leads) = (lent_mut(positions, positions_len), lent_mut(leads, leads_len));
-    plain::plan(lent(card, card_len), lent_mut(plan, plan_len), positions, leads)
+macro_rules! pointer {
+    (read) => { *const u8 };
+    (written) => { *mut u8 };
 }
 
-#[no_mangle]
-pub unsafe extern "C" fn rust_open(
-    plan: *const u8,
-    plan_len: usize,
-    positions: *const u8,
-    positions_len: usize,
-    leads: *const u8,
-    leads_len: usize,
-    desk: *mut u8,
-    desk_len: usize,
-) -> Answer {
-    let (positions, leads) = (lent(positions, positions_len), lent(leads, leads_len));
-    plain::open(lent(plan, plan_len), positions, leads, lent_mut(desk, desk_len))
+/// A call for C: its strings, each as pointer and length, then its numbers.
+macro_rules! entry_point {
+    ($name:ident = $call:ident($($lent:ident $bytes:ident $len:ident),+; $($number:ident),*)) => {
+        #[no_mangle]
+        pub unsafe extern "C" fn $name($($bytes: pointer!($lent), $len: usize,)+ $($number: u32),*) -> Answer {
+            plain::$call($($lent($bytes, $len),)+ $($number),*)
+        }
+    };
 }
 
-#[no_mangle]
-pub unsafe extern "C" fn rust_join(
-    desk: *mut u8,
-    desk_len: usize,
-    positions: *const u8,
-    positions_len: usize,
-    leads: *const u8,
-    leads_len: usize,
-    slot: u32,
-    block: u32,
-) -> Answer {
-    let (positions, leads) = (lent(positions, positions_len), lent(leads, leads_len));
-    plain::join(lent_mut(desk, desk_len), positions, leads, slot, block)
-}
-
-#[no_mangle]
-pub unsafe extern "C" fn rust_leave(
-    desk: *mut u8,
-    desk_len: usize,
-    positions: *const u8,
-    positions_len: usize,
-    leads: *const u8,
-    leads_len: usize,
-    slot: u32,
-) -> Answer {
-    let (positions, leads) = (lent(positions, positions_len), lent(leads, leads_len));
-    plain::leave(lent_mut(desk, desk_len), positions, leads, slot)
-}
-
-#[no_mangle]
-pub unsafe extern "C" fn rust_begin(
-    desk: *mut u8,
-    desk_len: usize,
-    positions: *const u8,
-    positions_len: usize,
-    leads: *const u8,
-    leads_len: usize,
-    fetches: *mut u8,
-    fetches_len: usize,
-) -> Answer {
-    let (positions, leads) = (lent(positions, positions_len), lent(leads, leads_len));
-    plain::begin(lent_mut(desk, desk_len), positions, leads, lent_mut(fetches, fetches_len))
-}
-
-#[no_mangle]
-pub unsafe extern "C" fn rust_end(
-    desk: *mut u8,
-    desk_len: usize,
-    positions: *const u8,
-    positions_len: usize,
-    leads: *const u8,
-    leads_len: usize,
-    draws: *const u8,
-    draws_len: usize,
-) -> Answer {
-    let (positions, leads) = (lent(positions, positions_len), lent(leads, leads_len));
-    plain::end(lent_mut(desk, desk_len), positions, leads, lent(draws, draws_len))
-}
+entry_point!(rust_plan = plan(read card card_len, written plan plan_len, written positions positions_len, written leads leads_len;));
+entry_point!(rust_open = open(read plan plan_len, read positions positions_len, read leads leads_len, written desk desk_len;));
+entry_point!(rust_join = join(written desk desk_len, read positions positions_len, read leads leads_len; slot, block));
+entry_point!(rust_leave = leave(written desk desk_len, read positions positions_len, read leads leads_len; slot));
+entry_point!(rust_begin = begin(written desk desk_len, read positions positions_len, read leads leads_len, written fetches fetches_len;));
+entry_point!(rust_end = end(written desk desk_len, read positions positions_len, read leads leads_len, read draws draws_len;));

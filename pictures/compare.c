@@ -70,45 +70,6 @@ static const char *gain_of(const struct promise promises[WAYS])
     return words;
 }
 
-/* A row of one card: streams and buffers. */
-static struct row card_row(const struct card *card, struct promise promises[WAYS])
-{
-    static struct film film;
-    struct row row = {.below = {"", ""}, .left = {.head = "streams (rooms that may be fed)"}, .right = {.head = "buffer of a stream, bytes"}};
-    plan_film(&film, card);
-    promises[SLOWEST] = slowest_promise(card);
-    promises[PLAIN] = plain_promise(card);
-    promises[LIBRARY] = film.promise;
-    for (int way = 0; way < WAYS; way++) {
-        row.left.values[way] = promises[way].streams;
-        row.right.values[way] = promises[way].buffer;
-    }
-    return row;
-}
-
-static void draw_bench(FILE *out)
-{
-    struct promise promises[WAYS];
-    struct row row = card_row(&bench_card, promises);
-    row.head = "Six zones: the bench film";
-    row.note = "blocks of 262,144 bytes, films of 500,000 bytes a second, the block times of 001's example 1";
-    row.below[0] = gain_of(promises);
-    must(promises[SLOWEST].streams == 14 && promises[LIBRARY].streams == 16, "the scope's 14 and 16 streams of the bench film");
-    draw_row(out, &row, 0);
-}
-
-static void draw_barracuda(FILE *out)
-{
-    struct promise promises[WAYS];
-    struct row row = card_row(&barracuda_card, promises);
-    row.head = "Seven zones: Seagate Barracuda 9, the whole disk";
-    row.note = "blocks of 1 MiB, films of 4 Mbit/s; rates of the zones from 001, Table 6.1";
-    row.below[0] = gain_of(promises);
-    row.below[1] = "001, Table 6.2, ends at 13 users by the slowest zone (TB) and at 16 with this laying (DA2); "
-                "other block sizes and rates, not recomputed.";
-    draw_row(out, &row, 1);
-}
-
 /* The promise of a card by one of the ways. */
 static struct promise promise_by(int way, const struct card *card)
 {
@@ -119,6 +80,45 @@ static struct promise promise_by(int way, const struct card *card)
         return plain_promise(card);
     plan_film(&film, card);
     return film.promise;
+}
+
+/* A row of one card: streams and buffers. */
+static struct row card_row(const struct card *card, const char *head, const char *note, struct promise promises[WAYS])
+{
+    struct row row = {
+        .head = head,
+        .note = note,
+        .below = {"", ""},
+        .left = {.head = "streams (rooms that may be fed)"},
+        .right = {.head = "buffer of a stream, bytes"}
+    };
+    for (int way = 0; way < WAYS; way++) {
+        promises[way] = promise_by(way, card);
+        row.left.values[way] = promises[way].streams;
+        row.right.values[way] = promises[way].buffer;
+    }
+    return row;
+}
+
+static void draw_bench(FILE *out)
+{
+    struct promise promises[WAYS];
+    struct row row = card_row(&bench_card, "Six zones: the bench film",
+                              "blocks of 262,144 bytes, films of 500,000 bytes a second, the block times of 001's example 1", promises);
+    row.below[0] = gain_of(promises);
+    must(promises[SLOWEST].streams == 14 && promises[LIBRARY].streams == 16, "the scope's 14 and 16 streams of the bench film");
+    draw_row(out, &row, 0);
+}
+
+static void draw_barracuda(FILE *out)
+{
+    struct promise promises[WAYS];
+    struct row row = card_row(&barracuda_card, "Seven zones: Seagate Barracuda 9, the whole disk",
+                              "blocks of 1 MiB, films of 4 Mbit/s; rates of the zones from 001, Table 6.1", promises);
+    row.below[0] = gain_of(promises);
+    row.below[1] = "001, Table 6.2, ends at 13 users by the slowest zone (TB) and at 16 with this laying (DA2); "
+                   "other block sizes and rates, not recomputed.";
+    draw_row(out, &row, 1);
 }
 
 static void draw_example(FILE *out)
@@ -144,12 +144,11 @@ static void draw_example(FILE *out)
 static void draw_deskstar(FILE *out)
 {
     static char published[160];
-    struct promise promises[WAYS];
-    struct row row = card_row(&deskstar_card, promises);
     const struct card *card = &deskstar_card;
+    struct promise promises[WAYS];
+    struct row row = card_row(card, "One zone: IBM Deskstar 120GXP of 003",
+                              "35 MB/s, films of 1.5 Mbit/s, blocks of 1,829,000 bytes. Without zones the three plans are one.", promises);
     uint32_t sweep = promises[LIBRARY].streams * (card->times[0] + card->hop) + card->back;
-    row.head = "One zone: IBM Deskstar 120GXP of 003";
-    row.note = "35 MB/s, films of 1.5 Mbit/s, blocks of 1,829,000 bytes. Without zones the three plans are one.";
     snprintf(published, sizeof published, "Published in 003: 150 sessions in a cycle of about 9.8 s. Here the longest sweep takes %.2f s.", sweep / 1e6);
     row.below[0] = published;
     row.below[1] = "003 gives a session two buffers of a cycle each; this desk gives it three blocks, as 001 does.";

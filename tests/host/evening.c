@@ -12,22 +12,6 @@
 #define BUFFER 812632u
 #define RETURN 15000u
 #define NOBODY 0xFFFFFFFFu
-#define COUNT(array) (sizeof(array) / sizeof *(array))
-
-static uint32_t kind(uint32_t slot)
-{
-    return word(DESK, FILMDISK_DESK_KINDS + slot);
-}
-
-static uint32_t next(uint32_t slot)
-{
-    return word(DESK, FILMDISK_DESK_NEXT + slot);
-}
-
-static uint32_t held(uint32_t slot)
-{
-    return word(DESK, FILMDISK_DESK_HELD + slot);
-}
 
 static void expect_slot(uint32_t slot, uint32_t its_kind, uint32_t its_next, uint32_t its_held)
 {
@@ -729,8 +713,6 @@ static void spare_bytes(void)
     lend_noise(DESK, FILMDISK_DESK_BYTES);
     expect(host_open(), 0, 0);
 }
-
-#define TEST(name) {#name, name}
 
 static const test tests[] = {
     TEST(plan_of_the_bench_film),

@@ -139,6 +139,21 @@ void put(enum lent which, size_t index, uint32_t value)
     filmdisk_put_word(strings[which].bytes, index, value);
 }
 
+uint32_t kind(uint32_t slot)
+{
+    return word(DESK, FILMDISK_DESK_KINDS + slot);
+}
+
+uint32_t next(uint32_t slot)
+{
+    return word(DESK, FILMDISK_DESK_NEXT + slot);
+}
+
+uint32_t held(uint32_t slot)
+{
+    return word(DESK, FILMDISK_DESK_HELD + slot);
+}
+
 /* A number's shortest form; answers its length. */
 static size_t write_number(uint8_t *bytes, uint32_t value)
 {
@@ -151,22 +166,25 @@ static size_t write_number(uint8_t *bytes, uint32_t value)
     return length;
 }
 
+/* The numbers one after another; answers their length. */
+static size_t write_numbers(uint8_t *bytes, const uint32_t *numbers, size_t count)
+{
+    size_t length = 0;
+    for (size_t i = 0; i < count; i++)
+        length += write_number(bytes + length, numbers[i]);
+    return length;
+}
+
 size_t offset_of(const uint32_t *numbers, size_t index)
 {
-    uint8_t card[5 * MOST_CARD_NUMBERS];
-    size_t length = 0;
-    for (size_t i = 0; i < index; i++)
-        length += write_number(card + length, numbers[i]);
-    return length;
+    uint8_t before_it[5 * MOST_CARD_NUMBERS];
+    return write_numbers(before_it, numbers, index);
 }
 
 void lend_card(const uint32_t *numbers, size_t count)
 {
     uint8_t card[5 * MOST_CARD_NUMBERS];
-    size_t length = 0;
-    for (size_t i = 0; i < count; i++)
-        length += write_number(card + length, numbers[i]);
-    lend(CARD, card, length);
+    lend(CARD, card, write_numbers(card, numbers, count));
 }
 
 /* What a call leaves. */

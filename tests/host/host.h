@@ -18,6 +18,9 @@ typedef struct test {
     void (*run)(void);
 } test;
 
+#define TEST(name) {#name, name}
+#define COUNT(array) (sizeof(array) / sizeof *(array))
+
 /* Runs the tests named by the arguments, or all; the first argument may be 'heap'. Answers the exit status. */
 int run_tests(const test *tests, size_t count, int argc, char **argv);
 
@@ -33,6 +36,11 @@ size_t length_of(enum lent which);
 uint8_t *bytes_of(enum lent which);
 uint32_t word(enum lent which, size_t index);
 void put(enum lent which, size_t index, uint32_t value);
+
+/* The words of a slot in the desk. */
+uint32_t kind(uint32_t slot);
+uint32_t next(uint32_t slot);
+uint32_t held(uint32_t slot);
 
 /* The card of these numbers; where a number of it begins. */
 void lend_card(const uint32_t *numbers, size_t count);
@@ -63,9 +71,6 @@ uint32_t below(uint32_t end);
 #define BENCH_ZONE_TIME(zone) (3 + 2 * (zone))
 #define BENCH_BLOCKS 14
 #define BENCH_BLOCK_BYTES 15
-#define BENCH_RATE 16
-#define BENCH_HOP 17
-#define BENCH_RETURN 18
 extern const uint32_t bench_film[BENCH_NUMBERS];
 
 #endif

@@ -4,7 +4,6 @@
  */
 #include "sweeps.h"
 
-#define COUNT(array) (sizeof(array) / sizeof *(array))
 #define BENCH_BYTES 262144u
 
 static void bench_story(void)
@@ -137,8 +136,6 @@ static void house_of_256_streams(void)
             join_slot(slot, slot % 40);
     sweep_to_the_end(DRAW_ALL, 1000);
 }
-
-#define TEST(name) {#name, name}
 
 static const test tests[] = {
     TEST(film_watched_to_its_end), TEST(end_of_a_long_film),      TEST(leaves_in_mid_film),

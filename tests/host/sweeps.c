@@ -12,7 +12,8 @@ struct row {
 };
 
 static struct row book[SLOTS];
-static uint8_t desk_before[FILMDISK_DESK_BYTES];
+/* The desk before a call, changed to what the rules make of it. */
+static uint8_t foreseen_desk[FILMDISK_DESK_BYTES];
 /* What the rules give: each slot's kind in the sweep, and whether a block is fetched for it. */
 static uint32_t kinds[SLOTS];
 static int is_fetched[SLOTS];
@@ -30,21 +31,6 @@ uint32_t streams(void)
 uint32_t blocks(void)
 {
     return figure(FILMDISK_PLAN_BLOCKS);
-}
-
-uint32_t kind(uint32_t slot)
-{
-    return word(DESK, FILMDISK_DESK_KINDS + slot);
-}
-
-uint32_t next(uint32_t slot)
-{
-    return word(DESK, FILMDISK_DESK_NEXT + slot);
-}
-
-uint32_t held(uint32_t slot)
-{
-    return word(DESK, FILMDISK_DESK_HELD + slot);
 }
 
 uint32_t fetched(uint32_t slot)
@@ -75,17 +61,26 @@ void start_story(const uint32_t *numbers, size_t count)
 
 static void save_desk(void)
 {
-    memcpy(desk_before, bytes_of(DESK), sizeof desk_before);
+    memcpy(foreseen_desk, bytes_of(DESK), sizeof foreseen_desk);
 }
 
-/* The desk is the one before, but for the slot, which has these words. */
+static int is_foreseen(void)
+{
+    return memcmp(foreseen_desk, bytes_of(DESK), sizeof foreseen_desk) == 0;
+}
+
+static void foresee_slot(uint32_t slot, uint32_t its_kind, uint32_t its_next, uint32_t its_held)
+{
+    filmdisk_put_word(foreseen_desk, FILMDISK_DESK_KINDS + slot, its_kind);
+    filmdisk_put_word(foreseen_desk, FILMDISK_DESK_NEXT + slot, its_next);
+    filmdisk_put_word(foreseen_desk, FILMDISK_DESK_HELD + slot, its_held);
+}
+
+/* The desk is the one before, but for the slot, which holds nothing and has these words. */
 static void check_slot_alone(uint32_t slot, uint32_t its_kind, uint32_t its_next)
 {
-    filmdisk_put_word(desk_before, FILMDISK_DESK_KINDS + slot, its_kind);
-    filmdisk_put_word(desk_before, FILMDISK_DESK_NEXT + slot, its_next);
-    filmdisk_put_word(desk_before, FILMDISK_DESK_HELD + slot, 0);
-    check(memcmp(desk_before, bytes_of(DESK), sizeof desk_before) == 0, "slot %u alone changes, to kind %u, next %u", slot, its_kind,
-          its_next);
+    foresee_slot(slot, its_kind, its_next, 0);
+    check(is_foreseen(), "slot %u alone changes, to kind %u, next %u", slot, its_kind, its_next);
 }
 
 void join_slot(uint32_t slot, uint32_t block)
@@ -183,10 +178,10 @@ static void check_entries(uint32_t count)
 /* The phase rises, kinds go by the rules, all else of the desk stays. */
 static void check_begun_desk(void)
 {
-    filmdisk_put_word(desk_before, FILMDISK_DESK_PHASE, 1);
+    filmdisk_put_word(foreseen_desk, FILMDISK_DESK_PHASE, 1);
     for (uint32_t slot = 0; slot < streams(); slot++)
-        filmdisk_put_word(desk_before, FILMDISK_DESK_KINDS + slot, kinds[slot]);
-    check(memcmp(desk_before, bytes_of(DESK), sizeof desk_before) == 0, "the desk of the begin is the one by the rules");
+        filmdisk_put_word(foreseen_desk, FILMDISK_DESK_KINDS + slot, kinds[slot]);
+    check(is_foreseen(), "the desk of the begin is the one by the rules");
 }
 
 /* What a playing or tail slot may draw. */
@@ -223,7 +218,7 @@ static void choose_draws(enum draw draw, uint64_t limit)
     }
 }
 
-/* The slot after the end, worked out in the desk that was there before it. */
+/* The slot after the end. */
 static void foresee_end(uint32_t slot)
 {
     uint32_t its_kind = kind(slot), its_next = next(slot), its_held = held(slot) - word(DRAWS, slot);
@@ -235,9 +230,7 @@ static void foresee_end(uint32_t slot)
         its_kind = FILMDISK_TAIL;
     if (its_kind == FILMDISK_TAIL && its_held == 0)
         its_kind = its_next = 0;
-    filmdisk_put_word(desk_before, FILMDISK_DESK_KINDS + slot, its_kind);
-    filmdisk_put_word(desk_before, FILMDISK_DESK_NEXT + slot, its_next);
-    filmdisk_put_word(desk_before, FILMDISK_DESK_HELD + slot, its_held);
+    foresee_slot(slot, its_kind, its_next, its_held);
 }
 
 /* The book's own end: a slot that has drawn all it was given is closed. */
@@ -272,11 +265,11 @@ static void check_book(void)
 static void end_sweep(void)
 {
     save_desk();
-    filmdisk_put_word(desk_before, FILMDISK_DESK_PHASE, 0);
+    filmdisk_put_word(foreseen_desk, FILMDISK_DESK_PHASE, 0);
     for (uint32_t slot = 0; slot < streams(); slot++)
         foresee_end(slot);
     expect(host_end(), 0, 0);
-    check(memcmp(desk_before, bytes_of(DESK), sizeof desk_before) == 0, "the desk of the end is the one by the rules");
+    check(is_foreseen(), "the desk of the end is the one by the rules");
     enter_end();
     check_book();
 }

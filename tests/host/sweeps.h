@@ -28,9 +28,6 @@ unsigned audience(void);
 
 uint32_t streams(void);
 uint32_t blocks(void);
-uint32_t kind(uint32_t slot);
-uint32_t next(uint32_t slot);
-uint32_t held(uint32_t slot);
 
 /* What the book has of a slot since it joined: blocks fetched, bytes drawn. */
 uint32_t fetched(uint32_t slot);

@@ -43,11 +43,6 @@ impl Desk {
         }
     }
 
-    /// The new desk in a refused opening.
-    pub fn zero() -> Desk {
-        Desk::all_free(&Plan::zero())
-    }
-
     /// Slots below n, the ones in use.
     pub fn used_slots(&self) -> std::ops::Range<usize> {
         0..self.plan.streams as usize

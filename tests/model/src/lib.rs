@@ -8,6 +8,7 @@
 //! - `book`: lists of calls, the book of demand 3 and the checker of its claim.
 //! - `listing`: the text of the listing program. `text`: the card of a text of figures.
 //! - `bench`: fixed cards. `rng`: random inputs of every sort from a seed.
+//! - `programs`: a program run on inputs and compared with the model.
 //!
 //! Answers are values: a refusal has 01's number and place, and leaves what was lent. An accepted
 //! call has number 0 and place 0.
@@ -18,6 +19,7 @@ pub mod card;
 pub mod desk;
 pub mod listing;
 pub mod plan;
+pub mod programs;
 pub mod refusal;
 pub mod rng;
 pub mod text;

@@ -1,8 +1,7 @@
-//! The card of a text, and the comparison of mkcard programs tried on the model's own and on a silent one.
+//! The card of a text.
 
 use film_disk_model::bench::bench_film;
 use film_disk_model::{card_bytes, card_of_text, TextRefusal};
-use std::process::{Command, Output};
 
 const BENCH: &str =
     "1 6\n1 22270\n1 20550\n1 19090\n1 17810\n1 16700\n1 15720\n6 262144 500000\n12670 15000\n";
@@ -30,36 +29,4 @@ fn first_fault_and_its_line() {
     assert_eq!(refused(&BENCH.replace("6 262144", "7\n262144")), (9, 8));
     assert_eq!(refused(&BENCH.replace("262144", "4294967296")), (2, 8));
     assert_eq!(refused(&format!("{BENCH}\n#\n x")), (11, 12));
-}
-
-fn mkcard_cases(program: &str, arguments: &[&str]) -> Output {
-    Command::new(env!("CARGO_BIN_EXE_mkcard_cases"))
-        .arg(program)
-        .args(arguments)
-        .output()
-        .expect("the comparison runs")
-}
-
-#[test]
-fn own_mkcard_passes() {
-    let output = mkcard_cases(env!("CARGO_BIN_EXE_mkcard"), &["5", "300"]);
-    let text = String::from_utf8(output.stdout).unwrap();
-    assert_eq!(text, "seed 5\n380 passed, 0 failed\n");
-    assert_eq!(output.status.code(), Some(0));
-}
-
-/// The listing program is no mkcard.
-#[test]
-fn other_program_fails() {
-    let output = mkcard_cases(env!("CARGO_BIN_EXE_listing"), &["5", "3"]);
-    let text = String::from_utf8(output.stdout).unwrap();
-    assert!(text.contains("input \"1 6 1 22270 "), "{text}");
-    assert!(text.ends_with("\n0 passed, 83 failed\n"), "{text}");
-    assert_eq!(output.status.code(), Some(1));
-}
-
-#[test]
-fn bad_arguments() {
-    assert_eq!(mkcard_cases("mkcard", &["5"]).status.code(), Some(2));
-    assert_eq!(mkcard_cases("no such program", &["5", "1"]).status.code(), Some(2));
 }

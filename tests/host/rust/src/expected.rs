@@ -5,12 +5,7 @@ use crate::layout::{
     bytes_of, desk_bytes, fetch_bytes, plan_bytes, read_desk, read_plan, words_of, DESK_BYTES,
     ENTRY_BYTES, FETCH_BYTES, PLAN_BYTES,
 };
-use film_disk_model::{answer, cause, open, plan_card, read_card, Refusal};
-
-/// Puts an answer at the start of a string; the rest keeps its contents.
-fn write(string: &mut [u8], bytes: &[u8]) {
-    string[..bytes.len()].copy_from_slice(bytes);
-}
+use film_disk_model::{answer, cause, fill_lent, open, plan_card, read_card, Refusal};
 
 /// An accepted call with nothing more to say.
 fn accepted(strings: Strings) -> Outcome {
@@ -45,9 +40,9 @@ fn expected_plan(strings: &Strings) -> Outcome {
         Err(refusal) => cleared(strings, refusal, PLAN, PLAN_BYTES),
         Ok(planned) => {
             let mut after = strings.clone();
-            write(&mut after[PLAN], &plan_bytes(&planned.plan));
-            write(&mut after[POSITIONS], &bytes_of(&planned.positions));
-            write(&mut after[LEADS], &bytes_of(&planned.leads));
+            fill_lent(&mut after[PLAN], &plan_bytes(&planned.plan));
+            fill_lent(&mut after[POSITIONS], &bytes_of(&planned.positions));
+            fill_lent(&mut after[LEADS], &bytes_of(&planned.leads));
             accepted(after)
         }
     }
@@ -66,7 +61,7 @@ fn expected_open(strings: &Strings) -> Outcome {
         }
         Ok(desk) => {
             let mut after = strings.clone();
-            write(&mut after[DESK], &desk_bytes(&desk));
+            fill_lent(&mut after[DESK], &desk_bytes(&desk));
             accepted(after)
         }
     }
@@ -93,8 +88,8 @@ fn expected_desk_call(call: Call, strings: &Strings) -> Outcome {
     let (positions, leads) = (words_of(&strings[POSITIONS]), words_of(&strings[LEADS]));
     let answer = answer(&desk, &positions, &leads, &model_call(call, strings));
     let mut after = strings.clone();
-    write(&mut after[DESK], &desk_bytes(&answer.desk));
-    write(&mut after[FETCHES], &fetch_bytes(&answer.entries));
+    fill_lent(&mut after[DESK], &desk_bytes(&answer.desk));
+    fill_lent(&mut after[FETCHES], &fetch_bytes(&answer.entries));
     Outcome {
         number: answer.number,
         place: answer.place,

@@ -1,0 +1,57 @@
+//! The comparisons of listing and mkcard programs, tried on the model's own ones and on others.
+
+use std::process::Command;
+
+const LISTING: &str = env!("CARGO_BIN_EXE_listing");
+const LISTING_CASES: &str = env!("CARGO_BIN_EXE_listing_cases");
+const MKCARD: &str = env!("CARGO_BIN_EXE_mkcard");
+const MKCARD_CASES: &str = env!("CARGO_BIN_EXE_mkcard_cases");
+
+/// What a comparison prints, and its exit status.
+fn run(comparison: &str, arguments: &[&str]) -> (String, Option<i32>) {
+    let output = Command::new(comparison).args(arguments).output().expect("the comparison runs");
+    (String::from_utf8(output.stdout).unwrap(), output.status.code())
+}
+
+#[test]
+fn own_listing_passes() {
+    let (text, status) = run(LISTING_CASES, &[LISTING, "5", "300"]);
+    assert_eq!(text, "seed 5\n317 passed, 0 failed\n");
+    assert_eq!(status, Some(0));
+}
+
+#[test]
+fn own_mkcard_passes() {
+    let (text, status) = run(MKCARD_CASES, &[MKCARD, "5", "300"]);
+    assert_eq!(text, "seed 5\n380 passed, 0 failed\n");
+    assert_eq!(status, Some(0));
+}
+
+/// Without arguments the comparison itself prints nothing on standard output.
+#[test]
+fn silent_program_fails() {
+    let (text, status) = run(LISTING_CASES, &[LISTING_CASES, "5", "3"]);
+    assert!(text.starts_with("seed 5\ninput 01 06 01 FE AD 01 "), "{text}");
+    assert!(text.contains("line 1: expected \"streams 16\\n\", got nothing\n"), "{text}");
+    assert!(text.contains("usage: listing_cases LISTING SEED COUNT\n"), "{text}");
+    assert!(text.ends_with("\n0 passed, 20 failed\n"), "{text}");
+    assert_eq!(status, Some(1));
+}
+
+/// The listing program is no mkcard.
+#[test]
+fn other_program_fails() {
+    let (text, status) = run(MKCARD_CASES, &[LISTING, "5", "3"]);
+    assert!(text.contains("input \"1 6 1 22270 "), "{text}");
+    assert!(text.ends_with("\n0 passed, 83 failed\n"), "{text}");
+    assert_eq!(status, Some(1));
+}
+
+#[test]
+fn bad_arguments() {
+    for comparison in [LISTING_CASES, MKCARD_CASES] {
+        assert_eq!(run(comparison, &[LISTING, "5"]).1, Some(2));
+        assert_eq!(run(comparison, &[LISTING, "5", "1", "1"]).1, Some(2));
+        assert_eq!(run(comparison, &["no such program", "5", "1"]).1, Some(2));
+    }
+}
