@@ -28,8 +28,10 @@ programs:
 	@echo 'proving and building the programs; the first time takes minutes'
 	@rt check listing mkcard >target/programs.log 2>&1 || { cat target/programs.log; exit 1; }
 
-# target/staticlib/libfilmdisk.a, proved
-library:
+# target/staticlib/libfilmdisk.a, proved; made again where a crate has changed
+library: target/staticlib/libfilmdisk.a
+
+target/staticlib/libfilmdisk.a: crates.txt $(shell find crates -name must-fail -prune -o -type f -print)
 	@sh tests/tools rt
 	@mkdir -p target
 	@echo 'proving and building the library; the first time takes minutes'
