@@ -1,32 +1,26 @@
 -- Each way that a call on byte strings can take.
 -- Assumes nothing.
-use Prim.Native.Nat.{ℕ, _≤_, _/_}
+use Prim.Native.Nat.{ℕ}
 use mathlib.Core.Path.{_≡_, refl, sym, ap, _∙_}
 use mathlib.Core.Bool.{cond}
 use mathlib.Core.List.{List}
-use native.Mathlib.Omega.{arith}
 use lib.ListN.{length}
 use lib.Dec.{eqb}
 use borrow.Author.Tests.{eq-eqb, ne-eqb}
-use Rattle.words.specs.Words.{wordsOf, withWords}
-use Rattle.words.specs.Laws.{words-length}
+use Rattle.words.specs.Words.{withWords}
 use Rattle.desk.specs.declared.Desk.{Desk}
 use Rattle.desk.specs.declared.Answer.{Answer}
 use Rattle.desk.specs.Desk.{verdict, fetchListAfter}
 use Rattle.layout.specs.declared.FilmdiskAnswer.{FilmdiskAnswer}
 use Rattle.layout.specs.Answers.{verdictAnswer}
 use Rattle.layout.specs.Layout.{deskWords}
+use Rattle.desk_strings.specs.Laws.{right-answer, right-string, other-answer, other-string}
 use Rattle.desk_strings.specs.Calls.{refusedBy, openVerdict, said, answerBy, stringBy, roomIn, fetchString}
 
 module _ (D : List ℕ) where
   module _ (l : length D ≡ 3628) where
-    -- a string of the right length has the words of a desk
-    pub enough : 907 ≤ length (wordsOf D)
-    enough = omega (arith, words-length D, l)
-
     pub right-length : (a : FilmdiskAnswer) (d : Desk) → (a ≡ answerBy D a) × (withWords D 0 (deskWords d) ≡ stringBy D d)
-    unfolding answerBy stringBy
-    right-length a d = rw (eq-eqb (length D) 3628 l) (refl, refl)
+    right-length a d = (sym (right-answer D l a), sym (right-string D l d))
 
     pub right-fetches : (ps ls F : List ℕ) → fetchListAfter (said D) ps ls (roomIn F) F ≡ fetchString D ps ls F
     unfolding fetchString
@@ -46,8 +40,7 @@ module _ (D : List ℕ) where
 
   module _ (n : length D ≡ 3628 → ⊥) where
     pub other-length : (a : FilmdiskAnswer) (d : Desk) → (refusedBy 14 ≡ answerBy D a) × (D ≡ stringBy D d)
-    unfolding answerBy stringBy
-    other-length a d = rw (ne-eqb (length D) 3628 n) (refl, refl)
+    other-length a d = (sym (other-answer D n a), sym (other-string D n d))
 
     pub other-fetches : (ps ls F : List ℕ) → F ≡ fetchString D ps ls F
     unfolding fetchString

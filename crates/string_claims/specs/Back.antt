@@ -39,8 +39,9 @@ use Rattle.layout.specs.Fields.{words-each, words-number, words-array}
 use Rattle.layout.specs.Layout.{planWords, deskWords, planIn, deskIn}
 use Rattle.layout.specs.Laws.{PlanSized, plan-sized, DeskSized, desk-written}
 use Rattle.layout.specs.Legal.{legal-words}
+use Rattle.desk_strings.specs.Laws.{enough, right-answer, right-string}
 use Rattle.desk_strings.specs.Calls.{refusedBy, openedFrom, openAnswer, openString, said, answerBy, stringBy, joinAnswer, joinString, leaveAnswer, leaveString, endAnswer, endString, roomIn, begunAnswer, beginAnswer, beginString}
-use Rattle.string_claims.specs.Kept.{enough, said-sized, said-wide, right-answer, right-string, open-number, open-right, open-other}
+use Rattle.string_claims.specs.Kept.{said-sized, said-wide, open-number, open-right, open-other}
 
 -- ---- numbers of 32 bits
 

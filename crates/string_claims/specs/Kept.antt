@@ -1,6 +1,6 @@
 -- A refused call of the desk leaves every string as it was; a refused opening leaves zeros.
 -- Assumes nothing.
-use Prim.Native.Nat.{ℕ, zero, suc, _≤_, _<_}
+use Prim.Native.Nat.{ℕ, zero, suc, _<_}
 use mathlib.Core.Path.{_≡_, refl, ap, _∙_}
 use mathlib.Core.Bool.{Bool, true, false, cond}
 use mathlib.Core.List.{List, []}
@@ -11,7 +11,6 @@ use lib.ListN.{length}
 use lib.Dec.{eqb}
 use borrow.Author.Tests.{eq-eqb, ne-eqb}
 use Rattle.words.specs.Words.{Bytes, wordsOf, withWords}
-use Rattle.words.specs.Laws.{words-length}
 use Rattle.card.specs.declared.Verdict.{Verdict}
 use Rattle.plan.specs.declared.Plan.{Plan}
 use Rattle.plan.specs.Answer.{isPlan}
@@ -28,6 +27,7 @@ use Rattle.layout.specs.declared.FilmdiskAnswer.{FilmdiskAnswer}
 use Rattle.layout.specs.Answers.{verdictAnswer}
 use Rattle.layout.specs.Layout.{deskWords, planIn, deskIn, zeroBytes}
 use Rattle.layout.specs.Laws.{DeskSized, desk-sized, desk-kept, desk-zero}
+use Rattle.desk_strings.specs.Laws.{enough, right-answer, right-string, other-string}
 use Rattle.desk_strings.specs.Calls.{refusedBy, openedFrom, openVerdict, openAnswer, openString, said, answerBy, stringBy, joinAnswer, joinString, leaveAnswer, leaveString, endAnswer, endString, roomIn, begunAnswer, beginAnswer, beginString, fetchString}
 
 above-zero : (k : ℕ) → (k ≡ 0 → ⊥) → 0 < k
@@ -52,40 +52,25 @@ module _ (d : Desk) (ps ls : List ℕ) (room : ℕ) (call : Call ℕ) where
 -- ---- a desk string D
 
 module _ (D : List ℕ) where
-  pub enough : length D ≡ 3628 → 907 ≤ length (wordsOf D)
-  enough l = omega (arith, words-length D, l)
-
   pub said-sized : length D ≡ 3628 → DeskSized (said D)
   unfolding said
-  said-sized l = desk-sized (wordsOf D) (enough l)
+  said-sized l = desk-sized (wordsOf D) (enough D l)
 
   pub said-wide : length D ≡ 3628 → Wide (said D)
   said-wide l = let s = said-sized l in record { kinds = s .kinds; next = s .next; held = s .held }
-
-  pub right-answer : length D ≡ 3628 → (a : FilmdiskAnswer) → answerBy D a ≡ a
-  unfolding answerBy
-  right-answer l a = rw (eq-eqb (length D) 3628 l)
-
-  pub right-string : length D ≡ 3628 → (d : Desk) → stringBy D d ≡ withWords D 0 (deskWords d)
-  unfolding stringBy
-  right-string l d = rw (eq-eqb (length D) 3628 l)
-
-  other-string : (length D ≡ 3628 → ⊥) → (d : Desk) → stringBy D d ≡ D
-  unfolding stringBy
-  other-string n d = rw (ne-eqb (length D) 3628 n)
 
   -- the desk that was read, written back
   same-string : Bytes D → (d : Desk) → (length D ≡ 3628 → d ≡ said D) → stringBy D d ≡ D
   unfolding said
   same-string y d e = by-cases (ℕ-discrete (length D) 3628)
-      (λ l. right-string l d ∙ ap (λ (x : Desk). withWords D 0 (deskWords x)) (e l) ∙ desk-kept D y (enough l))
-      (λ n. other-string n d)
+      (λ l. right-string D l d ∙ ap (λ (x : Desk). withWords D 0 (deskWords x)) (e l) ∙ desk-kept D y (enough D l))
+      (λ n. other-string D n d)
 
   module _ (ps ls : List ℕ) where
     -- any call whose answer a has the number that the rules give
     module _ (room : ℕ) (call : Call ℕ) (a : FilmdiskAnswer) (e : a .number ≡ answerOf (said D) ps ls room call .number) (n : answerBy D a .number ≡ 0 → ⊥) where
       refused-number : length D ≡ 3628 → answerOf (said D) ps ls room call .number ≡ 0 → ⊥
-      refused-number l z = n (ap (λ (x : FilmdiskAnswer). x .number) (right-answer l a) ∙ e ∙ z)
+      refused-number l z = n (ap (λ (x : FilmdiskAnswer). x .number) (right-answer D l a) ∙ e ∙ z)
 
       pub call-kept : Bytes D → stringBy D (deskOf (said D .plan) (answerOf (said D) ps ls room call .scheduler)) ≡ D
       call-kept y = same-string y _ (λ l. refused-desk (said D) ps ls room call (said-wide l) (refused-number l))

@@ -7,7 +7,8 @@ use Rattle.desk.specs.declared.Begun.{Begun}
 use Rattle.desk.specs.Desk.{beginDesk, fetchListAfter}
 use Rattle.layout.specs.Layout.{deskWords}
 use Rattle.desk_strings.specs.Calls.{said, roomIn, begunAnswer, beginAnswer, beginString, fetchString}
-use Rattle.desk_strings.proofs.Ways.{enough, other-length, other-fetches, right-length, right-fetches}
+use Rattle.desk_strings.specs.Laws.{enough}
+use Rattle.desk_strings.proofs.Ways.{other-length, other-fetches, right-length, right-fetches}
 use borrow.Author.Needs.{needs}
 use Rattle.desk_strings.proofs.begin.Statement.{statement}
 use Rattle.desk_strings.proofs.begin.Tie as tie

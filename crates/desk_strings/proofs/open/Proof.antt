@@ -1,7 +1,8 @@
 use mathlib.Core.Path.{sym, ap, _∙_}
 use Rattle.desk.specs.declared.Answer.{Answer}
 use Rattle.desk_strings.specs.Calls.{openAnswer, openString}
-use Rattle.desk_strings.proofs.Ways.{enough, open-written, open-refused, open-unwritten}
+use Rattle.desk_strings.specs.Laws.{enough}
+use Rattle.desk_strings.proofs.Ways.{open-written, open-refused, open-unwritten}
 use borrow.Author.Needs.{needs}
 use Rattle.desk_strings.proofs.open.Statement.{statement}
 use Rattle.desk_strings.proofs.open.Tie as tie
