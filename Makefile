@@ -82,7 +82,8 @@ bench:
 # told, as '--crate card --count 40'. Not part of the gate.
 MUTANTS = --count 12
 mutants:
-	@sh tests/tools rt python3
+	@sh tests/tools rt python3 cargo
+	@cargo build --quiet --offline --locked --release --manifest-path tests/model/Cargo.toml
 	@python3 -B tests/mutants/mutants.py run $(MUTANTS)
 
 # The pictures of docs/PICTURES.md, drawn from calls of the library.

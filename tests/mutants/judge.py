@@ -11,6 +11,12 @@ from collections import namedtuple
 
 Judged = namedtuple("Judged", "verdict seconds why")
 
+# Programs that the gate tries on more than their own input, and how; {} is the program.
+TESTS = {
+    "listing": "tests/model/target/release/listing_cases {} 1 600",
+    "mkcard": "sh tests/mkcard {}",
+}
+
 # An error that only says that the proof's text does not fit the code, and one that only follows from another.
 MISFIT = re.compile(r"that can be named from here|^`[^`]*`: record `|has no (?:field|constructor)|is not in scope")
 FOLLOWS = re.compile(r"was not admitted")
@@ -128,7 +134,7 @@ class Room:
         return base
 
     def judge(self, crate, file, text, users):
-        """The verdict on a crate of which a file's text is changed. `users`: crates whose proofs rest on what is changed."""
+        """The verdict on a crate of which a file's text is changed. `users`: crates whose proofs or output rest on what is changed."""
         with Changed(self, crate, [(os.path.join("src", file), text)]):
             judged = self.dev(crate, self.limit)
             if judged.verdict != "proved":
@@ -141,10 +147,24 @@ class Room:
         status, said, seconds = self.rt("check", crate, limit=self.limit)
         seconds += judged.seconds
         if status == 0:
-            return Judged("survived", seconds, "proved, and its output is the expected one")
+            return self.test_program(crate, seconds)
         if "its run FAILED" in said:
             return Judged("output", seconds, "proved; its output is not the expected one")
         return Judged("undecided", seconds, " ".join(said[-200:].split()))
+
+    def test_program(self, crate, seconds):
+        """A program whose own output is the expected one: what the gate's test of it says."""
+        test = TESTS.get(crate)
+        if test is None:
+            return Judged("survived", seconds, "proved, and its output is the expected one")
+        began = time.monotonic()
+        program = os.path.join(self.path, "target", "bin", crate)
+        words = [word.format(program) for word in test.split()]
+        run = subprocess.run(words, cwd=self.root, stdout=subprocess.DEVNULL, stderr=subprocess.DEVNULL)
+        seconds += time.monotonic() - began
+        if run.returncode == 0:
+            return Judged("survived", seconds, "proved, and the gate's test of it passes")
+        return Judged("output", seconds, "proved; the gate's test of it fails")
 
     def judge_users(self, users, judged):
         if not users:
@@ -159,6 +179,9 @@ class Room:
             seconds += more
             if status == 1 and "NOT PROVED" in said:
                 verdict, why = "users", f"proved; {user} is not"
+                break
+            if "its run FAILED" in said:
+                verdict, why = "output", f"proved; the output of {user} is not the expected one"
                 break
             if status != 0:
                 verdict, why = "undecided", f"{user}: {' '.join(said[-200:].split())}"

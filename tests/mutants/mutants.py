@@ -110,13 +110,21 @@ class Results:
         return [row for (of, _), row in self.rows.items() if of == mark and row[1] == crate]
 
 
+def is_program(crate, all_sources):
+    return any(s.path == "main.rt" for s in all_sources[crate])
+
+
 def users_of(m, crate_deps, all_sources):
-    """Crates that name a public constant: no contract speaks of it, so their proofs are its judge."""
+    """Crates that judge what no contract speaks of: those that name a public constant, and the programs of a library that has no other
+    users."""
+    above = [c for c, deps in crate_deps.items() if m.crate in deps]
+    if above and all(is_program(c, all_sources) for c in above):
+        return above
     public = [c for s in all_sources[m.crate] if s.path == m.file for c in s.constants if c.name == m.place and c.public]
     if not public:
         return []
     word = re.compile(rf"\b{m.place}\b")
-    return [c for c, deps in crate_deps.items() if m.crate in deps and any(word.search(s.text) for s in all_sources[c])]
+    return [c for c in above if any(word.search(s.text) for s in all_sources[c])]
 
 
 def try_crate(crate, options, crate_deps, all_sources, results, rooms):
