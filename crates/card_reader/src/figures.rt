@@ -7,22 +7,17 @@ use card::fields::Rule;
 use card::fields::read_field;
 ghost use mathlib.Core.Path.{_≡_};
 ghost use Prim.Native.Nat.{_≤_};
-ghost use Rattle.card.specs.Read.{blankZones, withZones, refusedCard, thenField, cardEnd, filmFrom, zonesFrom};
-
-fn blank_zones() -> [u32; 64]
-    ensures { λ r. ⌜ r ≡ blankZones ⌝ }
-{
-    [0u32; 64]
-}
+ghost use Rattle.card.specs.Read.{withZones, refusedCard, thenField, cardEnd, filmFrom, zonesFrom};
 
 // Figures of which only the zone count is known.
 fn with_zones(zones: u32) -> Figures
     ensures { λ r. ⌜ r ≡ withZones zones ⌝ }
 {
+    let none = [0u32; 64];
     Figures {
         zones: zones,
-        positions: blank_zones(),
-        times: blank_zones(),
+        positions: none,
+        times: none,
         blocks: 0,
         bytes: 0,
         rate: 0,

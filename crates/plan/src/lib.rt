@@ -1,7 +1,9 @@
 // The plan as a definition: its record and lists, the planner's answers, the check of a plan, and the laws that the code and the desk
-// rely on. No functions.
+// rely on; and the plan that is all zero.
 use card::Figures;
 use card::Verdict;
+ghost use mathlib.Core.Path.{_≡_};
+ghost use Rattle.plan.specs.Plan.{blankPlan};
 
 // A plan; all zero where there is none.
 pub struct Plan {
@@ -27,4 +29,27 @@ pub struct Planned {
 pub struct Zone {
     pub index: usize,
     pub border: u32,
+}
+
+// A plan that is all zero.
+pub fn blank_plan() -> Plan
+    ensures { λ r. ⌜ r ≡ blankPlan ⌝ }
+{
+    let none = [0u32; 64];
+    Plan {
+        figures: Figures {
+            zones: 0,
+            positions: none,
+            times: none,
+            blocks: 0,
+            bytes: 0,
+            rate: 0,
+            hop: 0,
+            back: 0,
+        },
+        streams: 0,
+        buffer: 0,
+        worst2: 0,
+        margin: 0,
+    }
 }

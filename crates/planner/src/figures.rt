@@ -2,43 +2,13 @@
 use crate::film::plan_of;
 use block_lists::write_lists;
 use card::CardRead;
-use card::Figures;
 use card::Verdict;
-use plan::Plan;
 use plan::Planned;
+use plan::blank_plan;
 use zones::sum_positions;
 ghost use mathlib.Core.Path.{_≡_};
 ghost use Rattle.card.specs.Card.{Legal};
-ghost use Rattle.card.specs.Read.{blankZones};
-ghost use Rattle.plan.specs.Plan.{blankPlan};
 ghost use Rattle.plan.specs.Answer.{refusal, planned, positionsAfter, leadsAfter};
-
-fn blank_zones() -> [u32; 64]
-    ensures { λ r. ⌜ r ≡ blankZones ⌝ }
-{
-    [0u32; 64]
-}
-
-fn blank_plan() -> Plan
-    ensures { λ r. ⌜ r ≡ blankPlan ⌝ }
-{
-    Plan {
-        figures: Figures {
-            zones: 0,
-            positions: blank_zones(),
-            times: blank_zones(),
-            blocks: 0,
-            bytes: 0,
-            rate: 0,
-            hop: 0,
-            back: 0,
-        },
-        streams: 0,
-        buffer: 0,
-        worst2: 0,
-        margin: 0,
-    }
-}
 
 // A refusal.
 fn refused(number: u32, place: usize) -> Planned

@@ -1,16 +1,14 @@
 // Records that the calls of the desk answer.
-use card::Figures;
 use card::Verdict;
 use desk::Answer;
 use desk::Begun;
 use desk::Desk;
 use desk::Fetches;
 use plan::Plan;
+use plan::blank_plan;
 ghost use mathlib.Core.Path.{_≡_};
 ghost use mathlib.Core.List.{[]};
 ghost use Prim.Native.Nat.{_<_};
-ghost use Rattle.card.specs.Read.{blankZones};
-ghost use Rattle.plan.specs.Plan.{blankPlan};
 ghost use Rattle.desk.specs.Desk.{zeros, freshDesk, blankDesk, fetchesOf};
 ghost use Rattle.records.specs.Records.{answers, withSlot, notBegun};
 
@@ -19,33 +17,6 @@ pub fn zeros() -> [u32; 256]
     ensures { λ r. ⌜ r ≡ zeros ⌝ }
 {
     [0u32; 256]
-}
-
-fn blank_zones() -> [u32; 64]
-    ensures { λ r. ⌜ r ≡ blankZones ⌝ }
-{
-    [0u32; 64]
-}
-
-fn blank_plan() -> Plan
-    ensures { λ r. ⌜ r ≡ blankPlan ⌝ }
-{
-    Plan {
-        figures: Figures {
-            zones: 0,
-            positions: blank_zones(),
-            times: blank_zones(),
-            blocks: 0,
-            bytes: 0,
-            rate: 0,
-            hop: 0,
-            back: 0,
-        },
-        streams: 0,
-        buffer: 0,
-        worst2: 0,
-        margin: 0,
-    }
 }
 
 // A desk of a plan, between sweeps, all slots free.
