@@ -17,7 +17,10 @@ use Rattle.card.specs.declared.fields.Field.{Field}
 use Rattle.card.specs.declared.fields.Field.the-variants.{Value, Refused}
 use Rattle.card.specs.Laws.{positions-range, zones-range}
 use Rattle.card.specs.Ranges.{faultOf}
-use Rattle.card.specs.Read.{onFault, onNumber, fieldAt, thenField, refusedCard, cardEnd, accepted, filmFrom, zonesFrom, withZone}
+use Rattle.card.specs.Read.{onFault, onNumber, fieldAt, thenField, refusedCard, cardEnd, filmFrom, zonesFrom, withZone, withFilm}
+use Rattle.card_reader.specs.declared.figures.Film.{Film}
+use Rattle.card_reader.specs.declared.figures.Film.the-variants as film
+use Rattle.card_reader.specs.Film.{acceptedCard, cardWith}
 
 module _ {F G : Field} (same : F ≡ G) where
   pub card-stops : (go go′ : ℕ → ℕ → CardRead) {k o : ℕ} → F ≡ Refused k o → thenField F go′ ≡ thenField G go
@@ -33,9 +36,19 @@ module _ (s : List ℕ) (at : ℕ) (f : Figures) where
   unfolding cardEnd
   end-left h = rw (lt-ltb _ _ h)
 
-  pub end-none : length s ≤ at → _≡_ {A = CardRead} (record { verdict = accepted; figures = f }) (cardEnd s at f)
+  pub end-none : length s ≤ at → acceptedCard f ≡ cardEnd s at f
   unfolding cardEnd
   end-none h = rw (le-ltb _ _ h)
+
+-- a film that is read, and the card that it ends
+module _ (f : Figures) {F : Film} where
+  pub film-stops : {k o : ℕ} → F ≡ film.Refused k o → refusedCard k o ≡ cardWith f F
+  unfolding cardWith
+  film-stops e = ap (cardWith f) (sym e)
+
+  pub film-goes : {n b c hop ret : ℕ} → F ≡ film.Figures n b c hop ret → acceptedCard (withFilm f n b c hop ret) ≡ cardWith f F
+  unfolding cardWith
+  film-goes e = ap (cardWith f) (sym e)
 
 module _ (s : List ℕ) (at i : ℕ) (f : Figures) (total before : ℕ) where
   pub read-done : (left : ℕ) → left ≤ 0 → filmFrom s at f total ≡ zonesFrom left s at i f total before

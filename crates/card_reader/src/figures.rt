@@ -7,7 +7,9 @@ use card::fields::Rule;
 use card::fields::read_field;
 ghost use mathlib.Core.Path.{_≡_};
 ghost use Prim.Native.Nat.{_≤_};
-ghost use Rattle.card.specs.Read.{withZones, refusedCard, thenField, cardEnd, filmFrom, zonesFrom};
+ghost use Rattle.card.specs.declared.Figures.{Figures};
+ghost use Rattle.card.specs.Read.{withZones, refusedCard, thenField, filmFrom, zonesFrom};
+ghost use Rattle.card_reader.specs.Film.{acceptedCard, cardWith};
 
 // Figures of which only the zone count is known.
 fn with_zones(zones: u32) -> Figures
@@ -39,6 +41,19 @@ fn refused_card(number: u32, place: usize) -> CardRead
     }
 }
 
+// An accepted card.
+fn accepted_card(figures: Figures) -> CardRead
+    ensures { λ r. ⌜ r ≡ acceptedCard figures ⌝ }
+{
+    CardRead {
+        verdict: Verdict {
+            number: 0,
+            place: 0,
+        },
+        figures: figures,
+    }
+}
+
 // The card that a refused figure ends. (A value is none; no caller hands one over.)
 pub fn refused_field(f: Field) -> CardRead
     ensures { λ r. ⌜ r ≡ thenField f (λ v next. refusedCard 0 0) ⌝ }
@@ -49,53 +64,50 @@ pub fn refused_field(f: Field) -> CardRead
     }
 }
 
-// After the last figure no byte is left over.
-fn end_card(card: &[u8], at: usize, figures: Figures) -> CardRead
-    ensures { λ r. ⌜ r ≡ cardEnd (now (card .entry)) at figures ⌝ }
+// The film's figures N, B, c, hop and return, or the refusal's number with its offset.
+pub enum Film {
+    Figures(u32, u32, u32, u32, u32),
+    Refused(u32, usize),
+}
+
+// What a refused figure makes of the film. (A value is none; no caller hands one over.)
+fn refused_film(f: Field) -> Film
+    ensures { λ r. ⌜ ((g : Figures) → cardWith g r ≡ thenField f (λ v next. refusedCard 0 0)) ⌝ }
 {
-    if at < card.len() {
-        return refused_card(11, at);
-    }
-    CardRead {
-        verdict: Verdict {
-            number: 0,
-            place: 0,
-        },
-        figures: figures,
+    match f {
+        Field::Refused(number, at) => Film::Refused(number, at),
+        Field::Value(_, _) => Film::Refused(0, 0),
     }
 }
 
-// The film's figures: N, B, c, hop, return.
-fn read_film(card: &[u8], at: usize, figures: Figures, total: u32) -> CardRead
-    ensures { λ r. ⌜ r ≡ filmFrom (now (card .entry)) at figures total ⌝ }
+// The film's figures; after the last one no byte is left over.
+fn read_film(card: &[u8], at: usize, total: u32) -> Film
+    ensures { λ r. ⌜ ((f : Figures) → cardWith f r ≡ filmFrom (now (card .entry)) at f total) ⌝ }
 {
     let first = read_field(card, at, Rule::Blocks, total);
     let Field::Value(blocks, at1) = first else {
-        return refused_field(first);
+        return refused_film(first);
     };
     let second = read_field(card, at1, Rule::Measure, 4194304);
     let Field::Value(bytes, at2) = second else {
-        return refused_field(second);
+        return refused_film(second);
     };
     let third = read_field(card, at2, Rule::Measure, 10000000);
     let Field::Value(rate, at3) = third else {
-        return refused_field(third);
+        return refused_film(third);
     };
     let fourth = read_field(card, at3, Rule::Measure, 1000000);
     let Field::Value(hop, at4) = fourth else {
-        return refused_field(fourth);
+        return refused_film(fourth);
     };
     let fifth = read_field(card, at4, Rule::Measure, 1000000);
     let Field::Value(back, at5) = fifth else {
-        return refused_field(fifth);
+        return refused_film(fifth);
     };
-    let mut f = figures;
-    f.blocks = blocks;
-    f.bytes = bytes;
-    f.rate = rate;
-    f.hop = hop;
-    f.back = back;
-    end_card(card, at5, f)
+    if at5 < card.len() {
+        return Film::Refused(11, at5);
+    }
+    Film::Figures(blocks, bytes, rate, hop, back)
 }
 
 // The zones, innermost first, each its positions and its time; then the film.
@@ -124,5 +136,16 @@ pub fn read_zones(card: &[u8], start: usize, zones: u32) -> CardRead
         at = next;
         i += 1;
     }
-    read_film(card, at, f, total)
+    let film = read_film(card, at, total);
+    match film {
+        Film::Refused(number, place) => refused_card(number, place),
+        Film::Figures(blocks, bytes, rate, hop, back) => {
+            f.blocks = blocks;
+            f.bytes = bytes;
+            f.rate = rate;
+            f.hop = hop;
+            f.back = back;
+            accepted_card(f)
+        }
+    }
 }

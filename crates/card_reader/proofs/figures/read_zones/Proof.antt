@@ -3,7 +3,7 @@ use mathlib.Core.Path.{_≡_, ap₂, _∙_}
 use native.Mathlib.Omega.{arith}
 use borrow.Author.Needs.{needs}
 use Rattle.card.specs.declared.Figures.{Figures}
-use Rattle.card_reader.proofs.Laws.{field-fits, read-done, read-few, read-slow, read-more}
+use Rattle.card_reader.proofs.Laws.{field-fits, film-stops, film-goes, read-done, read-few, read-slow, read-more}
 use Rattle.card.specs.Read.{zonesFrom, withZones}
 use Rattle.card_reader.proofs.figures.read_zones.Statement.{statement}
 use Rattle.card_reader.proofs.figures.read_zones.Tie as tie
@@ -92,8 +92,29 @@ loop-again c =
 read-film-requires : tie.Need-read-film-requires Inv-loop μ-loop
 read-film-requires c κs = search needs
 
+enum-known-film : tie.Need-enum-known-film Inv-loop μ-loop
+enum-known-film c = search needs
+
+refused-card-requires : tie.Need-refused-card-requires Inv-loop μ-loop
+refused-card-requires c κs = search needs
+
+enum-known-film-2 : tie.Need-enum-known-film-2 Inv-loop μ-loop
+enum-known-film-2 c = search needs
+
+accepted-card-requires : tie.Need-accepted-card-requires Inv-loop μ-loop
+accepted-card-requires c κs = search needs
+
 returns-3 : tie.Need-returns-3 Inv-loop μ-loop
-returns-3 c = let l = c .before .before .loop in c .read-film .ensures ∙ read-done _ _ _ _ _ _ _ (omega arith) ∙ l .inv .2
+returns-3 c =
+    let l = c .before .before .before .before .before .before .loop in
+    c .refused-card .ensures ∙ film-stops (l .f) (c .before .before .film .given .1) ∙ c .before .before .before .before .read-film .ensures (l .f)
+    ∙ read-done _ _ _ _ _ _ _ (omega arith) ∙ l .inv .2
+
+returns-4 : tie.Need-returns-4 Inv-loop μ-loop
+returns-4 c =
+    let l = c .before .before .before .before .before .before .loop in
+    c .accepted-card .ensures ∙ film-goes (l .f) (c .before .before .film2 .given .1) ∙ c .before .before .before .before .read-film .ensures (l .f)
+    ∙ read-done _ _ _ _ _ _ _ (omega arith) ∙ l .inv .2
 
 pub read-zones-spec : {M : Type 1} → statement M
 read-zones-spec =
@@ -122,4 +143,9 @@ read-zones-spec =
     loop-less
     loop-again
     read-film-requires
-    returns-3)
+    enum-known-film
+    refused-card-requires
+    enum-known-film-2
+    accepted-card-requires
+    returns-3
+    returns-4)

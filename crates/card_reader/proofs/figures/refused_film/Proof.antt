@@ -1,0 +1,24 @@
+use mathlib.Core.Path.{_≡_, sym, ap}
+use Rattle.card.specs.Read.{thenField, refusedCard}
+use Rattle.card.specs.declared.fields.Field.{Field}
+use Rattle.card_reader.specs.Film.{cardWith}
+use borrow.Author.Needs.{needs}
+use Rattle.card_reader.proofs.figures.refused_film.Statement.{statement}
+use Rattle.card_reader.proofs.figures.refused_film.Tie as tie
+
+enum-known-f : tie.Need-enum-known-f
+enum-known-f c = search needs
+
+enum-told : tie.Need-enum-told
+enum-told c = search needs
+
+returns : tie.Need-returns
+unfolding thenField cardWith
+returns c = λ g. ap (λ (f : Field). thenField f (λ v next. refusedCard 0 0)) (sym (c .before .f .given .1))
+
+returns-2 : tie.Need-returns-2
+unfolding thenField cardWith
+returns-2 c = λ g. ap (λ (f : Field). thenField f (λ v next. refusedCard 0 0)) (sym (c .enum-told .given .1))
+
+pub refused-film-spec : {M : Type 1} → statement M
+refused-film-spec = tie.close (tie.spec enum-known-f enum-told returns returns-2)
