@@ -3,6 +3,7 @@
 use Prim.Native.Nat.{ℕ, zero, suc, _+_, _≤_, _<_}
 use mathlib.Core.Path.{_≡_, refl, sym, ap, _∙_}
 use mathlib.Core.Bool.{Bool, true, false, cond, _&&_}
+use mathlib.Core.List.{List}
 use native.Mathlib.Omega.{arith}
 use lib.ListN.{length, getD, drop, drop-of-length-le}
 use lib.Seq.{drop-cons}
@@ -14,7 +15,7 @@ use Rattle.card.specs.declared.fields.Rule.{Rule}
 use Rattle.card.specs.declared.fields.Rule.the-variants.{Positions, Time}
 use Rattle.card.specs.declared.fields.Field.the-variants.{Value, Refused}
 use Rattle.laws.specs.Runs.{allBy}
-use Rattle.card.specs.Card.{filmFault, zoneFaults, unusedZero}
+use Rattle.card.specs.Card.{filmFault, zoneFaults, zerosFrom}
 use Rattle.card.specs.Ranges.{first, below, above, outside, thenAbove, faultOf}
 use Rattle.card.specs.Read.{onFault}
 
@@ -111,35 +112,29 @@ module _ (f : Figures) (i total before : ℕ) where
       let q : k ≡ left = omega arith in
       ap (λ (x : ℕ). zoneFaults x (i + 1) f (total + getD (f .positions) i 0) (getD (f .times) i 0)) q ∙ first-goes e _ y ∙ first-goes d _ z
 
--- entries that are zero from the i-th on
-unfoldable pub zerosFrom : ℕ → Figures → Bool
-zerosFrom i f = allBy (λ (v : ℕ). eqb v 0) (drop i (f .positions)) && allBy (λ (v : ℕ). eqb v 0) (drop i (f .times))
+-- ---- the unused zones
 
-pub unused-start : (f : Figures) → zerosFrom (f .zones) f ≡ unusedZero f
-unfolding zerosFrom unusedZero
-unused-start f = refl
-
-module _ (f : Figures) (i : ℕ) (p : length (f .positions) ≡ 64) (t : length (f .times) ≡ 64) where
-  zeros-here : i < 64 → zerosFrom i f ≡ ((eqb (getD (f .positions) i 0) 0 && allBy (λ (v : ℕ). eqb v 0) (drop (suc i) (f .positions))) && (eqb (getD (f .times) i 0) 0 && allBy (λ (v : ℕ). eqb v 0) (drop (suc i) (f .times))))
+module _ (ps ts : List ℕ) (i : ℕ) (p : length ps ≡ 64) (t : length ts ≡ 64) where
+  zeros-here : i < 64 → zerosFrom i ps ts ≡ ((eqb (getD ps i 0) 0 && allBy (λ (v : ℕ). eqb v 0) (drop (suc i) ps)) && (eqb (getD ts i 0) 0 && allBy (λ (v : ℕ). eqb v 0) (drop (suc i) ts)))
   unfolding zerosFrom allBy
-  zeros-here h = rw (drop-cons (f .positions) i 0 (omega arith), drop-cons (f .times) i 0 (omega arith))
+  zeros-here h = rw (drop-cons ps i 0 (omega arith), drop-cons ts i 0 (omega arith))
 
-  pub unused-positions : i < 64 → (getD (f .positions) i 0 ≡ 0 → ⊥) → _≡_ {A = ℕ} 4 (cond (zerosFrom i f) 0 4)
+  pub unused-positions : i < 64 → (getD ps i 0 ≡ 0 → ⊥) → _≡_ {A = ℕ} 4 (cond (zerosFrom i ps ts) 0 4)
   unused-positions h n = rw (zeros-here h, ne-eqb _ _ n)
 
-  pub unused-times : i < 64 → getD (f .positions) i 0 ≡ 0 → (getD (f .times) i 0 ≡ 0 → ⊥) → _≡_ {A = ℕ} 4 (cond (zerosFrom i f) 0 4)
-  unused-times h z n = rw (zeros-here h, eq-eqb _ _ z, ne-eqb _ _ n) (go (allBy (λ (v : ℕ). eqb v 0) (drop (suc i) (f .positions))))
+  pub unused-times : i < 64 → getD ps i 0 ≡ 0 → (getD ts i 0 ≡ 0 → ⊥) → _≡_ {A = ℕ} 4 (cond (zerosFrom i ps ts) 0 4)
+  unused-times h z n = rw (zeros-here h, eq-eqb _ _ z, ne-eqb _ _ n) (go (allBy (λ (v : ℕ). eqb v 0) (drop (suc i) ps)))
     where
       go : (x : Bool) → _≡_ {A = ℕ} 4 (cond ((true && x) && false) 0 4)
       go true = refl
       go false = refl
 
-  pub unused-more : i < 64 → getD (f .positions) i 0 ≡ 0 → getD (f .times) i 0 ≡ 0 → zerosFrom (i + 1) f ≡ zerosFrom i f
+  pub unused-more : i < 64 → getD ps i 0 ≡ 0 → getD ts i 0 ≡ 0 → zerosFrom (i + 1) ps ts ≡ zerosFrom i ps ts
   unused-more h z y = let e : i + 1 ≡ suc i = omega arith in rw (e, zeros-here h, eq-eqb _ _ z, eq-eqb _ _ y) (last e)
     where
-      last : i + 1 ≡ suc i → zerosFrom (suc i) f ≡ (allBy (λ (v : ℕ). eqb v 0) (drop (suc i) (f .positions)) && allBy (λ (v : ℕ). eqb v 0) (drop (suc i) (f .times)))
+      last : i + 1 ≡ suc i → zerosFrom (suc i) ps ts ≡ (allBy (λ (v : ℕ). eqb v 0) (drop (suc i) ps) && allBy (λ (v : ℕ). eqb v 0) (drop (suc i) ts))
       last e = unfold zerosFrom in refl
 
-  pub unused-end : 64 ≤ i → _≡_ {A = ℕ} 0 (cond (zerosFrom i f) 0 4)
+  pub unused-end : 64 ≤ i → _≡_ {A = ℕ} 0 (cond (zerosFrom i ps ts) 0 4)
   unfolding zerosFrom allBy
-  unused-end h = rw (drop-of-length-le (f .positions) {i = i} (omega arith), drop-of-length-le (f .times) {i = i} (omega arith))
+  unused-end h = rw (drop-of-length-le ps {i = i} (omega arith), drop-of-length-le ts {i = i} (omega arith))

@@ -54,9 +54,13 @@ zoneFaults (suc left) i f total before =
     (first (faultOf Time before (getD (f .times) i 0))
     (zoneFaults left (i + 1) f (total + getD (f .positions) i 0) (getD (f .times) i 0)))
 
+-- positions and times are zero from the i-th on
+unfoldable pub zerosFrom : ℕ → List ℕ → List ℕ → Bool
+zerosFrom i ps ts = allBy (λ (v : ℕ). eqb v 0) (drop i ps) && allBy (λ (v : ℕ). eqb v 0) (drop i ts)
+
 -- a record's unused zones are zero
 unfoldable pub unusedZero : Figures → Bool
-unusedZero f = allBy (λ (v : ℕ). eqb v 0) (drop (f .zones) (f .positions)) && allBy (λ (v : ℕ). eqb v 0) (drop (f .zones) (f .times))
+unusedZero f = zerosFrom (f .zones) (f .positions) (f .times)
 
 -- the refusal of a record, 0 where it is legal
 unfoldable pub recordFault : Figures → ℕ

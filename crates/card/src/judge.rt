@@ -5,29 +5,31 @@ use crate::fields::fault;
 ghost use mathlib.Core.Path.{_≡_};
 ghost use Prim.Native.Nat.{_≤_};
 ghost use mathlib.Core.Bool.{cond};
-ghost use Rattle.card.specs.Card.{filmFault, zoneFaults, unusedZero, recordFault};
+ghost use lib.ListN.{length};
+ghost use Rattle.card.specs.Card.{filmFault, zoneFaults, zerosFrom, recordFault};
+ghost use Rattle.card.specs.Read.{blankFigures, withFilm};
 
 // N, B, c, hop, return.
-fn fault_of_film(figures: Figures, total: u32) -> u32
-    ensures { λ r. ⌜ r ≡ filmFault figures total ⌝ }
+fn fault_of_film(total: u32, blocks: u32, bytes: u32, rate: u32, hop: u32, back: u32) -> u32
+    ensures { λ r. ⌜ r ≡ filmFault (withFilm blankFigures blocks bytes rate hop back) total ⌝ }
 {
-    let blocks = fault(Rule::Blocks, total, figures.blocks);
-    if blocks != 0 {
-        return blocks;
+    let few = fault(Rule::Blocks, total, blocks);
+    if few != 0 {
+        return few;
     }
-    let bytes = fault(Rule::Measure, 4194304, figures.bytes);
-    if bytes != 0 {
-        return bytes;
+    let small = fault(Rule::Measure, 4194304, bytes);
+    if small != 0 {
+        return small;
     }
-    let rate = fault(Rule::Measure, 10000000, figures.rate);
-    if rate != 0 {
-        return rate;
+    let slow = fault(Rule::Measure, 10000000, rate);
+    if slow != 0 {
+        return slow;
     }
-    let hop = fault(Rule::Measure, 1000000, figures.hop);
-    if hop != 0 {
-        return hop;
+    let far = fault(Rule::Measure, 1000000, hop);
+    if far != 0 {
+        return far;
     }
-    fault(Rule::Measure, 1000000, figures.back)
+    fault(Rule::Measure, 1000000, back)
 }
 
 // Each zone's positions, then its time; then the film.
@@ -54,20 +56,27 @@ fn fault_of_zones(figures: Figures) -> u32
         before = time;
         i += 1;
     }
-    fault_of_film(figures, total)
+    fault_of_film(
+        total,
+        figures.blocks,
+        figures.bytes,
+        figures.rate,
+        figures.hop,
+        figures.back,
+    )
 }
 
 // 4 where an entry past the zone count is not zero, else 0.
-fn fault_of_unused(figures: Figures) -> u32
-    requires { ⌜ figures .zones ≤ 64 ⌝ }
-    ensures { λ r. ⌜ r ≡ cond (unusedZero figures) 0 4 ⌝ }
+fn fault_of_unused<'a>(zones: u32, positions: &'a [u32; 64], times: &'a [u32; 64]) -> u32
+    requires { ⌜ (zones ≤ 64) × (length (now positions) ≡ 64) × (length (now times) ≡ 64) ⌝ }
+    ensures { λ r. ⌜ r ≡ cond (zerosFrom zones (now (positions .entry)) (now (times .entry))) 0 4 ⌝ }
 {
-    let mut i = figures.zones as usize;
+    let mut i = zones as usize;
     while i < 64 {
-        if figures.positions[i] != 0 {
+        if positions[i] != 0 {
             return 4;
         }
-        if figures.times[i] != 0 {
+        if times[i] != 0 {
             return 4;
         }
         i += 1;
@@ -83,7 +92,7 @@ pub fn fault_of_record(figures: Figures) -> u32
     if zones != 0 {
         return zones;
     }
-    let unused = fault_of_unused(figures);
+    let unused = fault_of_unused(figures.zones, &figures.positions, &figures.times);
     if unused != 0 {
         return unused;
     }

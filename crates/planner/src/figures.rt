@@ -34,24 +34,23 @@ pub fn plan_figures(read: CardRead, positions: &mut [u8], leads: &mut [u8]) -> P
     if verdict.number != 0 {
         return refused(verdict.number, verdict.place);
     }
-    let figures = read.figures;
-    let blocks = figures.blocks as usize;
+    let blocks = read.figures.blocks as usize;
     if words::entries(positions) < blocks {
         return refused(13, 0);
     }
     if words::entries(leads) < blocks {
         return refused(13, 0);
     }
-    let total = sum_positions(&figures.positions, figures.zones);
-    let plan = plan_of(figures, total);
+    let total = sum_positions(&read.figures.positions, read.figures.zones);
+    let plan = plan_of(read.figures, total);
     if plan.streams == 0 {
         return refused(12, 0);
     }
     write_lists(
-        &figures.positions,
-        &figures.times,
+        &read.figures.positions,
+        &read.figures.times,
         total,
-        figures.blocks,
+        read.figures.blocks,
         plan.worst2,
         positions,
         leads,

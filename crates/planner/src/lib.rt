@@ -42,20 +42,19 @@ pub fn plan_record(figures: Figures, positions: &mut [u8], leads: &mut [u8]) -> 
 pub fn is_plan(plan: Plan, positions: &[u8], leads: &[u8]) -> bool
     ensures { λ r. ⌜ r ≡ isPlan plan (now (positions .entry)) (now (leads .entry)) ⌝ }
 {
-    let figures = plan.figures;
-    let verdict = card::judge_figures(figures);
+    let verdict = card::judge_figures(plan.figures);
     if verdict.number != 0 {
         return false;
     }
-    let total = sum_positions(&figures.positions, figures.zones);
-    let own = plan_of(figures, total);
+    let total = sum_positions(&plan.figures.positions, plan.figures.zones);
+    let own = plan_of(plan.figures, total);
     if own.streams == 0 {
         return false;
     }
     if !same_numbers(plan, own) {
         return false;
     }
-    let blocks = figures.blocks as usize;
+    let blocks = plan.figures.blocks as usize;
     if words::entries(positions) < blocks {
         return false;
     }
@@ -63,10 +62,10 @@ pub fn is_plan(plan: Plan, positions: &[u8], leads: &[u8]) -> bool
         return false;
     }
     same_lists(
-        &figures.positions,
-        &figures.times,
+        &plan.figures.positions,
+        &plan.figures.times,
         total,
-        figures.blocks,
+        plan.figures.blocks,
         own.worst2,
         positions,
         leads,

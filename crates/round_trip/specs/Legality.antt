@@ -17,7 +17,7 @@ use Rattle.card.specs.declared.Figures.{Figures}
 use Rattle.card.specs.declared.Verdict.{Verdict}
 use Rattle.card.specs.declared.fields.Rule.the-variants.{Zones, Positions, Time, Blocks, Measure}
 use Rattle.card.specs.Ranges.{faultOf}
-use Rattle.card.specs.Card.{Legal, totalPositions, filmFault, zoneFaults, unusedZero, recordFault, judgeRecord}
+use Rattle.card.specs.Card.{Legal, totalPositions, filmFault, zoneFaults, zerosFrom, unusedZero, recordFault, judgeRecord}
 use Rattle.card.specs.Read.{accepted}
 use Rattle.card.specs.Laws.{first-none, first-clear, zones-range, positions-range, time-range, blocks-range, measure-range, zones-legal, positions-legal, time-legal, blocks-legal, measure-legal}
 
@@ -189,7 +189,7 @@ pub record Judged (f : Figures) : Type 0 where
 
 -- a record without a fault has none of these, and back
 pub fault-judged : (f : Figures) → recordFault f ≡ 0 → Judged f
-unfolding recordFault unusedZero
+unfolding recordFault unusedZero zerosFrom
 fault-judged f e =
     let z = first-none (faultOf Zones 0 (f .zones)) _ e in
     let u = first-none (cond (unusedZero f) 0 4) _ (z .1) in
@@ -201,7 +201,7 @@ fault-judged f e =
     }
 
 pub judged-fault : (f : Figures) → Judged f → recordFault f ≡ 0
-unfolding recordFault unusedZero
+unfolding recordFault unusedZero zerosFrom
 judged-fault f j =
     let both : unusedZero f ≡ true = and-both (at-zeros (f .zones) (f .positions) (λ i l. j .unused i l .0)) (at-zeros (f .zones) (f .times) (λ i l. j .unused i l .1)) in
     first-clear (zones-legal 0 (f .zones) (j .zones .0) (j .zones .1)) (first-clear (rw both) (j .faults))

@@ -1,32 +1,21 @@
 use mathlib.Core.Bool.{Bool, cond}
-use lib.ListN.{length}
 use Prim.Native.Nat.{_-_, _≤_}
-use mathlib.Core.Path.{_≡_, ap, _∙_}
+use mathlib.Core.Path.{_≡_, refl, ap, _∙_}
 use native.Mathlib.Omega.{arith}
 use borrow.Author.Needs.{needs}
-use Rattle.card.proofs.Laws.{zerosFrom, unused-start, unused-positions, unused-times, unused-more, unused-end}
-use Rattle.card.specs.Card.{unusedZero}
+use Rattle.card.proofs.Laws.{unused-positions, unused-times, unused-more, unused-end}
+use Rattle.card.specs.Card.{zerosFrom}
 use Rattle.card.proofs.judge.fault_of_unused.Statement.{statement}
 use Rattle.card.proofs.judge.fault_of_unused.Tie as tie
 
 abbrev Inv-loop : tie.InvT-loop
-Inv-loop figures i₀ i = (i ≤ 64) × (zerosFrom i figures ≡ unusedZero figures)
+Inv-loop zones positions times i₀ i = (i ≤ 64) × (zerosFrom i positions times ≡ zerosFrom zones positions times)
 
 abbrev μ-loop : tie.MeasureT-loop
-μ-loop figures i₀ i = 64 - i
-
-cast-i : tie.Need-cast-i Inv-loop μ-loop
-cast-i c = search needs
-
--- a record has 64 zone entries
-wide-positions : (c : tie.Start Inv-loop μ-loop) → length (c .args .t1 .positions) ≡ 64
-wide-positions c = search needs
-
-wide-times : (c : tie.Start Inv-loop μ-loop) → length (c .args .t1 .times) ≡ 64
-wide-times c = search needs
+μ-loop zones positions times i₀ i = 64 - i
 
 loop-holds : tie.Need-loop-holds Inv-loop μ-loop
-loop-holds c = (omega arith, unused-start _)
+loop-holds c = (omega arith, refl)
 
 mul-if1 : tie.Need-mul-if1 Inv-loop μ-loop
 mul-if1 c = search needs
@@ -38,7 +27,7 @@ returns : tie.Need-returns Inv-loop μ-loop
 returns c =
     let l = c .before .before .before .loop in
     let a = c .before .before .before .before in
-    unused-positions (a .args .t1) (l .i) (wide-positions a) (wide-times a) (omega arith) (c .if1 .taken) ∙ ap (λ (t : Bool). cond t 0 4) (l .inv .1)
+    unused-positions (a .args .positions .now) (a .args .times .now) (l .i) (a .pre .1) (a .pre .2) (omega arith) (c .if1 .taken) ∙ ap (λ (t : Bool). cond t 0 4) (l .inv .1)
 
 mul-if2 : tie.Need-mul-if2 Inv-loop μ-loop
 mul-if2 c = search needs
@@ -50,7 +39,7 @@ returns-2 : tie.Need-returns-2 Inv-loop μ-loop
 returns-2 c =
     let l = c .before .before .before .before .before .loop in
     let a = c .before .before .before .before .before .before in
-    unused-times (a .args .t1) (l .i) (wide-positions a) (wide-times a) (omega arith) (c .before .before .if1 .left) (c .if2 .taken) ∙ ap (λ (t : Bool). cond t 0 4) (l .inv .1)
+    unused-times (a .args .positions .now) (a .args .times .now) (l .i) (a .pre .1) (a .pre .2) (omega arith) (c .before .before .if1 .left) (c .if2 .taken) ∙ ap (λ (t : Bool). cond t 0 4) (l .inv .1)
 
 add-i : tie.Need-add-i Inv-loop μ-loop
 add-i c = search needs
@@ -62,13 +51,13 @@ loop-again : tie.Need-loop-again Inv-loop μ-loop
 loop-again c =
     let l = c .before .before .before .before .before .loop in
     let a = c .before .before .before .before .before .before in
-    (omega arith, unused-more (a .args .t1) (l .i) (wide-positions a) (wide-times a) (omega arith) (c .before .before .if1 .left) (c .if2 .left) ∙ l .inv .1)
+    (omega arith, unused-more (a .args .positions .now) (a .args .times .now) (l .i) (a .pre .1) (a .pre .2) (omega arith) (c .before .before .if1 .left) (c .if2 .left) ∙ l .inv .1)
 
 returns-3 : tie.Need-returns-3 Inv-loop μ-loop
 returns-3 c =
     let l = c .before .loop in
     let a = c .before .before in
-    unused-end (a .args .t1) (l .i) (wide-positions a) (wide-times a) (omega arith) ∙ ap (λ (t : Bool). cond t 0 4) (l .inv .1)
+    unused-end (a .args .positions .now) (a .args .times .now) (l .i) (a .pre .1) (a .pre .2) (omega arith) ∙ ap (λ (t : Bool). cond t 0 4) (l .inv .1)
 
 pub fault-of-unused-spec : {M : Type 1} → statement M
 fault-of-unused-spec =
@@ -76,7 +65,6 @@ fault-of-unused-spec =
     (tie.spec
     Inv-loop
     μ-loop
-    cast-i
     loop-holds
     mul-if1
     element-copy-out-if1

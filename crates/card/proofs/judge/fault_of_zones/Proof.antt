@@ -4,7 +4,7 @@ use native.Mathlib.Omega.{arith}
 use borrow.Author.Needs.{needs}
 use Rattle.card.specs.Laws.{positions-range}
 use Rattle.card.proofs.Laws.{zones-done, zones-few, zones-slow, zones-more}
-use Rattle.card.specs.Card.{zoneFaults}
+use Rattle.card.specs.Card.{filmFault, zoneFaults}
 use Rattle.card.proofs.judge.fault_of_zones.Statement.{statement}
 use Rattle.card.proofs.judge.fault_of_zones.Tie as tie
 
@@ -71,6 +71,7 @@ fault-of-film-requires : tie.Need-fault-of-film-requires Inv-loop μ-loop
 fault-of-film-requires c κs = search needs
 
 returns-3 : tie.Need-returns-3 Inv-loop μ-loop
+unfolding filmFault
 returns-3 c = let l = c .before .before .loop in c .fault-of-film .ensures ∙ zones-done _ _ _ _ _ (omega arith) ∙ l .inv .2
 
 pub fault-of-zones-spec : {M : Type 1} → statement M
