@@ -24,7 +24,15 @@ pub fn open(plan: Plan, positions: &[u8], leads: &[u8]) -> Answer
 pub fn join(desk: Desk, positions: &[u8], leads: &[u8], slot: u32, block: u32) -> Answer
     ensures { λ r. ⌜ r ≡ joinDesk desk (now (positions .entry)) (now (leads .entry)) slot block ⌝ }
 {
-    if !is_sound(desk, positions, leads) {
+    if !is_sound(
+        desk.plan,
+        desk.phase,
+        &desk.kinds,
+        &desk.next,
+        &desk.held,
+        positions,
+        leads,
+    ) {
         return answer(desk, 14, 0);
     }
     if desk.phase != 0 {
@@ -49,7 +57,15 @@ pub fn join(desk: Desk, positions: &[u8], leads: &[u8], slot: u32, block: u32) -
 pub fn leave(desk: Desk, positions: &[u8], leads: &[u8], slot: u32) -> Answer
     ensures { λ r. ⌜ r ≡ leaveDesk desk (now (positions .entry)) (now (leads .entry)) slot ⌝ }
 {
-    if !is_sound(desk, positions, leads) {
+    if !is_sound(
+        desk.plan,
+        desk.phase,
+        &desk.kinds,
+        &desk.next,
+        &desk.held,
+        positions,
+        leads,
+    ) {
         return answer(desk, 14, 0);
     }
     if desk.phase != 0 {

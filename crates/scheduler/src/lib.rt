@@ -21,7 +21,15 @@ ghost use Rattle.desk.specs.Desk.{beginDesk, fetchListAfter, endDesk};
 pub fn begin(desk: Desk, positions: &[u8], leads: &[u8], room: usize) -> Begun
     ensures { λ r. ⌜ r ≡ beginDesk desk (now (positions .entry)) (now (leads .entry)) room ⌝ }
 {
-    if !is_sound(desk, positions, leads) {
+    if !is_sound(
+        desk.plan,
+        desk.phase,
+        &desk.kinds,
+        &desk.next,
+        &desk.held,
+        positions,
+        leads,
+    ) {
         return not_begun(desk, 14);
     }
     if desk.phase != 0 {
@@ -32,7 +40,7 @@ pub fn begin(desk: Desk, positions: &[u8], leads: &[u8], room: usize) -> Begun
         return not_begun(desk, 13);
     }
     let g = gather(desk, positions, leads);
-    let sum = sum_leads(desk, leads);
+    let sum = sum_leads(&desk.kinds, &desk.next, plan.streams as usize, leads);
     begin_sweep(desk, g, sum)
 }
 
@@ -52,7 +60,15 @@ pub fn begin_into(desk: Desk, positions: &[u8], leads: &[u8], fetches: &mut [u8]
 pub fn end(desk: Desk, positions: &[u8], leads: &[u8], draws: &[u8]) -> Answer
     ensures { λ r. ⌜ r ≡ endDesk desk (now (positions .entry)) (now (leads .entry)) (now (draws .entry)) ⌝ }
 {
-    if !is_sound(desk, positions, leads) {
+    if !is_sound(
+        desk.plan,
+        desk.phase,
+        &desk.kinds,
+        &desk.next,
+        &desk.held,
+        positions,
+        leads,
+    ) {
         return answer(desk, 14, 0);
     }
     if desk.phase != 1 {
