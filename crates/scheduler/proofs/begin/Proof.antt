@@ -1,104 +1,46 @@
-use mathlib.Core.Path.{_≡_, sym, _∙_}
-use mathlib.Core.Bool.{true}
-use borrow.Author.Tests.{not-true, not-false}
+use mathlib.Core.Path.{_≡_, sym, ap, _∙_}
 use Rattle.round_trip.specs.Legality as legality
+use Rattle.desk.specs.Desk.{beginDesk}
 use Rattle.desk.specs.View.{Wide}
-use Rattle.soundness.specs.Facts.{soundDesk}
-use Rattle.soundness.specs.Ready.{sound-ready, sound-plan, sound-leading, sound-leads}
-use Rattle.scheduler.specs.Answers.{begin-unsound, begin-in-sweep, begin-no-room, begin-begun}
+use Rattle.records.specs.Records.{notBegun}
+use Rattle.sweep.specs.declared.Swept.{Swept}
+use Rattle.sweep.specs.Steps.{sweptOf, begunOf}
+use Rattle.scheduler.specs.Ways.{begin-refused, begin-swept}
 use borrow.Author.Needs.{needs}
 use Rattle.scheduler.proofs.begin.Statement.{statement}
 use Rattle.scheduler.proofs.begin.Tie as tie
 
-wide : (c : tie.Start) → Wide (c .args .t1)
+wide : (c : tie.Start) → Wide (c .args .desk)
 wide c = record { kinds = search needs; next = search needs; held = search needs }
 
-slim : (c : tie.Start) → legality.Wide (c .args .t1 .plan .figures)
+slim : (c : tie.Start) → legality.Wide (c .args .desk .plan .figures)
 slim c = (search needs, search needs)
 
-abbrev start : tie.Else1 → tie.Start
-start c = c .before .before .before .before .before .before .before .before .before
+-- the answer's number
+number : (c : tie.After-judge-begin) → (let a = c .before .before .before .args in
+    c .judge-begin .result .verdict .number ≡ beginDesk (a .desk) (a .positions .now) (a .leads .now) (a .room) .verdict .number)
+unfolding sweptOf
+number c = ap (λ (s : Swept). s .verdict .number) (c .judge-begin .ensures)
 
--- past the test of soundness
-passed : (c : tie.Else1) → (let a = start c .args in soundDesk (a .t1) (a .positions .now) (a .leads .now) ≡ true)
-passed c = sym (c .before .is-sound .ensures) ∙ not-false _ (c .if1 .left)
-
-is-sound-requires : tie.Need-is-sound-requires
-is-sound-requires c κs = wide (c .before .before .before .before .before .before .before)
+judge-begin-requires : tie.Need-judge-begin-requires
+judge-begin-requires c κs = search needs
 
 not-begun-requires : tie.Need-not-begun-requires
 not-begun-requires c κs = search needs
 
 returns : tie.Need-returns
 returns c =
-    let s = c .before .before .before .before .before .before .before .before .before .before in
-    c .not-begun .ensures ∙ begin-unsound (s .args .t1) (wide s) _ _ _ (sym (c .before .before .is-sound .ensures) ∙ not-true _ (c .before .if1 .taken))
-
-not-begun-requires-2 : tie.Need-not-begun-requires-2
-not-begun-requires-2 c κs = search needs
+    let j = c .before .before .before .before in
+    let s = j .before .before .before in
+    c .not-begun .ensures ∙ ap (notBegun (s .args .desk)) (number j) ∙ begin-refused (s .args .desk) (wide s) (slim s) _ _ _ (λ z. c .before .if1 .taken (number j ∙ z))
 
 returns-2 : tie.Need-returns-2
+unfolding begunOf
 returns-2 c =
     let e = c .before .before in
-    let s = start e in
-    c .not-begun2 .ensures ∙ begin-in-sweep (s .args .t1) (wide s) _ _ _ (passed e) (c .before .if2 .taken)
-
-cast-if3 : tie.Need-cast-if3
-cast-if3 c = search needs
-
-not-begun-requires-3 : tie.Need-not-begun-requires-3
-not-begun-requires-3 c κs = search needs
-
-returns-3 : tie.Need-returns-3
-returns-3 c =
-    let e = c .before .before .before .before .before in
-    let s = start e in
-    c .not-begun3 .ensures ∙ begin-no-room (s .args .t1) (wide s) _ _ _ (passed e) (c .before .before .before .before .if2 .left) (c .before .if3 .taken)
-
-gather-requires : tie.Need-gather-requires
-gather-requires c κs =
-    let e = c .before .before .before .before in
-    let s = start e in
-    (sound-ready _ _ _ (slim s) (passed e), sound-plan _ _ _ (passed e))
-
-cast-sum-leads : tie.Need-cast-sum-leads
-cast-sum-leads c = search needs
-
-sum-leads-requires : tie.Need-sum-leads-requires
-sum-leads-requires c κs =
-    let e = c .before .before .before .before .before .before .before .before .before in
-    let s = start e in
-    sound-leading (s .args .t1) (wide s) _ _ (slim s) (passed e)
-
-begin-sweep-requires : tie.Need-begin-sweep-requires
-begin-sweep-requires c κs =
-    let e = c .before .before .before .before .before .before .before .before .before .before in
-    let s = start e in
-    let g = c .before .before .before .before .before .gather in
-    let l = c .sum-leads in
-    let sum = l .ensures .0 ∙ sound-leads (s .args .t1) (wide s) _ _ (slim s) (passed e) in
-    (sound-ready _ _ _ (slim s) (passed e), g .ensures .0, g .ensures .1, sum, l .ensures .1, c .before .before .before .before .before .before .before .before .before .if2 .left)
-
-returns-4 : tie.Need-returns-4
-returns-4 c =
-    let e = c .before .before .before .before .before .before .before .before .before .before .before in
-    let s = start e in
-    c .begin-sweep .ensures ∙ begin-begun (s .args .t1) (wide s) _ _ _ (passed e) (c .before .before .before .before .before .before .before .before .before .before .if2 .left) (c .before .before .before .before .before .before .before .if3 .left)
+    let j = e .before .before .before in
+    let s = j .before .before .before in
+    ap (begunOf (s .args .desk)) (j .judge-begin .ensures) ∙ begin-swept (s .args .desk) (wide s) (slim s) _ _ _ (sym (number j) ∙ e .if1 .left)
 
 pub begin-spec : {M : Type 1} → statement M
-begin-spec =
-    tie.close
-    (tie.spec
-    is-sound-requires
-    not-begun-requires
-    returns
-    not-begun-requires-2
-    returns-2
-    cast-if3
-    not-begun-requires-3
-    returns-3
-    gather-requires
-    cast-sum-leads
-    sum-leads-requires
-    begin-sweep-requires
-    returns-4)
+begin-spec = tie.close (tie.spec judge-begin-requires not-begun-requires returns returns-2)
