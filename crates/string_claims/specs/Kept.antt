@@ -18,25 +18,17 @@ use Rattle.safety.specs.Scheduler.{Entry, Call, join, leave, begin, end}
 use Rattle.desk.specs.declared.Desk.{Desk}
 use Rattle.desk.specs.declared.Answer.{Answer}
 use Rattle.desk.specs.Desk.{deskOf, verdict, blankDesk, openBy, openDesk, answerOf, answered, joinDesk, leaveDesk, endDesk, beginDesk, entryWords, fetchListAfter}
-use Rattle.desk.specs.View.{Wide}
 use Rattle.admission.specs.Refused.{refused-same, refused-desk}
 use Rattle.layout.specs.declared.FilmdiskAnswer.{FilmdiskAnswer}
 use Rattle.layout.specs.Answers.{verdictAnswer}
 use Rattle.layout.specs.Layout.{deskWords, planIn, zeroBytes}
-use Rattle.layout.specs.Laws.{DeskSized, desk-sized, desk-kept, desk-zero}
-use Rattle.desk_strings.specs.Laws.{enough, right-answer, right-string, other-string}
+use Rattle.layout.specs.Laws.{desk-kept, desk-zero}
+use Rattle.desk_strings.specs.Laws.{enough, said-wide, right-answer, right-string, other-string}
 use Rattle.desk_strings.specs.Calls.{openedFrom, openVerdict, openAnswer, openString, said, answerBy, stringBy, joinAnswer, joinString, leaveAnswer, leaveString, endAnswer, endString, roomIn, begunAnswer, beginAnswer, beginString, fetchString}
 
 -- ---- a desk string D
 
 module _ (D : List ℕ) where
-  pub said-sized : length D ≡ 3628 → DeskSized (said D)
-  unfolding said
-  said-sized l = desk-sized (wordsOf D) (enough D l)
-
-  pub said-wide : length D ≡ 3628 → Wide (said D)
-  said-wide l = let s = said-sized l in record { kinds = s .kinds; next = s .next; held = s .held }
-
   -- the desk that was read, written back
   same-string : Bytes D → (d : Desk) → (length D ≡ 3628 → d ≡ said D) → stringBy D d ≡ D
   unfolding said
@@ -51,7 +43,7 @@ module _ (D : List ℕ) where
       refused-number l z = n (ap (λ (x : FilmdiskAnswer). x .number) (right-answer D l a) ∙ e ∙ z)
 
       pub call-kept : Bytes D → stringBy D (deskOf (said D .plan) (answerOf (said D) ps ls room call .scheduler)) ≡ D
-      call-kept y = same-string y _ (λ l. refused-desk (said D) ps ls room call (said-wide l) (refused-number l))
+      call-kept y = same-string y _ (λ l. refused-desk (said D) ps ls room call (said-wide D l) (refused-number l))
 
     pub join-kept : (slot block : ℕ) → Bytes D → (joinAnswer D ps ls slot block .number ≡ 0 → ⊥) → joinString D ps ls slot block ≡ D
     unfolding joinAnswer joinString joinDesk answered verdictAnswer
