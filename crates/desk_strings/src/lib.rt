@@ -81,12 +81,12 @@ pub fn join(
     if desk.len() != DESK_BYTES {
         return refused(14);
     }
-    let verdict = judge_join(read_desk(desk), positions, leads, slot, block);
-    if verdict.number != 0 {
-        return verdict_answer(verdict);
+    let judged = judge_join(read_desk(desk), positions, leads, slot, block);
+    if judged.number != 0 {
+        return verdict_answer(judged);
     }
     put_slot(desk, slot as usize, 1, block);
-    verdict_answer(verdict)
+    verdict_answer(judged)
 }
 
 // An occupied slot becomes free: 14 to 17. A refused call writes nothing, another its slot alone.
@@ -97,12 +97,12 @@ pub fn leave(desk: &mut [u8], positions: &[u8], leads: &[u8], slot: u32) -> Film
     if desk.len() != DESK_BYTES {
         return refused(14);
     }
-    let verdict = judge_leave(read_desk(desk), positions, leads, slot);
-    if verdict.number != 0 {
-        return verdict_answer(verdict);
+    let judged = judge_leave(read_desk(desk), positions, leads, slot);
+    if judged.number != 0 {
+        return verdict_answer(judged);
     }
     put_slot(desk, slot as usize, 0, 0);
-    verdict_answer(verdict)
+    verdict_answer(judged)
 }
 
 // What a begin answers, without its fetches.
