@@ -1,11 +1,12 @@
 -- The answers of open, join and leave, a law for each way that their code can take: the rows of 01's table, then what an accepted call makes.
 -- Assumes nothing.
 use Prim.Native.Nat.{ℕ, _≤_, _<_}
-use mathlib.Core.Path.{_≡_, sym, ap, _∙_}
-use mathlib.Core.Logic.{_≢_}
+use mathlib.Core.Path.{_≡_, refl, sym, ap, _∙_}
+use mathlib.Core.Logic.{_≢_, by-cases}
 use mathlib.Core.Bool.{Bool, true, false, cond}
 use mathlib.Core.List.{List}
 use native.Mathlib.Omega.{arith}
+use native.Mathlib.Decide.{decLt, ℕ-discrete}
 use lib.ListN.{getD, set, length-set}
 use borrow.Author.Tests.{lt-ltb, le-ltb}
 use Rattle.plan.specs.declared.Plan.{Plan}
@@ -18,11 +19,13 @@ use Rattle.safety.specs.Calls as calls
 use Rattle.safety.specs.Lists.{answer-accepted, answer-refused}
 use Rattle.safety.specs.Rows.{refuse, join-phase, join-slot, join-occupied, join-fault, join-accepted, leave-phase, leave-slot, leave-free, leave-accepted}
 use Rattle.desk.specs.declared.Desk.{Desk}
+use Rattle.desk.specs.declared.Answer.{Answer}
 use Rattle.desk.specs.Desk.{supplyOf, slotsIn, viewOf, deskOf, freshDesk, blankDesk, verdict, openDesk, answerOf, answered, joinDesk, leaveDesk}
 use Rattle.desk.specs.View.{Wide, same-length, desk-of-view}
 use Rattle.desk.specs.Slots.{kind-in}
 use Rattle.records.specs.Records.{answers, withSlot}
 use Rattle.soundness.specs.Facts.{soundDesk}
+use Rattle.admission.specs.Refused.{refused-desk}
 
 -- ---- open
 
@@ -117,6 +120,32 @@ module _ (d : Desk) (w : Wide d) (ps ls : List ℕ) where
           sym (ap (answered d) (answer-accepted p (bySlot p) (calls.refusals p (bySlot p)) (viewOf d) (record { call = join slot block; fair = isPlan (d .plan) ps ls; room = 0 }) (ap (λ (u : refusals.Verdict). u .number) v))
           ∙ λ t. record { verdict = verdict 0 0; desk = set-slots slot 1 block h t })
 
+    -- a join that is refused, and one that is not
+    pub join-refused : (joinDesk d ps ls slot block .verdict .number ≡ 0 → ⊥) → joinDesk d ps ls slot block .desk ≡ d
+    unfolding joinDesk answered
+    join-refused n = refused-desk d ps ls 0 (join slot block) w n
+
+    pub join-made : joinDesk d ps ls slot block .verdict .number ≡ 0
+        → (soundDesk d ps ls ≡ true) × (slot < d .plan .streams) × (answers (withSlot d slot 1 block) 0 0 ≡ joinDesk d ps ls slot block)
+    join-made z = go (soundDesk d ps ls) refl
+      where
+        Made : Type 0
+        Made = (soundDesk d ps ls ≡ true) × (slot < d .plan .streams) × (answers (withSlot d slot 1 block) 0 0 ≡ joinDesk d ps ls slot block)
+
+        -- no row refuses it
+        not : (k i : ℕ) → 0 < k → answers d k i ≡ joinDesk d ps ls slot block → Made
+        not k i h e = absurd (omega (arith, ap (λ (a : Answer). a .verdict .number) e))
+
+        go : (t : Bool) → soundDesk d ps ls ≡ t → Made
+        go false s = not 14 0 (omega arith) (join-unsound s)
+        go true s = by-cases (ℕ-discrete (d .phase) 0)
+            (λ h. by-cases (decLt slot (d .plan .streams))
+            (λ l. by-cases (ℕ-discrete (getD (d .kinds) slot 0) 0)
+            (λ k. by-cases (decLt block (d .plan .figures .blocks)) (λ b. (s, l, join-done s h l k b)) (λ b. not 18 slot (omega arith) (join-past-end s h l k (omega arith))))
+            (λ k. not 17 slot (omega arith) (join-taken s h l k)))
+            (λ l. not 16 slot (omega arith) (join-no-slot s h (omega arith))))
+            (λ h. not 15 0 (omega arith) (join-in-sweep s h))
+
   -- ---- leave
 
   module _ (slot : ℕ) where
@@ -145,3 +174,27 @@ module _ (d : Desk) (w : Wide d) (ps ls : List ℕ) where
           let v : judges (leave slot) ≡ refusals.accept = sound-row (leave slot) s ∙ leave-accepted p (viewOf d) 0 slot h l (λ e. k (sym (kind-in d w slot) ∙ e)) in
           sym (ap (answered d) (answer-accepted p (bySlot p) (calls.refusals p (bySlot p)) (viewOf d) (record { call = leave slot; fair = isPlan (d .plan) ps ls; room = 0 }) (ap (λ (u : refusals.Verdict). u .number) v))
           ∙ λ t. record { verdict = verdict 0 0; desk = set-slots slot 0 0 h t })
+
+    -- a leave that is refused, and one that is not
+    pub leave-refused : (leaveDesk d ps ls slot .verdict .number ≡ 0 → ⊥) → leaveDesk d ps ls slot .desk ≡ d
+    unfolding leaveDesk answered
+    leave-refused n = refused-desk d ps ls 0 (leave slot) w n
+
+    pub leave-made : leaveDesk d ps ls slot .verdict .number ≡ 0
+        → (soundDesk d ps ls ≡ true) × (slot < d .plan .streams) × (answers (withSlot d slot 0 0) 0 0 ≡ leaveDesk d ps ls slot)
+    leave-made z = go (soundDesk d ps ls) refl
+      where
+        Made : Type 0
+        Made = (soundDesk d ps ls ≡ true) × (slot < d .plan .streams) × (answers (withSlot d slot 0 0) 0 0 ≡ leaveDesk d ps ls slot)
+
+        -- no row refuses it
+        not : (k i : ℕ) → 0 < k → answers d k i ≡ leaveDesk d ps ls slot → Made
+        not k i h e = absurd (omega (arith, ap (λ (a : Answer). a .verdict .number) e))
+
+        go : (t : Bool) → soundDesk d ps ls ≡ t → Made
+        go false s = not 14 0 (omega arith) (leave-unsound s)
+        go true s = by-cases (ℕ-discrete (d .phase) 0)
+            (λ h. by-cases (decLt slot (d .plan .streams))
+            (λ l. by-cases (ℕ-discrete (getD (d .kinds) slot 0) 0) (λ k. not 17 slot (omega arith) (leave-vacant s h l k)) (λ k. (s, l, leave-done s h l k)))
+            (λ l. not 16 slot (omega arith) (leave-no-slot s h (omega arith))))
+            (λ h. not 15 0 (omega arith) (leave-in-sweep s h))

@@ -1,20 +1,24 @@
 -- Each way that a call on byte strings can take.
 -- Assumes nothing.
-use Prim.Native.Nat.{ℕ}
+use Prim.Native.Nat.{ℕ, _<_}
 use mathlib.Core.Path.{_≡_, refl, sym, ap, _∙_}
-use mathlib.Core.Bool.{cond}
+use mathlib.Core.Bool.{true, cond}
 use mathlib.Core.List.{List}
+use native.Mathlib.Omega.{arith}
 use lib.ListN.{length}
 use lib.Dec.{eqb}
 use borrow.Author.Tests.{eq-eqb, ne-eqb}
-use Rattle.words.specs.Words.{withWords}
+use Rattle.words.specs.Words.{Bytes, withWords}
 use Rattle.desk.specs.declared.Desk.{Desk}
 use Rattle.desk.specs.declared.Answer.{Answer}
 use Rattle.desk.specs.Desk.{verdict, fetchListAfter}
+use Rattle.soundness.specs.Facts.{soundDesk}
+use Rattle.soundness.specs.Ready.{plan-streams, sound-plan}
 use Rattle.layout.specs.declared.FilmdiskAnswer.{FilmdiskAnswer}
 use Rattle.layout.specs.Answers.{verdictAnswer}
 use Rattle.layout.specs.Layout.{deskWords}
-use Rattle.desk_strings.specs.Laws.{right-answer, right-string, other-answer, other-string}
+use Rattle.layout.specs.Laws.{desk-kept}
+use Rattle.desk_strings.specs.Laws.{enough, said-sized, right-answer, right-string, other-answer, other-string}
 use Rattle.desk_strings.specs.Calls.{refusedBy, openVerdict, said, answerBy, stringBy, roomIn, fetchString}
 
 module _ (D : List ℕ) where
@@ -25,6 +29,17 @@ module _ (D : List ℕ) where
     pub right-fetches : (ps ls F : List ℕ) → fetchListAfter (said D) ps ls (roomIn F) F ≡ fetchString D ps ls F
     unfolding fetchString
     right-fetches ps ls F = rw (eq-eqb (length D) 3628 l) refl
+
+    -- the desk that was read, written back
+    pub kept : Bytes D → (d : Desk) → d ≡ said D → D ≡ withWords D 0 (deskWords d)
+    unfolding said
+    kept y d e = sym (ap (λ (x : Desk). withWords D 0 (deskWords x)) e ∙ desk-kept D y (enough D l))
+
+    -- a slot of a sound desk is one of its 256
+    pub slot-fits : (ps ls : List ℕ) (slot : ℕ) → soundDesk (said D) ps ls ≡ true → slot < said D .plan .streams → slot < 256
+    slot-fits ps ls slot s h =
+        let z = said-sized D l .plan in
+        omega (arith, plan-streams (said D .plan) ps ls (z .positions, z .times) (sound-plan (said D) ps ls s))
 
     -- what a call answered, written back
     module _ (x y : Answer) (e : x ≡ y) (r : FilmdiskAnswer) (t : List ℕ) (v : r ≡ verdictAnswer (x .verdict)) (w : t ≡ withWords D 0 (deskWords (x .desk))) where

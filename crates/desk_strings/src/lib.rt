@@ -1,10 +1,13 @@
 // The calls of the desk on lent byte strings: what the bytes say, called, and written back. Strings lent to one call share no byte.
+use admission::judge_join;
+use admission::judge_leave;
 use card::Verdict;
 use desk::Answer;
 use desk::Begun;
 use layout::DESK_BYTES;
 use layout::FilmdiskAnswer;
 use layout::PLAN_BYTES;
+use layout::put_slot;
 use layout::read_desk;
 use layout::read_plan;
 use layout::verdict_answer;
@@ -64,7 +67,7 @@ pub fn open(plan: &[u8], positions: &[u8], leads: &[u8], desk: &mut [u8]) -> Fil
     refused(13)
 }
 
-// A free slot becomes asked: 14 to 18.
+// A free slot becomes asked: 14 to 18. A refused call writes nothing, another its slot alone.
 pub fn join(
     desk: &mut [u8],
     positions: &[u8],
@@ -78,11 +81,15 @@ pub fn join(
     if desk.len() != DESK_BYTES {
         return refused(14);
     }
-    let answered = admission::join(read_desk(desk), positions, leads, slot, block);
-    write_back(desk, answered)
+    let judged = judge_join(read_desk(desk), positions, leads, slot, block);
+    if judged.number != 0 {
+        return verdict_answer(judged);
+    }
+    put_slot(desk, slot as usize, 1, block);
+    verdict_answer(judged)
 }
 
-// An occupied slot becomes free: 14 to 17.
+// An occupied slot becomes free: 14 to 17. A refused call writes nothing, another its slot alone.
 pub fn leave(desk: &mut [u8], positions: &[u8], leads: &[u8], slot: u32) -> FilmdiskAnswer
     ensures { λ r. ⌜ (r ≡ leaveAnswer (now (desk .entry)) (now (positions .entry)) (now (leads .entry)) slot)
         × (now (desk .exit) ≡ leaveString (now (desk .entry)) (now (positions .entry)) (now (leads .entry)) slot) ⌝ }
@@ -90,8 +97,12 @@ pub fn leave(desk: &mut [u8], positions: &[u8], leads: &[u8], slot: u32) -> Film
     if desk.len() != DESK_BYTES {
         return refused(14);
     }
-    let answered = admission::leave(read_desk(desk), positions, leads, slot);
-    write_back(desk, answered)
+    let judged = judge_leave(read_desk(desk), positions, leads, slot);
+    if judged.number != 0 {
+        return verdict_answer(judged);
+    }
+    put_slot(desk, slot as usize, 0, 0);
+    verdict_answer(judged)
 }
 
 // What a begin answers, without its fetches.

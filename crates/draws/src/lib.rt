@@ -7,19 +7,15 @@ use streams::product;
 use words::entries;
 use words::word_at;
 ghost use mathlib.Core.Path.{_≡_};
-ghost use Prim.Native.Nat.{ℕ, _≤_};
-ghost use lib.ListN.{length};
+ghost use Prim.Native.Nat.{_≤_};
+ghost use lib.ListN.{length, getD};
 ghost use Rattle.words.specs.Words.{wordsOf};
-ghost use Rattle.safety.specs.Supply.{Supply};
-ghost use Rattle.safety.specs.Scheduler.{at, drawLimit};
-ghost use Rattle.safety.specs.Arrays.{slotOf};
-ghost use Rattle.desk.specs.Desk.{supplyOf, slotsIn};
 ghost use Rattle.desk.specs.Ready.{Ready, Gathers, InRange};
-ghost use Rattle.draws.specs.Draws.{FirstAbove, judgedDraws};
+ghost use Rattle.draws.specs.Draws.{FirstAbove, kindLimit, judgedDraws};
 
 // What a slot may draw: a playing or tail slot the most, others 0.
 fn draw_limit(kind: u32, most: u64) -> u64
-    ensures { λ r. ⌜ ((p : Supply ℕ) (b h : ℕ) → drawLimit p most (slotOf p kind b h) ≡ r) ⌝ }
+    ensures { λ r. ⌜ r ≡ kindLimit most kind ⌝ }
 {
     match kind {
         3 => most,
@@ -29,14 +25,14 @@ fn draw_limit(kind: u32, most: u64) -> u64
 }
 
 // The first slot whose draw is above what it may draw, or the number of draws.
-fn first_excess(desk: Desk, most: u64, draws: &[u8]) -> usize
+fn first_excess(kinds: &[u32; 256], most: u64, draws: &[u8]) -> usize
     requires { ⌜ length (wordsOf (now draws)) ≤ 256 ⌝ }
-    ensures { λ r. ⌜ FirstAbove (λ j. drawLimit (supplyOf (desk .plan)) most (at (supplyOf (desk .plan)) (slotsIn desk) j)) (wordsOf (now (draws .entry))) r ⌝ }
+    ensures { λ r. ⌜ FirstAbove (λ j. kindLimit most (getD (now (kinds .entry)) j 0)) (wordsOf (now (draws .entry))) r ⌝ }
 {
     let count = entries(draws);
     let mut i: usize = 0;
     while i < count {
-        if draw_limit(desk.kinds[i], most) < word_at(draws, i) as u64 {
+        if draw_limit(kinds[i], most) < word_at(draws, i) as u64 {
             return i;
         }
         i += 1;
@@ -45,14 +41,14 @@ fn first_excess(desk: Desk, most: u64, draws: &[u8]) -> usize
 }
 
 // The first slot whose draw is above what it holds, or the number of draws.
-fn first_overdrawn(desk: Desk, draws: &[u8]) -> usize
+fn first_overdrawn(held: &[u32; 256], draws: &[u8]) -> usize
     requires { ⌜ length (wordsOf (now draws)) ≤ 256 ⌝ }
-    ensures { λ r. ⌜ FirstAbove (λ j. at (supplyOf (desk .plan)) (slotsIn desk) j .buffered) (wordsOf (now (draws .entry))) r ⌝ }
+    ensures { λ r. ⌜ FirstAbove (λ j. getD (now (held .entry)) j 0) (wordsOf (now (draws .entry))) r ⌝ }
 {
     let count = entries(draws);
     let mut i: usize = 0;
     while i < count {
-        if desk.held[i] < word_at(draws, i) {
+        if held[i] < word_at(draws, i) {
             return i;
         }
         i += 1;
@@ -72,9 +68,18 @@ pub fn judge_draws(desk: Desk, g: Gathered, draws: &[u8]) -> Verdict
             place: 0,
         };
     }
-    let most = product(desk.plan.figures.rate, sweep_bound(desk, g)) / 1000000;
-    let excess = first_excess(desk, most, draws);
-    let overdrawn = first_overdrawn(desk, draws);
+    let bound = sweep_bound(
+        &desk.kinds,
+        &desk.held,
+        &g.times,
+        n,
+        desk.plan.buffer - desk.plan.figures.bytes,
+        desk.plan.figures.hop,
+        desk.plan.figures.back,
+    );
+    let most = product(desk.plan.figures.rate, bound) / 1000000;
+    let excess = first_excess(&desk.kinds, most, draws);
+    let overdrawn = first_overdrawn(&desk.held, draws);
     if excess < n {
         return Verdict {
             number: 20,

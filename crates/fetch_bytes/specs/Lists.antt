@@ -12,6 +12,10 @@ use Rattle.desk.specs.declared.Fetches.{Fetches}
 use Rattle.desk.specs.Desk.{fetchesOf, entryWords}
 use Rattle.desk.specs.Entries.{entriesFrom, entriesIn, entries-in}
 
+-- the fetches of three arrays
+abbrev pub listOf : ℕ → List ℕ → List ℕ → List ℕ → Fetches
+listOf n ps ss bs = record { count = n; positions = ps; slots = ss; blocks = bs }
+
 -- n entries from the i-th on: position, slot and block of each
 unfoldable pub rows : ℕ → ℕ → Fetches → List ℕ
 rows i zero f = []

@@ -1,17 +1,16 @@
 // The floor of document 01 (safety: the low-water mark): the leads of a desk's filling and playing slots, and the mark that they give.
-use desk::Desk;
 use streams::product;
 use words::word_at;
 ghost use mathlib.Core.Path.{_≡_};
 ghost use Prim.Native.Nat.{_+_, _*_, _≤_, _<_};
 ghost use lib.ListN.{length};
 ghost use Rattle.words.specs.Words.{wordsOf};
-ghost use Rattle.floor.specs.Floor.{leadSum, AllNamed, LeadList, LeadIs};
+ghost use Rattle.floor.specs.Floor.{Leading, slotLead, slotLeads};
 
 // The lead that a slot adds to the sum: that of its next block where it is filling or playing, else 0.
 fn lead_of(kind: u32, next: u32, leads: &[u8]) -> u32
     requires { ⌜ (2 ≤ kind → kind ≤ 3 → next < length (wordsOf (now leads))) ⌝ }
-    ensures { λ r. ⌜ LeadIs (now (leads .entry)) kind next r ⌝ }
+    ensures { λ r. ⌜ r ≡ slotLead (wordsOf (now (leads .entry))) kind next ⌝ }
 {
     if kind < 2 {
         return 0;
@@ -22,17 +21,20 @@ fn lead_of(kind: u32, next: u32, leads: &[u8]) -> u32
     word_at(leads, next as usize)
 }
 
-// The leads at the next blocks of all filling and playing slots, added up.
-pub fn sum_leads(desk: Desk, leads: &[u8]) -> u32
-    requires { ⌜ (AllNamed desk) × (LeadList (desk .plan .figures) (now leads)) ⌝ }
-    ensures { λ r. ⌜ (r ≡ leadSum desk) × (r ≤ 1023999744) ⌝ }
+// The leads at the next blocks of the filling and playing slots among the first `streams`, added up.
+pub fn sum_leads<'a>(
+    kinds: &'a [u32; 256],
+    next: &'a [u32; 256],
+    streams: usize,
+    leads: &[u8],
+) -> u32
+    requires { ⌜ Leading (wordsOf (now leads)) (now kinds) (now next) streams ⌝ }
+    ensures { λ r. ⌜ (r ≡ slotLeads (wordsOf (now (leads .entry))) (now (kinds .entry)) (now (next .entry)) streams) × (r ≤ 1023999744) ⌝ }
 {
     let mut sum: u32 = 0;
     let mut i: usize = 0;
-    while i < 256 {
-        let kind = desk.kinds[i];
-        let next = desk.next[i];
-        sum += lead_of(kind, next, leads);
+    while i < streams {
+        sum += lead_of(kinds[i], next[i], leads);
         i += 1;
     }
     sum

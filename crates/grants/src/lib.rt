@@ -1,20 +1,17 @@
 // Begin: filling slots start to play, then asked slots are granted in slot order.
-use desk::Desk;
-use desk::Gathered;
 use floor::low_water;
 use streams::product;
 ghost use mathlib.Core.Path.{_≡_};
 ghost use mathlib.Core.Bool.{_&&_};
+ghost use mathlib.Core.List.{List};
 ghost use Prim.Native.Nat.{ℕ, _+_, _*_, _≤_, min};
+ghost use lib.ListN.{length, getD};
 ghost use lib.Dec.{leb, eqb};
 ghost use Rattle.safety.specs.Supply.{Supply};
-ghost use Rattle.safety.specs.Scheduler.{startedSlot, started, leads, tries};
-ghost use Rattle.safety.specs.Arrays.{slotOf};
+ghost use Rattle.safety.specs.Scheduler.{startedSlot, started, tries};
+ghost use Rattle.safety.specs.Arrays.{slotOf, slotsOf};
 ghost use Rattle.safety.specs.Turns.{leastHeld};
-ghost use Rattle.desk.specs.Desk.{supplyOf, slotsIn};
-ghost use Rattle.desk.specs.Ready.{Stage};
-ghost use Rattle.desk.specs.Slots.{withSlots};
-ghost use Rattle.grants.specs.Grants.{ample};
+ghost use Rattle.grants.specs.Grants.{ample, Slots, Asks};
 
 // The kind of a slot after it was tested against the mark: a filling one that holds it plays.
 fn started_kind(kind: u32, held: u32, mark: u64) -> u32
@@ -31,17 +28,17 @@ fn started_kind(kind: u32, held: u32, mark: u64) -> u32
     }
 }
 
-// Each filling slot that holds the mark becomes playing.
-pub fn start_playing(desk: Desk, mark: u64) -> Desk
-    ensures { λ r. ⌜ r ≡ withSlots desk (started (supplyOf (desk .plan)) mark (slotsIn desk)) ⌝ }
+// Each filling slot that holds the mark becomes playing. The slots from `streams` on are free.
+pub fn start_playing(kinds: &mut [u32; 256], held: &[u32; 256], streams: usize, mark: u64)
+    requires { ⌜ (streams ≤ 256) × (length (now kinds) ≡ 256) ⌝ }
+    ensures { λ _. ⌜ ((p : Supply ℕ) (xs : List ℕ) → Slots p streams (now (kinds .entry)) xs (now (held .entry))
+        → slotsOf p (now (kinds .exit)) xs (now (held .entry)) ≡ started p mark (slotsOf p (now (kinds .entry)) xs (now (held .entry)))) ⌝ }
 {
-    let mut d = desk;
     let mut i: usize = 0;
-    while i < 256 {
-        d.kinds[i] = started_kind(d.kinds[i], d.held[i], mark);
+    while i < streams {
+        kinds[i] = started_kind(kinds[i], held[i], mark);
         i += 1;
     }
-    d
 }
 
 // The lower of a level and what a playing slot holds, in two-millionths of a byte.
@@ -61,14 +58,16 @@ fn lower(kind: u32, held: u32, level: u64) -> u64
     }
 }
 
-// The least that a playing slot holds, in two-millionths of a byte; where none plays, above every mark.
-pub fn least_level(desk: Desk) -> u64
-    ensures { λ r. ⌜ r ≡ 2000000 * leastHeld (supplyOf (desk .plan)) ample (slotsIn desk) ⌝ }
+// The least that a playing slot holds, in two-millionths of a byte; where none plays, above every mark. The slots from `streams` on are free.
+pub fn least_level<'a>(kinds: &'a [u32; 256], held: &'a [u32; 256], streams: usize) -> u64
+    requires { ⌜ streams ≤ 256 ⌝ }
+    ensures { λ r. ⌜ ((p : Supply ℕ) (xs : List ℕ) → Slots p streams (now (kinds .entry)) xs (now (held .entry))
+        → r ≡ 2000000 * leastHeld p ample (slotsOf p (now (kinds .entry)) xs (now (held .entry)))) ⌝ }
 {
     let mut level: u64 = 2000000000000000000;
     let mut i: usize = 0;
-    while i < 256 {
-        level = lower(desk.kinds[i], desk.held[i], level);
+    while i < streams {
+        level = lower(kinds[i], held[i], level);
         i += 1;
     }
     level
@@ -85,23 +84,30 @@ fn is_granted(kind: u32, bytes: u32, rate: u32, leads: u32, level: u64) -> bool
     }
 }
 
-// In slot order, asked slots become filling; `sum` is the leads before and `level` the least that a playing slot holds.
-pub fn grant_asked(desk: Desk, g: Gathered, sum: u32, level: u64) -> Desk
-    requires { ⌜ (Stage desk g) × (sum ≡ leads (supplyOf (desk .plan)) (slotsIn desk)) × (sum ≤ 256 * 3999999) × (level ≡ 2000000 * leastHeld (supplyOf (desk .plan)) ample (slotsIn desk)) ⌝ }
-    ensures { λ r. ⌜ r ≡ withSlots desk (tries (supplyOf (desk .plan)) (slotsIn desk) 0 256) ⌝ }
+// In slot order, asked slots become filling; `sum` is the leads before and `level` the least that a playing slot holds. The slots from
+// `streams` on are free.
+pub fn grant_asked(
+    kinds: &mut [u32; 256],
+    leads: &[u32; 256],
+    streams: usize,
+    bytes: u32,
+    rate: u32,
+    sum: u32,
+    level: u64,
+)
+    requires { ⌜ (streams ≤ 256) × (length (now kinds) ≡ 256) × ((i : ℕ) → getD (now leads) i 0 ≤ 3999999) × (bytes ≤ 4194304) × (rate ≤ 10000000) × (sum ≤ 256 * 3999999) ⌝ }
+    ensures { λ _. ⌜ ((p : Supply ℕ) (xs hs : List ℕ) → Slots p streams (now (kinds .entry)) xs hs
+        → Asks p bytes rate sum level (now (leads .entry)) (now (kinds .entry)) xs hs
+        → slotsOf p (now (kinds .exit)) xs hs ≡ tries p (slotsOf p (now (kinds .entry)) xs hs) 0 256) ⌝ }
 {
-    let bytes = desk.plan.figures.bytes;
-    let rate = desk.plan.figures.rate;
-    let mut d = desk;
-    let mut leads = sum;
+    let mut total = sum;
     let mut i: usize = 0;
-    while i < 256 {
-        let raised = leads + g.leads[i];
-        if is_granted(d.kinds[i], bytes, rate, raised, level) {
-            d.kinds[i] = 2;
-            leads = raised;
+    while i < streams {
+        let raised = total + leads[i];
+        if is_granted(kinds[i], bytes, rate, raised, level) {
+            kinds[i] = 2;
+            total = raised;
         }
         i += 1;
     }
-    d
 }

@@ -3,3 +3,4 @@ pub mod Fields
 pub mod Laws
 pub mod Layout
 pub mod Legal
+pub mod Slot

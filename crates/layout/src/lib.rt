@@ -12,12 +12,13 @@ use words::word_at;
 use words::write_64;
 use words::write_256;
 ghost use mathlib.Core.Path.{_≡_};
-ghost use Prim.Native.Nat.{ℕ, _≤_};
+ghost use Prim.Native.Nat.{ℕ, _≤_, _<_};
 ghost use mathlib.Core.List.{List, [], _∷_};
 ghost use lib.ListN.{length};
 ghost use Rattle.words.specs.Words.{Bytes, Words, wordsOf, withWords};
 ghost use Rattle.plan.specs.declared.Plan.{Plan};
 ghost use Rattle.desk.specs.declared.Desk.{Desk};
+ghost use Rattle.records.specs.Records.{withSlot};
 ghost use Rattle.layout.specs.Layout.{planWords, planIn, deskWords, deskIn};
 ghost use Rattle.layout.specs.Laws.{PlanSized, DeskSized};
 ghost use Rattle.layout.specs.Answers.{verdictAnswer};
@@ -141,6 +142,16 @@ pub fn write_desk(list: &mut [u8], desk: Desk)
     write_256(list, offsets::KINDS, &desk.kinds);
     write_256(list, offsets::NEXT, &desk.next);
     write_256(list, offsets::HELD, &desk.held);
+}
+
+// Writes slot i of the desk at the front of a string: a kind, a next block and nothing held.
+pub fn put_slot(list: &mut [u8], i: usize, kind: u32, next: u32)
+    requires { ⌜ (i < 256) × (907 ≤ length (wordsOf (now list))) ⌝ }
+    ensures { λ _. ⌜ now (list .exit) ≡ withWords (now (list .entry)) 0 (deskWords (withSlot (deskIn (wordsOf (now (list .entry)))) i kind next)) ⌝ }
+{
+    put_word(list, offsets::KINDS + i, kind);
+    put_word(list, offsets::NEXT + i, next);
+    put_word(list, offsets::HELD + i, 0);
 }
 
 // What is written is read back.

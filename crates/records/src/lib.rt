@@ -64,7 +64,8 @@ pub fn with_slot(desk: Desk, i: usize, kind: u32, next: u32) -> Desk
     d
 }
 
-fn no_fetches() -> Fetches
+// No fetches.
+pub fn no_fetches() -> Fetches
     ensures { λ r. ⌜ r ≡ fetchesOf [] ⌝ }
 {
     Fetches {

@@ -1,14 +1,18 @@
 -- The answers of begin and end, a law for each way that their code can take: the rows of 01's table, then what an accepted call makes.
 -- Assumes nothing.
 use Prim.Native.Nat.{ℕ, _≤_, _<_}
-use mathlib.Core.Path.{_≡_, sym, ap, _∙_}
-use mathlib.Core.Logic.{_≢_}
-use mathlib.Core.Bool.{true, false}
+use mathlib.Core.Path.{_≡_, refl, sym, ap, _∙_}
+use mathlib.Core.Logic.{_≢_, by-cases}
+use mathlib.Core.Bool.{Bool, true, false}
 use mathlib.Core.List.{List, []}
 use native.Mathlib.Omega.{arith}
+use native.Mathlib.Decide.{ℕ-discrete}
+use lib.ListN.{length}
+use lib.Dec.{eqb}
 use Rattle.words.specs.Words.{wordsOf}
 use Rattle.plan.specs.Answer.{isPlan}
-use Rattle.safety.specs.Scheduler.{Call, begin, end}
+use Rattle.laws.specs.Places.{allFrom, lowestFrom}
+use Rattle.safety.specs.Scheduler.{Call, mostDrawn, begin, end}
 use Rattle.safety.specs.Order.{bySlot}
 use Rattle.safety.specs.Refusals as refusals
 use Rattle.safety.specs.Calls as calls
@@ -16,6 +20,7 @@ use Rattle.safety.specs.Lists.{answer-accepted, answer-refused}
 use Rattle.safety.specs.Verdicts.{refusals-strict}
 use Rattle.safety.specs.Rows.{refuse, begin-phase, begin-short, begin-accepted, end-phase}
 use Rattle.desk.specs.declared.Desk.{Desk}
+use Rattle.desk.specs.declared.Answer.{Answer}
 use Rattle.desk.specs.Desk.{supplyOf, viewOf, deskOf, verdict, fetchesOf, answerOf, answered, beginDesk, endDesk}
 use Rattle.desk.specs.View.{Wide, desk-of-view}
 use Rattle.desk.specs.Promise.{supply-named}
@@ -131,3 +136,32 @@ module _ (d : Desk) (w : Wide d) (ps ls : List ℕ) where
       end-ended e =
           let a = accepted-answer 0 (end (wordsOf draws)) (clear e) in
           λ t. record { verdict = verdict (sym a t .number) (sym a t .place); desk = deskOf (d .plan) (sym a t .scheduler) }
+
+      -- an accepted end names no place
+      placeless : (a b c e : Bool) (i j : ℕ) → (let v = refusals.unless a 15 0 (refusals.unless b 19 0 (refusals.unless c 20 i (refusals.unless e 21 j refusals.accept))) in
+          v .number ≡ 0 → v .place ≡ 0)
+      placeless true true true true i j h = refl
+      placeless true true true false i j h = absurd (omega arith)
+      placeless true true false e i j h = absurd (omega arith)
+      placeless true false c e i j h = absurd (omega arith)
+      placeless false b c e i j h = absurd (omega arith)
+
+      no-place : judgedDraws d (wordsOf draws) .number ≡ 0 → judgedDraws d (wordsOf draws) .place ≡ 0
+      unfolding judgedDraws refusals.judged
+      no-place =
+          let p = supplyOf (d .plan) in
+          let v = viewOf d in
+          let ds = wordsOf draws in
+          let allowed = refusals.drawAllowed p (mostDrawn p (v .slots)) ds in
+          let held = refusals.drawHeld p ds in
+          placeless (eqb (v .phase) 1) (eqb (length ds) (p .n)) (allFrom allowed 0 (v .slots)) (allFrom held 0 (v .slots)) (lowestFrom allowed 0 (v .slots)) (lowestFrom held 0 (v .slots))
+
+      -- either way the judge of the draws has the verdict
+      pub end-judged : judgedDraws d (wordsOf draws) ≡ endDesk d ps ls draws .verdict
+      end-judged = by-cases (ℕ-discrete (judgedDraws d (wordsOf draws) .number) 0) accepts refuses
+        where
+          accepts : judgedDraws d (wordsOf draws) .number ≡ 0 → judgedDraws d (wordsOf draws) ≡ endDesk d ps ls draws .verdict
+          accepts e = (λ t. record { number = e t; place = no-place e t }) ∙ ap (λ (a : Answer). a .verdict) (end-ended e)
+
+          refuses : (judgedDraws d (wordsOf draws) .number ≡ 0 → ⊥) → judgedDraws d (wordsOf draws) ≡ endDesk d ps ls draws .verdict
+          refuses n = ap (λ (a : Answer). a .verdict) (end-refused n)

@@ -2,10 +2,9 @@
 -- Assumes nothing.
 use Prim.Native.Nat.{ℕ, _*_, _≤_}
 use mathlib.Core.Path.{_≡_, refl, ap}
-use mathlib.Core.Bool.{Bool, true, false}
+use mathlib.Core.Logic.{⊎-elim}
 use mathlib.Core.List.{List}
 use native.Mathlib.Omega.{arith}
-use native.Mathlib.Decide.{decLe, ℕ-discrete}
 use lib.ListN.{length}
 use Rattle.round_trip.specs.Legality as legality
 use Rattle.plan.specs.declared.Plan.{Plan}
@@ -19,12 +18,11 @@ use Rattle.desk.specs.declared.Desk.{Desk}
 use Rattle.desk.specs.declared.Begun.{Begun}
 use Rattle.desk.specs.Desk.{supplyOf, viewOf, fetchesOf, beginDesk}
 use Rattle.desk.specs.View.{Wide}
+use Rattle.desk.specs.Ready as D
 use Rattle.desk.specs.Ready.{Ready, ready-lawful}
 use Rattle.records.specs.Records.{notBegun}
-use Rattle.soundness.specs.Facts.{soundDesk}
-use Rattle.soundness.specs.Ready.{sound-ready, sound-plan, plan-streams}
 use Rattle.sweep.specs.Steps.{begunDesk}
-use Rattle.scheduler.specs.Answers.{begin-unsound, begin-in-sweep, begin-no-room, begin-begun}
+use Rattle.scheduler.specs.Ways.{NotBegun, HasBegun, begin-ways}
 
 -- a sweep fetches at most n blocks
 one-each : (p : Plan) (ss : List (Slot ℕ)) → length (entries (supplyOf p) ss) ≡ fetchCount (supplyOf p) ss * 1
@@ -49,23 +47,13 @@ begun-few d r =
 -- a begin answers at most 256 entries, and no more than there is room for
 pub begin-few : (d : Desk) → Wide d → legality.Wide (d .plan .figures) → (ps ls : List ℕ) (room : ℕ)
     → (beginDesk d ps ls room .fetches .count ≤ 256) × (beginDesk d ps ls room .fetches .count ≤ room)
-begin-few d w z ps ls room = go (soundDesk d ps ls) refl (ℕ-discrete (d .phase) 0) (decLe (d .plan .streams) room)
+begin-few d w z ps ls room = ⊎-elim refused accepted (begin-ways d w z ps ls room)
   where
     none : (k : ℕ) → notBegun d k .fetches .count ≡ 0
     none k = unfold notBegun fetchesOf in refl
 
-    refused : (k : ℕ) → notBegun d k ≡ beginDesk d ps ls room → (beginDesk d ps ls room .fetches .count ≤ 256) × (beginDesk d ps ls room .fetches .count ≤ room)
-    refused k e = omega (arith, none k, ap (λ (b : Begun). b .fetches .count) e)
+    refused : (k : ℕ) × NotBegun d w z ps ls room k → (beginDesk d ps ls room .fetches .count ≤ 256) × (beginDesk d ps ls room .fetches .count ≤ room)
+    refused h = omega (arith, none (h .0), ap (λ (b : Begun). b .fetches .count) (h .1 .answer))
 
-    go : (t : Bool) → soundDesk d ps ls ≡ t → Dec (d .phase ≡ 0) → Dec (d .plan .streams ≤ room)
-        → (beginDesk d ps ls room .fetches .count ≤ 256) × (beginDesk d ps ls room .fetches .count ≤ room)
-    go false s p l = refused 14 (begin-unsound d w ps ls room s)
-    go true s (no p) l = refused 15 (begin-in-sweep d w ps ls room s p)
-    go true s (yes p) (no l) = refused 13 (begin-no-room d w ps ls room s p (omega arith))
-    go true s (yes p) (yes l) =
-        omega (
-          arith,
-          begun-few d (sound-ready d ps ls z s),
-          plan-streams (d .plan) ps ls z (sound-plan d ps ls s),
-          ap (λ (b : Begun). b .fetches .count) (begin-begun d w ps ls room s p l),
-        )
+    accepted : HasBegun d w z ps ls room → (beginDesk d ps ls room .fetches .count ≤ 256) × (beginDesk d ps ls room .fetches .count ≤ room)
+    accepted h = omega (arith, begun-few d (h .ready), D.streams-are d (h .ready), h .streams, ap (λ (b : Begun). b .fetches .count) (h .answer))

@@ -1,4 +1,5 @@
 // Begin and end of a sweep. (Open, join and leave stand in crate admission.)
+use card::Verdict;
 use desk::Answer;
 use desk::Begun;
 use desk::Desk;
@@ -9,31 +10,65 @@ use gather::gather;
 use records::answer;
 use records::not_begun;
 use soundness::is_sound;
+use sweep::Swept;
 use sweep::begin_sweep;
 use sweep::end_sweep;
+use sweep::not_swept;
 ghost use mathlib.Core.Path.{_≡_};
 ghost use Prim.Native.Nat.{_/_};
 ghost use lib.ListN.{length};
 ghost use Rattle.words.specs.Words.{wordsOf};
 ghost use Rattle.desk.specs.Desk.{beginDesk, fetchListAfter, endDesk};
+ghost use Rattle.sweep.specs.Steps.{sweptOf};
+
+// Judges a begin, where the caller has room for so many fetch entries: 14, 15, 13. It answers what the begin changes, and not the desk.
+pub fn judge_begin(desk: Desk, positions: &[u8], leads: &[u8], room: usize) -> Swept
+    ensures { λ r. ⌜ r ≡ sweptOf (beginDesk desk (now (positions .entry)) (now (leads .entry)) room) ⌝ }
+{
+    if !is_sound(
+        desk.plan,
+        desk.phase,
+        &desk.kinds,
+        &desk.next,
+        &desk.held,
+        positions,
+        leads,
+    ) {
+        return not_swept(desk.kinds, 14);
+    }
+    if desk.phase != 0 {
+        return not_swept(desk.kinds, 15);
+    }
+    let plan = desk.plan;
+    let streams = plan.streams as usize;
+    if room < streams {
+        return not_swept(desk.kinds, 13);
+    }
+    let g = gather(desk, positions, leads);
+    let sum = sum_leads(&desk.kinds, &desk.next, streams, leads);
+    begin_sweep(desk, g, sum)
+}
 
 // Begins a sweep, where the caller has room for so many fetch entries: 14, 15, 13.
 pub fn begin(desk: Desk, positions: &[u8], leads: &[u8], room: usize) -> Begun
     ensures { λ r. ⌜ r ≡ beginDesk desk (now (positions .entry)) (now (leads .entry)) room ⌝ }
 {
-    if !is_sound(desk, positions, leads) {
-        return not_begun(desk, 14);
+    let swept = judge_begin(desk, positions, leads, room);
+    let verdict = swept.verdict;
+    if verdict.number != 0 {
+        return not_begun(desk, verdict.number);
     }
-    if desk.phase != 0 {
-        return not_begun(desk, 15);
+    let kinds = swept.kinds;
+    let fetches = swept.fetches;
+    let mut begun = desk;
+    begun.phase = 1;
+    begun.kinds = kinds;
+    Begun {
+        verdict: verdict,
+        desk: begun,
+        bound: swept.bound,
+        fetches: fetches,
     }
-    let plan = desk.plan;
-    if room < plan.streams as usize {
-        return not_begun(desk, 13);
-    }
-    let g = gather(desk, positions, leads);
-    let sum = sum_leads(desk, leads);
-    begin_sweep(desk, g, sum)
 }
 
 // Begins a sweep and writes its fetches into a lent byte string, twelve bytes an entry: position, slot, block.
@@ -44,22 +79,49 @@ pub fn begin_into(desk: Desk, positions: &[u8], leads: &[u8], fetches: &mut [u8]
     let room = words::entries(fetches) / 3;
     let begun = begin(desk, positions, leads, room);
     let list = begun.fetches;
-    write_entries(list, fetches);
+    write_entries(
+        &list.positions,
+        &list.slots,
+        &list.blocks,
+        list.count as usize,
+        fetches,
+    );
     begun
+}
+
+// Judges an end with a draw for each of the n slots: 14, 15, 19, 20, 21.
+pub fn judge_end(desk: Desk, positions: &[u8], leads: &[u8], draws: &[u8]) -> Verdict
+    ensures { λ r. ⌜ r ≡ endDesk desk (now (positions .entry)) (now (leads .entry)) (now (draws .entry)) .verdict ⌝ }
+{
+    if !is_sound(
+        desk.plan,
+        desk.phase,
+        &desk.kinds,
+        &desk.next,
+        &desk.held,
+        positions,
+        leads,
+    ) {
+        return Verdict {
+            number: 14,
+            place: 0,
+        };
+    }
+    if desk.phase != 1 {
+        return Verdict {
+            number: 15,
+            place: 0,
+        };
+    }
+    let g = gather(desk, positions, leads);
+    judge_draws(desk, g, draws)
 }
 
 // Ends a sweep with a draw for each of the n slots: 14, 15, 19, 20, 21.
 pub fn end(desk: Desk, positions: &[u8], leads: &[u8], draws: &[u8]) -> Answer
     ensures { λ r. ⌜ r ≡ endDesk desk (now (positions .entry)) (now (leads .entry)) (now (draws .entry)) ⌝ }
 {
-    if !is_sound(desk, positions, leads) {
-        return answer(desk, 14, 0);
-    }
-    if desk.phase != 1 {
-        return answer(desk, 15, 0);
-    }
-    let g = gather(desk, positions, leads);
-    let verdict = judge_draws(desk, g, draws);
+    let verdict = judge_end(desk, positions, leads, draws);
     if verdict.number != 0 {
         return Answer {
             verdict: verdict,

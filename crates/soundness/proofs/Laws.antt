@@ -7,7 +7,7 @@ use native.Mathlib.Omega.{arith}
 use lib.Dec.{ltb, eqb}
 use borrow.Author.Tests.{ltb-true, eqb-true, eqb-false, lt-ltb}
 use Rattle.laws.specs.Bools.{clash}
-use Rattle.soundness.specs.Facts.{Tells}
+use Rattle.soundness.specs.Facts.{Tells, Tidy}
 
 pub tells-yes : {P : Type 0} → P → Tells true P
 tells-yes p = record { yes = λ _. p; no = λ e _. clash refl e }
@@ -20,6 +20,18 @@ tells-equal a b f g = record { yes = λ e. f (eqb-true a b e); no = λ e p. eqb-
 
 pub tells-below : {P : Type 0} (a b : ℕ) → (a < b → P) → (P → a < b) → Tells (ltb a b) P
 tells-below a b f g = record { yes = λ e. f (ltb-true a b e); no = λ e p. clash (lt-ltb a b (g p)) e }
+
+-- a slot that is all zero is tidy
+pub zero-tidy : {N buffer k x h : ℕ} → k ≡ 0 → x ≡ 0 → h ≡ 0 → Tidy N buffer k x h
+zero-tidy k x h = record {
+  kinds = omega arith;
+  zeros = λ _. (x, h);
+  empty = λ _. h;
+  named = λ a b. absurd (omega arith);
+  past = λ e. absurd (omega arith);
+  some = λ e. absurd (omega arith);
+  fits = omega arith;
+}
 
 -- the last arm of the match on a kind
 pub no-kind : (k : ℕ) → (k ≡ 0 → ⊥) → (k ≡ 1 → ⊥) → (k ≡ 2 → ⊥) → (k ≡ 3 → ⊥) → (k ≡ 4 → ⊥) → k ≤ 4 → ⊥

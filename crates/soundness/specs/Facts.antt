@@ -5,6 +5,7 @@ use mathlib.Core.Path.{_≡_}
 use mathlib.Core.Bool.{Bool, true, false, _&&_}
 use mathlib.Core.List.{List}
 use lib.ListN.{getD}
+use Rattle.plan.specs.declared.Plan.{Plan}
 use Rattle.plan.specs.Answer.{isPlan}
 use Rattle.safety.specs.Order.{bySlot}
 use Rattle.safety.specs.Sound.{sound}
@@ -14,6 +15,10 @@ use Rattle.desk.specs.Desk.{supplyOf, viewOf}
 -- the phase and the slots are sound
 abbrev pub slotsSound : Desk → Bool
 slotsSound d = sound (supplyOf (d .plan)) (bySlot (supplyOf (d .plan))) (viewOf d)
+
+-- the record of a plan, a phase and the kinds, next blocks and held bytes of its slots
+abbrev pub recordOf : Plan → ℕ → List ℕ → List ℕ → List ℕ → Desk
+recordOf p phase ks xs hs = record { plan = p; phase = phase; kinds = ks; next = xs; held = hs }
 
 -- THE RECORD IS SOUND with its lent lists
 abbrev pub soundDesk : Desk → List ℕ → List ℕ → Bool
@@ -35,15 +40,15 @@ pub record Tidy (N buffer k x h : ℕ) : Type 0 where
   pub some : k ≡ 4 → 1 ≤ h
   pub fits : h ≤ buffer
 
--- slot i of a record is tidy
-abbrev pub TidyAt : Desk → ℕ → Type 0
-TidyAt d i = Tidy (d .plan .figures .blocks) (d .plan .buffer) (getD (d .kinds) i 0) (getD (d .next) i 0) (getD (d .held) i 0)
+-- the 256 slots of kinds ks, next blocks xs and held bytes hs are tidy, and `all slots from n on are zero`
+pub record SlotsTidy (N buffer n : ℕ) (ks xs hs : List ℕ) : Type 0 where
+  pub slots : (i : ℕ) → i < 256 → Tidy N buffer (getD ks i 0) (getD xs i 0) (getD hs i 0)
+  pub unused : (i : ℕ) → i < 256 → n ≤ i → getD ks i 0 ≡ 0
 
--- and so are all, and `all slots from n on are zero`
-pub record AllTidy (d : Desk) : Type 0 where
-  pub slots : (i : ℕ) → i < 256 → TidyAt d i
-  pub unused : (i : ℕ) → i < 256 → d .plan .streams ≤ i → getD (d .kinds) i 0 ≡ 0
+-- and so are those of a record
+abbrev pub AllTidy : Desk → Type 0
+AllTidy d = SlotsTidy (d .plan .figures .blocks) (d .plan .buffer) (d .plan .streams) (d .kinds) (d .next) (d .held)
 
--- `each playing slot holds at least the floor`, x being the floor in two-millionths of a byte
-abbrev pub PlayersHold : Desk → ℕ → Type 0
-PlayersHold d x = (i : ℕ) → i < 256 → getD (d .kinds) i 0 ≡ 3 → x ≤ 2000000 * getD (d .held) i 0
+-- `each playing slot holds at least the floor` among the first n, x being the floor in two-millionths of a byte
+abbrev pub PlayersHold : ℕ → List ℕ → List ℕ → ℕ → Type 0
+PlayersHold n ks hs x = (i : ℕ) → i < n → getD ks i 0 ≡ 3 → x ≤ 2000000 * getD hs i 0

@@ -3,9 +3,13 @@
 use Prim.Native.Nat.{ℕ, _+_, _*_, _≤_, _<_}
 use mathlib.Core.Path.{_≡_, refl, sym, ap, _∙_, subst}
 use mathlib.Core.Bool.{Bool, true, false}
+use mathlib.Core.List.{List}
+use mathlib.Core.Logic.{by-cases}
 use native.Mathlib.Omega.{arith}
+use native.Mathlib.Decide.{decLt}
 use lib.ListN.{getD}
 use borrow.Author.Tests.{ltb-true, eqb-true, lt-ltb, eq-eqb}
+use Rattle.words.specs.Words.{wordsOf}
 use Rattle.plan.specs.declared.Plan.{Plan}
 use Rattle.safety.specs.Scheduler.{leads, lowWater}
 use Rattle.safety.specs.Order.{bySlot}
@@ -17,7 +21,7 @@ use Rattle.desk.specs.Desk.{supplyOf, slotsIn, viewOf}
 use Rattle.desk.specs.View.{Wide}
 use Rattle.desk.specs.Promise.{supply-named}
 use Rattle.desk.specs.Slots.{length-in, slot-in, kind-in}
-use Rattle.floor.specs.Floor.{leadSum, AllNamed, mark-is}
+use Rattle.floor.specs.Floor.{leadSum, AllNamed, LeadList, Leading, slotLeads, mark-is, leading, leads-are}
 use Rattle.soundness.specs.Facts.{slotsSound, Tells, Tidy, AllTidy, PlayersHold}
 
 -- ---- one slot
@@ -75,24 +79,36 @@ module _ (d : Desk) (w : Wide d) where
   }
 
   -- the next block of a filling or playing slot is a block
-  pub tidy-named : AllTidy d → AllNamed d
+  tidy-named : AllTidy d → AllNamed d
   tidy-named t i l a b = t .slots i l .named (omega arith) b
 
-  pub sound-players : IsSound → PlayersHold d mark
+  -- the leads of the first n slots, as a loop reads and adds them, are those of the record
+  module _ (t : AllTidy d) (ls : List ℕ) (q : LeadList (d .plan .figures) ls) (n : d .plan .streams ≤ 256) where
+    pub tidy-leading : Leading (wordsOf ls) (d .kinds) (d .next) (d .plan .streams)
+    tidy-leading = leading d w ls q (tidy-named t) (d .plan .streams) n
+
+    pub tidy-leads : slotLeads (wordsOf ls) (d .kinds) (d .next) (d .plan .streams) ≡ leadSum d
+    tidy-leads = leads-are d w ls q (tidy-named t) (d .plan .streams) n (t .unused)
+
+  pub sound-players : IsSound → PlayersHold (d .plan .streams) (d .kinds) (d .held) mark
   sound-players h i l k = good-at h i .floored k
+
+  -- slots from n on play in no tidy record
+  all-hold : AllTidy d → {x : ℕ} → PlayersHold (d .plan .streams) (d .kinds) (d .held) x → PlayersHold 256 (d .kinds) (d .held) x
+  all-hold t h i l k = by-cases (decLt i (d .plan .streams)) (λ a. h i a k) (λ a. absurd (omega (arith, t .unused i l (omega arith))))
 
   pub sound-phase : IsSound → d .phase ≤ 1
   unfolding viewOf
   sound-phase h = h .phase
 
   -- and a record of which all this holds is sound
-  pub facts-sound : d .phase ≤ 1 → AllTidy d → PlayersHold d mark → slotsSound d ≡ true
+  pub facts-sound : d .phase ≤ 1 → AllTidy d → PlayersHold (d .plan .streams) (d .kinds) (d .held) mark → slotsSound d ≡ true
   unfolding viewOf bySlot supplyOf
   facts-sound e t h =
       let p = supplyOf (d .plan) in
       sound-yes p (supply-named (d .plan)) (bySlot p) (viewOf d) e
       (λ j l. let u : j < 256 = omega (arith, length-in d w) in
-      sound-of-good p (supply-named (d .plan)) _ _ (subst (Good p (leads p (slotsIn d))) (sym (slot-in d w j)) (tidy-good (d .plan) _ _ _ _ (t .slots j u) (h j u))))
+      sound-of-good p (supply-named (d .plan)) _ _ (subst (Good p (leads p (slotsIn d))) (sym (slot-in d w j)) (tidy-good (d .plan) _ _ _ _ (t .slots j u) (all-hold t h j u))))
       (λ j n l. kind-in d w j ∙ t .unused j (omega (arith, length-in d w)) n)
       refl
 
@@ -105,9 +121,10 @@ module _ (d : Desk) (w : Wide d) where
 
   -- m is the mark as the code computes it, L the sum of the leads
   pub sound-told : (r : Bool) (m L : ℕ) → L ≡ leadSum d → m ≡ 2000000 * d .plan .figures .bytes + d .plan .figures .rate * L
-      → d .phase ≤ 1 → AllTidy d → Tells r (PlayersHold d m) → r ≡ slotsSound d
-  sound-told r m L a b e t h = go r (subst (λ (x : ℕ). Tells r (PlayersHold d x)) (b ∙ sym (mark-is (d .plan) L) ∙ ap (lowWater (supplyOf (d .plan))) a) h)
+      → d .phase ≤ 1 → AllTidy d → Tells r (PlayersHold (d .plan .streams) (d .kinds) (d .held) m) → r ≡ slotsSound d
+  sound-told r m L a b e t h =
+      go r (subst (λ (x : ℕ). Tells r (PlayersHold (d .plan .streams) (d .kinds) (d .held) x)) (b ∙ sym (mark-is (d .plan) L) ∙ ap (lowWater (supplyOf (d .plan))) a) h)
     where
-      go : (r : Bool) → Tells r (PlayersHold d mark) → r ≡ slotsSound d
+      go : (r : Bool) → Tells r (PlayersHold (d .plan .streams) (d .kinds) (d .held) mark) → r ≡ slotsSound d
       go true h = sym (facts-sound e t (h .yes refl))
       go false h = sym (sound-no (supplyOf (d .plan)) (supply-named (d .plan)) (bySlot (supplyOf (d .plan))) (viewOf d) (λ s. h .no refl (sound-players s)))

@@ -1,12 +1,7 @@
 // The test of the slots of a record.
-use desk::Desk;
-use floor::low_water;
-use floor::sum_leads;
 use streams::product;
-ghost use mathlib.Core.Path.{_≡_};
-ghost use Rattle.card.specs.Card.{Legal};
-ghost use Rattle.floor.specs.Floor.{LeadList};
-ghost use Rattle.soundness.specs.Facts.{slotsSound, Tells, Tidy, AllTidy, PlayersHold};
+ghost use Prim.Native.Nat.{_≤_};
+ghost use Rattle.soundness.specs.Facts.{Tells, Tidy, SlotsTidy, PlayersHold};
 
 // Is a slot sound but for the low-water mark (01: the floor)? `blocks` is N.
 fn is_tidy(blocks: u32, buffer: u32, kind: u32, next: u32, held: u32) -> bool
@@ -45,23 +40,34 @@ fn is_tidy(blocks: u32, buffer: u32, kind: u32, next: u32, held: u32) -> bool
     }
 }
 
-// Are all slots tidy, and those from n on free?
-fn all_tidy(desk: Desk) -> bool
-    ensures { λ r. ⌜ Tells r (AllTidy desk) ⌝ }
+// Are all slots tidy, and those from n on zero? `blocks` is N, `streams` n.
+pub fn all_tidy<'a>(
+    blocks: u32,
+    buffer: u32,
+    streams: usize,
+    kinds: &'a [u32; 256],
+    next: &'a [u32; 256],
+    held: &'a [u32; 256],
+) -> bool
+    ensures { λ r. ⌜ Tells r (SlotsTidy blocks buffer streams (now (kinds .entry)) (now (next .entry)) (now (held .entry))) ⌝ }
 {
-    let plan = desk.plan;
-    let figures = plan.figures;
-    let blocks = figures.blocks;
     let mut i: usize = 0;
     while i < 256 {
-        let kind = desk.kinds[i];
-        let next = desk.next[i];
-        let held = desk.held[i];
-        if !is_tidy(blocks, plan.buffer, kind, next, held) {
-            return false;
-        }
-        if kind != 0 {
-            if plan.streams as usize <= i {
+        let kind = kinds[i];
+        let block = next[i];
+        let bytes = held[i];
+        if i < streams {
+            if !is_tidy(blocks, buffer, kind, block, bytes) {
+                return false;
+            }
+        } else {
+            if kind != 0 {
+                return false;
+            }
+            if block != 0 {
+                return false;
+            }
+            if bytes != 0 {
                 return false;
             }
         }
@@ -70,36 +76,24 @@ fn all_tidy(desk: Desk) -> bool
     true
 }
 
-// Does each playing slot hold at least the low-water mark (01: the floor), given in two-millionths of a byte?
-fn players_hold(desk: Desk, mark: u64) -> bool
-    ensures { λ r. ⌜ Tells r (PlayersHold desk mark) ⌝ }
+// Does each playing slot of the first n hold at least the low-water mark (01: the floor), given in two-millionths of a byte?
+pub fn players_hold<'a>(
+    streams: usize,
+    kinds: &'a [u32; 256],
+    held: &'a [u32; 256],
+    mark: u64,
+) -> bool
+    requires { ⌜ streams ≤ 256 ⌝ }
+    ensures { λ r. ⌜ Tells r (PlayersHold streams (now (kinds .entry)) (now (held .entry)) mark) ⌝ }
 {
     let mut i: usize = 0;
-    while i < 256 {
-        if desk.kinds[i] == 3 {
-            let held = desk.held[i];
-            if product(2000000, held) < mark {
+    while i < streams {
+        if kinds[i] == 3 {
+            if product(2000000, held[i]) < mark {
                 return false;
             }
         }
         i += 1;
     }
     true
-}
-
-// Are the phase and the slots sound? The record's figures are legal, and its leads are lent.
-pub fn slots_sound(desk: Desk, leads: &[u8]) -> bool
-    requires { ⌜ (Legal (desk .plan .figures)) × (LeadList (desk .plan .figures) (now leads)) ⌝ }
-    ensures { λ r. ⌜ r ≡ slotsSound desk ⌝ }
-{
-    if desk.phase > 1 {
-        return false;
-    }
-    if !all_tidy(desk) {
-        return false;
-    }
-    let plan = desk.plan;
-    let figures = plan.figures;
-    let sum = sum_leads(desk, leads);
-    players_hold(desk, low_water(figures.bytes, figures.rate, sum))
 }

@@ -9,7 +9,7 @@ use native.Mathlib.Omega.{arith}
 use native.Mathlib.Decide.{ℕ-discrete}
 use lib.ListN.{length, length-map, replicate, length-replicate}
 use borrow.Author.Tests.{eq-eqb, ne-eqb, ltb-true, eqb-true}
-use Rattle.laws.specs.Each.{Each, each-map, each-replicate}
+use Rattle.laws.specs.Each.{Each, each-replicate}
 use Rattle.words.specs.Words.{Words, wordsOf, withWords}
 use Rattle.words.specs.Laws.{words-length}
 use Rattle.card.specs.Card.{Legal}
@@ -22,7 +22,7 @@ use Rattle.plan.specs.Legal.{buffer-small}
 use Rattle.safety.specs.Scheduler.{Slot, Call, join, leave, begin, end}
 use Rattle.safety.specs.Order.{Scheduler, bySlot}
 use Rattle.safety.specs.BySlot.{bySlot-orderly}
-use Rattle.safety.specs.Sound.{Good, Sound, sound, sound-says}
+use Rattle.safety.specs.Sound.{Good, Sound, sound-says}
 use Rattle.safety.specs.Arrays.{length-slots}
 use Rattle.safety.specs.Calls as C
 use Rattle.safety.specs.Lists.{verdict-zero, answer-accepted}
@@ -30,7 +30,7 @@ use Rattle.safety.specs.Verdicts.{accepted-was-sound}
 use Rattle.safety.specs.Safety.{accepted-length}
 use Rattle.safety.specs.Claim as K
 use Rattle.desk.specs.declared.Desk.{Desk}
-use Rattle.desk.specs.Desk.{supplyOf, slotsIn, viewOf, deskOf, zeros, freshDesk, openBy, openDesk, answerOf, answered, joinDesk, leaveDesk, endDesk, beginDesk}
+use Rattle.desk.specs.Desk.{supplyOf, viewOf, deskOf, zeros, freshDesk, openBy, openDesk, answerOf, answered, joinDesk, leaveDesk, endDesk, beginDesk}
 use Rattle.desk.specs.Promise.{supply-named}
 use Rattle.trace.specs.Opening.{checked-lawful, fair-of}
 use Rattle.layout.specs.declared.FilmdiskAnswer.{FilmdiskAnswer}
@@ -39,9 +39,9 @@ use Rattle.layout.specs.Fields.{words-each, words-number, words-array}
 use Rattle.layout.specs.Layout.{planWords, deskWords, planIn, deskIn}
 use Rattle.layout.specs.Laws.{PlanSized, plan-sized, DeskSized, desk-written}
 use Rattle.layout.specs.Legal.{legal-words}
-use Rattle.desk_strings.specs.Laws.{enough, right-answer, right-string}
+use Rattle.desk_strings.specs.Laws.{enough, said-sized, said-wide, right-answer, right-string}
 use Rattle.desk_strings.specs.Calls.{refusedBy, openedFrom, openAnswer, openString, said, answerBy, stringBy, joinAnswer, joinString, leaveAnswer, leaveString, endAnswer, endString, roomIn, begunAnswer, beginAnswer, beginString}
-use Rattle.string_claims.specs.Kept.{said-sized, said-wide, open-number, open-right, open-other}
+use Rattle.string_claims.specs.Kept.{open-number, open-right, open-other}
 
 -- ---- numbers of 32 bits
 

@@ -1,9 +1,9 @@
 -- A refused call of the desk leaves every string as it was; a refused opening leaves zeros.
 -- Assumes nothing.
-use Prim.Native.Nat.{ℕ, zero, suc, _<_}
+use Prim.Native.Nat.{ℕ}
 use mathlib.Core.Path.{_≡_, refl, ap, _∙_}
 use mathlib.Core.Bool.{Bool, true, false, cond}
-use mathlib.Core.List.{List, []}
+use mathlib.Core.List.{List}
 use mathlib.Core.Logic.{by-cases}
 use native.Mathlib.Omega.{arith}
 use native.Mathlib.Decide.{ℕ-discrete}
@@ -15,50 +15,20 @@ use Rattle.card.specs.declared.Verdict.{Verdict}
 use Rattle.plan.specs.declared.Plan.{Plan}
 use Rattle.plan.specs.Answer.{isPlan}
 use Rattle.safety.specs.Scheduler.{Entry, Call, join, leave, begin, end}
-use Rattle.safety.specs.Order.{bySlot}
-use Rattle.safety.specs.Calls as C
-use Rattle.safety.specs.Calls.{State}
-use Rattle.safety.specs.Lists.{refused-changes-nothing}
 use Rattle.desk.specs.declared.Desk.{Desk}
 use Rattle.desk.specs.declared.Answer.{Answer}
-use Rattle.desk.specs.Desk.{supplyOf, viewOf, deskOf, verdict, blankDesk, openBy, openDesk, answerOf, answered, joinDesk, leaveDesk, endDesk, beginDesk, entryWords, fetchListAfter}
-use Rattle.desk.specs.View.{Wide, desk-of-view}
+use Rattle.desk.specs.Desk.{deskOf, verdict, blankDesk, openBy, openDesk, answerOf, answered, joinDesk, leaveDesk, endDesk, beginDesk, entryWords, fetchListAfter}
+use Rattle.admission.specs.Refused.{refused-same, refused-desk}
 use Rattle.layout.specs.declared.FilmdiskAnswer.{FilmdiskAnswer}
 use Rattle.layout.specs.Answers.{verdictAnswer}
-use Rattle.layout.specs.Layout.{deskWords, planIn, deskIn, zeroBytes}
-use Rattle.layout.specs.Laws.{DeskSized, desk-sized, desk-kept, desk-zero}
-use Rattle.desk_strings.specs.Laws.{enough, right-answer, right-string, other-string}
-use Rattle.desk_strings.specs.Calls.{refusedBy, openedFrom, openVerdict, openAnswer, openString, said, answerBy, stringBy, joinAnswer, joinString, leaveAnswer, leaveString, endAnswer, endString, roomIn, begunAnswer, beginAnswer, beginString, fetchString}
-
-above-zero : (k : ℕ) → (k ≡ 0 → ⊥) → 0 < k
-above-zero zero h = absurd (h refl)
-above-zero (suc k) h = omega arith
-
--- ---- a call that is refused answers the desk that it was given, and no entries
-
-module _ (d : Desk) (ps ls : List ℕ) (room : ℕ) (call : Call ℕ) where
-  pub refused-same : (answerOf d ps ls room call .number ≡ 0 → ⊥) → (answerOf d ps ls room call .scheduler ≡ viewOf d) × (answerOf d ps ls room call .entries ≡ [])
-  unfolding answerOf C.turn
-  refused-same n =
-      let s = supplyOf (d .plan) in
-      let r =
-      refused-changes-nothing s (bySlot s) (C.refusals s (bySlot s)) (record { scheduler = viewOf d; ledger = [] })
-      (record { call = call; fair = isPlan (d .plan) ps ls; room = room }) (above-zero _ n) in
-      (ap (λ (v : State ℕ (Unit {0})). v .scheduler) (r .0), r .1)
-
-  pub refused-desk : Wide d → (answerOf d ps ls room call .number ≡ 0 → ⊥) → deskOf (d .plan) (answerOf d ps ls room call .scheduler) ≡ d
-  refused-desk w n = ap (deskOf (d .plan)) (refused-same n .0) ∙ desk-of-view d w
+use Rattle.layout.specs.Layout.{deskWords, planIn, zeroBytes}
+use Rattle.layout.specs.Laws.{desk-kept, desk-zero}
+use Rattle.desk_strings.specs.Laws.{enough, said-wide, right-answer, right-string, other-string}
+use Rattle.desk_strings.specs.Calls.{openedFrom, openVerdict, openAnswer, openString, said, answerBy, stringBy, joinAnswer, joinString, leaveAnswer, leaveString, endAnswer, endString, roomIn, begunAnswer, beginAnswer, beginString, fetchString}
 
 -- ---- a desk string D
 
 module _ (D : List ℕ) where
-  pub said-sized : length D ≡ 3628 → DeskSized (said D)
-  unfolding said
-  said-sized l = desk-sized (wordsOf D) (enough D l)
-
-  pub said-wide : length D ≡ 3628 → Wide (said D)
-  said-wide l = let s = said-sized l in record { kinds = s .kinds; next = s .next; held = s .held }
-
   -- the desk that was read, written back
   same-string : Bytes D → (d : Desk) → (length D ≡ 3628 → d ≡ said D) → stringBy D d ≡ D
   unfolding said
@@ -73,7 +43,7 @@ module _ (D : List ℕ) where
       refused-number l z = n (ap (λ (x : FilmdiskAnswer). x .number) (right-answer D l a) ∙ e ∙ z)
 
       pub call-kept : Bytes D → stringBy D (deskOf (said D .plan) (answerOf (said D) ps ls room call .scheduler)) ≡ D
-      call-kept y = same-string y _ (λ l. refused-desk (said D) ps ls room call (said-wide l) (refused-number l))
+      call-kept y = same-string y _ (λ l. refused-desk (said D) ps ls room call (said-wide D l) (refused-number l))
 
     pub join-kept : (slot block : ℕ) → Bytes D → (joinAnswer D ps ls slot block .number ≡ 0 → ⊥) → joinString D ps ls slot block ≡ D
     unfolding joinAnswer joinString joinDesk answered verdictAnswer

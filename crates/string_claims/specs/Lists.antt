@@ -6,7 +6,7 @@ use mathlib.Core.List.{List, [], _∷_, map}
 use mathlib.Core.Logic.{by-cases}
 use native.Mathlib.Decide.{ℕ-discrete}
 use lib.ListN.{length}
-use Rattle.words.specs.Words.{Bytes, wordsOf, withWords}
+use Rattle.words.specs.Words.{Bytes, wordsOf}
 use Rattle.words.specs.Laws.{withWords-length, withWords-bytes}
 use Rattle.safety.specs.Scheduler.{Call, join, leave, begin, end}
 use Rattle.desk.specs.declared.Desk.{Desk}
@@ -16,9 +16,10 @@ use Rattle.trace.specs.Safe.{Safe, worldAfter, list-safe}
 use Rattle.trace.specs.Opening.{checked-lawful}
 use Rattle.layout.specs.declared.FilmdiskAnswer.{FilmdiskAnswer}
 use Rattle.layout.specs.Layout.{planIn, deskWords}
-use Rattle.desk_strings.specs.Laws.{right-answer, right-string}
+use Rattle.desk_strings.specs.Laws.{said-wide, right-answer, right-string}
 use Rattle.desk_strings.specs.Calls.{openAnswer, openString, openedFrom, said, stringBy, joinString, leaveString, endString, roomIn, beginString}
-use Rattle.string_claims.specs.Kept.{refused-desk, said-wide, call-kept, open-right}
+use Rattle.admission.specs.Refused.{refused-desk}
+use Rattle.string_claims.specs.Kept.{call-kept, open-right}
 use Rattle.string_claims.specs.Back.{call-back, opened-right, opened-plan, opened-wide, open-back}
 
 -- a call of the playout process on its desk string, with all strings that it lends

@@ -1,102 +1,126 @@
 -- The steps of a begin, one after the other.
 -- Assumes nothing.
-use Prim.Native.Nat.{ℕ, _+_, _*_, _≤_}
+use Prim.Native.Nat.{ℕ, _+_, _*_, _-_, _≤_}
 use mathlib.Core.Path.{_≡_, refl, sym, ap, _∙_}
-use mathlib.Core.List.{List}
+use mathlib.Core.List.{List, map}
 use native.Mathlib.Omega.{arith}
-use lib.ListN.{getD}
-use Rattle.laws.specs.Each.{Both, each-map, both-at}
+use lib.ListN.{length, getD}
+use Rattle.laws.specs.Each.{Both, both-at, both-length}
 use Rattle.plan.specs.Plan as F
 use Rattle.safety.specs.Scheduler.{Slot, freeSlot, at, leads, lowWater, started, tries, begun, entries, bound}
 use Rattle.safety.specs.Order.{bySlot}
 use Rattle.safety.specs.Orderly.{Kept, kept-refl}
-use Rattle.safety.specs.BySlot.{started-kept, started-leads, begun-began}
+use Rattle.safety.specs.Sound.{FreeFrom}
+use Rattle.safety.specs.Safety.{kept-free}
+use Rattle.safety.specs.BySlot.{started-kept, started-leads}
 use Rattle.safety.specs.Calls.{accepted}
+use Rattle.safety.specs.Turns.{leastHeld}
+use Rattle.safety.specs.Arrays.{slotsOf, length-slots, slot-at, kinds-of-slots}
 use Rattle.desk.specs.declared.Desk.{Desk}
 use Rattle.desk.specs.declared.Fetches.{Fetches}
 use Rattle.desk.specs.declared.Gathered.{Gathered}
 use Rattle.desk.specs.Desk.{supplyOf, slotsIn, viewOf, deskOf, verdict, fetchesOf}
-use Rattle.desk.specs.View.{Wide}
-use Rattle.desk.specs.Ready.{Ready, Stage}
-use Rattle.desk.specs.Slots.{withSlots, length-in, kind-in, next-in, slots-with, load-kind, load-next}
+use Rattle.desk.specs.View.{Wide, same-length}
+use Rattle.desk.specs.Ready.{Ready, Gathers, buffer-has}
+use Rattle.desk.specs.Slots.{length-in, slot-in}
 use Rattle.floor.specs.Floor.{mark-is}
-use Rattle.sweep.specs.Steps.{begunDesk}
-
--- what a begin keeps of slot i
-record Same (d : Desk) (ts : List (Slot ℕ)) (i : ℕ) : Type 0 where
-  asked : 1 ≤ getD (withSlots d ts .kinds) i 0 → 1 ≤ getD (d .kinds) i 0
-  most : getD (withSlots d ts .kinds) i 0 ≤ 3 → getD (d .kinds) i 0 ≤ 3
-  next : getD (d .next) i 0 ≡ getD (withSlots d ts .next) i 0
-
-same-slot : (d : Desk) → Wide d → (ts : List (Slot ℕ)) → Both Kept (slotsIn d) ts → (i : ℕ) → Same d ts i
-same-slot d w ts h i =
-    let p = supplyOf (d .plan) in
-    let k = both-at Kept (slotsIn d) ts i (freeSlot p) (freeSlot p) h (kept-refl (freeSlot p)) in
-    let kind = kind-in d w i in
-    let now = load-kind d ts (withSlots d ts) refl i in
-    record {
-      asked = λ l. omega (arith, kind, now, k .occupied);
-      most = λ l. omega (arith, kind, now, k .rises);
-      next = sym (next-in d w i) ∙ sym (k .next) ∙ sym (load-next d ts (withSlots d ts) refl i);
-    }
-
--- what was gathered stays true
-stage-kept : (d : Desk) → Wide d → (g : Gathered) → Stage d g → (ts : List (Slot ℕ)) → Both Kept (slotsIn d) ts → Stage (withSlots d ts) g
-unfolding deskOf
-stage-kept d w g o ts h = record {
-  legal = o .legal;
-  some = o .some;
-  planned = o .planned;
-  gathers = record {
-    times = λ i l a b. let s = same-slot d w ts h i in o .gathers .times i l (s .asked a) (s .most b) ∙ ap (F.timeOf (d .plan .figures)) (s .next);
-    leads = λ i l a b. let s = same-slot d w ts h i in o .gathers .leads i l (s .asked a) (s .most b) ∙ ap (F.leadOf (d .plan .figures)) (s .next);
-    positions = λ i l a b. let s = same-slot d w ts h i in o .gathers .positions i l (s .asked a) (s .most b) ∙ ap (F.placeOf (d .plan .figures)) (s .next);
-  };
-  range = o .range;
-}
+use Rattle.grants.specs.Grants.{ample, Slots, Asks}
+use Rattle.fetches.specs.Shown.{Shown, OfNext}
+use Rattle.sweep.specs.Steps.{begunDesk, sweptOf}
+use Rattle.sweep.specs.Laws.{begun-kept}
 
 -- the floor
 pub floor-is : (d : Desk) (mark sum : ℕ) → mark ≡ 2000000 * d .plan .figures .bytes + d .plan .figures .rate * sum → sum ≡ leads (supplyOf (d .plan)) (slotsIn d)
     → mark ≡ lowWater (supplyOf (d .plan)) (leads (supplyOf (d .plan)) (slotsIn d))
 floor-is d mark sum e q = e ∙ sym (mark-is (d .plan) sum) ∙ ap (lowWater (supplyOf (d .plan))) q
 
--- e is d after filling slots started to play
-module _ (d : Desk) (w : Wide d) (x : ℕ) (e : Desk) (q : e ≡ withSlots d (started (supplyOf (d .plan)) x (slotsIn d))) where
-  pub stage-started : (g : Gathered) → Stage d g → Stage e g
-  stage-started g o = rw q (stage-kept d w g o (started (supplyOf (d .plan)) x (slotsIn d)) (started-kept (supplyOf (d .plan)) x (slotsIn d)))
+pub slots-own : (d : Desk) → Wide d → Ready d → Slots (supplyOf (d .plan)) (d .plan .streams) (d .kinds) (d .next) (d .held)
+unfolding viewOf supplyOf
+slots-own d w r = record { long = w .kinds; same = same-length d w; unused = r .sound .unused }
 
-  pub leads-started : (sum : ℕ) → sum ≡ leads (supplyOf (d .plan)) (slotsIn d) → sum ≡ leads (supplyOf (e .plan)) (slotsIn e)
-  unfolding deskOf
-  leads-started sum s =
-      let p = supplyOf (d .plan) in
-      rw q (s ∙ sym (started-leads p x (slotsIn d)) ∙ ap (leads p) (sym (slots-with d (started p x (slotsIn d)))))
+-- d has other kinds ks, and so the slots ts, which a step of a begin may leave
+module _ (d : Desk) (w : Wide d) (r : Ready d) (ks : List ℕ) (ts : List (Slot ℕ)) (q : slotsOf (supplyOf (d .plan)) ks (d .next) (d .held) ≡ ts)
+    (kept : Both Kept (slotsIn d) ts) where
+  long : length ks ≡ 256
+  long =
+      sym (length-slots (supplyOf (d .plan)) ks (d .next) (d .held)) ∙ ap (λ (ss : List (Slot ℕ)). length ss) q
+      ∙ both-length Kept (slotsIn d) ts kept ∙ length-in d w
 
-  -- f is e after asked slots were granted
-  pub begun-all : (f : Desk) → f ≡ withSlots e (tries (supplyOf (e .plan)) (slotsIn e) 0 256) → x ≡ lowWater (supplyOf (d .plan)) (leads (supplyOf (d .plan)) (slotsIn d))
-      → f ≡ withSlots d (begun (supplyOf (d .plan)) (slotsIn d))
-  unfolding deskOf begun
-  begun-all f r m =
-      let p = supplyOf (d .plan) in
-      let s : f ≡ withSlots d (tries p (slotsIn (withSlots d (started p x (slotsIn d)))) 0 256) = rw q at r in
-      s
-      ∙ ap (λ ts. withSlots d (tries p ts 0 256)) (slots-with d (started p x (slotsIn d)))
-      ∙ ap (λ (n : ℕ). withSlots d (tries p (started p n (slotsIn d)) 0 256)) m
-      ∙ ap (λ (n : ℕ). withSlots d (tries p (started p (lowWater p (leads p (slotsIn d))) (slotsIn d)) 0 n)) (sym (length-in d w))
+  unused : FreeFrom (supplyOf (d .plan)) (d .plan .streams) (slotsOf (supplyOf (d .plan)) ks (d .next) (d .held))
+  unfolding viewOf supplyOf
+  unused = rw q (kept-free (supplyOf (d .plan)) (d .plan .streams) (slotsIn d) ts kept (r .sound .unused))
 
-module _ (d : Desk) (f : Desk) (q : f ≡ withSlots d (begun (supplyOf (d .plan)) (slotsIn d))) where
-  pub stage-begun : Wide d → (g : Gathered) → Ready d → Stage d g → Stage f g
-  unfolding viewOf
-  stage-begun w g r o =
+  pub slots-kept : Slots (supplyOf (d .plan)) (d .plan .streams) ks (d .next) (d .held)
+  slots-kept = record { long = long; same = record { nexts = w .next ∙ sym long; helds = w .held ∙ sym long }; unused = unused }
+
+  pub shown-kept : Shown (d .plan) (d .plan .streams) (d .plan .buffer - d .plan .figures .bytes) ks (d .next) (d .held)
+  shown-kept = record { kinds = long; next = w .next; held = w .held; unused = unused; spare = omega (arith, buffer-has (d .plan) (r .planned)) }
+
+  -- a slot that asks, fills or plays now did so before
+  before : (i : ℕ) → 1 ≤ getD ks i 0 → getD ks i 0 ≤ 3 → (1 ≤ getD (d .kinds) i 0) × (getD (d .kinds) i 0 ≤ 3)
+  unfolding supplyOf
+  before i a b =
       let p = supplyOf (d .plan) in
-      rw q (stage-kept d w g o (begun p (slotsIn d)) (begun-began p (slotsIn d) (each-map _ _ (slotsIn d) (λ s u. u .floored) (r .sound .slots)) .kept))
+      let k = both-at Kept (slotsIn d) ts i (freeSlot p) (freeSlot p) kept (kept-refl (freeSlot p)) in
+      let now = ap (λ (s : Slot ℕ). s .kind) (sym (slot-at p ks (d .next) (d .held) (slots-kept .same) i) ∙ ap (λ (ss : List (Slot ℕ)). at p ss i) q) in
+      let was = ap (λ (s : Slot ℕ). s .kind) (slot-in d w i) in
+      omega (arith, now, was, k .occupied, k .rises)
+
+  -- so what was gathered for it stays true
+  pub gathered-kept : (f : ℕ → ℕ) (vs : List ℕ) → OfNext f (d .kinds) (d .next) vs → OfNext f ks (d .next) vs
+  gathered-kept f vs u i l a b = let k = before i a b in u i l (k .0) (k .1)
+
+-- filling slots have started to play: d has the kinds ks
+module _ (d : Desk) (w : Wide d) (r : Ready d) (g : Gathered) (u : Gathers d g) (x : ℕ) (ks : List ℕ)
+    (q : slotsOf (supplyOf (d .plan)) ks (d .next) (d .held) ≡ started (supplyOf (d .plan)) x (slotsIn d)) where
+  pub slots-started : Slots (supplyOf (d .plan)) (d .plan .streams) ks (d .next) (d .held)
+  slots-started = slots-kept d w r ks _ q (started-kept (supplyOf (d .plan)) x (slotsIn d))
+
+  pub asks-started : (sum level : ℕ) → sum ≡ leads (supplyOf (d .plan)) (slotsIn d)
+      → level ≡ 2000000 * leastHeld (supplyOf (d .plan)) ample (slotsOf (supplyOf (d .plan)) ks (d .next) (d .held))
+      → Asks (supplyOf (d .plan)) (d .plan .figures .bytes) (d .plan .figures .rate) sum level (g .leads) ks (d .next) (d .held)
+  unfolding supplyOf
+  asks-started sum level e l =
+      let p = supplyOf (d .plan) in
+      record {
+        bytes = refl;
+        rate = refl;
+        leads = e ∙ sym (started-leads p x (slotsIn d)) ∙ ap (leads p) (sym q);
+        least = l;
+        own = λ i h k. gathered-kept d w r ks _ q (started-kept p x (slotsIn d)) (F.leadOf (d .plan .figures)) (g .leads) (u .leads) i h (omega arith) (omega arith);
+      }
+
+  -- then asked slots were granted, and the kinds are js
+  pub begun-all : (js : List ℕ)
+      → slotsOf (supplyOf (d .plan)) js (d .next) (d .held) ≡ tries (supplyOf (d .plan)) (slotsOf (supplyOf (d .plan)) ks (d .next) (d .held)) 0 256
+      → x ≡ lowWater (supplyOf (d .plan)) (leads (supplyOf (d .plan)) (slotsIn d))
+      → slotsOf (supplyOf (d .plan)) js (d .next) (d .held) ≡ begun (supplyOf (d .plan)) (slotsIn d)
+  unfolding begun
+  begun-all js e m =
+      let p = supplyOf (d .plan) in
+      e
+      ∙ ap (λ (ts : List (Slot ℕ)). tries p ts 0 256) q
+      ∙ ap (λ (n : ℕ). tries p (started p n (slotsIn d)) 0 256) m
+      ∙ ap (λ (n : ℕ). tries p (started p (lowWater p (leads p (slotsIn d))) (slotsIn d)) 0 n) (sym (length-in d w))
+
+-- both steps are done: d has the kinds ks
+module _ (d : Desk) (w : Wide d) (r : Ready d) (ks : List ℕ) (q : slotsOf (supplyOf (d .plan)) ks (d .next) (d .held) ≡ begun (supplyOf (d .plan)) (slotsIn d)) where
+  pub shown-begun : Shown (d .plan) (d .plan .streams) (d .plan .buffer - d .plan .figures .bytes) ks (d .next) (d .held)
+  shown-begun = shown-kept d w r ks _ q (begun-kept d r)
+
+  pub gathered-begun : (f : ℕ → ℕ) (vs : List ℕ) → OfNext f (d .kinds) (d .next) vs → OfNext f ks (d .next) vs
+  gathered-begun = gathered-kept d w r ks _ q (begun-kept d r)
 
   -- the answer
-  pub begun-is : (b : ℕ) (es : Fetches) → b ≡ bound (supplyOf (f .plan)) (slotsIn f) → es ≡ fetchesOf (entries (supplyOf (f .plan)) (slotsIn f))
-      → record { verdict = verdict 0 0; desk = record { plan = f .plan; phase = 1; kinds = f .kinds; next = f .next; held = f .held }; bound = b; fetches = es } ≡ begunDesk d
-  unfolding deskOf begunDesk accepted bySlot viewOf
+  pub begun-is : (b : ℕ) (es : Fetches) → b ≡ bound (supplyOf (d .plan)) (slotsOf (supplyOf (d .plan)) ks (d .next) (d .held))
+      → es ≡ fetchesOf (entries (supplyOf (d .plan)) (slotsOf (supplyOf (d .plan)) ks (d .next) (d .held)))
+      → record { verdict = verdict 0 0; kinds = ks; bound = b; fetches = es } ≡ sweptOf (begunDesk d)
+  unfolding deskOf begunDesk sweptOf accepted bySlot viewOf
   begun-is b es u v =
       let p = supplyOf (d .plan) in
-      let ts = begun p (slotsIn d) in
-      let n : b ≡ bound p ts = (rw q at u) ∙ ap (bound p) (slots-with d ts) in
-      let m : es ≡ fetchesOf (entries p ts) = (rw q at v) ∙ ap (λ ss. fetchesOf (entries p ss)) (slots-with d ts) in
-      rw (q, n, m)
+      λ t. record {
+        verdict = verdict 0 0;
+        kinds = (sym (kinds-of-slots p ks (d .next) (d .held)) ∙ ap (λ (ts : List (Slot ℕ)). map (λ s. s .kind) ts) q) t;
+        bound = (u ∙ ap (bound p) q) t;
+        fetches = (v ∙ ap (λ (ts : List (Slot ℕ)). fetchesOf (entries p ts)) q) t;
+      }

@@ -1,12 +1,13 @@
 -- What a begin and an end make of the desk where nothing turns them down.
 -- Assumes nothing.
 use Prim.Native.Nat.{ℕ}
-use mathlib.Core.List.{List}
+use mathlib.Core.List.{List, []}
 use Rattle.safety.specs.Scheduler.{begin, end}
 use Rattle.safety.specs.Order.{bySlot}
 use Rattle.safety.specs.Calls.{accepted}
 use Rattle.desk.specs.declared.Desk.{Desk}
 use Rattle.desk.specs.declared.Begun.{Begun}
+use Rattle.sweep.specs.declared.Swept.{Swept}
 use Rattle.desk.specs.Desk.{supplyOf, viewOf, deskOf, verdict, fetchesOf}
 
 -- a begin that nothing turns down
@@ -15,6 +16,23 @@ begunDesk d =
     let s = supplyOf (d .plan) in
     let a = accepted s (bySlot s) (viewOf d) begin in
     record { verdict = verdict 0 0; desk = deskOf (d .plan) (a .scheduler); bound = a .bound; fetches = fetchesOf (a .entries) }
+
+-- what a begin answers of itself and changes of the desk, but for the phase
+unfoldable pub sweptOf : Begun → Swept
+sweptOf b = record { verdict = b .verdict; kinds = b .desk .kinds; bound = b .bound; fetches = b .fetches }
+
+-- of a begin that is refused
+unfoldable pub notSwept : List ℕ → ℕ → Swept
+notSwept ks k = record { verdict = verdict k 0; kinds = ks; bound = 0; fetches = fetchesOf [] }
+
+-- the answer of a begin that nothing turns down, from these
+unfoldable pub begunOf : Desk → Swept → Begun
+begunOf d s = record {
+  verdict = s .verdict;
+  desk = record { plan = d .plan; phase = 1; kinds = s .kinds; next = d .next; held = d .held };
+  bound = s .bound;
+  fetches = s .fetches;
+}
 
 -- an end with such draws
 unfoldable pub endedDesk : Desk → List ℕ → Desk

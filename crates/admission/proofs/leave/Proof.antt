@@ -1,103 +1,46 @@
-use mathlib.Core.Path.{_≡_, sym, ap, _∙_}
+use mathlib.Core.Path.{sym, ap, _∙_}
 use native.Mathlib.Omega.{arith}
 use borrow.Author.Needs.{needs}
-use Prim.Native.Nat.{_≤_}
-use mathlib.Core.Bool.{true}
-use borrow.Author.Tests.{not-true, not-false}
 use Rattle.round_trip.specs.Legality as legality
+use Rattle.card.specs.declared.Verdict.{Verdict}
 use Rattle.desk.specs.declared.Desk.{Desk}
 use Rattle.desk.specs.View.{Wide}
-use Rattle.soundness.specs.Facts.{soundDesk}
 use Rattle.soundness.specs.Ready.{plan-streams, sound-plan}
 use Rattle.records.specs.Records.{answers}
-use Rattle.admission.specs.Answers.{leave-unsound, leave-in-sweep, leave-no-slot, leave-vacant, leave-done}
+use Rattle.admission.specs.Answers.{leave-refused, leave-made}
 use Rattle.admission.proofs.leave.Statement.{statement}
 use Rattle.admission.proofs.leave.Tie as tie
 
-wide : (c : tie.Start) → Wide (c .args .t1)
+wide : (c : tie.Start) → Wide (c .args .desk)
 wide c = record { kinds = search needs; next = search needs; held = search needs }
 
-slim : (c : tie.Start) → legality.Wide (c .args .t1 .plan .figures)
+slim : (c : tie.Start) → legality.Wide (c .args .desk .plan .figures)
 slim c = (search needs, search needs)
 
--- past the test of soundness
-passed : (c : tie.Else1) → (let a = c .before .before .before .before .args in soundDesk (a .t1) (a .positions .now) (a .leads .now) ≡ true)
-passed c = sym (c .before .is-sound .ensures) ∙ not-false _ (c .if1 .left)
-
-few : (c : tie.Else1) → c .before .before .before .before .args .t1 .plan .streams ≤ 256
-few c = plan-streams _ _ _ (slim (c .before .before .before .before)) (sound-plan _ _ _ (passed c))
-
-is-sound-requires : tie.Need-is-sound-requires
-is-sound-requires c κs = search needs
-
-answer-requires : tie.Need-answer-requires
-answer-requires c κs = search needs
+judge-leave-requires : tie.Need-judge-leave-requires
+judge-leave-requires c κs = search needs
 
 returns : tie.Need-returns
 returns c =
     let s = c .before .before .before .before .before in
-    c .answer .ensures ∙ leave-unsound (s .args .t1) (wide s) _ _ _ (sym (c .before .before .is-sound .ensures) ∙ not-true _ (c .before .if1 .taken))
+    let j = c .before .before .judge-leave .ensures in
+    let r = leave-refused (s .args .desk) (wide s) _ _ _ (λ z. c .if1 .taken (ap (λ (v : Verdict). v .number) j ∙ z)) in
+    λ t. record { verdict = j t; desk = sym r t }
 
-answer-requires-2 : tie.Need-answer-requires-2
-answer-requires-2 c κs = search needs
+with-slot-requires : tie.Need-with-slot-requires
+with-slot-requires c κs =
+    let s = c .before .before .before .before .before in
+    let m = leave-made (s .args .desk) (wide s) _ _ _ (sym (ap (λ (v : Verdict). v .number) (c .before .before .judge-leave .ensures)) ∙ c .if1 .left) in
+    omega (arith, m .1, plan-streams _ _ _ (slim s) (sound-plan _ _ _ (m .0)))
+
+answer-requires : tie.Need-answer-requires
+answer-requires c κs = search needs
 
 returns-2 : tie.Need-returns-2
 returns-2 c =
-    let e = c .before .before in
-    let s = e .before .before .before .before in
-    c .answer2 .ensures ∙ leave-in-sweep (s .args .t1) (wide s) _ _ _ (passed e) (c .before .if2 .taken)
-
-answer-requires-3 : tie.Need-answer-requires-3
-answer-requires-3 c κs = search needs
-
-returns-3 : tie.Need-returns-3
-returns-3 c =
-    let e = c .before .before .before .before .before in
-    let s = e .before .before .before .before in
-    c .answer3 .ensures ∙ leave-no-slot (s .args .t1) (wide s) _ _ _ (passed e) (c .before .before .before .before .if2 .left) (c .before .if3 .taken)
-
-mul-if4 : tie.Need-mul-if4
-mul-if4 c = search needs
-
-element-copy-out-if4 : tie.Need-element-copy-out-if4
-element-copy-out-if4 c = omega (arith, few (c .before .before .before .before))
-
-answer-requires-4 : tie.Need-answer-requires-4
-answer-requires-4 c κs = search needs
-
-returns-4 : tie.Need-returns-4
-returns-4 c =
-    let e = c .before .before .before .before .before .before .before in
-    let s = e .before .before .before .before in
-    c .answer4 .ensures ∙ leave-vacant (s .args .t1) (wide s) _ _ _ (passed e) (c .before .before .before .before .before .before .if2 .left) (c .before .before .before .if3 .left) (c .before .if4 .taken)
-
-with-slot-requires : tie.Need-with-slot-requires
-with-slot-requires c κs = omega (arith, few (c .before .before .before .before .before .before))
-
-answer-requires-5 : tie.Need-answer-requires-5
-answer-requires-5 c κs = search needs
-
-returns-5 : tie.Need-returns-5
-returns-5 c =
-    let e = c .before .before .before .before .before .before .before .before in
-    let s = e .before .before .before .before in
-    c .answer5 .ensures ∙ ap (λ (d : Desk). answers d 0 0) (c .before .with-slot .ensures) ∙ leave-done (s .args .t1) (wide s) _ _ _ (passed e) (c .before .before .before .before .before .before .before .if2 .left) (c .before .before .before .before .if3 .left) (c .before .before .if4 .left)
+    let s = c .before .before .before .before .before .before .before in
+    let m = leave-made (s .args .desk) (wide s) _ _ _ (sym (ap (λ (v : Verdict). v .number) (c .before .before .before .before .judge-leave .ensures)) ∙ c .before .before .if1 .left) in
+    c .answer .ensures ∙ ap (λ (d : Desk). answers d 0 0) (c .before .with-slot .ensures) ∙ m .2
 
 pub leave-spec : {M : Type 1} → statement M
-leave-spec =
-    tie.close
-    (tie.spec
-    is-sound-requires
-    answer-requires
-    returns
-    answer-requires-2
-    returns-2
-    answer-requires-3
-    returns-3
-    mul-if4
-    element-copy-out-if4
-    answer-requires-4
-    returns-4
-    with-slot-requires
-    answer-requires-5
-    returns-5)
+leave-spec = tie.close (tie.spec judge-leave-requires returns with-slot-requires answer-requires returns-2)

@@ -5,23 +5,16 @@ use borrow.Author.Needs.{needs}
 use borrow.Author.Count.{below-more}
 use lib.ListN.{length, getD}
 use Rattle.words.specs.Words.{wordsOf}
-use Rattle.safety.specs.Scheduler.{at, drawLimit}
-use Rattle.desk.specs.View.{Wide}
-use Rattle.desk.specs.Desk.{supplyOf, slotsIn}
-use Rattle.draws.proofs.Drawing.{limit-in}
+use Rattle.draws.specs.Draws.{kindLimit}
 use Rattle.draws.proofs.first_excess.Statement.{statement}
 use Rattle.draws.proofs.first_excess.Tie as tie
 
 -- the first i draws are allowed
 abbrev Inv-loop : tie.InvT-loop
-Inv-loop most draws desk count i₀ i = (count ≡ length (wordsOf draws)) × (i ≤ count) × ((j : ℕ) → j < i → getD (wordsOf draws) j 0 ≤ drawLimit (supplyOf (desk .plan)) most (at (supplyOf (desk .plan)) (slotsIn desk) j))
+Inv-loop kinds most draws count i₀ i = (count ≡ length (wordsOf draws)) × (i ≤ count) × ((j : ℕ) → j < i → getD (wordsOf draws) j 0 ≤ kindLimit most (getD kinds j 0))
 
 abbrev μ-loop : tie.MeasureT-loop
-μ-loop most draws desk count i₀ i = count - i
-
--- the arrays have 256 entries
-wide : (c : tie.Start Inv-loop μ-loop) → Wide (c .args .t1)
-wide c = record { kinds = search needs; next = search needs; held = search needs }
+μ-loop kinds most draws count i₀ i = count - i
 
 entries-requires : tie.Need-entries-requires Inv-loop μ-loop
 entries-requires c κs = search needs
@@ -46,11 +39,10 @@ cast-if1 c = search needs
 
 returns : tie.Need-returns Inv-loop μ-loop
 returns c = let l = c .before .before .before .before .before .loop in
-    let a = c .before .before .before .before .before .before .before .before in
     record {
       inside = omega arith;
       below = l .inv .2;
-      above = λ _. omega (arith, limit-in (a .args .t1) (wide a) (a .args .most) (l .i) (c .before .before .draw-limit .result) (c .before .before .draw-limit .ensures), c .before .word-at .ensures);
+      above = λ _. omega (arith, c .before .before .draw-limit .ensures, c .before .word-at .ensures);
     }
 
 add-i : tie.Need-add-i Inv-loop μ-loop
@@ -61,8 +53,7 @@ loop-less c = omega arith
 
 loop-again : tie.Need-loop-again Inv-loop μ-loop
 loop-again c = let l = c .before .before .before .before .before .loop in
-    let a = c .before .before .before .before .before .before .before .before in
-    (l .inv .0, omega arith, below-more _ _ (l .inv .2) (omega (arith, limit-in (a .args .t1) (wide a) (a .args .most) (l .i) (c .before .before .draw-limit .result) (c .before .before .draw-limit .ensures), c .before .word-at .ensures)))
+    (l .inv .0, omega arith, below-more _ _ (l .inv .2) (omega (arith, c .before .before .draw-limit .ensures, c .before .word-at .ensures)))
 
 returns-2 : tie.Need-returns-2 Inv-loop μ-loop
 returns-2 c = let l = c .before .loop in record { inside = omega arith; below = l .inv .2; above = λ z. absurd (omega arith) }

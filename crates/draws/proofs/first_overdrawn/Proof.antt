@@ -5,23 +5,15 @@ use borrow.Author.Needs.{needs}
 use borrow.Author.Count.{below-more}
 use lib.ListN.{length, getD}
 use Rattle.words.specs.Words.{wordsOf}
-use Rattle.safety.specs.Scheduler.{at}
-use Rattle.desk.specs.View.{Wide}
-use Rattle.desk.specs.Desk.{supplyOf, slotsIn}
-use Rattle.desk.specs.Slots.{held-in}
 use Rattle.draws.proofs.first_overdrawn.Statement.{statement}
 use Rattle.draws.proofs.first_overdrawn.Tie as tie
 
 -- the first i draws are held
 abbrev Inv-loop : tie.InvT-loop
-Inv-loop draws desk count i₀ i = (count ≡ length (wordsOf draws)) × (i ≤ count) × ((j : ℕ) → j < i → getD (wordsOf draws) j 0 ≤ at (supplyOf (desk .plan)) (slotsIn desk) j .buffered)
+Inv-loop held draws count i₀ i = (count ≡ length (wordsOf draws)) × (i ≤ count) × ((j : ℕ) → j < i → getD (wordsOf draws) j 0 ≤ getD held j 0)
 
 abbrev μ-loop : tie.MeasureT-loop
-μ-loop draws desk count i₀ i = count - i
-
--- the arrays have 256 entries
-wide : (c : tie.Start Inv-loop μ-loop) → Wide (c .args .t1)
-wide c = record { kinds = search needs; next = search needs; held = search needs }
+μ-loop held draws count i₀ i = count - i
 
 entries-requires : tie.Need-entries-requires Inv-loop μ-loop
 entries-requires c κs = search needs
@@ -40,11 +32,10 @@ word-at-requires c κs = omega (arith, c .before .before .loop .inv .0, c .befor
 
 returns : tie.Need-returns Inv-loop μ-loop
 returns c = let l = c .before .before .before .before .loop in
-    let a = c .before .before .before .before .before .before .before in
     record {
       inside = omega arith;
       below = λ j u. omega (arith, l .inv .2 j u);
-      above = λ _. omega (arith, held-in (a .args .t1) (wide a) (l .i), c .before .word-at .ensures);
+      above = λ _. omega (arith, c .before .word-at .ensures);
     }
 
 add-i : tie.Need-add-i Inv-loop μ-loop
@@ -55,8 +46,7 @@ loop-less c = omega arith
 
 loop-again : tie.Need-loop-again Inv-loop μ-loop
 loop-again c = let l = c .before .before .before .before .loop in
-    let a = c .before .before .before .before .before .before .before in
-    (l .inv .0, omega arith, below-more _ _ (l .inv .2) (omega (arith, held-in (a .args .t1) (wide a) (l .i), c .before .word-at .ensures)))
+    (l .inv .0, omega arith, below-more _ _ (l .inv .2) (omega (arith, c .before .word-at .ensures)))
 
 returns-2 : tie.Need-returns-2 Inv-loop μ-loop
 returns-2 c = let l = c .before .loop in record { inside = omega arith; below = λ j u. omega (arith, l .inv .2 j u); above = λ z. absurd (omega arith) }

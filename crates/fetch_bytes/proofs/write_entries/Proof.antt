@@ -6,25 +6,28 @@ use lib.ListN.{length, getD}
 use mathlib.Core.List.{List}
 use Rattle.words.specs.Words.{withWord, withWords}
 use Rattle.words.specs.Laws.{words-length, withWord-length}
-use Rattle.fetch_bytes.specs.Lists.{rows, rows-more, rows-done}
+use Rattle.desk.specs.declared.Fetches.{Fetches}
+use Rattle.fetch_bytes.specs.Lists.{listOf, rows, rows-more, rows-done}
 use Rattle.fetch_bytes.proofs.write_entries.Statement.{statement}
 use Rattle.fetch_bytes.proofs.write_entries.Tie as tie
 
 abbrev Inv-loop : tie.InvT-loop
-Inv-loop out₀ fetches count i₀ out i =
-    (i ≤ count) × (length out ≡ length out₀) × (withWords out (3 * i) (rows i (count - i) fetches) ≡ withWords out₀ 0 (rows 0 count fetches))
+Inv-loop positions slots blocks count out₀ i₀ out i =
+    (i ≤ count) × (length out ≡ length out₀)
+    × (let f = listOf count positions slots blocks in withWords out (3 * i) (rows i (count - i) f) ≡ withWords out₀ 0 (rows 0 count f))
 
 abbrev μ-loop : tie.MeasureT-loop
-μ-loop out₀ fetches count i₀ out i = count - i
+μ-loop positions slots blocks count out₀ i₀ out i = count - i
 
-cast-count : tie.Need-cast-count Inv-loop μ-loop
-cast-count c = search needs
+-- the fetches that are written
+abbrev list : tie.Start Inv-loop μ-loop → Fetches
+list c = let a = c .args in listOf (a .count) (a .positions .now) (a .slots .now) (a .blocks .now)
 
 loop-holds : tie.Need-loop-holds Inv-loop μ-loop
 loop-holds c =
-    let n = c .before .args .t1 .count in
+    let n = c .before .args .count in
     let e : n - 0 ≡ n = omega arith in
-    (omega arith, refl, ap (λ (k : ℕ). withWords (c .before .args .out .now) 0 (rows 0 k (c .before .args .t1))) e)
+    (omega arith, refl, ap (λ (k : ℕ). withWords (c .before .args .out .now) 0 (rows 0 k (list (c .before)))) e)
 
 mul-put-word : tie.Need-mul-put-word Inv-loop μ-loop
 mul-put-word c = search needs
@@ -33,7 +36,7 @@ mul-put-word-2 : tie.Need-mul-put-word-2 Inv-loop μ-loop
 mul-put-word-2 c = search needs
 
 element-copy-out-put-word : tie.Need-element-copy-out-put-word Inv-loop μ-loop
-element-copy-out-put-word c = search needs
+element-copy-out-put-word c = omega (arith, c .before .before .before .before .pre .0)
 
 put-word-requires : tie.Need-put-word-requires Inv-loop μ-loop
 put-word-requires c κs = let l = c .before .before .before .loop in let a = c .before .before .before .before .before in omega (arith, words-length (l .out), words-length (a .args .out .now), l .inv .1, a .pre .1)
@@ -48,7 +51,7 @@ mul-put-word-4 : tie.Need-mul-put-word-4 Inv-loop μ-loop
 mul-put-word-4 c = search needs
 
 element-copy-out-put-word-2 : tie.Need-element-copy-out-put-word-2 Inv-loop μ-loop
-element-copy-out-put-word-2 c = search needs
+element-copy-out-put-word-2 c = omega (arith, c .before .before .before .before .before .before .before .before .before .pre .0)
 
 put-word-requires-2 : tie.Need-put-word-requires-2 Inv-loop μ-loop
 put-word-requires-2 c κs = let l = c .before .before .before .before .before .before .before .before .loop in let a = c .before .before .before .before .before .before .before .before .before .before in omega (arith, words-length (c .before .before .before .before .put-word .last .0), words-length (a .args .out .now), l .inv .1, a .pre .1)
@@ -63,7 +66,7 @@ mul-put-word-6 : tie.Need-mul-put-word-6 Inv-loop μ-loop
 mul-put-word-6 c = search needs
 
 element-copy-out-put-word-3 : tie.Need-element-copy-out-put-word-3 Inv-loop μ-loop
-element-copy-out-put-word-3 c = search needs
+element-copy-out-put-word-3 c = omega (arith, c .before .before .before .before .before .before .before .before .before .before .before .before .before .before .pre .0)
 
 put-word-requires-3 : tie.Need-put-word-requires-3 Inv-loop μ-loop
 put-word-requires-3 c κs = let l = c .before .before .before .before .before .before .before .before .before .before .before .before .before .loop in let a = c .before .before .before .before .before .before .before .before .before .before .before .before .before .before .before in omega (arith, words-length (c .before .before .before .before .put-word2 .last .0), words-length (a .args .out .now), l .inv .1, a .pre .1)
@@ -77,7 +80,7 @@ loop-less c = search needs
 loop-again : tie.Need-loop-again Inv-loop μ-loop
 loop-again c =
     let l = c .before .before .before .before .before .before .before .before .before .before .before .before .before .before .before .before .loop in
-    let f = c .before .before .before .before .before .before .before .before .before .before .before .before .before .before .before .before .before .before .args .t1 in
+    let f = list (c .before .before .before .before .before .before .before .before .before .before .before .before .before .before .before .before .before .before) in
     let n = f .count in
     let e : c .before .before .put-word3 .last .0 ≡ withWord (withWord (withWord (l .out) (3 * l .i) (getD (f .positions) (l .i) 0)) (3 * l .i + 1) (getD (f .slots) (l .i) 0)) (3 * l .i + 2) (getD (f .blocks) (l .i) 0) =
     c .before .before .put-word3 .ensures
@@ -94,7 +97,7 @@ same-length c = search needs
 returns : tie.Need-returns Inv-loop μ-loop
 returns c =
     let l = c .before .loop in
-    let f = c .before .before .before .args .t1 in
+    let f = list (c .before .before .before) in
     rows-done f (l .out) (l .i) (f .count - l .i) (omega arith) ∙ l .inv .2
 
 pub write-entries-spec : {M : Type 1} → statement M
@@ -103,7 +106,6 @@ write-entries-spec =
     (tie.spec
     Inv-loop
     μ-loop
-    cast-count
     loop-holds
     mul-put-word
     mul-put-word-2

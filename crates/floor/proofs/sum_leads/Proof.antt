@@ -1,67 +1,67 @@
-use Prim.Native.Nat.{ℕ, _+_, _-_, _*_, _≤_, _<_}
+use Prim.Native.Nat.{ℕ, _-_, _*_, _≤_, _<_}
 use mathlib.Core.Path.{_≡_, sym, ap, _∙_}
 use native.Mathlib.Omega.{arith}
-use borrow.Author.Needs.{needs}
 use lib.ListN.{getD}
-use Rattle.desk.specs.View.{Wide}
-use Rattle.floor.specs.Floor.{leadsTo, LeadIs, leads-start, leads-turn, leads-end}
+use Rattle.words.specs.Words.{wordsOf}
+use Rattle.floor.specs.Floor.{slotLead, slotLeads, leads-start, leads-turn, lead-small}
 use Rattle.floor.proofs.sum_leads.Statement.{statement}
 use Rattle.floor.proofs.sum_leads.Tie as tie
 
 abbrev Inv-loop : tie.InvT-loop
-Inv-loop leads desk sum₀ i₀ sum i = (i ≤ 256) × (sum ≡ leadsTo desk i) × (sum ≤ i * 3999999)
+Inv-loop kinds next streams leads sum₀ i₀ sum i = (i ≤ streams) × (sum ≡ slotLeads (wordsOf leads) kinds next i) × (sum ≤ i * 3999999)
 
 abbrev μ-loop : tie.MeasureT-loop
-μ-loop leads desk sum₀ i₀ sum i = 256 - i
+μ-loop kinds next streams leads sum₀ i₀ sum i = streams - i
 
-wide : (c : tie.Start Inv-loop μ-loop) → Wide (c .args .t1)
-wide c = record { kinds = search needs; next = search needs; held = search needs }
-
--- one turn
-turn : (c : tie.Start Inv-loop μ-loop) (i r : ℕ) → i < 256 → LeadIs (c .args .leads .now) (getD (c .args .t1 .kinds) i 0) (getD (c .args .t1 .next) i 0) r
-    → (leadsTo (c .args .t1) i + r ≡ leadsTo (c .args .t1) (i + 1)) × (r ≤ 3999999)
-turn c i r l e = leads-turn (c .args .t1) (wide c) (c .args .leads .now) (c .pre .1) (c .pre .0) i r l e
+-- what slot i adds is in range
+small : (c : tie.Start Inv-loop μ-loop) (i : ℕ) → i < c .args .streams
+    → slotLead (wordsOf (c .args .leads .now)) (getD (c .args .kinds .now) i 0) (getD (c .args .next .now) i 0) ≤ 3999999
+small c i l = lead-small (wordsOf (c .args .leads .now)) (c .args .kinds .now) (c .args .next .now) (c .args .streams) (c .pre) i l
 
 loop-holds : tie.Need-loop-holds Inv-loop μ-loop
-loop-holds c = (omega arith, sym (leads-start (c .before .args .t1) (wide (c .before))), omega arith)
+loop-holds c = (omega arith, sym (leads-start _ _ _), omega arith)
 
-mul-kind : tie.Need-mul-kind Inv-loop μ-loop
-mul-kind c = search needs
+mul-lead-of : tie.Need-mul-lead-of Inv-loop μ-loop
+mul-lead-of c = omega arith
 
-element-copy-out-kind : tie.Need-element-copy-out-kind Inv-loop μ-loop
-element-copy-out-kind c = search needs
+element-copy-out-lead-of : tie.Need-element-copy-out-lead-of Inv-loop μ-loop
+element-copy-out-lead-of c = omega arith
 
-mul-next : tie.Need-mul-next Inv-loop μ-loop
-mul-next c = search needs
+mul-lead-of-2 : tie.Need-mul-lead-of-2 Inv-loop μ-loop
+mul-lead-of-2 c = omega arith
 
-element-copy-out-next : tie.Need-element-copy-out-next Inv-loop μ-loop
-element-copy-out-next c = search needs
+element-copy-out-lead-of-2 : tie.Need-element-copy-out-lead-of-2 Inv-loop μ-loop
+element-copy-out-lead-of-2 c = omega arith
 
 lead-of-requires : tie.Need-lead-of-requires Inv-loop μ-loop
-lead-of-requires c κs =
-    let s = c .before .before .before .before .before in
-    λ a b. omega (arith, s .pre .0 (c .before .before .before .loop .i) (omega arith) a b, s .pre .1 .long)
+lead-of-requires c κs = c .before .before .before .before .before .pre .here (c .before .before .before .loop .i) (omega arith)
 
 add-sum : tie.Need-add-sum Inv-loop μ-loop
-add-sum c = omega (arith, turn (c .before .before .before .before .before .before) (c .before .before .before .before .loop .i) (c .lead-of .result) (omega arith) (c .lead-of .ensures) .1)
+add-sum c =
+    let l = c .before .before .before .before .loop in
+    omega (arith, c .lead-of .ensures, small (c .before .before .before .before .before .before) (l .i) (omega arith))
 
 add-i : tie.Need-add-i Inv-loop μ-loop
-add-i c = search needs
+add-i c = omega arith
 
 loop-less : tie.Need-loop-less Inv-loop μ-loop
-loop-less c = search needs
+loop-less c = omega arith
 
 loop-again : tie.Need-loop-again Inv-loop μ-loop
 loop-again c =
     let l = c .before .before .before .before .loop in
-    let t = turn (c .before .before .before .before .before .before) (l .i) (c .lead-of .result) (omega arith) (c .lead-of .ensures) in
-    (omega arith, ap (λ (n : ℕ). n + c .lead-of .result) (l .inv .1) ∙ t .0, omega arith)
+    let s = c .before .before .before .before .before .before in (
+      omega arith,
+      omega (arith, l .inv .1, c .lead-of .ensures, leads-turn (wordsOf (s .args .leads .now)) (s .args .kinds .now) (s .args .next .now) (l .i)),
+      omega (arith, l .inv .2, c .lead-of .ensures, small s (l .i) (omega arith)),
+    )
 
 returns : tie.Need-returns Inv-loop μ-loop
 returns c =
     let l = c .before .loop in
-    let s = c .before .before .before in
-    (l .inv .1 ∙ leads-end (s .args .t1) (wide s) (l .i) (omega arith), omega arith)
+    let a = c .before .before .before .args in
+    let e : l .i ≡ a .streams = omega arith in
+    (l .inv .1 ∙ ap (slotLeads (wordsOf (a .leads .now)) (a .kinds .now) (a .next .now)) e, omega arith)
 
 pub sum-leads-spec : {M : Type 1} → statement M
 sum-leads-spec =
@@ -70,10 +70,10 @@ sum-leads-spec =
     Inv-loop
     μ-loop
     loop-holds
-    mul-kind
-    element-copy-out-kind
-    mul-next
-    element-copy-out-next
+    mul-lead-of
+    element-copy-out-lead-of
+    mul-lead-of-2
+    element-copy-out-lead-of-2
     lead-of-requires
     add-sum
     add-i

@@ -1,26 +1,25 @@
 use native.Mathlib.Omega.{arith}
-use Prim.Native.Nat.{_-_}
-use mathlib.Core.Path.{_∙_, sym}
+use Prim.Native.Nat.{ℕ, _+_, _*_, _-_, _≤_, _<_}
+use mathlib.Core.Path.{_≡_, sym, _∙_}
+use mathlib.Core.List.{List}
 use mathlib.Core.Logic.{⊎-elim}
-use borrow.Author.Needs.{needs}
-use Rattle.desk.specs.View.{Wide}
-use Rattle.grants.proofs.Granting.{Granting, grants-none, grants-yes, grants-no, grants-end}
+use lib.ListN.{length, getD, length-set}
+use Rattle.safety.specs.Supply.{Supply}
+use Rattle.grants.specs.Grants.{Slots, Asks}
+use Rattle.grants.proofs.Granting.{Granted, grants-none, grants-yes, grants-no, grants-end}
 use Rattle.grants.proofs.grant_asked.Statement.{statement}
 use Rattle.grants.proofs.grant_asked.Tie as tie
 
 -- the first i slots are tried; the sum of the leads goes with the grants
 abbrev Inv-loop : tie.InvT-loop
-Inv-loop sum level g bytes rate d₀ leads₀ i₀ d leads i = Granting d₀ d leads i
+Inv-loop kinds₀ leads streams bytes rate sum level total₀ i₀ kinds total i = (i ≤ streams) × (length kinds ≡ 256) × (total ≤ 256 * 3999999 + i * 3999999)
+    × ((p : Supply ℕ) (xs hs : List ℕ) (w : Slots p streams kinds₀ xs hs) → Asks p bytes rate sum level leads kinds₀ xs hs → Granted p streams kinds₀ xs hs w kinds total i)
 
 abbrev μ-loop : tie.MeasureT-loop
-μ-loop sum level g bytes rate d₀ leads₀ i₀ d leads i = 256 - i
-
--- the arrays have 256 entries
-wide : (c : tie.Start Inv-loop μ-loop) → Wide (c .args .desk)
-wide c = record { kinds = search needs; next = search needs; held = search needs }
+μ-loop kinds₀ leads streams bytes rate sum level total₀ i₀ kinds total i = streams - i
 
 loop-holds : tie.Need-loop-holds Inv-loop μ-loop
-loop-holds c = grants-none _ (wide c) _ (c .pre .1) (c .pre .2)
+loop-holds c = (omega arith, c .pre .1, omega (arith, c .pre .5), λ p xs hs w a. grants-none p _ _ xs hs w _ _ _ _ _ a)
 
 mul-raised : tie.Need-mul-raised Inv-loop μ-loop
 mul-raised c = omega arith
@@ -29,7 +28,7 @@ element-copy-out-raised : tie.Need-element-copy-out-raised Inv-loop μ-loop
 element-copy-out-raised c = omega arith
 
 add-raised : tie.Need-add-raised Inv-loop μ-loop
-add-raised c = omega (arith, c .before .before .before .pre .0 .range .leads (c .before .before .loop .i))
+add-raised c = let a = c .before .before .before in omega (arith, a .pre .0, a .pre .2 (c .before .before .loop .i))
 
 mul-is-granted : tie.Need-mul-is-granted Inv-loop μ-loop
 mul-is-granted c = omega arith
@@ -38,13 +37,13 @@ element-copy-out-is-granted : tie.Need-element-copy-out-is-granted Inv-loop μ-l
 element-copy-out-is-granted c = omega arith
 
 is-granted-requires : tie.Need-is-granted-requires Inv-loop μ-loop
-is-granted-requires c κs = let a = c .before .before .before .before in (a .pre .0 .legal .bytes .1, a .pre .0 .legal .rate .1)
+is-granted-requires c κs = let a = c .before .before .before .before in (a .pre .3, a .pre .4)
 
-mul-d : tie.Need-mul-d Inv-loop μ-loop
-mul-d c = omega arith
+mul-kinds : tie.Need-mul-kinds Inv-loop μ-loop
+mul-kinds c = omega arith
 
-element-write-d : tie.Need-element-write-d Inv-loop μ-loop
-element-write-d c = omega arith
+element-write-kinds : tie.Need-element-write-kinds Inv-loop μ-loop
+element-write-kinds c = omega arith
 
 add-i : tie.Need-add-i Inv-loop μ-loop
 add-i c = omega arith
@@ -56,15 +55,28 @@ loop-again : tie.Need-loop-again Inv-loop μ-loop
 loop-again c = let b = c .before in
     let l = b .before .before .before .before .loop in
     let a = b .before .before .before .before .before in
-    let g = a .args .t2 in
-    let t = b .before .before .before .loop-test .taken in
+    let h : l .i < 256 = omega (arith, b .before .before .before .loop-test .taken, a .pre .0) in
+    let top : l .total + getD (a .args .leads .now) (l .i) 0 ≤ 513 * 3999999 = omega (arith, l .inv .2, a .pre .2 (l .i)) in
     ⊎-elim
-    (λ w. rw (w .1, w .2) (grants-yes (a .args .desk) (wide a) g (a .pre .0) (a .args .level) (a .pre .3) (l .d) (l .leads) (l .i) t (l .inv) (sym (b .is-granted .ensures) ∙ w .0 .taken)))
-    (λ w. rw (w .1, w .2) (grants-no (a .args .desk) (wide a) g (a .pre .0) (a .args .level) (a .pre .3) (l .d) (l .leads) (l .i) t (l .inv) (sym (b .is-granted .ensures) ∙ w .0 .left)))
+    (λ w. rw (w .1, w .2) (
+      omega arith,
+      length-set (l .kinds) (l .i) 2 ∙ l .inv .1,
+      omega (arith, l .inv .2, a .pre .2 (l .i)),
+      λ p xs hs s k.
+          grants-yes p _ _ xs hs s _ _ _ _ _ k (l .kinds) (l .inv .1) (l .total) (l .i) h (l .inv .3 p xs hs s k) top (a .pre .3) (a .pre .4) (sym (b .is-granted .ensures) ∙ w .0 .taken),
+    ))
+    (λ w. rw (w .1, w .2) (
+      omega arith,
+      l .inv .1,
+      omega (arith, l .inv .2),
+      λ p xs hs s k.
+          grants-no p _ _ xs hs s _ _ _ _ _ k (l .kinds) (l .inv .1) (l .total) (l .i) h (l .inv .3 p xs hs s k) top (a .pre .3) (a .pre .4) (sym (b .is-granted .ensures) ∙ w .0 .left),
+    ))
     (c .if1 .came)
 
 returns : tie.Need-returns Inv-loop μ-loop
-returns c = grants-end _ _ _ _ (c .before .loop .inv) (c .loop-test .left)
+returns c = let l = c .before .loop in
+    λ p xs hs w a. grants-end p _ _ xs hs w (l .kinds) (l .total) (l .i) (l .inv .3 p xs hs w a) (omega arith) (c .before .before .pre .0)
 
 pub grant-asked-spec : {M : Type 1} → statement M
 grant-asked-spec =
@@ -79,8 +91,8 @@ grant-asked-spec =
     mul-is-granted
     element-copy-out-is-granted
     is-granted-requires
-    mul-d
-    element-write-d
+    mul-kinds
+    element-write-kinds
     add-i
     loop-less
     loop-again

@@ -1,29 +1,27 @@
 use native.Mathlib.Omega.{arith}
-use Prim.Native.Nat.{_*_, _≤_, _-_}
+use Prim.Native.Nat.{ℕ, _*_, _-_, _≤_}
 use mathlib.Core.Path.{_≡_}
+use mathlib.Core.List.{List}
 use lib.ListN.{take}
 use borrow.Author.Needs.{needs}
-use Rattle.desk.specs.View.{Wide}
-use Rattle.desk.specs.Desk.{supplyOf, slotsIn}
+use Rattle.safety.specs.Supply.{Supply}
+use Rattle.safety.specs.Arrays.{slotsOf}
 use Rattle.safety.specs.Turns.{leastHeld, least-none}
-use Rattle.grants.specs.Grants.{ample}
+use Rattle.grants.specs.Grants.{ample, Slots}
 use Rattle.grants.proofs.Levels.{least-turn, least-end}
 use Rattle.grants.proofs.least_level.Statement.{statement}
 use Rattle.grants.proofs.least_level.Tie as tie
 
 -- the least of the first i slots is found
 abbrev Inv-loop : tie.InvT-loop
-Inv-loop desk level₀ i₀ level i = (i ≤ 256) × (level ≡ 2000000 * leastHeld (supplyOf (desk .plan)) ample (take i (slotsIn desk)))
+Inv-loop kinds held streams level₀ i₀ level i = (i ≤ streams)
+    × ((p : Supply ℕ) (xs : List ℕ) → Slots p streams kinds xs held → level ≡ 2000000 * leastHeld p ample (take i (slotsOf p kinds xs held)))
 
 abbrev μ-loop : tie.MeasureT-loop
-μ-loop desk level₀ i₀ level i = 256 - i
-
--- the arrays have 256 entries
-wide : (c : tie.Start Inv-loop μ-loop) → Wide (c .args .t1)
-wide c = record { kinds = search needs; next = search needs; held = search needs }
+μ-loop kinds held streams level₀ i₀ level i = streams - i
 
 loop-holds : tie.Need-loop-holds Inv-loop μ-loop
-loop-holds c = (omega arith, omega (arith, least-none (supplyOf (c .args .t1 .plan)) ample (slotsIn (c .args .t1))))
+loop-holds c = (omega arith, λ p xs w. omega (arith, least-none p ample (slotsOf p (c .args .kinds .now) xs (c .args .held .now))))
 
 mul-lower : tie.Need-mul-lower Inv-loop μ-loop
 mul-lower c = omega arith
@@ -50,12 +48,12 @@ loop-again : tie.Need-loop-again Inv-loop μ-loop
 loop-again c = let l = c .before .before .before .before .loop in
     let a = c .before .before .before .before .before in (
       omega arith,
-      least-turn (a .args .t1) (wide a) ample (l .i) (l .level) (c .lower .result) (c .before .before .before .loop-test .taken) (l .inv .1) (c .lower .ensures .0) (c .lower .ensures .1),
+      λ p xs w. least-turn p _ _ xs _ w ample (l .i) (l .level) (c .lower .result) (omega (arith, c .before .before .before .loop-test .taken, a .pre)) (l .inv .1 p xs w)
+          (c .lower .ensures .0) (c .lower .ensures .1),
     )
 
 returns : tie.Need-returns Inv-loop μ-loop
-returns c = let l = c .before .loop in
-    least-end _ (wide (c .before .before)) ample (l .i) (l .level) (omega arith) (l .inv .1)
+returns c = let l = c .before .loop in λ p xs w. least-end p _ _ xs _ w ample (l .i) (l .level) (omega arith) (l .inv .1 p xs w)
 
 pub least-level-spec : {M : Type 1} → statement M
 least-level-spec =

@@ -1,25 +1,27 @@
 use native.Mathlib.Omega.{arith}
-use Prim.Native.Nat.{_≤_, _-_}
-use mathlib.Core.Path.{_≡_}
+use Prim.Native.Nat.{ℕ, _-_, _≤_}
+use mathlib.Core.Path.{_≡_, _∙_}
+use mathlib.Core.List.{List}
+use lib.ListN.{length, length-set}
 use borrow.Author.Needs.{needs}
-use Rattle.desk.specs.View.{Wide}
-use Rattle.grants.proofs.Granting.{startedDesk, started-none, started-turn, started-end}
+use Rattle.safety.specs.Supply.{Supply}
+use Rattle.safety.specs.Arrays.{slotsOf}
+use Rattle.safety.specs.Turns.{startedTo}
+use Rattle.grants.specs.Grants.{Slots}
+use Rattle.grants.proofs.Granting.{started-none, started-turn, started-end}
 use Rattle.grants.proofs.start_playing.Statement.{statement}
 use Rattle.grants.proofs.start_playing.Tie as tie
 
 -- the first i slots are done
 abbrev Inv-loop : tie.InvT-loop
-Inv-loop mark d₀ i₀ d i = (i ≤ 256) × (d ≡ startedDesk d₀ mark i)
+Inv-loop kinds₀ held streams mark i₀ kinds i = (i ≤ streams) × (length kinds ≡ 256)
+    × ((p : Supply ℕ) (xs : List ℕ) → Slots p streams kinds₀ xs held → slotsOf p kinds xs held ≡ startedTo p mark i (slotsOf p kinds₀ xs held))
 
 abbrev μ-loop : tie.MeasureT-loop
-μ-loop mark d₀ i₀ d i = 256 - i
-
--- the arrays have 256 entries
-wide : (c : tie.Start Inv-loop μ-loop) → Wide (c .args .desk)
-wide c = record { kinds = search needs; next = search needs; held = search needs }
+μ-loop kinds₀ held streams mark i₀ kinds i = streams - i
 
 loop-holds : tie.Need-loop-holds Inv-loop μ-loop
-loop-holds c = (omega arith, started-none _ (wide c) _)
+loop-holds c = (omega arith, c .pre .1, λ p xs w. started-none p _ _ xs _ w _)
 
 mul-started-kind : tie.Need-mul-started-kind Inv-loop μ-loop
 mul-started-kind c = omega arith
@@ -36,11 +38,11 @@ element-copy-out-started-kind-2 c = omega arith
 started-kind-requires : tie.Need-started-kind-requires Inv-loop μ-loop
 started-kind-requires c κs = search needs
 
-mul-d : tie.Need-mul-d Inv-loop μ-loop
-mul-d c = omega arith
+mul-kinds : tie.Need-mul-kinds Inv-loop μ-loop
+mul-kinds c = omega arith
 
-element-write-d : tie.Need-element-write-d Inv-loop μ-loop
-element-write-d c = omega arith
+element-write-kinds : tie.Need-element-write-kinds Inv-loop μ-loop
+element-write-kinds c = omega arith
 
 add-i : tie.Need-add-i Inv-loop μ-loop
 add-i c = omega arith
@@ -50,11 +52,15 @@ loop-less c = omega arith
 
 loop-again : tie.Need-loop-again Inv-loop μ-loop
 loop-again c = let l = c .before .before .before .before .loop in
-    let a = c .before .before .before .before .before in
-    (omega arith, started-turn (a .args .desk) (wide a) (a .args .mark) (l .i) (c .started-kind .result) (l .d) (l .inv .1) (c .before .before .before .loop-test .taken) (c .started-kind .ensures))
+    let a = c .before .before .before .before .before in (
+      omega arith,
+      length-set (l .kinds) (l .i) _ ∙ l .inv .1,
+      λ p xs w. started-turn p _ _ xs _ w (a .args .mark) (l .i) (c .started-kind .result) (l .kinds) (l .inv .1) (l .inv .2 p xs w)
+          (omega (arith, c .before .before .before .loop-test .taken, a .pre .0)) (c .started-kind .ensures),
+    )
 
 returns : tie.Need-returns Inv-loop μ-loop
-returns c = started-end _ (wide (c .before .before)) _ (c .before .loop .i) _ (c .before .loop .inv .1) (omega arith)
+returns c = let l = c .before .loop in λ p xs w. started-end p _ _ xs _ w _ (l .i) (l .kinds) (l .inv .2 p xs w) (omega arith)
 
 pub start-playing-spec : {M : Type 1} → statement M
 start-playing-spec =
@@ -68,8 +74,8 @@ start-playing-spec =
     mul-started-kind-2
     element-copy-out-started-kind-2
     started-kind-requires
-    mul-d
-    element-write-d
+    mul-kinds
+    element-write-kinds
     add-i
     loop-less
     loop-again

@@ -1,12 +1,11 @@
-use mathlib.Core.Path.{_≡_, sym, _∙_}
-use mathlib.Core.Bool.{true}
-use borrow.Author.Tests.{not-true, not-false}
+use mathlib.Core.Path.{_≡_, sym, ap, _∙_}
 use Rattle.round_trip.specs.Legality as legality
+use Rattle.desk.specs.Desk.{beginDesk}
 use Rattle.desk.specs.View.{Wide}
-use Rattle.soundness.specs.Facts.{soundDesk}
-use Rattle.soundness.specs.Laws.{sound-tidy, tidy-named}
-use Rattle.soundness.specs.Ready.{plan-leads, sound-ready, sound-plan}
-use Rattle.scheduler.specs.Answers.{begin-unsound, begin-in-sweep, begin-no-room, begin-begun}
+use Rattle.records.specs.Records.{notBegun}
+use Rattle.sweep.specs.declared.Swept.{Swept}
+use Rattle.sweep.specs.Steps.{sweptOf, begunOf}
+use Rattle.scheduler.specs.Ways.{begin-refused, begin-swept}
 use borrow.Author.Needs.{needs}
 use Rattle.scheduler.proofs.begin.Statement.{statement}
 use Rattle.scheduler.proofs.begin.Tie as tie
@@ -17,82 +16,31 @@ wide c = record { kinds = search needs; next = search needs; held = search needs
 slim : (c : tie.Start) → legality.Wide (c .args .desk .plan .figures)
 slim c = (search needs, search needs)
 
--- past the test of soundness
-passed : (c : tie.Else1) → (let a = c .before .before .before .before .args in soundDesk (a .desk) (a .positions .now) (a .leads .now) ≡ true)
-passed c = sym (c .before .is-sound .ensures) ∙ not-false _ (c .if1 .left)
+-- the answer's number
+number : (c : tie.After-judge-begin) → (let a = c .before .before .before .args in
+    c .judge-begin .result .verdict .number ≡ beginDesk (a .desk) (a .positions .now) (a .leads .now) (a .room) .verdict .number)
+unfolding sweptOf
+number c = ap (λ (s : Swept). s .verdict .number) (c .judge-begin .ensures)
 
-is-sound-requires : tie.Need-is-sound-requires
-is-sound-requires c κs = search needs
+judge-begin-requires : tie.Need-judge-begin-requires
+judge-begin-requires c κs = search needs
 
 not-begun-requires : tie.Need-not-begun-requires
 not-begun-requires c κs = search needs
 
 returns : tie.Need-returns
 returns c =
-    let s = c .before .before .before .before .before in
-    c .not-begun .ensures ∙ begin-unsound (s .args .desk) (wide s) _ _ _ (sym (c .before .before .is-sound .ensures) ∙ not-true _ (c .before .if1 .taken))
-
-not-begun-requires-2 : tie.Need-not-begun-requires-2
-not-begun-requires-2 c κs = search needs
+    let j = c .before .before .before .before in
+    let s = j .before .before .before in
+    c .not-begun .ensures ∙ ap (notBegun (s .args .desk)) (number j) ∙ begin-refused (s .args .desk) (wide s) (slim s) _ _ _ (λ z. c .before .if1 .taken (number j ∙ z))
 
 returns-2 : tie.Need-returns-2
+unfolding begunOf
 returns-2 c =
-    let e = c .before .before .before in
-    let s = e .before .before .before .before in
-    c .not-begun2 .ensures ∙ begin-in-sweep (s .args .desk) (wide s) _ _ _ (passed e) (c .before .if2 .taken)
-
-cast-if3 : tie.Need-cast-if3
-cast-if3 c = search needs
-
-not-begun-requires-3 : tie.Need-not-begun-requires-3
-not-begun-requires-3 c κs = search needs
-
-returns-3 : tie.Need-returns-3
-returns-3 c =
-    let e = c .before .before .before .before .before .before in
-    let s = e .before .before .before .before in
-    c .not-begun3 .ensures ∙ begin-no-room (s .args .desk) (wide s) _ _ _ (passed e) (c .before .before .before .before .if2 .left) (c .before .if3 .taken)
-
-gather-requires : tie.Need-gather-requires
-gather-requires c κs =
-    let e = c .before .before .before .before .before in
-    let s = e .before .before .before .before in
-    (sound-ready _ _ _ (slim s) (passed e), sound-plan _ _ _ (passed e))
-
-sum-leads-requires : tie.Need-sum-leads-requires
-sum-leads-requires c κs =
-    let e = c .before .before .before .before .before .before in
-    let s = e .before .before .before .before in
-    let d = s .args .desk in
-    (tidy-named d (wide s) (sound-tidy d (wide s) (sound-ready _ _ _ (slim s) (passed e) .sound)), plan-leads _ _ _ (slim s) (sound-plan _ _ _ (passed e)))
-
-begin-sweep-requires : tie.Need-begin-sweep-requires
-begin-sweep-requires c κs =
-    let e = c .before .before .before .before .before .before .before in
-    let s = e .before .before .before .before in
-    let g = c .before .gather in
-    let l = c .sum-leads in
-    (sound-ready _ _ _ (slim s) (passed e), g .ensures .0, g .ensures .1, l .ensures .0, l .ensures .1, c .before .before .before .before .before .if2 .left)
-
-returns-4 : tie.Need-returns-4
-returns-4 c =
-    let e = c .before .before .before .before .before .before .before .before in
-    let s = e .before .before .before .before in
-    c .begin-sweep .ensures ∙ begin-begun (s .args .desk) (wide s) _ _ _ (passed e) (c .before .before .before .before .before .before .if2 .left) (c .before .before .before .if3 .left)
+    let e = c .before .before in
+    let j = e .before .before .before in
+    let s = j .before .before .before in
+    ap (begunOf (s .args .desk)) (j .judge-begin .ensures) ∙ begin-swept (s .args .desk) (wide s) (slim s) _ _ _ (sym (number j) ∙ e .if1 .left)
 
 pub begin-spec : {M : Type 1} → statement M
-begin-spec =
-    tie.close
-    (tie.spec
-    is-sound-requires
-    not-begun-requires
-    returns
-    not-begun-requires-2
-    returns-2
-    cast-if3
-    not-begun-requires-3
-    returns-3
-    gather-requires
-    sum-leads-requires
-    begin-sweep-requires
-    returns-4)
+begin-spec = tie.close (tie.spec judge-begin-requires not-begun-requires returns returns-2)

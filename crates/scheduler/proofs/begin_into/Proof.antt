@@ -1,7 +1,6 @@
 use Prim.Native.Nat.{ℕ, _/_}
 use mathlib.Core.Path.{_≡_, ap, _∙_}
 use native.Mathlib.Omega.{arith}
-use borrow.Author.Needs.{needs}
 use lib.ListN.{length}
 use Rattle.round_trip.specs.Legality as legality
 use Rattle.words.specs.Words.{wordsOf, withWords}
@@ -27,13 +26,16 @@ entries-requires c κs = search needs
 begin-requires : tie.Need-begin-requires
 begin-requires c κs = search needs
 
+cast-write-entries : tie.Need-cast-write-entries
+cast-write-entries c = search needs
+
 write-entries-requires : tie.Need-write-entries-requires
 write-entries-requires c κs =
-    let s = c .before .before .before .before .before .before .before .before in
-    let b = c .before .before .begin .ensures in
-    let n = c .before .before .before .entries .ensures in
-    let f = begin-few (s .args .desk) (wide s) (slim s) (s .args .positions .now) (s .args .leads .now) (c .before .before .before .entries .result / 3) in
-    let k = ap (λ (x : Begun). x .fetches .count) b in
+    let b = c .before .before .before .before .before .before in
+    let s = b .before .before .before .before .before .before in
+    let n = b .before .entries .ensures in
+    let f = begin-few (s .args .desk) (wide s) (slim s) (s .args .positions .now) (s .args .leads .now) (b .before .entries .result / 3) in
+    let k = ap (λ (x : Begun). x .fetches .count) (b .begin .ensures) in
     omega arith
 
 same-length : tie.Need-same-length
@@ -42,12 +44,13 @@ same-length c = search needs
 returns : tie.Need-returns
 unfolding beginDesk fetchListAfter
 returns c =
-    let s = c .before .before .before .before .before .before .before .before .before .before .before in
+    let j = c .before .before .before .before .before .before .before .before .before in
+    let s = j .before .before .before .before .before .before in
     let d = s .args .desk in
     let ps = s .args .positions .now in
     let ls = s .args .leads .now in
     let out = s .args .fetches .now in
-    let b : c .before .before .before .before .before .begin .result ≡ beginDesk d ps ls (length (wordsOf out) / 3) = c .before .before .before .before .before .begin .ensures ∙ ap (λ (k : ℕ). beginDesk d ps ls (k / 3)) (c .before .before .before .before .before .before .entries .ensures) in (
+    let b : j .begin .result ≡ beginDesk d ps ls (length (wordsOf out) / 3) = j .begin .ensures ∙ ap (λ (k : ℕ). beginDesk d ps ls (k / 3)) (j .before .entries .ensures) in (
       b,
       c .before .before .write-entries .ensures
           ∙ ap (λ (f : Fetches). withWords out 0 (rows 0 (f .count) f)) (ap (λ (x : Begun). x .fetches) b)
@@ -56,4 +59,11 @@ returns c =
 
 pub begin-into-spec : {M : Type 1} → statement M
 begin-into-spec =
-    tie.close (tie.spec entries-requires begin-requires write-entries-requires same-length returns)
+    tie.close
+    (tie.spec
+    entries-requires
+    begin-requires
+    cast-write-entries
+    write-entries-requires
+    same-length
+    returns)

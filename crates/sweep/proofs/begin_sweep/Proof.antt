@@ -1,63 +1,100 @@
-use mathlib.Core.Path.{_≡_}
+use native.Mathlib.Omega.{arith}
+use mathlib.Core.Path.{_≡_, refl}
+use Rattle.plan.specs.Plan as F
+use Rattle.safety.specs.Scheduler.{started, begun}
+use Rattle.safety.specs.Arrays.{slotsOf}
 use Rattle.desk.specs.View.{Wide}
-use Rattle.safety.specs.Scheduler.{begun}
 use Rattle.desk.specs.Desk.{supplyOf, slotsIn}
-use Rattle.desk.specs.Ready.{Stage, stage-of}
-use Rattle.desk.specs.Slots.{withSlots}
-use Rattle.sweep.proofs.Beginning.{floor-is, stage-started, leads-started, begun-all, stage-begun, begun-is}
+use Rattle.desk.specs.Ready.{streams-are, buffer-has}
+use Rattle.sweep.proofs.Beginning.{floor-is, slots-own, slots-started, asks-started, begun-all, shown-begun, gathered-begun, begun-is}
 use borrow.Author.Needs.{needs}
 use Rattle.sweep.proofs.begin_sweep.Statement.{statement}
 use Rattle.sweep.proofs.begin_sweep.Tie as tie
 
 -- the arrays have 256 entries
-wide : (c : tie.Start) → Wide (c .args .desk)
+wide : (c : tie.Start) → Wide (c .args .t1)
 wide c = record { kinds = search needs; next = search needs; held = search needs }
 
-stage : (c : tie.Start) → Stage (c .args .desk) (c .args .g)
-stage c = stage-of _ _ (c .pre .0) (c .pre .1) (c .pre .2)
+abbrev start : tie.After-start-playing → tie.Start
+start c = c .before .before .before .before .before .before .before .before
+
+abbrev played : tie.After-grant-asked → tie.After-start-playing
+played c = c .before .before .before .before .before .before .before .before
+
+-- filling slots have started to play
+first : (c : tie.After-start-playing) → (let d = start c .args .t1 in
+    slotsOf (supplyOf (d .plan)) (c .start-playing .last .0) (d .next) (d .held) ≡ started (supplyOf (d .plan)) (c .before .before .before .before .low-water .result) (slotsIn d))
+first c = let s = start c in
+    let d = s .args .t1 in c .start-playing .ensures (supplyOf (d .plan)) (d .next) (slots-own d (wide s) (s .pre .0))
 
 -- both steps are done
-all : (c : tie.After-grant-asked) → (let d = c .before .before .before .before .args .desk in c .grant-asked .result ≡ withSlots d (begun (supplyOf (d .plan)) (slotsIn d)))
+all : (c : tie.After-grant-asked) → (let d = start (played c) .args .t1 in
+    slotsOf (supplyOf (d .plan)) (c .grant-asked .last .0) (d .next) (d .held) ≡ begun (supplyOf (d .plan)) (slotsIn d))
 all c =
-    let s = c .before .before .before .before in
-    let d = s .args .desk in
-    let m = c .before .before .before .low-water in
-    let e = c .before .before .start-playing in
-    begun-all d (wide s) (m .result) (e .result) (e .ensures) (c .grant-asked .result) (c .grant-asked .ensures)
+    let b = played c in
+    let s = start b in
+    let d = s .args .t1 in
+    let g = s .args .t2 in
+    let m = b .before .before .before .before .low-water in
+    let v = slots-started d (wide s) (s .pre .0) g (s .pre .1) (m .result) _ (first b) in
+    let l = c .before .before .before .before .least-level in
+    begun-all d (wide s) (s .pre .0) g (s .pre .1) (m .result) _ (first b) _
+    (c .grant-asked .ensures (supplyOf (d .plan)) (d .next) (d .held) v
+    (asks-started d (wide s) (s .pre .0) g (s .pre .1) (m .result) _ (first b) (s .args .sum) (l .result) (s .pre .3) (l .ensures (supplyOf (d .plan)) (d .next) v)))
     (floor-is d (m .result) (s .args .sum) (m .ensures) (s .pre .3))
 
+cast-streams : tie.Need-cast-streams
+cast-streams c = search needs
+
+sub-room : tie.Need-sub-room
+sub-room c = let s = c .before .before in omega (arith, buffer-has (s .args .t1 .plan) (s .pre .0 .planned))
+
 low-water-requires : tie.Need-low-water-requires
-low-water-requires c κs = search needs
+low-water-requires c κs = let s = c .before .before .before in (s .pre .0 .legal .bytes .1, s .pre .0 .legal .rate .1)
 
 start-playing-requires : tie.Need-start-playing-requires
-start-playing-requires c κs = search needs
+start-playing-requires c κs = let s = c .before .before .before .before .before .before .before in (streams-are (s .args .t1) (s .pre .0), wide s .kinds)
 
 least-level-requires : tie.Need-least-level-requires
-least-level-requires c κs = search needs
+least-level-requires c κs = let s = start (c .before .before .before) in streams-are (s .args .t1) (s .pre .0)
 
 grant-asked-requires : tie.Need-grant-asked-requires
-grant-asked-requires c κs = let s = c .before .before .before in
-    let m = c .before .before .low-water in
-    let e = c .before .start-playing in (
-      stage-started (s .args .desk) (wide s) (m .result) (e .result) (e .ensures) (s .args .g) (stage s),
-      leads-started (s .args .desk) (wide s) (m .result) (e .result) (e .ensures) (s .args .sum) (s .pre .3),
+grant-asked-requires c κs = let b = c .before .before .before .before .before .before .before in
+    let s = start b in
+    let d = s .args .t1 in (
+      streams-are d (s .pre .0),
+      slots-started d (wide s) (s .pre .0) (s .args .t2) (s .pre .1) _ _ (first b) .long,
+      s .pre .2 .leads,
+      s .pre .0 .legal .bytes .1,
+      s .pre .0 .legal .rate .1,
       s .pre .4,
-      c .least-level .ensures,
     )
 
 sweep-bound-requires : tie.Need-sweep-bound-requires
-sweep-bound-requires c κs = let s = c .before .before .before .before in stage-begun (s .args .desk) (c .grant-asked .result) (all c) (wide s) (s .args .g) (s .pre .0) (stage s)
+sweep-bound-requires c κs = let s = start (played (c .before .before .before .before .before)) in
+    (streams-are (s .args .t1) (s .pre .0), s .pre .2 .times, s .pre .0 .legal .hop .1, s .pre .0 .legal .back .1)
 
 list-fetches-requires : tie.Need-list-fetches-requires
-list-fetches-requires c κs = let s = c .before .before .before .before .before in stage-begun (s .args .desk) (c .before .grant-asked .result) (all (c .before)) (wide s) (s .args .g) (s .pre .0) (stage s)
+list-fetches-requires c κs = let s = start (played (c .before .before .before .before .before .before .before .before .before .before .before .before)) in streams-are (s .args .t1) (s .pre .0)
 
 returns : tie.Need-returns
-returns c = begun-is _ (c .before .before .grant-asked .result) (all (c .before .before)) (c .before .sweep-bound .result) (c .list-fetches .result) (c .before .sweep-bound .ensures) (c .list-fetches .ensures)
+returns c =
+    let k = c .before .before .before .before .before .before .before .before .before .before .before .before .before in
+    let s = start (played k) in
+    let d = s .args .t1 in
+    let w = wide s in
+    let r = s .pre .0 in
+    let b = c .before .before .before .before .before .before .before .sweep-bound in
+    begun-is d w r _ (all k) (b .result) (c .list-fetches .result)
+    (b .ensures (d .plan) (d .next) (shown-begun d w r _ (all k)) (gathered-begun d w r _ (all k) (F.timeOf (d .plan .figures)) (s .args .t2 .times) (s .pre .1 .times)) refl refl)
+    (c .list-fetches .ensures (d .plan) (shown-begun d w r _ (all k)) (gathered-begun d w r _ (all k) (F.placeOf (d .plan .figures)) (s .args .t2 .positions) (s .pre .1 .positions)))
 
 pub begin-sweep-spec : {M : Type 1} → statement M
 begin-sweep-spec =
     tie.close
     (tie.spec
+    cast-streams
+    sub-room
     low-water-requires
     start-playing-requires
     least-level-requires

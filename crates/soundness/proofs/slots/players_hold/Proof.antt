@@ -10,25 +10,25 @@ use Rattle.soundness.proofs.slots.players_hold.Statement.{statement}
 use Rattle.soundness.proofs.slots.players_hold.Tie as tie
 
 abbrev Inv-loop : tie.InvT-loop
-Inv-loop mark desk i₀ i = (i ≤ 256) × ((j : ℕ) → j < i → getD (desk .kinds) j 0 ≡ 3 → mark ≤ 2000000 * getD (desk .held) j 0)
+Inv-loop streams kinds held mark i₀ i = (i ≤ streams) × ((j : ℕ) → j < i → getD kinds j 0 ≡ 3 → mark ≤ 2000000 * getD held j 0)
 
 abbrev μ-loop : tie.MeasureT-loop
-μ-loop mark desk i₀ i = 256 - i
+μ-loop streams kinds held mark i₀ i = streams - i
 
 loop-holds : tie.Need-loop-holds Inv-loop μ-loop
 loop-holds c = (omega arith, λ j h. absurd (omega arith))
 
 mul-if1 : tie.Need-mul-if1 Inv-loop μ-loop
-mul-if1 c = search needs
+mul-if1 c = omega arith
 
 element-copy-out-if1 : tie.Need-element-copy-out-if1 Inv-loop μ-loop
-element-copy-out-if1 c = search needs
+element-copy-out-if1 c = omega arith
 
-mul-held : tie.Need-mul-held Inv-loop μ-loop
-mul-held c = search needs
+mul-product : tie.Need-mul-product Inv-loop μ-loop
+mul-product c = omega arith
 
-element-copy-out-held : tie.Need-element-copy-out-held Inv-loop μ-loop
-element-copy-out-held c = search needs
+element-copy-out-product : tie.Need-element-copy-out-product Inv-loop μ-loop
+element-copy-out-product c = omega arith
 
 product-requires : tie.Need-product-requires Inv-loop μ-loop
 product-requires c κs = search needs
@@ -39,10 +39,10 @@ returns c =
     tells-no (λ t. omega (arith, t (l .i) (omega arith) (omega (arith, c .before .before .before .if1 .taken)), c .before .product .ensures, c .if2 .taken))
 
 add-i : tie.Need-add-i Inv-loop μ-loop
-add-i c = search needs
+add-i c = omega arith
 
 loop-less : tie.Need-loop-less Inv-loop μ-loop
-loop-less c = search needs
+loop-less c = omega arith
 
 loop-again : tie.Need-loop-again Inv-loop μ-loop
 loop-again c =
@@ -65,8 +65,8 @@ players-hold-spec =
     loop-holds
     mul-if1
     element-copy-out-if1
-    mul-held
-    element-copy-out-held
+    mul-product
+    element-copy-out-product
     product-requires
     returns
     add-i
