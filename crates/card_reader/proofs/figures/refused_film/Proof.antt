@@ -1,4 +1,4 @@
-use mathlib.Core.Path.{_≡_, sym, ap}
+use mathlib.Core.Path.{sym, ap}
 use Rattle.card.specs.Read.{thenField, refusedCard}
 use Rattle.card.specs.declared.fields.Field.{Field}
 use Rattle.card_reader.specs.Film.{cardWith}
