@@ -3,10 +3,11 @@ use admission::judge_join;
 use admission::judge_leave;
 use card::Verdict;
 use desk::Answer;
-use desk::Begun;
+use fetch_bytes::write_entries;
 use layout::DESK_BYTES;
 use layout::FilmdiskAnswer;
 use layout::PLAN_BYTES;
+use layout::put_kinds;
 use layout::put_slot;
 use layout::read_desk;
 use layout::read_plan;
@@ -14,13 +15,16 @@ use layout::verdict_answer;
 use layout::write_desk;
 use records::answer;
 use records::blank_desk;
+use scheduler::judge_begin;
+use scheduler::judge_end;
+use sweep::end_sweep;
 ghost use mathlib.Core.Path.{_≡_};
 ghost use Prim.Native.Nat.{_≤_};
 ghost use lib.ListN.{length};
 ghost use Rattle.words.specs.Words.{wordsOf, withWords};
 ghost use Rattle.layout.specs.Layout.{deskWords};
 ghost use Rattle.layout.specs.Answers.{verdictAnswer};
-ghost use Rattle.desk_strings.specs.Calls.{refusedBy, begunAnswer, openedFrom, openAnswer, openString, joinAnswer, joinString, leaveAnswer, leaveString, beginAnswer, beginString, fetchString, endAnswer, endString};
+ghost use Rattle.desk_strings.specs.Calls.{refusedBy, openedFrom, openAnswer, openString, joinAnswer, joinString, leaveAnswer, leaveString, beginAnswer, beginString, fetchString, endAnswer, endString};
 
 // A refusal with no place.
 fn refused(number: u32) -> FilmdiskAnswer
@@ -105,21 +109,7 @@ pub fn leave(desk: &mut [u8], positions: &[u8], leads: &[u8], slot: u32) -> Film
     verdict_answer(judged)
 }
 
-// What a begin answers, without its fetches.
-fn begun_answer(begun: Begun) -> FilmdiskAnswer
-    ensures { λ r. ⌜ r ≡ begunAnswer begun ⌝ }
-{
-    let verdict = begun.verdict;
-    let fetches = begun.fetches;
-    FilmdiskAnswer {
-        number: verdict.number,
-        place: verdict.place,
-        count: fetches.count,
-        bound: begun.bound,
-    }
-}
-
-// Begins a sweep: 14, 15, 13.
+// Begins a sweep: 14, 15, 13. A refused call writes nothing, another the fetches, the phase and the kinds alone.
 pub fn begin(desk: &mut [u8], positions: &[u8], leads: &[u8], fetches: &mut [u8]) -> FilmdiskAnswer
     ensures { λ r. ⌜ (r ≡ beginAnswer (now (desk .entry)) (now (positions .entry)) (now (leads .entry)) (now (fetches .entry)))
         × (now (desk .exit) ≡ beginString (now (desk .entry)) (now (positions .entry)) (now (leads .entry)) (now (fetches .entry)))
@@ -128,12 +118,30 @@ pub fn begin(desk: &mut [u8], positions: &[u8], leads: &[u8], fetches: &mut [u8]
     if desk.len() != DESK_BYTES {
         return refused(14);
     }
-    let begun = scheduler::begin_into(read_desk(desk), positions, leads, fetches);
-    write_desk(desk, begun.desk);
-    begun_answer(begun)
+    let room = words::entries(fetches) / 3;
+    let swept = judge_begin(read_desk(desk), positions, leads, room);
+    let judged = swept.verdict;
+    let list = swept.fetches;
+    write_entries(
+        &list.positions,
+        &list.slots,
+        &list.blocks,
+        list.count as usize,
+        fetches,
+    );
+    if judged.number != 0 {
+        return verdict_answer(judged);
+    }
+    put_kinds(desk, 1, &swept.kinds);
+    FilmdiskAnswer {
+        number: judged.number,
+        place: judged.place,
+        count: list.count,
+        bound: swept.bound,
+    }
 }
 
-// Ends a sweep: 14, 15, 19, 20, 21.
+// Ends a sweep: 14, 15, 19, 20, 21. A refused call writes nothing.
 pub fn end(desk: &mut [u8], positions: &[u8], leads: &[u8], draws: &[u8]) -> FilmdiskAnswer
     ensures { λ r. ⌜ (r ≡ endAnswer (now (desk .entry)) (now (positions .entry)) (now (leads .entry)) (now (draws .entry)))
         × (now (desk .exit) ≡ endString (now (desk .entry)) (now (positions .entry)) (now (leads .entry)) (now (draws .entry))) ⌝ }
@@ -141,6 +149,11 @@ pub fn end(desk: &mut [u8], positions: &[u8], leads: &[u8], draws: &[u8]) -> Fil
     if desk.len() != DESK_BYTES {
         return refused(14);
     }
-    let answered = scheduler::end(read_desk(desk), positions, leads, draws);
-    write_back(desk, answered)
+    let read = read_desk(desk);
+    let judged = judge_end(read, positions, leads, draws);
+    if judged.number != 0 {
+        return verdict_answer(judged);
+    }
+    write_desk(desk, end_sweep(read, draws));
+    verdict_answer(judged)
 }

@@ -1,5 +1,6 @@
 pub mod Answers
 pub mod Fields
+pub mod Kinds
 pub mod Laws
 pub mod Layout
 pub mod Legal

@@ -20,6 +20,7 @@ ghost use Rattle.plan.specs.declared.Plan.{Plan};
 ghost use Rattle.desk.specs.declared.Desk.{Desk};
 ghost use Rattle.records.specs.Records.{withSlot};
 ghost use Rattle.layout.specs.Layout.{planWords, planIn, deskWords, deskIn};
+ghost use Rattle.layout.specs.Kinds.{withKinds};
 ghost use Rattle.layout.specs.Laws.{PlanSized, DeskSized};
 ghost use Rattle.layout.specs.Answers.{verdictAnswer};
 
@@ -152,6 +153,15 @@ pub fn put_slot(list: &mut [u8], i: usize, kind: u32, next: u32)
     put_word(list, offsets::KINDS + i, kind);
     put_word(list, offsets::NEXT + i, next);
     put_word(list, offsets::HELD + i, 0);
+}
+
+// Writes the phase and the kinds of the desk at the front of a string.
+pub fn put_kinds(list: &mut [u8], phase: u32, kinds: &[u32; 256])
+    requires { ⌜ (length (now kinds) ≡ 256) × (907 ≤ length (wordsOf (now list))) ⌝ }
+    ensures { λ _. ⌜ now (list .exit) ≡ withWords (now (list .entry)) 0 (deskWords (withKinds (deskIn (wordsOf (now (list .entry)))) phase (now (kinds .entry)))) ⌝ }
+{
+    put_word(list, offsets::PHASE, phase);
+    write_256(list, offsets::KINDS, kinds);
 }
 
 // What is written is read back.

@@ -1,5 +1,3 @@
-use mathlib.Core.Path.{sym, ap, _∙_}
-use Rattle.desk.specs.declared.Answer.{Answer}
 use Rattle.desk_strings.specs.Calls.{openAnswer, openString}
 use Rattle.desk_strings.specs.Laws.{enough}
 use Rattle.desk_strings.proofs.Ways.{open-written, open-refused, open-unwritten}
