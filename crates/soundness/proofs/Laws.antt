@@ -4,6 +4,7 @@ use Prim.Native.Nat.{ℕ, zero, suc, _≤_, _<_}
 use mathlib.Core.Path.{_≡_, refl, sym}
 use mathlib.Core.Bool.{Bool, true, false, _&&_}
 use native.Mathlib.Omega.{arith}
+use lib.Bits.{bitOr, or-add-and, and-le-l, and-le-r}
 use lib.Dec.{ltb, eqb}
 use borrow.Author.Tests.{ltb-true, eqb-true, eqb-false, lt-ltb}
 use Rattle.laws.specs.Bools.{clash}
@@ -32,6 +33,13 @@ zero-tidy k x h = record {
   some = λ e. absurd (omega arith);
   fits = omega arith;
 }
+
+-- no bit is set in two numbers where both are zero
+pub none-set : {a b : ℕ} → a ≡ 0 → b ≡ 0 → bitOr a b ≡ 0
+none-set {a} {b} x y = omega (arith, or-add-and a b)
+
+pub both-unset : {a b : ℕ} → bitOr a b ≡ 0 → (a ≡ 0) × (b ≡ 0)
+both-unset {a} {b} e = omega (arith, or-add-and a b, and-le-l a b, and-le-r a b)
 
 -- the last arm of the match on a kind
 pub no-kind : (k : ℕ) → (k ≡ 0 → ⊥) → (k ≡ 1 → ⊥) → (k ≡ 2 → ⊥) → (k ≡ 3 → ⊥) → (k ≡ 4 → ⊥) → k ≤ 4 → ⊥

@@ -40,6 +40,10 @@ pub record Tidy (N buffer k x h : ℕ) : Type 0 where
   pub some : k ≡ 4 → 1 ≤ h
   pub fits : h ≤ buffer
 
+-- the slots from n on and below m are zero
+abbrev pub RestZero : ℕ → List ℕ → List ℕ → List ℕ → ℕ → Type 0
+RestZero n ks xs hs m = (i : ℕ) → i < m → n ≤ i → (getD ks i 0 ≡ 0) × (getD xs i 0 ≡ 0) × (getD hs i 0 ≡ 0)
+
 -- the 256 slots of kinds ks, next blocks xs and held bytes hs are tidy, and `all slots from n on are zero`
 pub record SlotsTidy (N buffer n : ℕ) (ks xs hs : List ℕ) : Type 0 where
   pub slots : (i : ℕ) → i < 256 → Tidy N buffer (getD ks i 0) (getD xs i 0) (getD hs i 0)

@@ -1,7 +1,7 @@
 // The test of the slots of a record.
 use streams::product;
 ghost use Prim.Native.Nat.{_≤_};
-ghost use Rattle.soundness.specs.Facts.{Tells, Tidy, SlotsTidy, PlayersHold};
+ghost use Rattle.soundness.specs.Facts.{Tells, Tidy, RestZero, SlotsTidy, PlayersHold};
 
 // Is a slot sound but for the low-water mark (01: the floor)? `blocks` is N.
 fn is_tidy(blocks: u32, buffer: u32, kind: u32, next: u32, held: u32) -> bool
@@ -40,6 +40,25 @@ fn is_tidy(blocks: u32, buffer: u32, kind: u32, next: u32, held: u32) -> bool
     }
 }
 
+// Are all slots from n on zero?
+fn rest_zero<'a>(
+    streams: usize,
+    kinds: &'a [u32; 256],
+    next: &'a [u32; 256],
+    held: &'a [u32; 256],
+) -> bool
+    requires { ⌜ streams ≤ 256 ⌝ }
+    ensures { λ r. ⌜ Tells r (RestZero streams (now (kinds .entry)) (now (next .entry)) (now (held .entry)) 256) ⌝ }
+{
+    let mut bits: u32 = 0;
+    let mut i = streams;
+    while i < 256 {
+        bits = bits | kinds[i] | next[i] | held[i];
+        i += 1;
+    }
+    bits == 0
+}
+
 // Are all slots tidy, and those from n on zero? `blocks` is N, `streams` n.
 pub fn all_tidy<'a>(
     blocks: u32,
@@ -49,27 +68,16 @@ pub fn all_tidy<'a>(
     next: &'a [u32; 256],
     held: &'a [u32; 256],
 ) -> bool
+    requires { ⌜ streams ≤ 256 ⌝ }
     ensures { λ r. ⌜ Tells r (SlotsTidy blocks buffer streams (now (kinds .entry)) (now (next .entry)) (now (held .entry))) ⌝ }
 {
+    if !rest_zero(streams, kinds, next, held) {
+        return false;
+    }
     let mut i: usize = 0;
-    while i < 256 {
-        let kind = kinds[i];
-        let block = next[i];
-        let bytes = held[i];
-        if i < streams {
-            if !is_tidy(blocks, buffer, kind, block, bytes) {
-                return false;
-            }
-        } else {
-            if kind != 0 {
-                return false;
-            }
-            if block != 0 {
-                return false;
-            }
-            if bytes != 0 {
-                return false;
-            }
+    while i < streams {
+        if !is_tidy(blocks, buffer, kinds[i], next[i], held[i]) {
+            return false;
         }
         i += 1;
     }

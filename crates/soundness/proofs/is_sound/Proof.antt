@@ -51,7 +51,7 @@ cast-streams : tie.Need-cast-streams
 cast-streams c = search needs
 
 all-tidy-requires : tie.Need-all-tidy-requires
-all-tidy-requires c κs = search needs
+all-tidy-requires c κs = few (c .before .before)
 
 returns-3 : tie.Need-returns-3
 returns-3 c =
