@@ -59,6 +59,10 @@ module _ {A : Type 0} (Q : A → Type 0) where
   each-replicate zero a q = tt
   each-replicate (suc m) a q = (q, each-replicate m a q)
 
+-- a list of zeros has no other number
+pub zero-at : (n i : ℕ) → _≡_ {A = ℕ} (getD (replicate n 0) i 0) 0
+zero-at n i = each-at (λ (v : ℕ). v ≡ 0) (replicate n 0) i 0 (each-replicate (λ (v : ℕ). v ≡ 0) n 0 refl) refl
+
 pub each-map : {A : Type 0} (Q R : A → Type 0) (xs : List A) → ((x : A) → Q x → R x) → Each Q xs → Each R xs
 each-map Q R [] f h = tt
 each-map Q R (x ∷ xs) f h = (f x (h .0), each-map Q R xs f (h .1))

@@ -6,10 +6,11 @@ use mathlib.Core.Logic.{_↔_}
 use mathlib.Core.List.{List, [], _∷_, _++_}
 use mathlib.Core.Bool.{Bool, true, false, cond}
 use native.Mathlib.Omega.{arith}
-use lib.ListN.{length, getD, take, drop, replicate, length-append, length-drop, length-set, take-append-drop, drop-of-length-le}
+use lib.ListN.{length, getD, take, drop, length-append, length-drop, length-set, take-append-drop, drop-of-length-le}
 use lib.Seq.{length-take-le, drop-append-seam, drop-drop}
 use lib.Dec.{leb, ltb}
 use borrow.Author.Tests.{ltb-false, le-ltb, le-leb}
+use Rattle.laws.specs.Each.{zero-at}
 use Rattle.leb128.specs.declared.Number.{Number}
 use Rattle.leb128.specs.declared.Number.the-variants as number
 use Rattle.leb128.specs.Number.{groups, numberAt}
@@ -121,11 +122,6 @@ zones-go s f w (suc left) at i g total before b u a e =
     ∙ zones-go s f w left _ (i + 1) _ _ _ (omega arith) next (ahead-next (ahead-next a)) (q .1)
 
 -- the entries of a record before any is read
-zero-at : (n i : ℕ) → _≡_ {A = ℕ} (getD (replicate n 0) i 0) 0
-zero-at zero i = refl
-zero-at (suc n) zero = refl
-zero-at (suc n) (suc i) = zero-at n i
-
 blank-at : (i : ℕ) → getD blankZones i 0 ≡ 0
 unfolding blankZones
 blank-at i = zero-at 64 i
