@@ -1,16 +1,11 @@
 // What is gathered of the lent lists and the zones for the slots of a desk.
-use desk::Desk;
 use desk::Gathered;
 use records::zeros;
 use words::word_at;
 use zones::time_at;
-ghost use mathlib.Core.Path.{_≡_};
-ghost use mathlib.Core.Bool.{true};
 ghost use Prim.Native.Nat.{_≤_};
-ghost use Rattle.plan.specs.Answer.{isPlan};
 ghost use Rattle.plan.specs.Cursors.{Zoned};
-ghost use Rattle.desk.specs.Ready.{Ready, Gathers, InRange};
-ghost use Rattle.gather.specs.Gather.{Reach, Found};
+ghost use Rattle.gather.specs.Gather.{Reach, Reached, Found, Collected};
 
 // Time, lead and position of a block.
 pub struct Block {
@@ -54,28 +49,25 @@ fn next_block<'a>(
     }
 }
 
-// Time, lead and position of the next block of each slot; zero for free slots and tails.
-pub fn gather(desk: Desk, positions: &[u8], leads: &[u8]) -> Gathered
-    requires { ⌜ (Ready desk) × (isPlan (desk .plan) (now positions) (now leads) ≡ true) ⌝ }
-    ensures { λ r. ⌜ (Gathers desk r) × (InRange r) ⌝ }
+// Time, lead and position of the next block of each of the first `streams` slots; zero for free slots and tails, and past these.
+pub fn gather<'a, 'b>(
+    kinds: &'a [u32; 256],
+    next: &'a [u32; 256],
+    sizes: &'b [u32; 64],
+    times: &'b [u32; 64],
+    positions: &[u8],
+    leads: &[u8],
+    streams: usize,
+) -> Gathered
+    requires { ⌜ (streams ≤ 256) × (Zoned (now sizes)) × (Reached (now sizes) (now positions) (now leads) (now kinds) (now next) streams) ⌝ }
+    ensures { λ r. ⌜ Collected (now (sizes .entry)) (now (times .entry)) (now (positions .entry)) (now (leads .entry)) (now (kinds .entry)) (now (next .entry)) streams r ⌝ }
 {
-    let plan = desk.plan;
-    let figures = plan.figures;
     let mut all_times = zeros();
     let mut all_leads = zeros();
     let mut all_positions = zeros();
     let mut i: usize = 0;
-    while i < 256 {
-        let kind = desk.kinds[i];
-        let next = desk.next[i];
-        let b = next_block(
-            &figures.positions,
-            &figures.times,
-            positions,
-            leads,
-            kind,
-            next,
-        );
+    while i < streams {
+        let b = next_block(sizes, times, positions, leads, kinds[i], next[i]);
         all_times[i] = b.time;
         all_leads[i] = b.lead;
         all_positions[i] = b.position;

@@ -39,12 +39,20 @@ pub fn judge_begin(desk: Desk, positions: &[u8], leads: &[u8], room: usize) -> S
     if desk.phase != 0 {
         return not_swept(desk.kinds, 15);
     }
-    let plan = desk.plan;
-    let streams = plan.streams as usize;
+    let streams = desk.plan.streams as usize;
     if room < streams {
         return not_swept(desk.kinds, 13);
     }
-    let g = gather(desk, positions, leads);
+    let figures = desk.plan.figures;
+    let g = gather(
+        &desk.kinds,
+        &desk.next,
+        &figures.positions,
+        &figures.times,
+        positions,
+        leads,
+        streams,
+    );
     let sum = sum_leads(&desk.kinds, &desk.next, streams, leads);
     begin_sweep(desk, g, sum)
 }
@@ -113,7 +121,16 @@ pub fn judge_end(desk: Desk, positions: &[u8], leads: &[u8], draws: &[u8]) -> Ve
             place: 0,
         };
     }
-    let g = gather(desk, positions, leads);
+    let figures = desk.plan.figures;
+    let g = gather(
+        &desk.kinds,
+        &desk.next,
+        &figures.positions,
+        &figures.times,
+        positions,
+        leads,
+        desk.plan.streams as usize,
+    );
     judge_draws(desk, g, draws)
 }
 
