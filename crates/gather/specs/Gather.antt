@@ -1,15 +1,16 @@
 -- What is gathered of the lent lists and the zones for the slots of a record.
 -- Assumes nothing.
-use Prim.Native.Nat.{ℕ, zero, suc, _+_, _≤_, _<_}
-use mathlib.Core.Path.{_≡_, refl, sym, ap, _∙_, subst}
+use Prim.Native.Nat.{ℕ, _+_, _≤_, _<_}
+use mathlib.Core.Path.{_≡_, sym, ap, _∙_, subst}
 use mathlib.Core.Logic.{_≢_, by-cases}
 use mathlib.Core.Bool.{true}
 use mathlib.Core.List.{List}
 use native.Mathlib.Omega.{arith}
 use native.Mathlib.Decide.{decLe, decLt}
-use lib.ListN.{length, getD, set, replicate, length-set, length-replicate}
+use lib.ListN.{length, getD, set, length-set, length-replicate}
 use lib.Seq.{getD-set-same, getD-set-other}
 use borrow.Author.Count.{below-more}
+use Rattle.laws.specs.Each.{zero-at}
 use Rattle.words.specs.Words.{wordsOf}
 use Rattle.placement.specs.Zones.{total, timeAt}
 use Rattle.plan.specs.Plan.{placeOf, timeOf, leadOf}
@@ -52,11 +53,6 @@ pub record Collected (sizes times ps ls ks xs : List ℕ) (n : ℕ) (g : Gathere
   pub rest : (i : ℕ) → n ≤ i → (getD (g .times) i 0 ≡ 0) × (getD (g .leads) i 0 ≡ 0) × (getD (g .positions) i 0 ≡ 0)
 
 -- ---- one turn of the loop that collects
-
-zero-at : (n j : ℕ) → _≡_ {A = ℕ} (getD (replicate n 0) j 0) 0
-zero-at zero j = refl
-zero-at (suc n) zero = refl
-zero-at (suc n) (suc j) = zero-at n j
 
 -- three arrays of 256
 pub record Long (g : Gathered) : Type 0 where
