@@ -1,2 +1,3 @@
 pub mod Fetching
 pub mod Inserting
+pub mod Reading

@@ -62,20 +62,18 @@ pub fn gather<'a, 'b>(
     requires { ⌜ (streams ≤ 256) × (Zoned (now sizes)) × (Reached (now sizes) (now positions) (now leads) (now kinds) (now next) streams) ⌝ }
     ensures { λ r. ⌜ Collected (now (sizes .entry)) (now (times .entry)) (now (positions .entry)) (now (leads .entry)) (now (kinds .entry)) (now (next .entry)) streams r ⌝ }
 {
-    let mut all_times = zeros();
-    let mut all_leads = zeros();
-    let mut all_positions = zeros();
+    let mut g = Gathered {
+        times: zeros(),
+        leads: zeros(),
+        positions: zeros(),
+    };
     let mut i: usize = 0;
     while i < streams {
         let b = next_block(sizes, times, positions, leads, kinds[i], next[i]);
-        all_times[i] = b.time;
-        all_leads[i] = b.lead;
-        all_positions[i] = b.position;
+        g.times[i] = b.time;
+        g.leads[i] = b.lead;
+        g.positions[i] = b.position;
         i += 1;
     }
-    Gathered {
-        times: all_times,
-        leads: all_leads,
-        positions: all_positions,
-    }
+    g
 }

@@ -5,7 +5,7 @@ use mathlib.Core.Path.{_≡_, refl, ap}
 use mathlib.Core.Bool.{Bool, true}
 use mathlib.Core.List.{List, [], _∷_, _++_}
 use native.Mathlib.Omega.{arith}
-use lib.ListN.{length, getD, set, take, drop, replicate}
+use lib.ListN.{length, getD, set, replicate}
 use Rattle.laws.specs.Bools.{and-left, and-right, and-both}
 use Rattle.laws.specs.Runs.{allBy}
 
@@ -39,16 +39,6 @@ module _ {A : Type 0} (Q : A → Type 0) where
   pub each-append : (xs ys : List A) → Each Q xs → Each Q ys → Each Q (xs ++ ys)
   each-append [] ys h k = k
   each-append (x ∷ xs) ys h k = (h .0, each-append xs ys (h .1) k)
-
-  pub each-take : (n : ℕ) (xs : List A) → Each Q xs → Each Q (take n xs)
-  each-take zero xs h = tt
-  each-take (suc n) [] h = tt
-  each-take (suc n) (x ∷ xs) h = (h .0, each-take n xs (h .1))
-
-  pub each-drop : (n : ℕ) (xs : List A) → Each Q xs → Each Q (drop n xs)
-  each-drop zero xs h = h
-  each-drop (suc n) [] h = tt
-  each-drop (suc n) (x ∷ xs) h = each-drop n xs (h .1)
 
   -- from the fact at each place
   pub each-by : (xs : List A) (d : A) → ((i : ℕ) → i < length xs → Q (getD xs i d)) → Each Q xs

@@ -1,23 +1,17 @@
-use Prim.Native.Nat.{ℕ, _-_, _≤_, _<_}
+use Prim.Native.Nat.{_-_, _≤_, _<_}
 use mathlib.Core.Path.{_≡_, sym}
-use mathlib.Core.List.{List}
 use native.Mathlib.Omega.{arith}
 use borrow.Author.Needs.{needs}
-use Rattle.desk.specs.declared.Gathered.{Gathered}
 use Rattle.gather.specs.Gather.{Long, Collected, long-none, long-next, collected-none, collected-next}
 use Rattle.gather.proofs.gather.Statement.{statement}
 use Rattle.gather.proofs.gather.Tie as tie
 
-abbrev together : List ℕ → List ℕ → List ℕ → Gathered
-together ts ls ps = record { times = ts; leads = ls; positions = ps }
-
 -- the next blocks of the first i slots are collected
 abbrev Inv-loop : tie.InvT-loop
-Inv-loop kinds next sizes times positions leads streams all-times₀ all-leads₀ all-positions₀ i₀ all-times all-leads all-positions i =
-    (i ≤ streams) × Long (together all-times all-leads all-positions) × Collected sizes times positions leads kinds next i (together all-times all-leads all-positions)
+Inv-loop kinds next sizes times positions leads streams g₀ i₀ g i = (i ≤ streams) × Long g × Collected sizes times positions leads kinds next i g
 
 abbrev μ-loop : tie.MeasureT-loop
-μ-loop kinds next sizes times positions leads streams all-times₀ all-leads₀ all-positions₀ i₀ all-times all-leads all-positions i = streams - i
+μ-loop kinds next sizes times positions leads streams g₀ i₀ g i = streams - i
 
 zeros-requires : tie.Need-zeros-requires Inv-loop μ-loop
 zeros-requires c κs = search needs
@@ -52,23 +46,23 @@ next-block-requires c κs =
     let s = c .before .before .before .before .before .before .before .before .before in
     (s .pre .1, s .pre .2 (c .before .before .before .loop .i) (c .before .before .loop-test .taken))
 
-mul-all-times : tie.Need-mul-all-times Inv-loop μ-loop
-mul-all-times c = omega arith
+mul-g : tie.Need-mul-g Inv-loop μ-loop
+mul-g c = omega arith
 
-array-write-all-times : tie.Need-array-write-all-times Inv-loop μ-loop
-array-write-all-times c = omega arith
+element-write-g : tie.Need-element-write-g Inv-loop μ-loop
+element-write-g c = omega arith
 
-mul-all-leads : tie.Need-mul-all-leads Inv-loop μ-loop
-mul-all-leads c = omega arith
+mul-g-2 : tie.Need-mul-g-2 Inv-loop μ-loop
+mul-g-2 c = omega arith
 
-array-write-all-leads : tie.Need-array-write-all-leads Inv-loop μ-loop
-array-write-all-leads c = omega arith
+element-write-g-2 : tie.Need-element-write-g-2 Inv-loop μ-loop
+element-write-g-2 c = omega arith
 
-mul-all-positions : tie.Need-mul-all-positions Inv-loop μ-loop
-mul-all-positions c = omega arith
+mul-g-3 : tie.Need-mul-g-3 Inv-loop μ-loop
+mul-g-3 c = omega arith
 
-array-write-all-positions : tie.Need-array-write-all-positions Inv-loop μ-loop
-array-write-all-positions c = omega arith
+element-write-g-3 : tie.Need-element-write-g-3 Inv-loop μ-loop
+element-write-g-3 c = omega arith
 
 add-i : tie.Need-add-i Inv-loop μ-loop
 add-i c = omega arith
@@ -80,7 +74,7 @@ loop-again : tie.Need-loop-again Inv-loop μ-loop
 loop-again c =
     let l = c .before .before .before .before .loop in
     let h : l .i < 256 = omega (arith, c .before .before .before .loop-test .taken, c .before .before .before .before .before .before .before .before .before .before .pre .0) in
-    (omega arith, long-next _ (l .i) (c .next-block .result) (l .inv .1), collected-next _ _ _ _ _ _ _ (l .i) (c .next-block .result) (l .inv .1) h (l .inv .2) (c .next-block .ensures))
+    (omega arith, long-next (l .g) (l .i) (c .next-block .result) (l .inv .1), collected-next _ _ _ _ _ _ (l .g) (l .i) (c .next-block .result) (l .inv .1) h (l .inv .2) (c .next-block .ensures))
 
 returns : tie.Need-returns Inv-loop μ-loop
 returns c =
@@ -103,12 +97,12 @@ gather-spec =
     mul-next-block-2
     element-copy-out-next-block-2
     next-block-requires
-    mul-all-times
-    array-write-all-times
-    mul-all-leads
-    array-write-all-leads
-    mul-all-positions
-    array-write-all-positions
+    mul-g
+    element-write-g
+    mul-g-2
+    element-write-g-2
+    mul-g-3
+    element-write-g-3
     add-i
     loop-less
     loop-again

@@ -75,7 +75,7 @@ sweep-bound-requires c κs = let s = start (played (c .before .before .before .b
     (streams-are (s .args .t1) (s .pre .0), s .pre .2 .times, s .pre .0 .legal .hop .1, s .pre .0 .legal .back .1)
 
 list-fetches-requires : tie.Need-list-fetches-requires
-list-fetches-requires c κs = let s = start (played (c .before .before .before .before .before .before .before .before .before .before .before .before)) in streams-are (s .args .t1) (s .pre .0)
+list-fetches-requires c κs = let s = start (played (c .before .before .before .before .before .before .before .before .before .before .before .before)) in (streams-are (s .args .t1) (s .pre .0), s .pre .2 .positions)
 
 returns : tie.Need-returns
 returns c =
