@@ -1,6 +1,6 @@
 -- The calls of the desk on its record: each is the abstract scheduler's answer (crate safety, where document 01's rules stand) over the
 -- supply of the record's plan.
-use Prim.Native.Nat.{ℕ, zero, suc, _+_, _-_}
+use Prim.Native.Nat.{ℕ, suc, _+_, _-_}
 use mathlib.Core.List.{List, [], _∷_, _++_, map}
 use mathlib.Core.Bool.{Bool, true, false, cond}
 use lib.ListN.{length, replicate}
@@ -12,9 +12,8 @@ use Rattle.plan.specs.Plan.{placeOf, timeOf, leadOf, overOf, blankPlan}
 use Rattle.plan.specs.Answer.{isPlan}
 use Rattle.safety.specs.Supply.{Supply}
 use Rattle.safety.specs.Scheduler.{Slot, Entry, Call, join, leave, begin, end}
-use Rattle.safety.specs.Order.{Scheduler, bySlot, opened}
+use Rattle.safety.specs.Order.{Scheduler, bySlot}
 use Rattle.safety.specs.Calls as C
-use Rattle.safety.specs.Calls.{Given}
 use Rattle.safety.specs.Arrays.{slotsOf}
 use Rattle.desk.specs.declared.Desk.{Desk}
 use Rattle.desk.specs.declared.Answer.{Answer}

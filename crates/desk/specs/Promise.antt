@@ -1,19 +1,18 @@
 -- The planner's promise, as all that safety relies on: the supply of a plan record that is the plan of its legal figures is lawful.
 -- Assumes nothing.
-use Prim.Native.Nat.{ℕ, zero, suc, _+_, _*_, _-_, _/_, _≤_, _<_}
-use mathlib.Core.Path.{_≡_, refl, sym, ap, _∙_}
-use mathlib.Core.Logic.{_≢_}
+use Prim.Native.Nat.{ℕ, suc, _+_, _*_, _-_, _≤_, _<_}
+use mathlib.Core.Path.{_≡_, refl}
 use mathlib.Core.Bool.{Bool, true, false, cond}
 use native.Mathlib.Omega.{arith}
-use lib.Dec.{leb, ltb, eqb}
-use borrow.Author.Tests.{ltb-true, ltb-false, eqb-true, eqb-false, lt-ltb}
+use lib.Dec.{ltb, eqb}
+use borrow.Author.Tests.{ltb-true, eqb-true, eqb-false, lt-ltb}
 use Rattle.card.specs.declared.Figures.{Figures}
 use Rattle.card.specs.Card.{Legal}
 use Rattle.pacing.specs.Streams.{load}
 use Rattle.plan.specs.declared.Plan.{Plan}
-use Rattle.plan.specs.Plan.{timeOf, leadOf, overOf, worst2Of, streamsOf, marginOf, bufferSize, planOf}
-use Rattle.plan.specs.Promise.{LeadLaws, Promise, promise}
-use Rattle.safety.specs.Supply.{Supply, Lawful, Named}
+use Rattle.plan.specs.Plan.{timeOf, leadOf, worst2Of, streamsOf, planOf}
+use Rattle.plan.specs.Promise.{promise}
+use Rattle.safety.specs.Supply.{Lawful, Named}
 use Rattle.desk.specs.Desk.{supplyOf}
 
 -- the tests of block numbers say what they should, for any record

@@ -47,9 +47,6 @@ pub record Stage (d : Desk) (g : Gathered) : Type 0 where
   pub gathers : Gathers d g
   pub range : InRange g
 
-pub stage-of : (d : Desk) (g : Gathered) → Ready d → Gathers d g → InRange g → Stage d g
-stage-of d g r u h = record { legal = r .legal; some = r .some; planned = r .planned; gathers = u; range = h }
-
 -- ---- the sizes of a plan record
 
 -- n is at most the slots

@@ -4,9 +4,8 @@ use Prim.Native.Nat.{ℕ, zero, suc}
 use mathlib.Core.Path.{_≡_, refl, sym, ap, _∙_}
 use mathlib.Core.List.{List, [], _∷_, map}
 use lib.ListN.{length, getD, set, List·getD-map}
-use lib.Seq.{map-set-same}
 use Rattle.safety.specs.Scheduler.{Slot, freeSlot, at}
-use Rattle.safety.specs.Arrays.{slotOf, length-slots, slot-at, slots-back}
+use Rattle.safety.specs.Arrays.{slotOf, length-slots, slot-at}
 use Rattle.desk.specs.declared.Desk.{Desk}
 use Rattle.desk.specs.Desk.{supplyOf, slotsIn, viewOf, deskOf}
 use Rattle.desk.specs.View.{Wide, same-length, desk-of-view}
@@ -33,11 +32,6 @@ next-in d w i = ap (λ (s : Slot ℕ). s .next) (slot-in d w i)
 pub held-in : (d : Desk) → Wide d → (i : ℕ) → at (supplyOf (d .plan)) (slotsIn d) i .buffered ≡ getD (d .held) i 0
 held-in d w i = ap (λ (s : Slot ℕ). s .buffered) (slot-in d w i)
 
--- the slots of a desk are those that it was given
-pub slots-with : (d : Desk) (ts : List (Slot ℕ)) → slotsIn (withSlots d ts) ≡ ts
-unfolding deskOf
-slots-with d ts = slots-back (supplyOf (d .plan)) ts
-
 pub with-own : (d : Desk) → Wide d → d ≡ withSlots d (slotsIn d)
 unfolding viewOf
 with-own d w = sym (desk-of-view d w)
@@ -60,21 +54,6 @@ module _ (d : Desk) (ts : List (Slot ℕ)) (e : Desk) (q : e ≡ withSlots d ts)
   pub load-held : getD (e .held) i 0 ≡ at (supplyOf (d .plan)) ts i .buffered
   unfolding deskOf supplyOf
   load-held = ap (λ (x : Desk). getD (x .held) i 0) q ∙ List·getD-map (λ s. s .buffered) ts i (freeSlot (supplyOf (d .plan)))
-
-  -- a store of the kind alone
-  pub store-kind : (k : ℕ) (v : Slot ℕ) → v ≡ slotOf (supplyOf (d .plan)) k (at (supplyOf (d .plan)) ts i .next) (at (supplyOf (d .plan)) ts i .buffered)
-      → record { plan = e .plan; phase = e .phase; kinds = set (e .kinds) i k; next = e .next; held = e .held } ≡ withSlots d (set ts i v)
-  unfolding deskOf supplyOf
-  store-kind k v u =
-      let F = freeSlot (supplyOf (d .plan)) in
-      rw (q, u)
-      (λ j. record {
-        plan = d .plan;
-        phase = d .phase;
-        kinds = sym (map-set (λ s. s .kind) ts i (slotOf (supplyOf (d .plan)) k (getD ts i F .next) (getD ts i F .buffered))) j;
-        next = sym (map-set-same (λ s. s .next) ts i (slotOf (supplyOf (d .plan)) k (getD ts i F .next) (getD ts i F .buffered)) F refl) j;
-        held = sym (map-set-same (λ s. s .buffered) ts i (slotOf (supplyOf (d .plan)) k (getD ts i F .next) (getD ts i F .buffered)) F refl) j;
-      })
 
   -- a store of all three
   pub store-slot : (v : Slot ℕ)

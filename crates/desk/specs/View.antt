@@ -1,16 +1,13 @@
 -- Laws of the view: a record of 256 slots is the record of its view, and the view of a record that the rules give is what they gave.
 -- Assumes nothing.
-use Prim.Native.Nat.{ℕ, zero, suc}
-use mathlib.Core.Path.{_≡_, refl, sym, ap, _∙_}
-use mathlib.Core.List.{List, [], _∷_, map}
-use native.Mathlib.Omega.{arith}
+use Prim.Native.Nat.{ℕ}
+use mathlib.Core.Path.{_≡_, sym, _∙_}
 use lib.ListN.{length}
 use Rattle.plan.specs.declared.Plan.{Plan}
-use Rattle.safety.specs.Scheduler.{Slot}
 use Rattle.safety.specs.Order.{Scheduler}
-use Rattle.safety.specs.Arrays.{slotsOf, SameLength, slots-back, kinds-of-slots, nexts-of-slots, helds-of-slots}
+use Rattle.safety.specs.Arrays.{SameLength, slots-back, kinds-of-slots, nexts-of-slots, helds-of-slots}
 use Rattle.desk.specs.declared.Desk.{Desk}
-use Rattle.desk.specs.Desk.{supplyOf, slotsIn, viewOf, deskOf}
+use Rattle.desk.specs.Desk.{supplyOf, viewOf, deskOf}
 
 -- a record's three arrays have 256 entries
 pub record Wide (d : Desk) : Type 0 where

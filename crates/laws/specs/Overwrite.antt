@@ -1,11 +1,11 @@
 -- Bytes written over a list from an offset on; all else keeps its contents.
 -- Assumes nothing.
-use Prim.Native.Nat.{ℕ, zero, suc, _+_, _-_, _≤_, _<_}
-use mathlib.Core.Path.{_≡_, refl, sym, ap, ap₂, _∙_}
-use mathlib.Core.List.{List, [], _∷_, _++_, append-assoc, append-nil}
+use Prim.Native.Nat.{ℕ, _+_, _-_, _≤_}
+use mathlib.Core.Path.{_≡_, sym, ap, ap₂, _∙_}
+use mathlib.Core.List.{List, [], _++_, append-assoc}
 use native.Mathlib.Omega.{arith}
 use lib.ListN.{length, take, drop, length-append, length-take, length-drop, take-append-drop}
-use lib.Seq.{length-take-le, take-append-le, take-at, drop-append-add, take-append-add, drop-drop, length-take-le}
+use lib.Seq.{length-take-le, take-at, drop-append-add, drop-drop, length-take-le}
 
 -- s with bs in the place of what stood from `at` on
 unfoldable pub overwrite : List ℕ → ℕ → List ℕ → List ℕ

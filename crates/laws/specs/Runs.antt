@@ -1,9 +1,9 @@
 -- Sums and tests over a list, one turn of the loop that computes them from the front, and the lowest index that fails a test.
 -- Assumes nothing.
-use Prim.Native.Nat.{ℕ, zero, suc, _+_, _-_, _≤_, _<_}
-use mathlib.Core.Path.{_≡_, refl, sym, ap, _∙_}
+use Prim.Native.Nat.{ℕ, zero, suc, _+_, _-_, _<_}
+use mathlib.Core.Path.{_≡_, ap}
 use mathlib.Core.List.{List, [], _∷_}
-use mathlib.Core.Bool.{Bool, true, false, _&&_, and-true, and-assoc}
+use mathlib.Core.Bool.{Bool, true, false, _&&_}
 use native.Mathlib.Omega.{arith}
 use lib.ListN.{length, getD, take}
 use Rattle.laws.specs.Bools.{and-left, and-right}
@@ -22,12 +22,6 @@ module _ {A : Type 0} (d : A) where
   sum-turn f [] i h = absurd (omega arith)
   sum-turn f (x ∷ xs) zero h = omega arith
   sum-turn f (x ∷ xs) (suc i) h = omega (arith, sum-turn f xs i (omega arith))
-
-  pub all-turn : (f : A → Bool) (xs : List A) (i : ℕ) → i < length xs → allBy f (take (suc i) xs) ≡ (allBy f (take i xs) && f (getD xs i d))
-  unfolding allBy
-  all-turn f [] i h = absurd (omega arith)
-  all-turn f (x ∷ xs) zero h = and-true (f x)
-  all-turn f (x ∷ xs) (suc i) h = rw (all-turn f xs i (omega arith)) (sym (and-assoc (f x) (allBy f (take i xs)) (f (getD xs i d))))
 
   -- a failed test is at some place, and a passed one holds at each
   pub all-at : (f : A → Bool) (xs : List A) (i : ℕ) → allBy f xs ≡ true → i < length xs → f (getD xs i d) ≡ true

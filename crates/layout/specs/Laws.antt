@@ -5,7 +5,7 @@ use mathlib.Core.Path.{_≡_, refl, sym, ap, _∙_}
 use mathlib.Core.List.{List, [], _∷_, _++_, append-assoc, append-nil}
 use native.Mathlib.Omega.{arith}
 use lib.ListN.{length, take, drop, replicate, length-append, length-replicate, length-take, length-drop, drop-of-length-le}
-use lib.Seq.{take-all, take-at, drop-at}
+use lib.Seq.{take-at, drop-at}
 use Rattle.laws.specs.Overwrite.{overwrite, overwrite-front}
 use Rattle.words.specs.Words.{Bytes, Words, wordsOf, withWords, bytesOf}
 use Rattle.words.specs.Laws.{words-length, words-withWords, written-read, withWords-overwrite}
@@ -100,10 +100,6 @@ pub plan-taken : (ws : List ℕ) → 138 ≤ length ws → planWords (planIn ws)
 plan-taken ws h =
     sym (take-at (planWords (planIn ws)) (drop 138 ws) 138 (plan-length (planIn ws) (plan-sized ws h))) ∙ ap (take 138) (plan-front ws h)
 
--- WORDS DECODED AND ENCODED ARE THE WORDS
-pub plan-words : (ws : List ℕ) → length ws ≡ 138 → planWords (planIn ws) ≡ ws
-plan-words ws e = plan-taken ws (omega arith) ∙ take-all 138 ws (omega arith)
-
 -- ---- a desk in words
 
 -- its arrays have 256 entries
@@ -139,10 +135,6 @@ desk-then d rest z =
       held = held .0 i;
     })
 
--- THE DESK THAT ITS WORDS SAY IS THE DESK
-pub desk-back : (d : Desk) → DeskSized d → deskIn (deskWords d) ≡ d
-desk-back d z = rw (append-nil (deskWords d)) at (desk-then d [] z)
-
 pub desk-sized : (ws : List ℕ) → 907 ≤ length ws → DeskSized (deskIn ws)
 unfolding deskIn
 desk-sized ws h = record {
@@ -166,10 +158,6 @@ desk-front ws h =
 pub desk-taken : (ws : List ℕ) → 907 ≤ length ws → deskWords (deskIn ws) ≡ take 907 ws
 desk-taken ws h =
     sym (take-at (deskWords (deskIn ws)) (drop 907 ws) 907 (desk-length (deskIn ws) (desk-sized ws h))) ∙ ap (take 907) (desk-front ws h)
-
--- WORDS DECODED AND ENCODED ARE THE WORDS
-pub desk-words : (ws : List ℕ) → length ws ≡ 907 → deskWords (deskIn ws) ≡ ws
-desk-words ws e = desk-taken ws (omega arith) ∙ take-all 907 ws (omega arith)
 
 -- ---- in bytes
 

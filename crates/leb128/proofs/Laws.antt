@@ -11,7 +11,6 @@ use lib.Arith.{digits-lt}
 use lib.ListN.{length, getD, set, take, drop, length-set}
 use lib.Seq.{set-split, take-suc-set, drop-set-lt, drop-drop}
 use borrow.Author.Tests.{lt-ltb, le-ltb, eq-eqb, ne-eqb}
-use Rattle.leb128.specs.declared.Number.{Number}
 use Rattle.leb128.specs.declared.Number.the-variants.{Value, CutOff, Malformed}
 use Rattle.leb128.specs.Number.{judged, scan, groupsFrom, groups}
 use Rattle.laws.specs.Overwrite.{overwrite}

@@ -6,10 +6,10 @@ use mathlib.Core.List.{List, [], _∷_, _++_}
 use mathlib.Core.Bool.{Bool, true, false, cond, _&&_}
 use native.Mathlib.Omega.{arith}
 use native.Mathlib.Nat.{pow-succ'}
-use lib.ListN.{length, getD, take, drop, length-drop, length-append, length-take, take-append-drop}
-use lib.Seq.{drop-append-seam, getD-drop, drop-drop, drop-cons, length-take-le}
+use lib.ListN.{length, getD, take, drop, length-drop, length-append, take-append-drop}
+use lib.Seq.{drop-append-seam, getD-drop, drop-drop, length-take-le}
 use lib.Dec.{leb, ltb, eqb, leb·suc-suc}
-use borrow.Author.Tests.{ltb-true, ltb-false, leb-true, leb-false, eqb-true, eqb-false, lt-ltb, le-ltb, le-leb, lt-leb, eq-eqb, ne-eqb}
+use borrow.Author.Tests.{ltb-true, ltb-false, leb-false, lt-ltb, le-ltb, lt-leb, ne-eqb}
 use Rattle.laws.specs.Bools.{clash}
 use Rattle.leb128.specs.declared.Number.{Number}
 use Rattle.leb128.specs.declared.Number.the-variants.{Value, CutOff, Malformed}

@@ -1,7 +1,7 @@
 -- One number of a card, as document 01 gives it: groups of seven bits, lowest first, one group a byte; the top bit is set on every byte but the last.
 use Prim.Native.Nat.{ℕ, zero, suc, _+_, _-_, _*_, _/_, _%_}
 use mathlib.Core.List.{List, [], _∷_}
-use mathlib.Core.Bool.{Bool, cond, _&&_}
+use mathlib.Core.Bool.{cond, _&&_}
 use lib.ListN.{length, getD, take, drop}
 use lib.Dec.{leb, ltb, eqb}
 use Rattle.leb128.specs.declared.Number.{Number}

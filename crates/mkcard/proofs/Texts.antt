@@ -1,19 +1,19 @@
 -- The text of numbers is read back as these numbers.
 -- Assumes nothing.
 use Prim.Native.Nat.{ℕ, zero, suc, _+_, _-_, _*_, _/_, _%_, _^_, _≤_, _<_}
-use mathlib.Core.Path.{_≡_, refl, sym, ap, ap₂, _∙_, subst}
+use mathlib.Core.Path.{_≡_, refl, sym, ap, ap₂, _∙_}
 use mathlib.Core.List.{List, [], _∷_, _++_}
-use mathlib.Core.Bool.{Bool, true, false}
+use mathlib.Core.Bool.{true, false}
 use mathlib.Core.Logic.{_⊎_, inl, inr}
 use native.Mathlib.Omega.{arith}
 use native.Mathlib.Nat.{pow-succ'}
-use lib.ListN.{length, getD, set, length-set, length-replicate}
+use lib.ListN.{length, getD, set, length-set}
 use lib.Seq.{getD-set-same, getD-set-other}
-use borrow.Author.Tests.{lt-ltb, ne-eqb}
+use borrow.Author.Tests.{lt-ltb}
 use Rattle.card.specs.Card.{bytesOf}
 use Rattle.mkcard.specs.declared.scan.Scan.{Scan}
-use Rattle.mkcard.specs.Scan.{capped, begun, ended, lineAfter, blank, stepped, scanned, numbersFrom, cardOfWords, digits, textOf, Spelled, cardOfText}
-use Rattle.mkcard.proofs.Laws.{grown-digit, step-word, ended-none, blank-none, capped-small, numbers-kept, numbers-end, numbers-done}
+use Rattle.mkcard.specs.Scan.{capped, begun, ended, lineAfter, stepped, scanned, numbersFrom, cardOfWords, digits, textOf, Spelled, cardOfText}
+use Rattle.mkcard.proofs.Laws.{grown-digit, step-word, ended-none, blank-none, capped-small, numbers-kept, numbers-end}
 
 -- one piece of a text after the other
 scanned-append : (s : Scan) (xs ys : List ℕ) → scanned s (xs ++ ys) ≡ scanned (scanned s xs) ys

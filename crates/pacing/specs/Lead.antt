@@ -81,7 +81,3 @@ module _ {A : Type 0} (film : Film A) where
         go false q =
             let b = ok .goes a e q in
             omega (arith, lead-closed a e, lead-closed (film .next a) b, ok .pairs a e b)
-
-    -- no lead is above the margin
-    pub lead-margin : (a : A) → film .isBlock a ≡ true → lead film w a ≤ 2 * m - w
-    lead-margin a e = omega (arith, lead-closed a e, ok .slow a e)

@@ -1,14 +1,11 @@
 -- Leads of a film shown once through.
 -- Assumes nothing.
-use Prim.Native.Nat.{ℕ, zero, suc, _+_, _*_, _-_, _≤_, _<_}
+use Prim.Native.Nat.{ℕ, suc, _+_, _*_, _-_, _≤_, _<_}
 use mathlib.Core.Path.{_≡_}
-use mathlib.Core.Bool.{true}
 use native.Mathlib.Omega.{arith}
-use lib.Dec.{ltb}
 use borrow.Author.Tests.{ltb-true, lt-ltb, le-ltb, eqb-false}
-use Rattle.laws.specs.Bools.{and-left, and-right}
-use Rattle.pacing.specs.Film.{Paced, row, span, lead, once}
-use Rattle.pacing.specs.Lead.{lead-above, lead-none, lead-closed}
+use Rattle.pacing.specs.Film.{Paced, lead, once}
+use Rattle.pacing.specs.Lead.{lead-none, lead-closed}
 
 module _ (N : ℕ) (time place : ℕ → ℕ) where
   -- paced by what bounds its pairs and its blocks
@@ -20,16 +17,6 @@ module _ (N : ℕ) (time place : ℕ → ℕ) where
     slow = λ b e. slow b (ltb-true b N e);
     runs = λ b e. omega (arith, ltb-true b N e);
   }
-
-  -- no run goes past the last block
-  pub once-row : (j b : ℕ) → row (once N time place) j b ≡ true → j ≤ N - b
-  unfolding row once
-  once-row zero b e = omega arith
-  once-row (suc j) b e = omega (arith, ltb-true b N (and-left (ltb b N) _ e), once-row j (suc b) (and-right (ltb b N) _ e))
-
-  -- so a lead is above every run
-  pub once-above : (w j b : ℕ) → row (once N time place) j b ≡ true → 2 * span (once N time place) j b ≤ j * w + lead (once N time place) w b
-  once-above w j b e = lead-above (once N time place) w j b (unfold once in once-row j b e) e
 
   -- 'lead(N) is 0'
   pub once-end : (w : ℕ) → lead (once N time place) w N ≡ 0

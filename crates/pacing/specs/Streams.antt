@@ -3,7 +3,7 @@
 use Prim.Native.Nat.{ℕ, _+_, _*_, _-_, _/_, _≤_, _<_}
 use mathlib.Core.Path.{_≡_, refl}
 use mathlib.Core.Bool.{Bool}
-use native.Mathlib.Nat.{mul-le-mul-left, mul-le-mul-right, mul-pos, le-refl}
+use native.Mathlib.Nat.{mul-le-mul-left, mul-le-mul-right, le-refl}
 use native.Mathlib.Omega.{arith}
 use native.Mathlib.Decide.{decLt}
 use lib.Dec.{leb}
@@ -109,11 +109,6 @@ module _ (c w : ℕ) (over : ℕ → ℕ) (B n margin : ℕ) where
   pub margin-cost : margin ≤ w → load c w over n ≤ 2000000 * B → c * n * margin ≤ 2000000 * B
   unfolding load
   margin-cost h l = omega (arith, mul-le-mul-left (c * n) h)
-
-  -- and less than one where the margin is below the worst time
-  pub margin-below : 0 < c → 0 < n → margin + 1 ≤ w → load c w over n ≤ 2000000 * B → c * n * margin < 2000000 * B
-  unfolding load
-  margin-below rate some h l = omega (arith, mul-le-mul-left (c * n) h, mul-pos rate some)
 
   -- so the buffer is at most four blocks
   pub buffer-bound : margin ≤ w → load c w over n ≤ 2000000 * B → bufferOf c n margin B ≤ 4 * B

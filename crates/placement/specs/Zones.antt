@@ -5,10 +5,10 @@ use Prim.Native.Nat.{ℕ, zero, suc, _+_, _-_, _≤_, _<_}
 use mathlib.Core.Path.{_≡_, refl}
 use mathlib.Core.Logic.{by-cases}
 use mathlib.Core.Bool.{Bool, true, false, cond}
-use mathlib.Core.List.{List, [], _∷_, _++_}
+use mathlib.Core.List.{List, [], _∷_}
 use native.Mathlib.Omega.{arith}
 use native.Mathlib.Decide.{decLt}
-use lib.ListN.{length, getD, take, replicate}
+use lib.ListN.{length, getD, take}
 use lib.Dec.{ltb}
 use borrow.Author.Tests.{ltb-true, ltb-false, lt-ltb, le-ltb}
 use Rattle.laws.specs.Runs.{sumBy, sum-turn}
@@ -50,12 +50,6 @@ total-first [] (suc z) rest = refl
 total-first (p ∷ ps) zero rest = omega (arith, rest 0 (omega arith), total-first ps zero (λ i h. rest (suc i) (omega arith)))
 total-first (p ∷ ps) (suc z) rest = omega (arith, total-first ps z (λ i h. rest (suc i) (omega arith)))
 
-pub total-zeros : (ps : List ℕ) (k : ℕ) → total (ps ++ replicate k 0) ≡ total ps
-unfolding total sumBy
-total-zeros [] zero = refl
-total-zeros [] (suc k) = omega (arith, total-zeros [] k)
-total-zeros (p ∷ ps) k = omega (arith, total-zeros ps k)
-
 -- ---- the zone of a position
 
 -- a position is in zone i, and there its time is that of zone i
@@ -94,35 +88,6 @@ timeAt-positive ps ts z q each h = timeAt-each (λ t. 0 < t) ps ts z q each h
 
 pub timeAt-within : (ps ts : List ℕ) (z q m : ℕ) → ((i : ℕ) → i < z → getD ts i 0 ≤ m) → q < total (take z ps) → timeAt ps ts q ≤ m
 timeAt-within ps ts z q m each h = timeAt-each (λ t. t ≤ m) ps ts z q each h
-
--- ---- entries past the last zone
-
-pub timeAt-append : (ps ts rs us : List ℕ) (q : ℕ) → length ps ≤ length ts → q < total ps → timeAt (ps ++ rs) (ts ++ us) q ≡ timeAt ps ts q
-unfolding total sumBy timeAt
-timeAt-append [] ts rs us q l h = absurd (omega arith)
-timeAt-append (p ∷ ps) [] rs us q l h = absurd (omega arith)
-timeAt-append (p ∷ ps) (t ∷ ts) rs us q l h = go (ltb q p) refl (λ u. timeAt-append ps ts rs us (q - p) (omega arith) u)
-  where
-    go : (x : Bool) → ltb q p ≡ x → (q - p < total ps → timeAt (ps ++ rs) (ts ++ us) (q - p) ≡ timeAt ps ts (q - p))
-        → cond x t (timeAt (ps ++ rs) (ts ++ us) (q - p)) ≡ cond x t (timeAt ps ts (q - p))
-    go true e ih = refl
-    go false e ih = ih (omega (arith, ltb-false))
-
-pub timeAt-zeros : (ps ts : List ℕ) (j k q : ℕ) → length ps ≤ length ts → q < total ps → timeAt (ps ++ replicate j 0) (ts ++ replicate k 0) q ≡ timeAt ps ts q
-timeAt-zeros ps ts j k q l h = timeAt-append ps ts (replicate j 0) (replicate k 0) q l h
-
--- the same with the first z entries of two lists
-pub timeAt-take : (ps ts : List ℕ) (z q : ℕ) → q < total (take z ps) → timeAt (take z ps) (take z ts) q ≡ timeAt ps ts q
-unfolding total sumBy timeAt
-timeAt-take ps ts zero q h = absurd (omega arith)
-timeAt-take [] ts (suc z) q h = absurd (omega arith)
-timeAt-take (p ∷ ps) [] (suc z) q h = refl
-timeAt-take (p ∷ ps) (t ∷ ts) (suc z) q h = go (ltb q p) refl (λ u. timeAt-take ps ts z (q - p) u)
-  where
-    go : (x : Bool) → ltb q p ≡ x → (q - p < total (take z ps) → timeAt (take z ps) (take z ts) (q - p) ≡ timeAt ps ts (q - p))
-        → cond x t (timeAt (take z ps) (take z ts) (q - p)) ≡ cond x t (timeAt ps ts (q - p))
-    go true e ih = refl
-    go false e ih = ih (omega (arith, ltb-false))
 
 -- ---- times never rise
 

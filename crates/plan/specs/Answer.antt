@@ -7,7 +7,6 @@ use lib.Dec.{ltb, eqb}
 use Rattle.card.specs.declared.Figures.{Figures}
 use Rattle.card.specs.declared.CardRead.{CardRead}
 use Rattle.card.specs.Card.{recordFault, judgeRecord}
-use Rattle.card.specs.Read.{readCard}
 use Rattle.words.specs.Words.{wordsOf, withWords}
 use Rattle.plan.specs.declared.Plan.{Plan}
 use Rattle.plan.specs.declared.Planned.{Planned}

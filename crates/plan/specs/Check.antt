@@ -1,8 +1,8 @@
 -- What a passed check says, and that the planner's own answers pass it.
 -- Assumes nothing.
 use Prim.Native.Nat.{ℕ, zero, suc, _+_, _≤_, _<_}
-use mathlib.Core.Path.{_≡_, refl, sym, ap, _∙_}
-use mathlib.Core.Bool.{Bool, true, _&&_}
+use mathlib.Core.Path.{_≡_, refl, ap, _∙_}
+use mathlib.Core.Bool.{true}
 use mathlib.Core.List.{List}
 use native.Mathlib.Omega.{arith}
 use lib.ListN.{length, getD, take}
@@ -18,7 +18,7 @@ use Rattle.plan.specs.declared.Plan.{Plan}
 use Rattle.plan.specs.Plan.{placeOf, leadOf, streamsOf, bufferSize, worst2Of, marginOf, planOf, row, positionsOf, leadsOf}
 use Rattle.plan.specs.Answer.{begins, sameNumbers, isPlan}
 use Rattle.plan.specs.Legal.{place-below, lead-small}
-use Rattle.plan.specs.Rows.{row-length, row-at, begins-at, begins-long, begins-take, take-begins}
+use Rattle.plan.specs.Rows.{row-length, begins-at, begins-long, begins-take, take-begins}
 
 -- a passed check
 pub record Checked (p : Plan) (ps ls : List ℕ) : Type 0 where

@@ -1,19 +1,19 @@
 -- What legal figures say of the disk and of the film: the zones as the code walks them, the times, and the quick forms of worst2, margin and leads.
 -- Assumes nothing.
-use Prim.Native.Nat.{ℕ, zero, suc, _+_, _*_, _-_, _/_, _≤_, _<_}
-use mathlib.Core.Path.{_≡_, refl, sym, ap, _∙_, subst}
+use Prim.Native.Nat.{ℕ, suc, _+_, _*_, _-_, _/_, _≤_, _<_}
+use mathlib.Core.Path.{_≡_, refl, sym, subst}
 use mathlib.Core.Logic.{by-cases}
 use native.Mathlib.Omega.{arith}
 use native.Mathlib.Decide.{decLt}
-use lib.ListN.{length, getD, take}
+use lib.ListN.{take}
 use Rattle.laws.specs.Greatest.{greatestOf, greatestOf-least}
 use Rattle.card.specs.declared.Figures.{Figures}
 use Rattle.card.specs.Card.{Legal, totalPositions}
-use Rattle.placement.specs.Placement.{place, place-even, Laying, Falling, worstTime}
+use Rattle.placement.specs.Placement.{Laying, Falling, worstTime}
 use Rattle.placement.specs.Best.{place-laying}
 use Rattle.placement.specs.Quick.{worst-quick, slowest-quick}
-use Rattle.placement.specs.Zones.{total, timeAt, total-first, total-take, timeAt-positive, timeAt-within, descending-first, zones-falling}
-use Rattle.pacing.specs.Streams.{load, streams, bufferOf, streams-le, streams-fits, buffer-bound}
+use Rattle.placement.specs.Zones.{total, total-first, timeAt-positive, timeAt-within, descending-first, zones-falling}
+use Rattle.pacing.specs.Streams.{load, bufferOf, streams-le, streams-fits, buffer-bound}
 use Rattle.pacing.specs.Laid.{slowest, laid-lead, margin-quick, margin-small, pair-within, worst-within}
 use Rattle.plan.specs.Cursors.{Zoned, Disk}
 use Rattle.plan.specs.Plan.{timeOn, placeOf, timeOf, worst2Of, overOf, streamsOf, marginOf, filmOf, leadOf, bufferSize}

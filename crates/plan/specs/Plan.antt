@@ -1,7 +1,6 @@
 -- Document 01, 'Laying the film': the plan of figures.
-use Prim.Native.Nat.{ℕ, zero, suc, _+_}
+use Prim.Native.Nat.{ℕ, zero, suc}
 use mathlib.Core.List.{List, [], _∷_}
-use lib.ListN.{getD}
 use Rattle.card.specs.declared.Figures.{Figures}
 use Rattle.card.specs.Card.{totalPositions}
 use Rattle.card.specs.Read.{blankFigures}

@@ -3,17 +3,16 @@
 use Prim.Native.Nat.{ℕ, suc, _+_, _*_, _-_, _/_, _≤_, _<_}
 use mathlib.Core.Path.{_≡_, refl}
 use mathlib.Core.Logic.{by-cases}
-use mathlib.Core.Bool.{cond, true}
 use native.Mathlib.Omega.{arith}
 use native.Mathlib.Decide.{decLt}
 use Rattle.card.specs.declared.Figures.{Figures}
 use Rattle.card.specs.Card.{Legal, totalPositions}
 use Rattle.placement.specs.Placement.{Laying, worstTime}
 use Rattle.placement.specs.Best.{placement-best}
-use Rattle.pacing.specs.Film.{Film, Paced, lead}
+use Rattle.pacing.specs.Film.{Paced, lead}
 use Rattle.pacing.specs.Once.{once-end}
 use Rattle.pacing.specs.Streams.{overhead-rises, load, bufferOf}
-use Rattle.pacing.specs.Laid.{laidFilm, slowest, margin, laid-paced, time-within, pair-within, no-laying-feeds-more}
+use Rattle.pacing.specs.Laid.{laidFilm, margin, laid-paced, time-within, pair-within, no-laying-feeds-more}
 use Rattle.plan.specs.Plan.{timeOn, placeOf, timeOf, worst2Of, overOf, streamsOf, slowestOf, marginOf, filmOf, leadOf, bufferSize}
 use Rattle.plan.specs.Legal.{legal-falling, legal-laying, place-below, time-positive, time-small, worst2-small, margin-less, lead-is, lead-small, streams-few, streams-fit, buffer-small}
 

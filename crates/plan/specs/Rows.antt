@@ -1,8 +1,8 @@
 -- Rows of entries, and lists that begin with them.
 -- Assumes nothing.
 use Prim.Native.Nat.{ℕ, zero, suc, _+_, _≤_, _<_}
-use mathlib.Core.Path.{_≡_, refl, sym, ap, ap₂, _∙_}
-use mathlib.Core.Bool.{true, false, _&&_}
+use mathlib.Core.Path.{_≡_, refl, ap, ap₂, _∙_}
+use mathlib.Core.Bool.{true, false}
 use mathlib.Core.List.{List, [], _∷_, _++_}
 use native.Mathlib.Omega.{arith}
 use lib.ListN.{length, getD, take, drop}
@@ -26,12 +26,6 @@ pub row-same : (g h : ℕ → ℕ) (b n : ℕ) → ((k : ℕ) → b ≤ k → k 
 unfolding row
 row-same g h b zero e = refl
 row-same g h b (suc n) e = rw (e b (omega arith) (omega arith), row-same g h (suc b) n (λ k l u. e k (omega arith) (omega arith)))
-
-pub row-at : (g : ℕ → ℕ) (b n k : ℕ) → k < n → getD (row g b n) k 0 ≡ g (b + k)
-unfolding row
-row-at g b zero k u = absurd (omega arith)
-row-at g b (suc n) zero u = let z : b ≡ b + 0 = omega arith in ap g z
-row-at g b (suc n) (suc k) u = let z : suc b + k ≡ b + suc k = omega arith in row-at g (suc b) n k (omega arith) ∙ ap g z
 
 -- a list that has each entry begins with them
 pub begins-yes : (g : ℕ → ℕ) (b n : ℕ) (ws : List ℕ) → n ≤ length ws → ((k : ℕ) → k < n → getD ws k 0 ≡ g (b + k)) → begins (row g b n) ws ≡ true

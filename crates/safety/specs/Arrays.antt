@@ -72,18 +72,6 @@ module _ {A : Type 0} (p : Supply A) where
       ∙ ap (λ ys. slotsOf (set ks i a) (set xs i (getD xs i (p .none))) ys) (sym (set-getD hs i 0))
       ∙ slots-set ks xs hs e i a (getD xs i (p .none)) (getD hs i 0)
 
-  pub slots-set-held : (ks : List ℕ) (xs : List A) (hs : List ℕ) → SameLength ks xs hs → (i c : ℕ)
-      → slotsOf ks xs (set hs i c) ≡ set (slotsOf ks xs hs) i (slotOf (getD ks i 0) (getD xs i (p .none)) c)
-  slots-set-held ks xs hs e i c =
-      ap (λ ys. slotsOf ks ys (set hs i c)) (sym (set-getD xs i (p .none)))
-      ∙ ap (λ ys. slotsOf ys (set xs i (getD xs i (p .none))) (set hs i c)) (sym (set-getD ks i 0))
-      ∙ slots-set ks xs hs e i (getD ks i 0) (getD xs i (p .none)) c
-
-  pub slots-set-fed : (ks : List ℕ) (xs : List A) (hs : List ℕ) → SameLength ks xs hs → (i : ℕ) (b : A) (c : ℕ)
-      → slotsOf ks (set xs i b) (set hs i c) ≡ set (slotsOf ks xs hs) i (slotOf (getD ks i 0) b c)
-  slots-set-fed ks xs hs e i b c =
-      ap (λ ys. slotsOf ys (set xs i b) (set hs i c)) (sym (set-getD ks i 0)) ∙ slots-set ks xs hs e i (getD ks i 0) b c
-
   -- the arrays of a list of slots
   pub kinds-of-slots : (ks : List ℕ) (xs : List A) (hs : List ℕ) → map (λ s. s .kind) (slotsOf ks xs hs) ≡ ks
   unfolding slotsOf

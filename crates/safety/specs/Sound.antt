@@ -97,18 +97,6 @@ module _ {A : Type 0} (p : Supply A) where
     floored = f;
   }
 
-  pub good-draining : (L : ℕ) (s : Slot A) → s .kind ≡ draining → p .isEnd (s .next) ≡ true → 1 ≤ s .buffered → s .buffered ≤ p .buffer → Good L s
-  good-draining L s k x m h = record {
-    kinds = omega arith;
-    zeros = λ z. absurd (omega arith);
-    empty = λ z. absurd (omega arith);
-    named = λ _ z. absurd (omega arith);
-    past = λ _. x;
-    some = λ _. m;
-    fits = h;
-    floored = λ z. absurd (omega arith);
-  }
-
   pub good-free : (L : ℕ) → Good L (freeSlot p)
   good-free L = good-zero L (freeSlot p) refl refl refl
 

@@ -10,22 +10,22 @@ use native.Mathlib.Omega.{arith}
 use native.Mathlib.Decide.{ℕ-discrete, decLt}
 use native.Mathlib.Numerals.{add-one}
 use lib.ListN.{length, getD, set, take, length-set, length-map, List·getD-map, List·getD-eq-default}
-use lib.Seq.{getD-set-same, getD-set-other, take-length}
+use lib.Seq.{getD-set-same, getD-set-other}
 use lib.Dec.{leb, eqb}
 use borrow.Author.Tests.{leb-true, eqb-true, eq-eqb, ne-eqb, le-leb, lt-leb}
-use Rattle.laws.specs.Bools.{bit, bit-le, implies, implied, implies-of, clash, is-false, bool-ext, and-left, and-right, and-both, cond-le}
-use Rattle.laws.specs.Map.{mapTo, mapTo-none, mapTo-all, getD-mapTo, mapTo-store, mapTo-keep}
-use Rattle.laws.specs.Runs.{sumBy, allBy, all-at}
-use Rattle.laws.specs.Sums.{sum-none, sum-next, sum-all, sum-part, sum-top, sum-rest}
+use Rattle.laws.specs.Bools.{bit, implies, is-false, bool-ext, and-left, and-right, and-both}
+use Rattle.laws.specs.Map.{mapTo, mapTo-none, getD-mapTo, mapTo-store}
+use Rattle.laws.specs.Runs.{allBy}
+use Rattle.laws.specs.Sums.{sum-none, sum-next, sum-rest}
 use Rattle.laws.specs.Each.{each-at, each-by}
-use Rattle.laws.specs.Places.{length-mapFrom, mapFrom-at, mapFrom-map, mapTo-rest, allFrom, lowestFrom, all-passed, first-failed}
+use Rattle.laws.specs.Places.{mapFrom-at, mapFrom-map, mapTo-rest, allFrom, lowestFrom, all-passed, first-failed}
 use Rattle.safety.specs.Supply.{Supply, Named}
 use Rattle.safety.specs.Scheduler.{Slot, free, waiting, filling, playing, draining, freeSlot, at}
-use Rattle.safety.specs.Scheduler.{reads, leadOf, leads, lowWater, holds, playingSlot, fillingSlot, startBy, startedSlot, started, playersHold}
+use Rattle.safety.specs.Scheduler.{leadOf, leads, lowWater, holds, playingSlot, fillingSlot, startBy, startedSlot, started, playersHold}
 use Rattle.safety.specs.Scheduler.{grantable, granted, grantBy, tried, tries, isFetched, timeOf, times, fetchCount}
 use Rattle.safety.specs.Scheduler.{sweptBy, releaseBy, released, endedSlot, ended, drawLimit}
 use Rattle.safety.specs.Order.{Scheduler, Order}
-use Rattle.safety.specs.Sound.{soundSlot, sound, Good, good-zero, good-block, good-draining, good-free, FreeFrom, Sound, good-of-sound, sound-of-good, sound-says, says-sound}
+use Rattle.safety.specs.Sound.{soundSlot, sound, Good, good-free, FreeFrom, Sound, good-of-sound, sound-says, says-sound}
 use Rattle.safety.specs.Refusals.{drawAllowed, drawHeld}
 use Rattle.safety.specs.Slots.{reading-lead, other-lead, fetched-yes, fetched-other, fetched-time, unfetched-time, holds-yes, holds-no}
 use Rattle.safety.specs.BySlot.{granted-leads}
@@ -47,19 +47,6 @@ module _ {A : Type 0} (p : Supply A) where
     unfolding leads
     leads-skip i h k = omega (arith, sum-next (leadOf p) (freeSlot p) ss i h, other-lead p (at p ss i) k)
 
-    -- what is added up so far is at most the whole, and at most M for each slot
-    pub leads-part : (i : ℕ) → leads p (take i ss) ≤ leads p ss
-    unfolding leads
-    leads-part i = sum-part (leadOf p) i ss
-
-    pub leads-top : (M : ℕ) → ((a : A) → p .lead a ≤ M) → (i : ℕ) → leads p (take i ss) ≤ i * M
-    unfolding leads leadOf
-    leads-top M h i = sum-top (leadOf p) M (λ s. omega (arith, cond-le (reads p s) (p .lead (s .next)), h (s .next))) i ss
-
-    pub leads-all : leads p (take (length ss) ss) ≡ leads p ss
-    unfolding leads
-    leads-all = sum-all (leadOf p) ss
-
     pub times-none : times p (take 0 ss) ≡ 0
     unfolding times
     times-none = sum-none (timeOf p) ss
@@ -72,18 +59,6 @@ module _ {A : Type 0} (p : Supply A) where
     unfolding times
     times-skip i h e = omega (arith, sum-next (timeOf p) (freeSlot p) ss i h, unfetched-time p (at p ss i) e)
 
-    pub times-part : (i : ℕ) → times p (take i ss) ≤ times p ss
-    unfolding times
-    times-part i = sum-part (timeOf p) i ss
-
-    pub times-top : (M : ℕ) → ((a : A) → p .time a ≤ M) → (i : ℕ) → times p (take i ss) ≤ i * M
-    unfolding times timeOf
-    times-top M h i = sum-top (timeOf p) M (λ s. omega (arith, cond-le (isFetched p s) (p .time (s .next)), h (s .next))) i ss
-
-    pub times-all : times p (take (length ss) ss) ≡ times p ss
-    unfolding times
-    times-all = sum-all (timeOf p) ss
-
     abbrev one : Slot A → ℕ
     one s = bit (isFetched p s)
 
@@ -91,46 +66,7 @@ module _ {A : Type 0} (p : Supply A) where
     unfolding fetchCount
     fetches-none = sum-none one ss
 
-    pub fetches-next : (i : ℕ) → i < length ss → isFetched p (at p ss i) ≡ true → fetchCount p (take (i + 1) ss) ≡ fetchCount p (take i ss) + 1
-    unfolding fetchCount
-    fetches-next i h e = sum-next one (freeSlot p) ss i h ∙ ap (λ (t : Bool). sumBy one (take i ss) + bit t) e
-
-    pub fetches-skip : (i : ℕ) → i < length ss → isFetched p (at p ss i) ≡ false → fetchCount p (take (i + 1) ss) ≡ fetchCount p (take i ss)
-    unfolding fetchCount
-    fetches-skip i h e =
-        let q : fetchCount p (take (i + 1) ss) ≡ sumBy one (take i ss) + 0 = sum-next one (freeSlot p) ss i h ∙ ap (λ (t : Bool). sumBy one (take i ss) + bit t) e in
-        omega arith
-
-    pub fetches-all : fetchCount p (take (length ss) ss) ≡ fetchCount p ss
-    unfolding fetchCount
-    fetches-all = sum-all one ss
-
-    -- at most a fetch for each slot that was seen
-    pub fetches-top : (i : ℕ) → fetchCount p (take i ss) ≤ i
-    unfolding fetchCount
-    fetches-top i = omega (arith, sum-top one 1 (λ s. bit-le (isFetched p s)) i ss)
-
   -- ---- every playing slot holds the mark
-
-  -- the test, from a fact for each slot, or from one that fails
-  pub players-yes : (x : ℕ) (ss : List (Slot A)) → ((j : ℕ) → j < length ss → at p ss j .kind ≡ playing → x ≤ 2000000 * at p ss j .buffered)
-      → playersHold p x ss ≡ true
-  unfolding playersHold allBy
-  players-yes x [] h = refl
-  players-yes x (s ∷ ss) h =
-      and-both (implies-of (eqb (s .kind) playing) (holds p x s) (λ e. holds-yes p x s (h 0 (omega arith) (eqb-true (s .kind) playing e))))
-      (players-yes x ss (λ j l. h (suc j) (omega arith)))
-
-  pub players-no : (x : ℕ) (ss : List (Slot A)) (j : ℕ) → j < length ss → at p ss j .kind ≡ playing → 2000000 * at p ss j .buffered < x
-      → playersHold p x ss ≡ false
-  unfolding playersHold
-  players-no x ss j l k h = is-false (playersHold p x ss) (λ e. clash (implied (eqb (s .kind) playing) (holds p x s) (here e) (eq-eqb (s .kind) playing k)) (holds-no p x s h))
-    where
-      s : Slot A
-      s = at p ss j
-
-      here : playersHold p x ss ≡ true → implies (eqb (s .kind) playing) (holds p x s) ≡ true
-      here e = all-at (freeSlot p) (λ s. implies (eqb (s .kind) playing) (holds p x s)) ss j e l
 
   -- the least that a playing slot holds, top where none plays
   unfoldable pub leastHeld : ℕ → List (Slot A) → ℕ
@@ -170,9 +106,6 @@ module _ {A : Type 0} (p : Supply A) where
   least-skip top ss i l k =
       ap (λ (m : ℕ). leastHeld top (take m ss)) (add-one i) ∙ least-turn top ss i l
       ∙ ap (λ (t : Bool). cond t (min (leastHeld top (take i ss)) (at p ss i .buffered)) (leastHeld top (take i ss))) (ne-eqb (at p ss i .kind) playing k)
-
-  pub least-all : (top : ℕ) (ss : List (Slot A)) → leastHeld top (take (length ss) ss) ≡ leastHeld top ss
-  least-all top ss = ap (leastHeld top) (take-length ss)
 
   -- every playing slot holds x where the least does
   pub least-holds : (top x : ℕ) (ss : List (Slot A)) → x ≤ 2000000 * top → playersHold p x ss ≡ leb x (2000000 * leastHeld top ss)
@@ -236,31 +169,12 @@ module _ {A : Type 0} (p : Supply A) where
   unfolding startedTo
   startedTo-none x ss = mapTo-none (λ j s. startedSlot p x s) 0 ss
 
-  -- slot i is still as it was
-  pub startedTo-at : (x i : ℕ) (ss : List (Slot A)) → at p (startedTo x i ss) i ≡ at p ss i
-  unfolding startedTo
-  startedTo-at x i ss = getD-mapTo (λ j s. startedSlot p x s) 0 i ss (freeSlot p)
-
-  pub startedTo-plays : (x i : ℕ) (ss : List (Slot A)) → i < length ss → at p ss i .kind ≡ filling → x ≤ 2000000 * at p ss i .buffered
-      → set (startedTo x i ss) i (playingSlot p (at p ss i)) ≡ startedTo x (i + 1) ss
-  unfolding startedTo
-  startedTo-plays x i ss l k h = mapTo-store (λ j s. startedSlot p x s) i ss (freeSlot p) (playingSlot p (at p ss i)) l (sym (starts-playing x (at p ss i) k h))
-
-  pub startedTo-stays : (x i : ℕ) (ss : List (Slot A)) → i < length ss → (at p ss i .kind ≡ filling → 2000000 * at p ss i .buffered < x)
-      → startedTo x i ss ≡ startedTo x (i + 1) ss
-  unfolding startedTo
-  startedTo-stays x i ss l h = mapTo-keep (λ j s. startedSlot p x s) i ss (freeSlot p) l (starts-not x (at p ss i) h)
-
   -- the loop may stop where the slots from i on are free
   pub startedTo-rest : (x i : ℕ) (ss : List (Slot A)) → FreeFrom p i ss → startedTo x i ss ≡ started p x ss
   unfolding startedTo started
   startedTo-rest x i ss u =
       mapTo-rest (λ j s. startedSlot p x s) (freeSlot p) i ss (λ j l h. starts-not x (at p ss j) (λ k. absurd (omega (arith, u j l))))
       ∙ mapFrom-map (startedSlot p x) 0 ss
-
-  pub startedTo-all : (x : ℕ) (ss : List (Slot A)) → startedTo x (length ss) ss ≡ started p x ss
-  unfolding startedTo started
-  startedTo-all x ss = mapTo-all (λ j s. startedSlot p x s) 0 (length ss) ss (omega arith) ∙ mapFrom-map (startedSlot p x) 0 ss
 
   pub started-at : (x : ℕ) (ss : List (Slot A)) (i : ℕ) → at p (started p x ss) i ≡ startedSlot p x (at p ss i)
   unfolding started startedSlot
@@ -443,10 +357,6 @@ module _ {A : Type 0} (p : Supply A) where
   unfolding ended
   ended-at ss ds i l = mapFrom-at (λ j s. endedSlot p s (getD ds j 0)) ss i (freeSlot p) l
 
-  pub ended-length : (ss : List (Slot A)) (ds : List ℕ) → length (ended p ss ds) ≡ length ss
-  unfolding ended
-  ended-length ss ds = length-mapFrom (λ j s. endedSlot p s (getD ds j 0)) 0 ss
-
   -- a slot that was fetched for, with a block left or none
   pub ended-fetched : (s : Slot A) (d : ℕ) → 2 ≤ s .kind → s .kind ≤ 3 → s .buffered + p .B ≤ p .buffer → p .isEnd (p .next (s .next)) ≡ false
       → endedSlot p s d ≡ record { kind = s .kind; next = p .next (s .next); buffered = s .buffered - d + p .B }
@@ -508,19 +418,7 @@ module _ {A : Type 0} (p : Supply A) where
       mapTo-rest (λ j s. endedSlot p s (getD ds j 0)) (freeSlot p) i ss
       (λ j m h. ap (endedSlot p (at p ss j)) (List·getD-eq-default ds 0 {n = j} (omega arith)) ∙ ended-free (at p ss j) (u j m))
 
-  pub endedTo-all : (ds : List ℕ) (ss : List (Slot A)) → endedTo ds (length ss) ss ≡ ended p ss ds
-  unfolding endedTo ended
-  endedTo-all ds ss = mapTo-all (λ j s. endedSlot p s (getD ds j 0)) 0 (length ss) ss (omega arith)
-
   -- ---- draws
-
-  pub limit-player : (m : ℕ) (s : Slot A) → 3 ≤ s .kind → s .kind ≤ 4 → drawLimit p m s ≡ m
-  unfolding drawLimit
-  limit-player m s k l = by-cases (ℕ-discrete (s .kind) 3) (λ e. rw e) (λ e. let q : s .kind ≡ 4 = omega arith in rw q)
-
-  pub limit-other : (m : ℕ) (s : Slot A) → (3 ≤ s .kind → s .kind ≤ 4 → ⊥) → drawLimit p m s ≡ 0
-  unfolding drawLimit
-  limit-other m s h = rw (ne-eqb (s .kind) playing (λ e. h (omega arith) (omega arith)), ne-eqb (s .kind) draining (λ e. h (omega arith) (omega arith)))
 
   pub allowed-yes : (m : ℕ) (ds : List ℕ) (i : ℕ) (s : Slot A) → getD ds i 0 ≤ drawLimit p m s → drawAllowed p m ds i s ≡ true
   unfolding drawAllowed
@@ -564,30 +462,6 @@ module _ {A : Type 0} (p : Supply A) where
   -- ---- soundness
 
   module _ (names : Named p) where
-    -- a slot by its kind
-    pub sound-free : (L : ℕ) (s : Slot A) → s .kind ≡ free → s .next ≡ p .none → s .buffered ≡ 0 → soundSlot p L s ≡ true
-    sound-free L s k x h = sound-of-good p names L s (good-zero p L s k x h)
-
-    pub sound-waiting : (L : ℕ) (s : Slot A) → s .kind ≡ waiting → p .isBlock (s .next) ≡ true → s .buffered ≡ 0 → soundSlot p L s ≡ true
-    sound-waiting L s k x h =
-        sound-of-good p names L s (good-block p L s (omega arith) (omega arith) x (λ _. h) (omega arith) (λ z. absurd (omega arith)))
-
-    pub sound-filling : (L : ℕ) (s : Slot A) → s .kind ≡ filling → p .isBlock (s .next) ≡ true → s .buffered ≤ p .buffer → soundSlot p L s ≡ true
-    sound-filling L s k x h =
-        sound-of-good p names L s (good-block p L s (omega arith) (omega arith) x (λ z. absurd (omega arith)) h (λ z. absurd (omega arith)))
-
-    pub sound-playing : (L : ℕ) (s : Slot A) → s .kind ≡ playing → p .isBlock (s .next) ≡ true → s .buffered ≤ p .buffer
-        → lowWater p L ≤ 2000000 * s .buffered → soundSlot p L s ≡ true
-    sound-playing L s k x h f = sound-of-good p names L s (good-block p L s (omega arith) (omega arith) x (λ z. absurd (omega arith)) h (λ _. f))
-
-    pub sound-draining : (L : ℕ) (s : Slot A) → s .kind ≡ draining → p .isEnd (s .next) ≡ true → 1 ≤ s .buffered → s .buffered ≤ p .buffer
-        → soundSlot p L s ≡ true
-    sound-draining L s k x f h = sound-of-good p names L s (good-draining p L s k x f h)
-
-    -- a slot that breaks one of the facts
-    pub unsound-slot : (L : ℕ) (s : Slot A) → (Good p L s → ⊥) → soundSlot p L s ≡ false
-    unsound-slot L s h = is-false (soundSlot p L s) (λ e. h (good-of-sound p names L s e))
-
     -- the loop over the slots, to its end or to one that fails
     module _ {Q : Type 0} (o : Order A Q) (d : Scheduler A Q) where
       pub sound-yes : d .phase ≤ 1 → ((j : ℕ) → j < length (d .slots) → soundSlot p (leads p (d .slots)) (at p (d .slots) j) ≡ true)

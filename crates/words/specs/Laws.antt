@@ -8,7 +8,7 @@ use native.Mathlib.Omega.{arith}
 use native.Mathlib.Nat.{div-div-eq-div-mul}
 use native.Mathlib.Decide.{decLt}
 use native.Mathlib.Numerals.{add-one, add-two, add-three}
-use mir.Syntax.{w8, w32}
+use mir.Syntax.{w8}
 use mir.Val.{Fits}
 use lib.ListN.{length, getD, set, take, drop, length-set, drop-of-length-le}
 use lib.Seq.{getD-set-same, getD-set-other, take-set-le, drop-set-lt, drop-set-add, drop-cons, take-append-seam, drop-at, length-take-le, sets, sets-eq}
@@ -19,9 +19,6 @@ use Rattle.words.specs.Words.{Bytes, Words, wordsOf, withWord, withWords
 
 pub bytes-fit : (s : List ℕ) → ((i : ℕ) → Fits w8 (getD s i 0)) → Bytes s
 bytes-fit s f i = f i .fits
-
-pub words-fit : (vs : List ℕ) → ((i : ℕ) → Fits w32 (getD vs i 0)) → Words vs
-words-fit vs f i = f i .fits
 
 -- ---- four bytes and a number
 
@@ -73,35 +70,6 @@ word-bytes (a ∷ (b ∷ [])) i h = absurd (omega arith)
 word-bytes (a ∷ (b ∷ (c ∷ []))) i h = absurd (omega arith)
 word-bytes (a ∷ (b ∷ (c ∷ (d ∷ s)))) zero h = refl
 word-bytes (a ∷ (b ∷ (c ∷ (d ∷ s)))) (suc i) h = rw (next i 1, next i 2, next i 3, next-first i) (word-bytes s i (omega arith))
-
--- entries of bytes have 32 bits
-pub words-small : (s : List ℕ) → Bytes s → Words (wordsOf s)
-unfolding wordsOf
-words-small [] y i = omega arith
-words-small (a ∷ []) y i = omega arith
-words-small (a ∷ (b ∷ [])) y i = omega arith
-words-small (a ∷ (b ∷ (c ∷ []))) y i = omega arith
-words-small (a ∷ (b ∷ (c ∷ (d ∷ s)))) y zero = omega (arith, y 0, y 1, y 2, y 3)
-words-small (a ∷ (b ∷ (c ∷ (d ∷ s)))) y (suc i) = words-small s (λ j. y (suc (suc (suc (suc j))))) i
-
--- a part of the string that begins or ends with an entry
-pub words-drop : (s : List ℕ) (k : ℕ) → wordsOf (drop (4 * k) s) ≡ drop k (wordsOf s)
-unfolding wordsOf
-words-drop s zero = refl
-words-drop [] (suc k) = rw (next-first k)
-words-drop (a ∷ []) (suc k) = rw (next-first k)
-words-drop (a ∷ (b ∷ [])) (suc k) = rw (next-first k)
-words-drop (a ∷ (b ∷ (c ∷ []))) (suc k) = rw (next-first k)
-words-drop (a ∷ (b ∷ (c ∷ (d ∷ s)))) (suc k) = rw (next-first k) (words-drop s k)
-
-pub words-take : (s : List ℕ) (k : ℕ) → wordsOf (take (4 * k) s) ≡ take k (wordsOf s)
-unfolding wordsOf
-words-take s zero = refl
-words-take [] (suc k) = rw (next-first k)
-words-take (a ∷ []) (suc k) = rw (next-first k)
-words-take (a ∷ (b ∷ [])) (suc k) = rw (next-first k)
-words-take (a ∷ (b ∷ (c ∷ []))) (suc k) = rw (next-first k)
-words-take (a ∷ (b ∷ (c ∷ (d ∷ s)))) (suc k) = rw (next-first k) (ap (λ (ws : List ℕ). joined a b c d ∷ ws) (words-take s k))
 
 -- ---- one entry stored
 
@@ -279,11 +247,6 @@ word-written s start (v ∷ vs) (suc k) y h l =
     let e : start + suc k ≡ start + 1 + k = omega arith in
     rw e (word-written (withWord s start v) (start + 1) vs k (λ i. y (suc i)) (omega arith) (omega (arith, withWord-entries s start v)))
 
-pub word-after : (s : List ℕ) (start : ℕ) (vs : List ℕ) (i : ℕ) → start + length vs ≤ i → getD (wordsOf (withWords s start vs)) i 0 ≡ getD (wordsOf s) i 0
-unfolding withWords
-word-after s start [] i h = refl
-word-after s start (v ∷ vs) i h = word-after (withWord s start v) (start + 1) vs i (omega arith) ∙ word-other s start v i (omega arith)
-
 -- ---- reading and writing
 
 -- WHAT IS WRITTEN IS READ BACK
@@ -293,11 +256,6 @@ unfolding overwrite
 read-written s start vs y h =
     rw (words-withWords s start vs y h, drop-at (take start (wordsOf s)) _ start (length-take-le start (wordsOf s) (omega arith)))
     (take-append-seam vs _)
-
--- the same for an array of n numbers
-pub read-array : (s : List ℕ) (start : ℕ) (vs : List ℕ) (n : ℕ) → Words vs → length vs ≡ n → start + n ≤ length (wordsOf s)
-    → take n (drop start (wordsOf (withWords s start vs))) ≡ vs
-read-array s start vs n y e h = ap (λ (k : ℕ). take k (drop start (wordsOf (withWords s start vs)))) (sym e) ∙ read-written s start vs y (omega arith)
 
 -- a store behind a part leaves it
 set-behind : (l : List ℕ) (k v i n : ℕ) → i + n ≤ k → take n (drop i (set l k v)) ≡ take n (drop i l)
@@ -339,21 +297,6 @@ unfolding bytesOf
 bytesOf-length [] = refl
 bytesOf-length (v ∷ vs) = omega (arith, bytesOf-length vs)
 
-pub bytesOf-bytes : (vs : List ℕ) → Bytes (bytesOf vs)
-unfolding bytesOf
-bytesOf-bytes [] i = omega arith
-bytesOf-bytes (v ∷ vs) zero = omega arith
-bytesOf-bytes (v ∷ vs) (suc zero) = omega arith
-bytesOf-bytes (v ∷ vs) (suc (suc zero)) = omega arith
-bytesOf-bytes (v ∷ vs) (suc (suc (suc zero))) = omega arith
-bytesOf-bytes (v ∷ vs) (suc (suc (suc (suc i)))) = bytesOf-bytes vs i
-
--- the entries of numbers in front of other bytes
-pub words-bytesOf : (vs s : List ℕ) → Words vs → wordsOf (bytesOf vs ++ s) ≡ vs ++ wordsOf s
-unfolding bytesOf wordsOf
-words-bytesOf [] s y = refl
-words-bytesOf (v ∷ vs) s y = rw (low v, whole v (y 0), words-bytesOf vs s (λ i. y (suc i)))
-
 -- the bytes of the entries, where none are spare
 pub bytesOf-words : (s : List ℕ) → Bytes s → length s % 4 ≡ 0 → bytesOf (wordsOf s) ≡ s
 unfolding bytesOf wordsOf
@@ -364,10 +307,6 @@ bytesOf-words (a ∷ (b ∷ (c ∷ []))) y h = absurd (omega arith)
 bytesOf-words (a ∷ (b ∷ (c ∷ (d ∷ s)))) y h =
     let e = split a b c d (y 0) (y 1) (y 2) (y 3) in
     rw (e .0, e .1, e .2, e .3, bytesOf-words s (λ j. y (suc (suc (suc (suc j))))) (omega arith))
-
--- strings of whole entries that have the same entries are the same
-pub same-words : (s t : List ℕ) → Bytes s → Bytes t → length s % 4 ≡ 0 → length t % 4 ≡ 0 → wordsOf s ≡ wordsOf t → s ≡ t
-same-words s t y z h k e = sym (bytesOf-words s y h) ∙ ap bytesOf e ∙ bytesOf-words t z k
 
 -- an entry is four bytes in a row
 withWord-overwrite : (s : List ℕ) (i v : ℕ) → i < length (wordsOf s) → withWord s i v ≡ overwrite s (4 * i) (bytesOf (v ∷ []))

@@ -1,6 +1,6 @@
 -- One step of a cursor over the zones, and the time that a cursor gives.
 -- Assumes nothing.
-use Prim.Native.Nat.{ℕ, zero, suc, _+_, _-_, _*_, _≤_, _<_, max}
+use Prim.Native.Nat.{ℕ, zero, suc, _+_, _-_, _≤_, _<_, max}
 use mathlib.Core.Path.{_≡_, refl, sym, ap, _∙_}
 use mathlib.Core.Logic.{by-cases}
 use mathlib.Core.List.{List, [], _∷_}
@@ -11,7 +11,7 @@ use Rattle.laws.specs.Runs.{sumBy}
 use Rattle.laws.specs.Greatest.{greatestOf}
 use Rattle.placement.specs.Zones.{total, timeAt, total-turn, total-take, timeAt-zone}
 use Rattle.plan.specs.declared.Zone.{Zone}
-use Rattle.plan.specs.Cursors.{Zoned, Disk, Holds, Above, Climbs, Below, Drops}
+use Rattle.plan.specs.Cursors.{Zoned, Holds, Above, Climbs, Below, Drops}
 
 -- ---- totals of the first zones
 

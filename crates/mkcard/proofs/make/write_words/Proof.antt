@@ -1,11 +1,10 @@
 use borrow.Author.Needs.{needs}
-use Prim.Native.Nat.{ℕ, _+_, _*_, _≤_, _-_}
+use Prim.Native.Nat.{_+_, _*_, _≤_, _-_}
 use mathlib.Core.List.{_∷_}
-use mathlib.Core.Path.{_∙_}
 use native.Mathlib.Omega.{arith}
 use lib.ListN.{getD}
 use Rattle.card_writer.proofs.Laws.{Writes, writes-start, writes-next}
-use Rattle.mkcard.specs.Scan.{capped, numbersFrom, cardOfWords}
+use Rattle.mkcard.specs.Scan.{capped, numbersFrom}
 use Rattle.mkcard.proofs.Laws.{numbers-kept, numbers-end, numbers-done, capped-long, card-room, words-done}
 use Rattle.mkcard.proofs.make.write_words.Statement.{statement}
 use Rattle.mkcard.proofs.make.write_words.Tie as tie
