@@ -69,7 +69,7 @@ fuzz: library
 	@sh tests/tools cc
 	@sh tests/fuzz/run target/staticlib target-tests/fuzz $(FUZZ_SECONDS)
 
-# The library against plain C and plain Rust, in one run; docs/BENCH.md tells how. Not part of the gate.
+# The library against plain C, in one run; docs/BENCH.md tells how. Not part of the gate.
 bench:
 	@sh bench/run
 
