@@ -203,7 +203,7 @@ static void measure_checks(void)
     head("The check behind 14 (16 streams): leave of a free slot, 17; open; a wrong last lead, 14");
     EACH(blocks, sizes) EACH(zones, zone_counts) {
         make_film(&input, *blocks, *zones, 16);
-        make_players(&input, 0, 15);
+        make_players(&input, FILMDISK_BETWEEN, 15);
         measure(call_leave, true, FILMDISK_REFUSED_SLOT_STATE, "leave, N %u, %u zones", *blocks, *zones);
     }
     EACH(blocks, sizes) {
@@ -219,7 +219,7 @@ static void measure_joins(void)
     head("Join of a free slot, the others playing (7 zones)");
     EACH(blocks, sizes) EACH(streams, stream_counts) {
         make_film(&input, *blocks, 7, *streams);
-        make_players(&input, 0, *streams - 1);
+        make_players(&input, FILMDISK_BETWEEN, *streams - 1);
         measure(call_join, true, FILMDISK_ACCEPTED, "N %u, %u streams", *blocks, *streams);
     }
 }
@@ -294,12 +294,12 @@ static void print_stacks(void)
 {
     printf("\nStack of an accepted call, in bytes (N 1000, 64 zones, 256 streams)\n\n");
     printf("| Call | Library | C |\n|---|---|---|\n");
-    print_stack("plan", call_plan, 0, 0);
-    print_stack("open", call_open, 0, 0);
-    print_stack("join", call_join, 0, 255);
-    print_stack("leave", call_leave, 0, 256);
-    print_stack("begin", call_begin, 0, 256);
-    print_stack("end", call_end, 1, 256);
+    print_stack("plan", call_plan, FILMDISK_BETWEEN, 0);
+    print_stack("open", call_open, FILMDISK_BETWEEN, 0);
+    print_stack("join", call_join, FILMDISK_BETWEEN, 255);
+    print_stack("leave", call_leave, FILMDISK_BETWEEN, 256);
+    print_stack("begin", call_begin, FILMDISK_BETWEEN, 256);
+    print_stack("end", call_end, FILMDISK_SWEEPING, 256);
 }
 
 int main(void)
