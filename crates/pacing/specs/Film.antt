@@ -62,7 +62,7 @@ module _ {A : Type 0} (film : Film A) where
   lead w a = greatestOf (runSum w a) (suc (film .longest a))
 
 -- the film of document 01, shown once through: N blocks in the order of their numbers. 'The film does not wrap'
-unfoldable pub once : ℕ → (ℕ → ℕ) → (ℕ → ℕ) → Film ℕ
+abbrev pub once : ℕ → (ℕ → ℕ) → (ℕ → ℕ) → Film ℕ
 once N time place = record {
   none = 0;
   isNone = λ b. eqb b 0;

@@ -15,7 +15,7 @@ use Rattle.pacing.specs.Streams.{load, streams, streams-best}
 
 module _ (τ l : ℕ → ℕ) (N : ℕ) where
   -- the film of N blocks laid by l, τ being the time of a position: block b lies at l b, and time(b) is τ (l b)
-  unfoldable pub laidFilm : Film ℕ
+  abbrev pub laidFilm : Film ℕ
   laidFilm = once N (λ b. τ (l b)) l
 
   -- the greatest time(b)
@@ -38,12 +38,10 @@ module _ (τ l : ℕ → ℕ) (N : ℕ) where
 
   -- so the film is paced by them
   pub laid-paced : Paced laidFilm (worstTime τ l N) slowest
-  unfolding laidFilm
   laid-paced = once-paced N (λ b. τ (l b)) l (worstTime τ l N) slowest pair-within time-within
 
   -- and its leads are
   pub laid-lead : (b : ℕ) → b < N → lead laidFilm (worstTime τ l N) b ≡ 2 * τ (l b) - worstTime τ l N
-  unfolding laidFilm
   laid-lead b u = once-lead N (λ b. τ (l b)) l (worstTime τ l N) slowest laid-paced b u
 
   -- twice the greatest time is at least the worst time: the margin's subtraction is exact

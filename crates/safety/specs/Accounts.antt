@@ -15,7 +15,8 @@ use Rattle.laws.specs.Bools.{bit, clash, and-left, and-right, and-both, bool-ex
 use Rattle.laws.specs.Map.{mapFrom}
 use Rattle.laws.specs.Each.{Each, Both, both-set, both-at}
 use Rattle.safety.specs.Supply.{Supply, Lawful}
-use Rattle.safety.specs.Scheduler.{Slot, Entry, Call, join, leave, begin, end, draining, freeSlot, waitingSlot, at}
+use Rattle.numbers.specs.Slots.{draining}
+use Rattle.safety.specs.Scheduler.{Slot, Entry, Call, join, leave, begin, end, freeSlot, waitingSlot, at}
 use Rattle.safety.specs.Scheduler.{before, insert, sorted, entriesAt, lowWater, joined, left, isFetched, entriesFrom, entries}
 use Rattle.safety.specs.Scheduler.{leads, times, fetchCount, bound, sweptBy, releaseBy, released, endedSlot, ended, mostDrawn}
 use Rattle.safety.specs.Order.{Scheduler, Order}

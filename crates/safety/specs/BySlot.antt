@@ -12,7 +12,8 @@ use Rattle.laws.specs.Bools.{implies, implied, and-left, and-right}
 use Rattle.laws.specs.Runs.{sumBy, allBy}
 use Rattle.laws.specs.Each.{Both, each-map, both-refl}
 use Rattle.safety.specs.Supply.{Supply}
-use Rattle.safety.specs.Scheduler.{Slot, waiting, filling, playing, at, leadOf, leads, lowWater, holds}
+use Rattle.numbers.specs.Slots.{waiting, filling, playing}
+use Rattle.safety.specs.Scheduler.{Slot, at, leadOf, leads, lowWater, holds}
 use Rattle.safety.specs.Scheduler.{fillingSlot, startBy, startedSlot, started, playersHold, grantable, granted, grantBy, tried, tries, begun}
 use Rattle.safety.specs.Order.{bySlot}
 use Rattle.safety.specs.Orderly.{Kept, kept-refl, Floored, Began, Orderly, began-then, began-none}

@@ -7,7 +7,8 @@ use mathlib.Core.List.{List, [], _∷_}
 use lib.ListN.{length}
 use Rattle.laws.specs.Places.{allFrom}
 use Rattle.safety.specs.Supply.{Supply}
-use Rattle.safety.specs.Scheduler.{Entry, Call, join, leave, begin, end, free, at, joined, left, entries, bound, ended, mostDrawn}
+use Rattle.numbers.specs.Slots.{free}
+use Rattle.safety.specs.Scheduler.{Entry, Call, join, leave, begin, end, at, joined, left, entries, bound, ended, mostDrawn}
 use Rattle.safety.specs.Order.{Scheduler, Order, opened}
 use Rattle.safety.specs.Refusals.{Verdict, verdict, drawAllowed, drawHeld}
 use Rattle.safety.specs.Ledger.{Line, openedLedger, recorded}

@@ -11,7 +11,8 @@ use lib.Dec.{eqb}
 use borrow.Author.Tests.{ltb-true, lt-ltb}
 use Rattle.laws.specs.Each.{each-at, both-at}
 use Rattle.safety.specs.Supply.{Supply, Lawful, Named}
-use Rattle.safety.specs.Scheduler.{Slot, Call, begin, free, playing, freeSlot, at, leads}
+use Rattle.numbers.specs.Slots.{free, playing}
+use Rattle.safety.specs.Scheduler.{Slot, Call, begin, freeSlot, at, leads}
 use Rattle.safety.specs.Order.{Scheduler, Order, bySlot, opened}
 use Rattle.safety.specs.Sound.{sound, Good, good-free, replicate-free, sound-says, says-sound}
 use Rattle.safety.specs.Orderly.{Orderly}

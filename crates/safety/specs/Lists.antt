@@ -8,7 +8,8 @@ use native.Mathlib.Omega.{arith}
 use lib.ListN.{length, replicate, length-replicate}
 use Rattle.laws.specs.Each.{Each, each-replicate, both-replicate}
 use Rattle.safety.specs.Supply.{Supply, Lawful}
-use Rattle.safety.specs.Scheduler.{Call, join, leave, begin, end, playing, freeSlot, leads, bound, mostDrawn}
+use Rattle.numbers.specs.Slots.{playing}
+use Rattle.safety.specs.Scheduler.{Call, join, leave, begin, end, freeSlot, leads, bound, mostDrawn}
 use Rattle.safety.specs.Order.{Scheduler, Order, opened}
 use Rattle.safety.specs.Sound.{Good, good-free, replicate-free, Sound}
 use Rattle.safety.specs.Orderly.{Orderly}

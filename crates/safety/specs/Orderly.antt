@@ -10,7 +10,8 @@ use lib.ListN.{replicate}
 use lib.Dec.{eqb}
 use Rattle.laws.specs.Each.{Each, Both, both-refl, both-trans}
 use Rattle.safety.specs.Supply.{Supply}
-use Rattle.safety.specs.Scheduler.{Slot, free, waiting, playing, freeSlot, at, leads, lowWater, joined, left}
+use Rattle.numbers.specs.Slots.{free, waiting, playing}
+use Rattle.safety.specs.Scheduler.{Slot, freeSlot, at, leads, lowWater, joined, left}
 use Rattle.safety.specs.Order.{Order}
 use Rattle.safety.specs.Sound.{Good}
 

@@ -7,7 +7,8 @@ use lib.ListN.{length, getD}
 use lib.Dec.{leb, ltb, eqb}
 use Rattle.laws.specs.Places.{allFrom, lowestFrom}
 use Rattle.safety.specs.Supply.{Supply}
-use Rattle.safety.specs.Scheduler.{Slot, Call, join, leave, begin, end, free, at, mostDrawn, drawLimit}
+use Rattle.numbers.specs.Slots.{free}
+use Rattle.safety.specs.Scheduler.{Slot, Call, join, leave, begin, end, at, mostDrawn, drawLimit}
 use Rattle.safety.specs.Order.{Scheduler, Order}
 use Rattle.safety.specs.Sound.{sound}
 

@@ -10,7 +10,8 @@ use lib.ListN.{length}
 use borrow.Author.Tests.{eq-eqb, ne-eqb, lt-ltb, le-ltb, le-leb, lt-leb}
 use Rattle.laws.specs.Places.{allFrom, lowestFrom}
 use Rattle.safety.specs.Supply.{Supply}
-use Rattle.safety.specs.Scheduler.{Call, join, leave, begin, end, free, at, mostDrawn}
+use Rattle.numbers.specs.Slots.{free}
+use Rattle.safety.specs.Scheduler.{Call, join, leave, begin, end, at, mostDrawn}
 use Rattle.safety.specs.Order.{Scheduler, Order}
 use Rattle.safety.specs.Sound.{sound}
 use Rattle.safety.specs.Refusals.{Verdict, accept, drawAllowed, drawHeld, judged, verdict}

@@ -16,7 +16,8 @@ use Rattle.laws.specs.Runs.{sumBy}
 use Rattle.laws.specs.Each.{Each, EachFrom, Both, each-set, each-map, both-at, both-length}
 use Rattle.laws.specs.Places.{allFrom, length-mapFrom}
 use Rattle.safety.specs.Supply.{Supply, Lawful}
-use Rattle.safety.specs.Scheduler.{Slot, Call, join, leave, begin, end, free, waiting, playing, draining, freeSlot, waitingSlot, at}
+use Rattle.numbers.specs.Slots.{free, waiting, playing, draining}
+use Rattle.safety.specs.Scheduler.{Slot, Call, join, leave, begin, end, freeSlot, waitingSlot, at}
 use Rattle.safety.specs.Scheduler.{reads, leadOf, leads, lowWater, joined, left, isFetched, timeOf, times, fetchCount, bound}
 use Rattle.safety.specs.Scheduler.{sweptBy, releaseBy, released, endedSlot, ended, mostDrawn, drawLimit}
 use Rattle.safety.specs.Order.{Scheduler, Order}

@@ -9,6 +9,7 @@ use lib.Dec.{leb, ltb, eqb}
 use Rattle.laws.specs.Bools.{bit, implies}
 use Rattle.laws.specs.Map.{mapFrom}
 use Rattle.laws.specs.Runs.{sumBy, allBy}
+use Rattle.numbers.specs.Slots.{free, waiting, filling, playing, draining}
 use Rattle.safety.specs.Supply.{Supply}
 
 -- a slot: its kind, its next block and its held bytes
@@ -16,22 +17,6 @@ pub record Slot (A : Type 0) : Type 0 where
   pub kind : ℕ
   pub next : A
   pub buffered : ℕ
-
--- the kinds: free, asked, filling, playing and tail
-abbrev pub free : ℕ
-free = 0
-
-abbrev pub waiting : ℕ
-waiting = 1
-
-abbrev pub filling : ℕ
-filling = 2
-
-abbrev pub playing : ℕ
-playing = 3
-
-abbrev pub draining : ℕ
-draining = 4
 
 -- an entry of the fetch list
 pub record Entry : Type 0 where

@@ -10,7 +10,8 @@ use lib.Dec.{eqb}
 use borrow.Author.Tests.{leb-true, leb-false, eqb-true, ne-eqb, le-leb, lt-leb}
 use Rattle.laws.specs.Bools.{and-left, and-right, or-cases}
 use Rattle.safety.specs.Supply.{Supply}
-use Rattle.safety.specs.Scheduler.{Slot, filling, playing, reads, leadOf, holds, isFetched, timeOf}
+use Rattle.numbers.specs.Slots.{filling, playing}
+use Rattle.safety.specs.Scheduler.{Slot, reads, leadOf, holds, isFetched, timeOf}
 
 module _ {A : Type 0} (p : Supply A) where
   -- ---- filling and playing slots read

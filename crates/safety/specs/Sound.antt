@@ -14,7 +14,8 @@ use Rattle.laws.specs.Bools.{implies, implied, implies-of, and-says, and-both}
 use Rattle.laws.specs.Runs.{allBy}
 use Rattle.laws.specs.Each.{Each, each-map, each-at, each-of-all, all-of-each}
 use Rattle.safety.specs.Supply.{Supply, Named}
-use Rattle.safety.specs.Scheduler.{Slot, free, waiting, playing, draining, freeSlot, at, leads, lowWater, holds}
+use Rattle.numbers.specs.Slots.{free, waiting, playing, draining}
+use Rattle.safety.specs.Scheduler.{Slot, freeSlot, at, leads, lowWater, holds}
 use Rattle.safety.specs.Order.{Scheduler, Order}
 
 module _ {A : Type 0} (p : Supply A) where

@@ -20,7 +20,8 @@ use Rattle.laws.specs.Sums.{sum-none, sum-next, sum-rest}
 use Rattle.laws.specs.Each.{each-at, each-by}
 use Rattle.laws.specs.Places.{mapFrom-at, mapFrom-map, mapTo-rest, allFrom, lowestFrom, all-passed, first-failed}
 use Rattle.safety.specs.Supply.{Supply, Named}
-use Rattle.safety.specs.Scheduler.{Slot, free, waiting, filling, playing, draining, freeSlot, at}
+use Rattle.numbers.specs.Slots.{free, waiting, filling, playing, draining}
+use Rattle.safety.specs.Scheduler.{Slot, freeSlot, at}
 use Rattle.safety.specs.Scheduler.{leadOf, leads, lowWater, holds, playingSlot, fillingSlot, startBy, startedSlot, started, playersHold}
 use Rattle.safety.specs.Scheduler.{grantable, granted, grantBy, tried, tries, isFetched, timeOf, times, fetchCount}
 use Rattle.safety.specs.Scheduler.{sweptBy, releaseBy, released, endedSlot, ended, drawLimit}

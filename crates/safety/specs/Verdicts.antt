@@ -14,7 +14,8 @@ use Rattle.laws.specs.Bools.{and-right}
 use Rattle.laws.specs.Each.{each-at}
 use Rattle.laws.specs.Places.{allFrom, lowestFrom, Lowest, lowest-fails, each-of-allFrom, eachFrom-at}
 use Rattle.safety.specs.Supply.{Supply, Lawful, Named}
-use Rattle.safety.specs.Scheduler.{Slot, Call, join, leave, begin, end, free, playing, draining, freeSlot, at, mostDrawn, drawLimit}
+use Rattle.numbers.specs.Slots.{free, playing, draining}
+use Rattle.safety.specs.Scheduler.{Slot, Call, join, leave, begin, end, freeSlot, at, mostDrawn, drawLimit}
 use Rattle.safety.specs.Order.{Scheduler, Order}
 use Rattle.safety.specs.Sound.{sound, Sound}
 use Rattle.safety.specs.Refusals.{Verdict, accept, unless, drawAllowed, drawHeld, judged, verdict}

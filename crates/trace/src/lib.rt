@@ -5,10 +5,9 @@ ghost use mathlib.Core.Bool.{true};
 ghost use mathlib.Core.List.{List};
 ghost use Rattle.round_trip.specs.Legality.{Wide};
 ghost use Rattle.plan.specs.declared.Plan.{Plan};
-ghost use Rattle.safety.specs.Order.{bySlot};
 ghost use Rattle.safety.specs.Sound.{sound};
 ghost use Rattle.desk.specs.declared.Desk.{Desk};
-ghost use Rattle.desk.specs.Desk.{supplyOf, viewOf, freshDesk, openDesk};
+ghost use Rattle.desk.specs.Desk.{supplyOf, orderOf, viewOf, freshDesk, openDesk};
 ghost use Rattle.trace.specs.List.{Lent, called};
 ghost use Rattle.trace.specs.Safe.{Safe};
 
@@ -22,5 +21,5 @@ pub fn every_list_safe()
 // An accepted call on any record, not only on one that a list reached, leaves a sound record.
 pub fn accepted_call_stays_sound()
     ensures { λ _. ⌜ ((d : Desk) (x : Lent) → Wide (d .plan .figures) → called d x .number ≡ 0
-        → sound (supplyOf (d .plan)) (bySlot (supplyOf (d .plan))) (viewOf (called d x .desk)) ≡ true) ⌝ }
+        → sound (supplyOf (d .plan)) (orderOf (d .plan)) (viewOf (called d x .desk)) ≡ true) ⌝ }
 {}
