@@ -3,6 +3,7 @@ pub mod Entries
 pub mod Promise
 pub mod Ready
 pub mod Records
+pub mod Shown
 pub mod Slots
 pub mod Supply
 pub mod View

@@ -1,35 +1,61 @@
 -- The loops over the draws of an end, and the verdict on them.
 -- Assumes nothing.
-use Prim.Native.Nat.{ℕ, _*_, _-_, _/_, _≤_, _<_}
+use Prim.Native.Nat.{ℕ, _+_, _≤_, _<_}
 use mathlib.Core.Path.{_≡_, sym, ap, _∙_}
 use mathlib.Core.Logic.{_≢_, by-cases}
+use mathlib.Core.Bool.{true}
 use mathlib.Core.List.{List}
 use native.Mathlib.Omega.{arith}
 use native.Mathlib.Decide.{ℕ-discrete}
 use lib.ListN.{length, getD}
 use borrow.Author.Tests.{ne-eqb}
-use Rattle.card.specs.declared.Verdict.{Verdict}
-use Rattle.safety.specs.Scheduler.{at, bound, mostDrawn, drawLimit, end}
+use borrow.Author.Count.{below-more}
+use Rattle.laws.specs.Places.{allFrom}
+use Rattle.numbers.specs.Refusals.{drawCount, drawAboveLimit, drawAboveHeld}
+use Rattle.numbers.specs.Slots.{playing, draining}
+use Rattle.safety.specs.Supply.{Supply}
+use Rattle.safety.specs.Scheduler.{Slot, at, mostDrawn, drawLimit, end}
+use Rattle.safety.specs.Order.{Scheduler}
+use Rattle.safety.specs.Arrays.{slotOf, length-slots, slot-at}
 use Rattle.safety.specs.Refusals as R
-use Rattle.safety.specs.Refusals.{judged}
+use Rattle.safety.specs.Refusals.{judged, drawAllowed}
 use Rattle.safety.specs.Rows.{end-length, end-excess, end-overdrawn, end-accepted}
 use Rattle.safety.specs.Turns.{draws-allowed, draw-excess, draws-held, draw-overdrawn}
-use Rattle.desk.specs.declared.Desk.{Desk}
-use Rattle.desk.specs.Desk.{supplyOf, slotsIn, viewOf, verdict}
-use Rattle.desk.specs.View.{Wide}
-use Rattle.desk.specs.Ready.{Ready, streams-are, buffer-has}
-use Rattle.desk.specs.Slots.{length-in, kind-in, held-in}
-use Rattle.fetches.specs.Shown.{Shown}
-use Rattle.draws.specs.Draws.{FirstAbove, kindLimit, judgedDraws}
+use Rattle.desk.specs.Desk.{Queue, verdict}
+use Rattle.draws.specs.Draws.{FirstAbove, kindLimit, Sweeps, judgedDraws}
 
 -- a kind that plays or drains, and any other
-pub kind-draws : (m k : ℕ) → 3 ≤ k → k ≤ 4 → m ≡ kindLimit m k
+pub kind-draws : (m k : ℕ) → playing ≤ k → k ≤ draining → m ≡ kindLimit m k
 unfolding kindLimit
-kind-draws m k a b = by-cases (ℕ-discrete k 3) (λ e. rw e) (λ e. let q : k ≡ 4 = omega arith in rw q)
+kind-draws m k a b = by-cases (ℕ-discrete k playing) (λ e. rw e) (λ e. let q : k ≡ draining = omega arith in rw q)
 
-pub kind-other : (m k : ℕ) → k ≢ 3 → k ≢ 4 → 0 ≡ kindLimit m k
+pub kind-other : (m k : ℕ) → k ≢ playing → k ≢ draining → 0 ≡ kindLimit m k
 unfolding kindLimit
-kind-other m k a b = rw (ne-eqb k 3 a, ne-eqb k 4 b)
+kind-other m k a b = rw (ne-eqb k playing a, ne-eqb k draining b)
+
+-- ---- the loop that finds the first draw above its limit
+
+-- the first i draws are within their limits
+pub record Within (limit : ℕ → ℕ) (ds : List ℕ) (count i : ℕ) : Type 0 where
+  pub counts : count ≡ length ds
+  pub few : i ≤ count
+  pub below : (j : ℕ) → j < i → getD ds j 0 ≤ limit j
+
+module _ (limit : ℕ → ℕ) (ds : List ℕ) (count : ℕ) where
+  pub within-none : count ≡ length ds → Within limit ds count 0
+  within-none e = record { counts = e; few = omega arith; below = λ j l. absurd (omega arith) }
+
+  module _ (i : ℕ) (w : Within limit ds count i) where
+    pub within-next : i < count → getD ds i 0 ≤ limit i → Within limit ds count (i + 1)
+    within-next l h = record { counts = w .counts; few = omega arith; below = below-more _ i (w .below) h }
+
+    pub first-here : limit i < getD ds i 0 → FirstAbove limit ds i
+    first-here h = record { inside = omega (arith, w .counts, w .few); below = w .below; above = λ _. h }
+
+    pub first-none : count ≤ i → FirstAbove limit ds i
+    first-none l = record { inside = omega (arith, w .counts, w .few); below = w .below; above = λ h. absurd (omega (arith, w .counts)) }
+
+-- ---- the verdict
 
 -- the same draw is the first where the limits are the same
 first-same : (f g : ℕ → ℕ) → ((j : ℕ) → f j ≡ g j) → (ds : List ℕ) (i : ℕ) → FirstAbove f ds i → FirstAbove g ds i
@@ -39,64 +65,49 @@ first-same f g e ds i u = record {
   above = λ h. omega (arith, u .above h, e i);
 }
 
--- the limits of a record's slots
-pub limits-in : (d : Desk) → Wide d → (most : ℕ) (ds : List ℕ) (i : ℕ) → FirstAbove (λ j. kindLimit most (getD (d .kinds) j 0)) ds i
-    → FirstAbove (λ j. drawLimit (supplyOf (d .plan)) most (at (supplyOf (d .plan)) (slotsIn d) j)) ds i
-unfolding kindLimit drawLimit
-limits-in d w most ds i u = first-same _ _ (λ j. ap (kindLimit most) (sym (kind-in d w j))) ds i u
+module _ (p : Supply ℕ) (v : Scheduler ℕ Queue) (n m : ℕ) (ks xs hs : List ℕ) (o : Sweeps p v n m ks xs hs) (ds : List ℕ) where
+  -- the slots are those of the arrays
+  slot-now : (j : ℕ) → at p (v .slots) j ≡ slotOf p (getD ks j 0) (getD xs j (p .none)) (getD hs j 0)
+  slot-now j = ap (λ (ss : List (Slot ℕ)). at p ss j) (o .slots) ∙ slot-at p ks xs hs (o .shown .same) j
 
-pub helds-in : (d : Desk) → Wide d → (ds : List ℕ) (i : ℕ) → FirstAbove (λ j. getD (d .held) j 0) ds i
-    → FirstAbove (λ j. at (supplyOf (d .plan)) (slotsIn d) j .buffered) ds i
-helds-in d w ds i u = first-same _ _ (λ j. sym (held-in d w j)) ds i u
+  long : length (v .slots) ≡ 256
+  long = ap (λ (ss : List (Slot ℕ)). length ss) (o .slots) ∙ length-slots p ks xs hs ∙ o .shown .long
 
--- the arrays as the sweep bound takes them
-pub shown-ready : (d : Desk) → Wide d → Ready d → Shown (d .plan) (d .plan .streams) (d .plan .buffer - d .plan .figures .bytes) (d .kinds) (d .next) (d .held)
-unfolding viewOf supplyOf
-shown-ready d w r = record {
-  kinds = w .kinds;
-  next = w .next;
-  held = w .held;
-  unused = r .sound .unused;
-  spare = omega (arith, buffer-has (d .plan) (r .planned));
-}
+  limits : (i : ℕ) → FirstAbove (λ j. kindLimit m (getD ks j 0)) ds i → FirstAbove (λ j. drawLimit p m (at p (v .slots) j)) ds i
+  unfolding kindLimit drawLimit
+  limits i u = first-same _ _ (λ j. ap (λ (s : Slot ℕ). kindLimit m (s .kind)) (sym (slot-now j))) ds i u
 
-pub most-is : (d : Desk) (b x most : ℕ) → b ≡ bound (supplyOf (d .plan)) (slotsIn d) → x ≡ d .plan .figures .rate * b → most ≡ x / 1000000
-    → most ≡ mostDrawn (supplyOf (d .plan)) (slotsIn d)
-unfolding mostDrawn supplyOf
-most-is d b x most e q r = r ∙ ap (λ (n : ℕ). n / 1000000) (q ∙ ap (λ (n : ℕ). d .plan .figures .rate * n) e)
+  helds : (i : ℕ) → FirstAbove (λ j. getD hs j 0) ds i → FirstAbove (λ j. at p (v .slots) j .buffered) ds i
+  helds i u = first-same _ _ (λ j. ap (λ (s : Slot ℕ). s .buffered) (sym (slot-now j))) ds i u
 
--- the verdict as this crate answers it
-says : (d : Desk) (draws : List ℕ) (v : R.Verdict) → judged (supplyOf (d .plan)) (viewOf d) 0 (end draws) ≡ v → verdict (v .number) (v .place) ≡ judgedDraws d draws
-unfolding judgedDraws
-says d draws v e = ap (λ (v : R.Verdict). verdict (v .number) (v .place)) (sym e)
+  -- the verdict as this crate answers it
+  says : (u : R.Verdict) → judged p v 0 (end ds) ≡ u → verdict (u .number) (u .place) ≡ judgedDraws p v ds
+  unfolding judgedDraws
+  says u e = ap (λ (u : R.Verdict). verdict (u .number) (u .place)) (sym e)
 
-module _ (d : Desk) (w : Wide d) (r : Ready d) (phase : d .phase ≡ 1) (ds : List ℕ) where
-  pub judged-length : length ds ≢ d .plan .streams → verdict 19 0 ≡ judgedDraws d ds
-  unfolding viewOf supplyOf
-  judged-length h = says d ds _ (end-length (supplyOf (d .plan)) (viewOf d) 0 ds phase h)
+  pub judged-length : length ds ≢ n → verdict drawCount 0 ≡ judgedDraws p v ds
+  judged-length h = says _ (end-length p v 0 ds (o .phase) (λ e. h (e ∙ sym (o .streams))))
 
-  module _ (n : length ds ≡ d .plan .streams) (most : ℕ) (m : most ≡ mostDrawn (supplyOf (d .plan)) (slotsIn d)) (i : ℕ)
-      (first : FirstAbove (λ j. drawLimit (supplyOf (d .plan)) most (at (supplyOf (d .plan)) (slotsIn d) j)) ds i) where
-    pub judged-excess : i < d .plan .streams → verdict 20 i ≡ judgedDraws d ds
-    unfolding viewOf supplyOf
+  -- there are n draws, and i is the first above its limit
+  module _ (few : n ≤ 256) (count : length ds ≡ n) (i : ℕ) (excess : FirstAbove (λ j. kindLimit m (getD ks j 0)) ds i) where
+    pub judged-excess : i < n → verdict drawAboveLimit i ≡ judgedDraws p v ds
     judged-excess l =
-        let p = supplyOf (d .plan) in
-        let e = draw-excess p (slotsIn d) ds most i (omega (arith, length-in d w, streams-are d r)) (first .below) (first .above (omega arith)) in
-        says d ds _ (end-excess p (viewOf d) 0 ds i phase n (rw m at e))
+        let f = limits i excess in
+        let e = draw-excess p (v .slots) ds m i (omega (arith, long)) (f .below) (f .above (omega arith)) in
+        says _ (end-excess p v 0 ds i (o .phase) (count ∙ o .streams) (rw (o .most) at e))
 
-    module _ (l : d .plan .streams ≤ i) (k : ℕ) (last : FirstAbove (λ j. at (supplyOf (d .plan)) (slotsIn d) j .buffered) ds k) where
-      pub judged-overdrawn : k < d .plan .streams → verdict 21 k ≡ judgedDraws d ds
-      unfolding viewOf supplyOf
-      judged-overdrawn u =
-          let p = supplyOf (d .plan) in
-          let a = draws-allowed p (slotsIn d) ds most (λ j v. first .below j (omega arith)) in
-          let e = draw-overdrawn p (slotsIn d) ds most k (omega (arith, length-in d w, streams-are d r)) (last .below) (last .above (omega arith)) in
-          says d ds _ (end-overdrawn p (viewOf d) 0 ds k phase n (rw m at a) e)
+    -- or none is, and k is the first above what its slot holds
+    module _ (none : n ≤ i) (k : ℕ) (overdrawn : FirstAbove (λ j. getD hs j 0) ds k) where
+      allowed : allFrom (drawAllowed p (mostDrawn p (v .slots)) ds) 0 (v .slots) ≡ true
+      allowed = rw (o .most) at (draws-allowed p (v .slots) ds m (λ j u. limits i excess .below j (omega arith)))
 
-      pub judged-accepted : d .plan .streams ≤ k → verdict 0 0 ≡ judgedDraws d ds
-      unfolding viewOf supplyOf
-      judged-accepted u =
-          let p = supplyOf (d .plan) in
-          let a = draws-allowed p (slotsIn d) ds most (λ j v. first .below j (omega arith)) in
-          let h = draws-held p (slotsIn d) ds most (λ j v. last .below j (omega arith)) in
-          says d ds _ (end-accepted p (viewOf d) 0 ds phase n (rw m at a) h)
+      pub judged-overdrawn : k < n → verdict drawAboveHeld k ≡ judgedDraws p v ds
+      judged-overdrawn l =
+          let h = helds k overdrawn in
+          says _ (end-overdrawn p v 0 ds k (o .phase) (count ∙ o .streams) allowed
+          (draw-overdrawn p (v .slots) ds m k (omega (arith, long)) (h .below) (h .above (omega arith))))
+
+      pub judged-accepted : n ≤ k → verdict 0 0 ≡ judgedDraws p v ds
+      judged-accepted l =
+          says _ (end-accepted p v 0 ds (o .phase) (count ∙ o .streams) allowed
+          (draws-held p (v .slots) ds m (λ j u. helds k overdrawn .below j (omega arith))))

@@ -1,14 +1,16 @@
 -- A slot after a sweep, and one turn of the loop over the slots.
 -- Assumes nothing.
-use Prim.Native.Nat.{ℕ, suc, _+_, _-_, _≤_, _<_}
+use Prim.Native.Nat.{ℕ, _+_, _-_, _≤_, _<_}
 use mathlib.Core.Path.{_≡_, refl, sym, ap, _∙_}
+use mathlib.Core.Bool.{Bool, true, false}
 use mathlib.Core.List.{List}
 use native.Mathlib.Omega.{arith}
 use lib.ListN.{length, getD, set}
-use borrow.Author.Tests.{ltb-true, eq-eqb, ne-eqb}
+use borrow.Author.Tests.{ltb-true}
 use Rattle.laws.specs.Each.{each-at}
 use Rattle.laws.specs.Places.{each-of-allFrom, eachFrom-at}
-use Rattle.plan.specs.declared.Plan.{Plan}
+use Rattle.numbers.specs.Slots.{free, filling, playing, draining}
+use Rattle.safety.specs.Supply.{Supply}
 use Rattle.safety.specs.Scheduler as S
 use Rattle.safety.specs.Scheduler.{freeSlot, at, leads, endedSlot, ended, mostDrawn}
 use Rattle.safety.specs.Sound.{Good, good-free}
@@ -19,56 +21,52 @@ use Rattle.safety.specs.Safety.{Drawable, drawable-of}
 use Rattle.desk.specs.declared.Desk.{Desk}
 use Rattle.desk.specs.Desk.{supplyOf, slotsIn, viewOf}
 use Rattle.desk.specs.View.{Wide}
-use Rattle.desk.specs.Ready.{Ready, ready-lawful, buffer-has}
+use Rattle.desk.specs.Ready.{Ready, ready-lawful, room-left}
 use Rattle.desk.specs.Slots.{withSlots, length-in, load-kind, load-next, load-held, store-slot, with-own}
 use Rattle.ends.specs.declared.Slot.{Slot}
-use Rattle.ends.specs.Ends.{Drawn, slotIn, Film}
+use Rattle.ends.specs.Ends.{Drawn, blockAfter, isPast, Film, slotIn, Fair}
 
 -- ---- one slot
 
-module _ (p : Plan) (blocks bytes room : ℕ) (film : Film p blocks bytes room) (s : Slot) (draw : ℕ) (k : 2 ≤ s .kind) (l : s .kind ≤ 3) where
+module _ (p : Supply ℕ) (N bytes room : ℕ) (film : Film p N bytes room) (s : Slot) (draw : ℕ) (k : filling ≤ s .kind) (l : s .kind ≤ playing) where
   -- its buffer is too full
-  pub swept-full : room < s .held → slotIn p (record { kind = s .kind; next = s .next; held = s .held - draw }) ≡ endedSlot (supplyOf p) (slotIn p s) draw
-  unfolding supplyOf
-  swept-full h =
-      sym (ended-other (supplyOf p) (slotIn p s) draw (fetched-full (supplyOf p) (slotIn p s) (omega (arith, film .size, film .left))) (λ z. absurd (omega arith)))
+  pub swept-full : room < s .held → slotIn (record { kind = s .kind; next = s .next; held = s .held - draw }) ≡ endedSlot p (slotIn s) draw
+  swept-full h = sym (ended-other p (slotIn s) draw (fetched-full p (slotIn s) (omega (arith, film .size, film .left))) (λ z. absurd (omega arith)))
 
-  -- its last block was fetched, and another
-  pub swept-last : s .held ≤ room → 1 ≤ bytes → s .next + 1 ≡ blocks
-      → slotIn p (record { kind = 4; next = s .next + 1; held = s .held - draw + bytes }) ≡ endedSlot (supplyOf p) (slotIn p s) draw
-  unfolding supplyOf
-  swept-last h b e =
-      let q : suc (s .next) ≡ p .figures .blocks = omega (arith, film .last) in
-      let n : s .next + 1 ≡ suc (s .next) = omega arith in
-      sym
-      (ended-last (supplyOf p) (slotIn p s) draw k l (omega (arith, film .size, film .left)) (eq-eqb (suc (s .next)) (p .figures .blocks) q) (omega (arith, film .size))
-      ∙ λ j. record { kind = 4; next = sym n j; buffered = ap (λ (m : ℕ). s .held - draw + m) (film .size) j })
+  -- a block was fetched: x is the next, and t tells whether it stands past the last
+  module _ (h : s .held ≤ room) (x : ℕ) (q : x ≡ blockAfter (s .next)) where
+    after : x ≡ p .next (s .next)
+    after = q ∙ sym (film .next (s .next))
 
-  pub swept-on : s .held ≤ room → (s .next + 1 ≡ blocks → ⊥)
-      → slotIn p (record { kind = s .kind; next = s .next + 1; held = s .held - draw + bytes }) ≡ endedSlot (supplyOf p) (slotIn p s) draw
-  unfolding supplyOf
-  swept-on h e =
-      let n : s .next + 1 ≡ suc (s .next) = omega arith in
-      sym
-      (ended-fetched (supplyOf p) (slotIn p s) draw k l (omega (arith, film .size, film .left))
-      (ne-eqb (suc (s .next)) (p .figures .blocks) (λ z. e (omega (arith, film .last, z))))
-      ∙ λ j. record { kind = s .kind; next = sym n j; buffered = ap (λ (m : ℕ). s .held - draw + m) (film .size) j })
+    tells : (t : Bool) → isPast N x ≡ t → p .isEnd (p .next (s .next)) ≡ t
+    tells t e = film .past (p .next (s .next)) ∙ ap (isPast N) (sym after) ∙ e
 
-module _ (p : Plan) (s : Slot) (draw : ℕ) where
-  pub drained-empty : s .kind ≡ 4 → s .held ≡ draw → slotIn p (record { kind = 0; next = 0; held = 0 }) ≡ endedSlot (supplyOf p) (slotIn p s) draw
-  unfolding supplyOf
-  drained-empty k h = sym (ended-empty (supplyOf p) (slotIn p s) draw k (omega arith))
+    gained : s .held - draw + bytes ≡ s .held - draw + p .B
+    gained = ap (λ (m : ℕ). s .held - draw + m) (sym (film .size))
 
-  pub drained-on : s .kind ≡ 4 → draw < s .held → slotIn p (record { kind = s .kind; next = s .next; held = s .held - draw }) ≡ endedSlot (supplyOf p) (slotIn p s) draw
-  drained-on k h = sym (ended-other (supplyOf p) (slotIn p s) draw (fetched-other (supplyOf p) (slotIn p s) (λ a b. omega arith)) (λ _. h))
+    pub swept-last : isPast N x ≡ true → slotIn (record { kind = draining; next = x; held = s .held - draw + bytes }) ≡ endedSlot p (slotIn s) draw
+    swept-last e =
+        (λ j. record { kind = draining; next = after j; buffered = gained j })
+        ∙ sym (ended-last p (slotIn s) draw k l (omega (arith, film .size, film .left)) (tells true e) (film .some))
+
+    pub swept-on : isPast N x ≡ false → slotIn (record { kind = s .kind; next = x; held = s .held - draw + bytes }) ≡ endedSlot p (slotIn s) draw
+    swept-on e =
+        (λ j. record { kind = s .kind; next = after j; buffered = gained j })
+        ∙ sym (ended-fetched p (slotIn s) draw k l (omega (arith, film .size, film .left)) (tells false e))
+
+module _ (p : Supply ℕ) (s : Slot) (draw : ℕ) where
+  pub drained-empty : p .none ≡ 0 → s .kind ≡ draining → s .held ≡ draw → slotIn (record { kind = free; next = 0; held = 0 }) ≡ endedSlot p (slotIn s) draw
+  drained-empty z k h = (λ j. record { kind = free; next = sym z j; buffered = 0 }) ∙ sym (ended-empty p (slotIn s) draw k (omega arith))
+
+  pub drained-on : s .kind ≡ draining → draw < s .held → slotIn (record { kind = s .kind; next = s .next; held = s .held - draw }) ≡ endedSlot p (slotIn s) draw
+  drained-on k h = sym (ended-other p (slotIn s) draw (fetched-other p (slotIn s) (λ a b. omega arith)) (λ _. h))
 
   -- a free or asked slot
-  pub still : s .kind ≤ 1 → draw ≡ 0 → slotIn p s ≡ endedSlot (supplyOf p) (slotIn p s) draw
+  pub still : s .kind < filling → draw ≡ 0 → slotIn s ≡ endedSlot p (slotIn s) draw
   still k h =
-      let n : s .held - draw ≡ s .held = omega arith in
-      sym
-      (ended-other (supplyOf p) (slotIn p s) draw (fetched-other (supplyOf p) (slotIn p s) (λ a b. omega arith)) (λ z. absurd (omega arith))
-      ∙ λ j. record { kind = s .kind; next = s .next; buffered = n j })
+      let n : s .held ≡ s .held - draw = omega arith in
+      (λ j. record { kind = s .kind; next = s .next; buffered = n j })
+      ∙ sym (ended-other p (slotIn s) draw (fetched-other p (slotIn s) (λ a b. omega arith)) (λ z. absurd (omega arith)))
 
 -- ---- the loop
 
@@ -80,24 +78,29 @@ pub ends-none : (d : Desk) → Wide d → (ds : List ℕ) → d ≡ endedUpTo d 
 unfolding endedUpTo
 ends-none d w ds = with-own d w ∙ ap (withSlots d) (sym (endedTo-none (supplyOf (d .plan)) ds (slotsIn d)))
 
-pub film-of : (d : Desk) → Ready d → Film (d .plan) (d .plan .figures .blocks) (d .plan .figures .bytes) (d .plan .buffer - d .plan .figures .bytes)
-film-of d r = record { last = refl; size = refl; left = omega (arith, buffer-has (d .plan) (r .planned)) }
+pub film-of : (d : Desk) → Ready d → Film (supplyOf (d .plan)) (d .plan .figures .blocks) (d .plan .figures .bytes) (d .plan .buffer - d .plan .figures .bytes)
+unfolding supplyOf blockAfter isPast
+film-of d r = record {
+  start = refl;
+  next = λ b. refl;
+  past = λ b. refl;
+  some = r .legal .bytes .0;
+  size = refl;
+  left = room-left d r;
+}
 
 -- as many draws as streams
 pub drawn-count : (d : Desk) (ds : List ℕ) → Drawn d ds → length ds ≡ d .plan .streams
 unfolding supplyOf
 drawn-count d ds o = o .1
 
--- a slot of d and its draw
-pub record Fair (d : Desk) (s : Slot) (draw : ℕ) : Type 0 where
-  pub drawn : draw ≤ s .held
-  pub none : s .kind < 3 → draw ≡ 0
-  pub kinds : s .kind ≤ 4
-  pub named : 2 ≤ s .kind → s .kind ≤ 3 → s .next < d .plan .figures .blocks
+-- slot i of a record
+abbrev pub slotAt : Desk → ℕ → Slot
+slotAt e i = record { kind = getD (e .kinds) i 0; next = getD (e .next) i 0; held = getD (e .held) i 0 }
 
 module _ (d : Desk) (w : Wide d) (r : Ready d) (ds : List ℕ) (o : Drawn d ds) (i : ℕ) (l : i < 256) (e : Desk) (q : e ≡ endedUpTo d ds i) where
   -- slot i is as it was
-  pub slot-now : at (supplyOf (d .plan)) (slotsIn d) i ≡ slotIn (d .plan) (record { kind = getD (e .kinds) i 0; next = getD (e .next) i 0; held = getD (e .held) i 0 })
+  pub slot-now : at (supplyOf (d .plan)) (slotsIn d) i ≡ slotIn (slotAt e i)
   unfolding endedUpTo
   slot-now =
       let p = supplyOf (d .plan) in
@@ -119,7 +122,7 @@ module _ (d : Desk) (w : Wide d) (r : Ready d) (ds : List ℕ) (o : Drawn d ds) 
   unfolding viewOf
   good = let p = supplyOf (d .plan) in each-at (Good p (leads p (slotsIn d))) (slotsIn d) i (freeSlot p) (r .sound .slots) (good-free p _)
 
-  pub fair-now : Fair d (record { kind = getD (e .kinds) i 0; next = getD (e .next) i 0; held = getD (e .held) i 0 }) (getD ds i 0)
+  pub fair-now : Fair (d .plan .figures .blocks) (slotAt e i) (getD ds i 0)
   unfolding supplyOf
   fair-now =
       let k = ap (λ (s : S.Slot ℕ). s .kind) slot-now in
@@ -134,16 +137,16 @@ module _ (d : Desk) (w : Wide d) (r : Ready d) (ds : List ℕ) (o : Drawn d ds) 
 
   -- one slot more
   pub ends-turn : (draw : ℕ) → draw ≡ getD ds i 0 → (after : Slot)
-      → ((p : Plan) → Film p (d .plan .figures .blocks) (d .plan .figures .bytes) (d .plan .buffer - d .plan .figures .bytes)
-      → slotIn p after ≡ endedSlot (supplyOf p) (slotIn p (record { kind = getD (e .kinds) i 0; next = getD (e .next) i 0; held = getD (e .held) i 0 })) draw)
+      → ((p : Supply ℕ) → Film p (d .plan .figures .blocks) (d .plan .figures .bytes) (d .plan .buffer - d .plan .figures .bytes)
+      → slotIn after ≡ endedSlot p (slotIn (slotAt e i)) draw)
       → record { plan = e .plan; phase = e .phase; kinds = set (e .kinds) i (after .kind); next = set (e .next) i (after .next); held = set (e .held) i (after .held) }
       ≡ endedUpTo d ds (i + 1)
   unfolding endedUpTo
   ends-turn draw g after h =
       let p = supplyOf (d .plan) in
-      let v = slotIn (d .plan) after in
+      let v = slotIn after in
       let u : endedSlot p (at p (slotsIn d) i) (getD ds i 0) ≡ v =
-      ap (endedSlot p (at p (slotsIn d) i)) (sym g) ∙ ap (λ (s : S.Slot ℕ). endedSlot p s draw) slot-now ∙ sym (h (d .plan) (film-of d r))
+      ap (endedSlot p (at p (slotsIn d) i)) (sym g) ∙ ap (λ (s : S.Slot ℕ). endedSlot p s draw) slot-now ∙ sym (h p (film-of d r))
       in
       store-slot d (endedTo p ds i (slotsIn d)) e q i v
       ∙ ap (withSlots d) (endedTo-next p ds i (slotsIn d) v (omega (arith, length-in d w)) u)

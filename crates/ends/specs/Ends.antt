@@ -1,13 +1,15 @@
--- What an end knows of its draws, and a slot as its code holds it.
+-- What an end knows of its draws and is told of the film, and a slot as its code holds it.
 -- Assumes nothing.
-use Prim.Native.Nat.{ℕ, _+_}
+use Prim.Native.Nat.{ℕ, suc, _+_, _≤_, _<_}
 use mathlib.Core.Path.{_≡_}
+use mathlib.Core.Bool.{Bool}
 use mathlib.Core.List.{List}
-use Rattle.plan.specs.declared.Plan.{Plan}
+use lib.Dec.{eqb}
+use Rattle.numbers.specs.Slots.{filling, playing, draining}
+use Rattle.safety.specs.Supply.{Supply}
 use Rattle.safety.specs.Scheduler as S
 use Rattle.safety.specs.Scheduler.{end}
 use Rattle.safety.specs.Calls.{Allowed}
-use Rattle.safety.specs.Arrays.{slotOf}
 use Rattle.desk.specs.declared.Desk.{Desk}
 use Rattle.desk.specs.Desk.{supplyOf, orderOf, viewOf}
 use Rattle.ends.specs.declared.Slot.{Slot}
@@ -16,12 +18,30 @@ use Rattle.ends.specs.declared.Slot.{Slot}
 abbrev pub Drawn : Desk → List ℕ → Type 0
 Drawn d draws = let s = supplyOf (d .plan) in Allowed s (orderOf (d .plan)) (viewOf d) (end draws)
 
--- as the rules see it
-abbrev pub slotIn : Plan → Slot → S.Slot ℕ
-slotIn p s = slotOf (supplyOf p) (s .kind) (s .next) (s .held)
+-- `its next block rises by one`
+unfoldable pub blockAfter : ℕ → ℕ
+blockAfter b = suc b
 
--- N, B and the buffer less B of a plan
-pub record Film (p : Plan) (blocks bytes room : ℕ) : Type 0 where
-  pub last : p .figures .blocks ≡ blocks
-  pub size : p .figures .bytes ≡ bytes
+-- `reaches N`
+unfoldable pub isPast : ℕ → ℕ → Bool
+isPast N b = eqb b N
+
+-- what an end is told of a supply: how the film goes on, B, and the buffer less B
+pub record Film (p : Supply ℕ) (N bytes room : ℕ) : Type 0 where
+  pub start : p .none ≡ 0
+  pub next : (b : ℕ) → p .next b ≡ blockAfter b
+  pub past : (b : ℕ) → p .isEnd b ≡ isPast N b
+  pub some : 0 < p .B
+  pub size : p .B ≡ bytes
   pub left : room + bytes ≡ p .buffer
+
+-- a slot as the rules see it
+abbrev pub slotIn : Slot → S.Slot ℕ
+slotIn s = record { kind = s .kind; next = s .next; buffered = s .held }
+
+-- what a slot and its draw are at an end that nothing turns down
+pub record Fair (N : ℕ) (s : Slot) (draw : ℕ) : Type 0 where
+  pub drawn : draw ≤ s .held
+  pub none : s .kind < playing → draw ≡ 0
+  pub kinds : s .kind ≤ draining
+  pub named : filling ≤ s .kind → s .kind ≤ playing → s .next < N

@@ -1,15 +1,20 @@
 // End: each slot loses its draw, and each that was fetched for gains a block.
 use desk::Desk;
+use numbers::slots::DRAINING;
+use numbers::slots::FILLING;
+use numbers::slots::FREE;
+use numbers::slots::PLAYING;
 use words::word_at;
 ghost use mathlib.Core.Path.{_≡_};
-ghost use Prim.Native.Nat.{_+_, _≤_, _<_};
+ghost use Prim.Native.Nat.{ℕ, _+_, _≤_, _<_};
 ghost use Rattle.words.specs.Words.{wordsOf};
-ghost use Rattle.plan.specs.declared.Plan.{Plan};
+ghost use Rattle.numbers.specs.Slots.{filling, playing, draining};
+ghost use Rattle.safety.specs.Supply.{Supply};
 ghost use Rattle.safety.specs.Scheduler.{endedSlot, ended};
 ghost use Rattle.desk.specs.Desk.{supplyOf, slotsIn};
 ghost use Rattle.desk.specs.Ready.{Ready};
 ghost use Rattle.desk.specs.Slots.{withSlots};
-ghost use Rattle.ends.specs.Ends.{Drawn, slotIn, Film};
+ghost use Rattle.ends.specs.Ends.{Drawn, blockAfter, isPast, Film, slotIn, Fair};
 
 // A slot of the desk.
 pub struct Slot {
@@ -18,10 +23,25 @@ pub struct Slot {
     pub held: u32,
 }
 
-// A filling or playing slot after a draw. With room it was fetched for: B more, the next block, and tail at N.
+// The block after one.
+fn next_block(next: u32) -> u32
+    requires { ⌜ next < 4294967295 ⌝ }
+    ensures { λ r. ⌜ r ≡ blockAfter next ⌝ }
+{
+    next + 1
+}
+
+// Has the film ended there?
+fn is_past(blocks: u32, next: u32) -> bool
+    ensures { λ r. ⌜ r ≡ isPast blocks next ⌝ }
+{
+    next == blocks
+}
+
+// A filling or playing slot after a draw. With room it was fetched for: B more, the next block, and tail where the film has ended.
 fn swept(slot: Slot, draw: u32, blocks: u32, bytes: u32, room: u32) -> Slot
-    requires { ⌜ (2 ≤ slot .kind) × (slot .kind ≤ 3) × (draw ≤ slot .held) × (slot .next < blocks) × (room + bytes < 4294967296) × (1 ≤ bytes) ⌝ }
-    ensures { λ r. ⌜ ((p : Plan) → Film p blocks bytes room → slotIn p r ≡ endedSlot (supplyOf p) (slotIn p slot) draw) ⌝ }
+    requires { ⌜ (Fair blocks slot draw) × (filling ≤ slot .kind) × (slot .kind ≤ playing) × (room + bytes < 4294967296) ⌝ }
+    ensures { λ r. ⌜ ((p : Supply ℕ) → Film p blocks bytes room → slotIn r ≡ endedSlot p (slotIn slot) draw) ⌝ }
 {
     if room < slot.held {
         return Slot {
@@ -30,11 +50,11 @@ fn swept(slot: Slot, draw: u32, blocks: u32, bytes: u32, room: u32) -> Slot
             held: slot.held - draw,
         };
     }
-    let next = slot.next + 1;
+    let next = next_block(slot.next);
     let held = slot.held - draw + bytes;
-    if next == blocks {
+    if is_past(blocks, next) {
         return Slot {
-            kind: 4,
+            kind: DRAINING,
             next: next,
             held: held,
         };
@@ -48,12 +68,12 @@ fn swept(slot: Slot, draw: u32, blocks: u32, bytes: u32, room: u32) -> Slot
 
 // A tail after a draw: free, all zero, where it holds 0.
 fn drained(slot: Slot, draw: u32) -> Slot
-    requires { ⌜ (slot .kind ≡ 4) × (draw ≤ slot .held) ⌝ }
-    ensures { λ r. ⌜ ((p : Plan) → slotIn p r ≡ endedSlot (supplyOf p) (slotIn p slot) draw) ⌝ }
+    requires { ⌜ (slot .kind ≡ draining) × (draw ≤ slot .held) ⌝ }
+    ensures { λ r. ⌜ ((p : Supply ℕ) → p .none ≡ 0 → slotIn r ≡ endedSlot p (slotIn slot) draw) ⌝ }
 {
     if slot.held == draw {
         return Slot {
-            kind: 0,
+            kind: FREE,
             next: 0,
             held: 0,
         };
@@ -67,14 +87,14 @@ fn drained(slot: Slot, draw: u32) -> Slot
 
 // A slot after the sweep; free and asked slots draw nothing and stay.
 fn ended_slot(slot: Slot, draw: u32, blocks: u32, bytes: u32, room: u32) -> Slot
-    requires { ⌜ (draw ≤ slot .held) × (slot .kind < 3 → draw ≡ 0) × (slot .kind ≤ 4) × (2 ≤ slot .kind → slot .kind ≤ 3 → slot .next < blocks) × (room + bytes < 4294967296) × (1 ≤ bytes) ⌝ }
-    ensures { λ r. ⌜ ((p : Plan) → Film p blocks bytes room → slotIn p r ≡ endedSlot (supplyOf p) (slotIn p slot) draw) ⌝ }
+    requires { ⌜ (Fair blocks slot draw) × (room + bytes < 4294967296) ⌝ }
+    ensures { λ r. ⌜ ((p : Supply ℕ) → Film p blocks bytes room → slotIn r ≡ endedSlot p (slotIn slot) draw) ⌝ }
 {
     let kind = slot.kind;
     match kind {
-        2 => swept(slot, draw, blocks, bytes, room),
-        3 => swept(slot, draw, blocks, bytes, room),
-        4 => drained(slot, draw),
+        FILLING => swept(slot, draw, blocks, bytes, room),
+        PLAYING => swept(slot, draw, blocks, bytes, room),
+        DRAINING => drained(slot, draw),
         _ => slot,
     }
 }

@@ -20,9 +20,10 @@ use Rattle.plan.specs.Check.{checked}
 use Rattle.plan.specs.Legal.{total-is, legal-zoned, place-below, time-small, lead-small}
 use Rattle.desk.specs.declared.Desk.{Desk}
 use Rattle.desk.specs.declared.Gathered.{Gathered}
-use Rattle.desk.specs.Desk.{zeros}
+use Rattle.desk.specs.Desk.{supplyOf, zeros}
 use Rattle.desk.specs.View.{Wide}
-use Rattle.desk.specs.Ready.{Ready, Gathers, InRange, streams-are}
+use Rattle.desk.specs.Shown.{Gathers, InRange}
+use Rattle.desk.specs.Ready.{Ready, streams-are}
 use Rattle.gather.specs.declared.Block.{Block}
 use Rattle.soundness.specs.Laws.{sound-tidy}
 
@@ -151,13 +152,13 @@ module _ (d : Desk) (w : Wide d) (r : Ready d) (ps ls : List ℕ) (e : isPlan (d
     found-position : OfNext d (placeOf (d .plan .figures)) i (b .position)
     found-position u v = q .position u v ∙ checked (d .plan) ps ls e .place-at _ (next-below i l u v)
 
-    found-small : (b .time ≤ 4000000) × (b .lead ≤ 3999999) × (b .position ≤ 1048575)
+    found-small : (b .time ≤ 4000000) × (b .lead ≤ 3999999) × (b .position < 1048576)
     found-small = by-cases (decLe 1 k) (λ u. by-cases (decLe k 3) (λ v. some u v) (λ v. none (λ _ y. v y))) (λ u. none (λ x _. u x))
       where
         k : ℕ
         k = getD (d .kinds) i 0
 
-        some : 1 ≤ k → k ≤ 3 → (b .time ≤ 4000000) × (b .lead ≤ 3999999) × (b .position ≤ 1048575)
+        some : 1 ≤ k → k ≤ 3 → (b .time ≤ 4000000) × (b .lead ≤ 3999999) × (b .position < 1048576)
         some u v =
             let n = next-below i l u v in
             let p = place-below (d .plan .figures) (r .legal) _ n in (
@@ -166,7 +167,7 @@ module _ (d : Desk) (w : Wide d) (r : Ready d) (ps ls : List ℕ) (e : isPlan (d
               omega (arith, found-position u v, p, r .legal .total),
             )
 
-        none : (1 ≤ k → k ≤ 3 → ⊥) → (b .time ≤ 4000000) × (b .lead ≤ 3999999) × (b .position ≤ 1048575)
+        none : (1 ≤ k → k ≤ 3 → ⊥) → (b .time ≤ 4000000) × (b .lead ≤ 3999999) × (b .position < 1048576)
         none n = omega (arith, q .other n)
 
   -- what was collected is what the plan says
@@ -175,14 +176,15 @@ module _ (d : Desk) (w : Wide d) (r : Ready d) (ps ls : List ℕ) (e : isPlan (d
     below : (i : ℕ) → 1 ≤ getD (d .kinds) i 0 → i < 256 → i < d .plan .streams
     below i u l = by-cases (decLt i (d .plan .streams)) (λ h. h) (λ h. absurd (omega (arith, sound-tidy d w (r .sound) .unused i l (omega arith))))
 
-    pub gathers : Gathers d g
+    pub gathers : Gathers (supplyOf (d .plan)) (d .kinds) (d .next) g
+    unfolding supplyOf
     gathers = record {
       times = λ i l u v. found-time i l (blockAt g i) (c .found i (below i u l)) u v;
       leads = λ i l u v. found-lead i l (blockAt g i) (c .found i (below i u l)) u v;
       positions = λ i l u v. found-position i l (blockAt g i) (c .found i (below i u l)) u v;
     }
 
-    small : (i : ℕ) → (getD (g .times) i 0 ≤ 4000000) × (getD (g .leads) i 0 ≤ 3999999) × (getD (g .positions) i 0 ≤ 1048575)
+    small : (i : ℕ) → (getD (g .times) i 0 ≤ 4000000) × (getD (g .leads) i 0 ≤ 3999999) × (getD (g .positions) i 0 < 1048576)
     small i =
         by-cases (decLt i (d .plan .streams)) (λ h. found-small i (omega (arith, streams-are d r)) (blockAt g i) (c .found i h)) (λ h. omega (arith, c .rest i (omega arith)))
 

@@ -14,12 +14,14 @@ use borrow.Author.Tests.{eqb-true, eq-eqb}
 use Rattle.laws.specs.Bools.{and-left, and-right}
 use Rattle.laws.specs.Map.{store-next}
 use Rattle.safety.specs.Supply.{Supply}
-use Rattle.numbers.specs.Slots.{waiting}
+use Rattle.numbers.specs.Slots.{waiting, filling}
+use Rattle.numbers.specs.Units.{parts}
 use Rattle.safety.specs.Scheduler.{Slot, freeSlot, at, leads, lowWater, startedSlot, started, playersHold, fillingSlot, tries}
 use Rattle.safety.specs.Arrays.{slotOf, slotsOf, SameLength, length-slots, slot-at, slots-set-kind}
 use Rattle.safety.specs.Turns.{startedTo, startedTo-none, startedTo-rest, least-holds}
 use Rattle.safety.specs.Turns.{tries-none, tries-past, tries-other, tries-waits, tries-granted, tries-rest}
-use Rattle.grants.specs.Grants.{ample, Slots, Asks}
+use Rattle.desk.specs.Shown.{Slots}
+use Rattle.grants.specs.Grants.{ample, Asks}
 
 module _ (p : Supply ℕ) (n : ℕ) (ks₀ xs hs : List ℕ) (w : Slots p n ks₀ xs hs) where
   -- the slots before the loop
@@ -82,30 +84,30 @@ module _ (p : Supply ℕ) (n : ℕ) (ks₀ xs hs : List ℕ) (w : Slots p n ks�
           a .own i l (sym (ap (λ (s : Slot ℕ). s .kind) s) ∙ k) ∙ ap (λ (s : Slot ℕ). p .lead (s .next)) (sym s)
 
       -- one comparison with the least that a playing slot holds
-      players : playersHold p (lowWater p raised) ss ≡ leb (2000000 * B + c * raised) level
+      players : playersHold p (lowWater p raised) ss ≡ leb (parts * B + c * raised) level
       unfolding lowWater
       players =
           let most : c * raised ≤ 10000000 * (513 * 3999999) = mul-le-mul c-most top in
-          ap₂ (λ (b r : ℕ). playersHold p (2000000 * b + r * raised) ss) (sym (a .bytes)) (sym (a .rate))
-          ∙ least-holds p ample (2000000 * B + c * raised) ss (omega arith) ∙ ap (leb (2000000 * B + c * raised)) (sym (a .least))
+          ap₂ (λ (b r : ℕ). playersHold p (parts * b + r * raised) ss) (sym (a .bytes)) (sym (a .rate))
+          ∙ least-holds p ample (parts * B + c * raised) ss (omega arith) ∙ ap (leb (parts * B + c * raised)) (sym (a .least))
 
-      pub grants-yes : (eqb (getD ks i 0) 1 && leb (2000000 * B + c * raised) level) ≡ true → Granted (set ks i 2) raised (i + 1)
+      pub grants-yes : (eqb (getD ks i 0) waiting && leb (parts * B + c * raised) level) ≡ true → Granted (set ks i filling) raised (i + 1)
       grants-yes t =
-          let k : at p ss i .kind ≡ waiting = sym kind-now ∙ eqb-true (getD ks i 0) 1 (and-left (eqb (getD ks i 0) 1) _ t) in
-          let h = players ∙ and-right (eqb (getD ks i 0) 1) _ t in
+          let k : at p ss i .kind ≡ waiting = sym kind-now ∙ eqb-true (getD ks i 0) waiting (and-left (eqb (getD ks i 0) waiting) _ t) in
+          let h = players ∙ and-right (eqb (getD ks i 0) waiting) _ t in
           let r = tries-granted p ss i sum (inv .leads) k (rw (own-lead k) at h) in
           let at-i : slotOf p (getD ks i 0) (getD xs i (p .none)) (getD hs i 0) ≡ at p ss i =
           sym (slot-at p ks xs hs (same ks long) i) ∙ ap (λ (ts : List (Slot ℕ)). at p ts i) (inv .slots) ∙ tries-past p ss i i (omega arith)
           in
           record {
             slots =
-                slots-set-kind p ks xs hs (same ks long) i 2
+                slots-set-kind p ks xs hs (same ks long) i filling
                 ∙ ap (λ (s : Slot ℕ). set (slotsOf p ks xs hs) i (fillingSlot p s)) at-i
                 ∙ ap (λ (ts : List (Slot ℕ)). set ts i (fillingSlot p (at p ss i))) (inv .slots) ∙ sym (r .0);
             leads = ap (λ (m : ℕ). sum + m) (own-lead k) ∙ r .1;
           }
 
-      pub grants-no : (eqb (getD ks i 0) 1 && leb (2000000 * B + c * raised) level) ≡ false → Granted ks sum (i + 1)
+      pub grants-no : (eqb (getD ks i 0) waiting && leb (parts * B + c * raised) level) ≡ false → Granted ks sum (i + 1)
       grants-no t = by-cases (ℕ-discrete (at p ss i .kind) waiting) asked other
         where
           stays : tries p ss 0 (i + 1) ≡ tries p ss 0 i → Granted ks sum (i + 1)
@@ -113,7 +115,7 @@ module _ (p : Supply ℕ) (n : ℕ) (ks₀ xs hs : List ℕ) (w : Slots p n ks�
 
           asked : at p ss i .kind ≡ waiting → Granted ks sum (i + 1)
           asked k =
-              let h = players ∙ rw (eq-eqb (getD ks i 0) 1 (kind-now ∙ k)) at t in
+              let h = players ∙ rw (eq-eqb (getD ks i 0) waiting (kind-now ∙ k)) at t in
               stays (tries-waits p ss i sum (inv .leads) (rw (own-lead k) at h))
 
           other : (at p ss i .kind ≡ waiting → ⊥) → Granted ks sum (i + 1)

@@ -7,30 +7,32 @@ use mathlib.Core.List.{List}
 use native.Mathlib.Omega.{arith}
 use native.Mathlib.Decide.{ℕ-discrete}
 use lib.ListN.{length, getD, take}
+use Rattle.numbers.specs.Slots.{playing}
+use Rattle.numbers.specs.Units.{parts}
 use Rattle.safety.specs.Supply.{Supply}
 use Rattle.safety.specs.Scheduler.{Slot, at}
 use Rattle.safety.specs.Arrays.{slotsOf, length-slots, slot-at}
 use Rattle.safety.specs.Turns.{leastHeld, least-next, least-skip, least-rest}
-use Rattle.grants.specs.Grants.{Slots}
+use Rattle.desk.specs.Shown.{Slots}
 
 module _ (p : Supply ℕ) (n : ℕ) (ks xs hs : List ℕ) (w : Slots p n ks xs hs) where
   abbrev ss : List (Slot ℕ)
   ss = slotsOf p ks xs hs
 
   pub least-turn : (top i level next : ℕ) → i < 256
-      → level ≡ 2000000 * leastHeld p top (take i ss)
-      → (getD ks i 0 ≡ 3 → next ≡ min level (2000000 * getD hs i 0))
-      → ((getD ks i 0 ≡ 3 → ⊥) → next ≡ level)
-      → next ≡ 2000000 * leastHeld p top (take (i + 1) ss)
+      → level ≡ parts * leastHeld p top (take i ss)
+      → (getD ks i 0 ≡ playing → next ≡ min level (parts * getD hs i 0))
+      → ((getD ks i 0 ≡ playing → ⊥) → next ≡ level)
+      → next ≡ parts * leastHeld p top (take (i + 1) ss)
   least-turn top i level next l s a b =
       let k : at p ss i .kind ≡ getD ks i 0 = ap (λ (s : Slot ℕ). s .kind) (slot-at p ks xs hs (w .same) i) in
       let h : at p ss i .buffered ≡ getD hs i 0 = ap (λ (s : Slot ℕ). s .buffered) (slot-at p ks xs hs (w .same) i) in
       let long : i < length ss = omega (arith, length-slots p ks xs hs, w .long) in
-      by-cases (ℕ-discrete (getD ks i 0) 3)
+      by-cases (ℕ-discrete (getD ks i 0) playing)
       (λ e. omega (arith, a e, least-next p top ss i long (k ∙ e)))
       (λ e. omega (arith, b e, least-skip p top ss i long (λ z. e (sym k ∙ z))))
 
   -- the slots from n on do not play
-  pub least-end : (top i level : ℕ) → i ≡ n → level ≡ 2000000 * leastHeld p top (take i ss) → level ≡ 2000000 * leastHeld p top ss
+  pub least-end : (top i level : ℕ) → i ≡ n → level ≡ parts * leastHeld p top (take i ss) → level ≡ parts * leastHeld p top ss
   least-end top i level e s =
-      s ∙ ap (λ (m : ℕ). 2000000 * leastHeld p top (take m ss)) e ∙ ap (λ (m : ℕ). 2000000 * m) (least-rest p top n ss (w .unused))
+      s ∙ ap (λ (m : ℕ). parts * leastHeld p top (take m ss)) e ∙ ap (λ (m : ℕ). parts * m) (least-rest p top n ss (w .unused))

@@ -1,5 +1,9 @@
 // Begin: filling slots start to play, then asked slots are granted in slot order.
 use floor::low_water;
+use numbers::slots::FILLING;
+use numbers::slots::PLAYING;
+use numbers::slots::WAITING;
+use numbers::units::PARTS;
 use streams::product;
 ghost use mathlib.Core.Path.{_≡_};
 ghost use mathlib.Core.Bool.{_&&_};
@@ -7,22 +11,26 @@ ghost use mathlib.Core.List.{List};
 ghost use Prim.Native.Nat.{ℕ, _+_, _*_, _≤_, min};
 ghost use lib.ListN.{length, getD};
 ghost use lib.Dec.{leb, eqb};
+ghost use Rattle.numbers.specs.Limits.{maxBytes, maxRate, maxStreams};
+ghost use Rattle.numbers.specs.Slots.{waiting, playing};
+ghost use Rattle.numbers.specs.Units.{parts};
 ghost use Rattle.safety.specs.Supply.{Supply};
 ghost use Rattle.safety.specs.Scheduler.{startedSlot, started, tries};
 ghost use Rattle.safety.specs.Arrays.{slotOf, slotsOf};
 ghost use Rattle.safety.specs.Turns.{leastHeld};
-ghost use Rattle.grants.specs.Grants.{ample, Slots, Asks};
+ghost use Rattle.desk.specs.Shown.{Slots};
+ghost use Rattle.grants.specs.Grants.{ample, Asks};
 
 // The kind of a slot after it was tested against the mark: a filling one that holds it plays.
 fn started_kind(kind: u32, held: u32, mark: u64) -> u32
     ensures { λ r. ⌜ ((p : Supply ℕ) (b : ℕ) → slotOf p r b held ≡ startedSlot p mark (slotOf p kind b held)) ⌝ }
 {
     match kind {
-        2 => {
-            if mark <= product(2000000, held) {
-                return 3;
+        FILLING => {
+            if mark <= product(PARTS, held) {
+                return PLAYING;
             }
-            2
+            FILLING
         }
         _ => kind,
     }
@@ -30,7 +38,7 @@ fn started_kind(kind: u32, held: u32, mark: u64) -> u32
 
 // Each filling slot that holds the mark becomes playing. The slots from `streams` on are free.
 pub fn start_playing(kinds: &mut [u32; 256], held: &[u32; 256], streams: usize, mark: u64)
-    requires { ⌜ (streams ≤ 256) × (length (now kinds) ≡ 256) ⌝ }
+    requires { ⌜ (streams ≤ maxStreams) × (length (now kinds) ≡ 256) ⌝ }
     ensures { λ _. ⌜ ((p : Supply ℕ) (xs : List ℕ) → Slots p streams (now (kinds .entry)) xs (now (held .entry))
         → slotsOf p (now (kinds .exit)) xs (now (held .entry)) ≡ started p mark (slotsOf p (now (kinds .entry)) xs (now (held .entry)))) ⌝ }
 {
@@ -43,12 +51,12 @@ pub fn start_playing(kinds: &mut [u32; 256], held: &[u32; 256], streams: usize, 
 
 // The lower of a level and what a playing slot holds, in two-millionths of a byte.
 fn lower(kind: u32, held: u32, level: u64) -> u64
-    ensures plays { λ r. ⌜ (kind ≡ 3 → r ≡ min level (2000000 * held)) ⌝ }
-    ensures other { λ r. ⌜ ((kind ≡ 3 → ⊥) → r ≡ level) ⌝ }
+    ensures plays { λ r. ⌜ (kind ≡ playing → r ≡ min level (parts * held)) ⌝ }
+    ensures other { λ r. ⌜ ((kind ≡ playing → ⊥) → r ≡ level) ⌝ }
 {
     match kind {
-        3 => {
-            let own = product(2000000, held);
+        PLAYING => {
+            let own = product(PARTS, held);
             if own < level {
                 return own;
             }
@@ -60,9 +68,9 @@ fn lower(kind: u32, held: u32, level: u64) -> u64
 
 // The least that a playing slot holds, in two-millionths of a byte; where none plays, above every mark. The slots from `streams` on are free.
 pub fn least_level<'a>(kinds: &'a [u32; 256], held: &'a [u32; 256], streams: usize) -> u64
-    requires { ⌜ streams ≤ 256 ⌝ }
+    requires { ⌜ streams ≤ maxStreams ⌝ }
     ensures { λ r. ⌜ ((p : Supply ℕ) (xs : List ℕ) → Slots p streams (now (kinds .entry)) xs (now (held .entry))
-        → r ≡ 2000000 * leastHeld p ample (slotsOf p (now (kinds .entry)) xs (now (held .entry)))) ⌝ }
+        → r ≡ parts * leastHeld p ample (slotsOf p (now (kinds .entry)) xs (now (held .entry)))) ⌝ }
 {
     let mut level: u64 = 2000000000000000000;
     let mut i: usize = 0;
@@ -75,11 +83,11 @@ pub fn least_level<'a>(kinds: &'a [u32; 256], held: &'a [u32; 256], streams: usi
 
 // A slot is granted: it is asked, and the least level holds the mark of the leads with its own.
 fn is_granted(kind: u32, bytes: u32, rate: u32, leads: u32, level: u64) -> bool
-    requires { ⌜ (bytes ≤ 4194304) × (rate ≤ 10000000) ⌝ }
-    ensures { λ r. ⌜ r ≡ (eqb kind 1 && leb (2000000 * bytes + rate * leads) level) ⌝ }
+    requires { ⌜ (bytes ≤ maxBytes) × (rate ≤ maxRate) ⌝ }
+    ensures { λ r. ⌜ r ≡ (eqb kind waiting && leb (parts * bytes + rate * leads) level) ⌝ }
 {
     match kind {
-        1 => low_water(bytes, rate, leads) <= level,
+        WAITING => low_water(bytes, rate, leads) <= level,
         _ => false,
     }
 }
@@ -95,7 +103,7 @@ pub fn grant_asked(
     sum: u32,
     level: u64,
 )
-    requires { ⌜ (streams ≤ 256) × (length (now kinds) ≡ 256) × ((i : ℕ) → getD (now leads) i 0 ≤ 3999999) × (bytes ≤ 4194304) × (rate ≤ 10000000) × (sum ≤ 256 * 3999999) ⌝ }
+    requires { ⌜ (streams ≤ maxStreams) × (length (now kinds) ≡ 256) × ((i : ℕ) → getD (now leads) i 0 ≤ 3999999) × (bytes ≤ maxBytes) × (rate ≤ maxRate) × (sum ≤ 256 * 3999999) ⌝ }
     ensures { λ _. ⌜ ((p : Supply ℕ) (xs hs : List ℕ) → Slots p streams (now (kinds .entry)) xs hs
         → Asks p bytes rate sum level (now (leads .entry)) (now (kinds .entry)) xs hs
         → slotsOf p (now (kinds .exit)) xs hs ≡ tries p (slotsOf p (now (kinds .entry)) xs hs) 0 256) ⌝ }
@@ -105,7 +113,7 @@ pub fn grant_asked(
     while i < streams {
         let raised = total + leads[i];
         if is_granted(kinds[i], bytes, rate, raised, level) {
-            kinds[i] = 2;
+            kinds[i] = FILLING;
             total = raised;
         }
         i += 1;

@@ -9,6 +9,7 @@ use native.Mathlib.Omega.{arith}
 use native.Mathlib.Decide.{ℕ-discrete}
 use lib.ListN.{length}
 use lib.Dec.{eqb}
+use Rattle.card.specs.declared.Verdict.{Verdict}
 use Rattle.words.specs.Words.{wordsOf}
 use Rattle.plan.specs.Answer.{isPlan}
 use Rattle.laws.specs.Places.{allFrom, lowestFrom}
@@ -98,6 +99,10 @@ module _ (d : Desk) (w : Wide d) (ps ls : List ℕ) where
   -- ---- end
 
   module _ (draws : List ℕ) where
+    -- the verdict on the draws
+    abbrev pub drawn : Verdict
+    drawn = judgedDraws (supplyOf (d .plan)) (viewOf d) (wordsOf draws)
+
     not-ended : (k i : ℕ) → 0 < k → judges 0 (end (wordsOf draws)) ≡ refuse k i → answers d k i ≡ endDesk d ps ls draws
     unfolding endDesk answered
     not-ended k i h e =
@@ -114,23 +119,23 @@ module _ (d : Desk) (w : Wide d) (ps ls : List ℕ) where
       end-between h = not-ended 15 0 (omega arith) (sound-row 0 (end (wordsOf draws)) s ∙ end-phase (supplyOf (d .plan)) (viewOf d) 0 (wordsOf draws) h)
 
       -- draws that are turned down
-      pub end-refused : judgedDraws d (wordsOf draws) .number ≢ 0
-          → answers d (judgedDraws d (wordsOf draws) .number) (judgedDraws d (wordsOf draws) .place) ≡ endDesk d ps ls draws
+      pub end-refused : drawn .number ≢ 0
+          → answers d (drawn .number) (drawn .place) ≡ endDesk d ps ls draws
       unfolding judgedDraws
       end-refused n = not-ended _ _ (omega arith) (sound-row 0 (end (wordsOf draws)) s)
 
       -- and draws that are not
-      clear : judgedDraws d (wordsOf draws) .number ≡ 0 → judges 0 (end (wordsOf draws)) .number ≡ 0
+      clear : drawn .number ≡ 0 → judges 0 (end (wordsOf draws)) .number ≡ 0
       unfolding judgedDraws
       clear e = ap (λ (u : refusals.Verdict). u .number) (sound-row 0 (end (wordsOf draws)) s) ∙ e
 
-      pub end-drawn : judgedDraws d (wordsOf draws) .number ≡ 0 → Drawn d (wordsOf draws)
+      pub end-drawn : drawn .number ≡ 0 → Drawn d (wordsOf draws)
       unfolding calls.refusals
       end-drawn e =
           let p = supplyOf (d .plan) in
           refusals-strict p (supply-named (d .plan)) (orderOf (d .plan)) .strict (viewOf d) (record { call = end (wordsOf draws); fair = isPlan (d .plan) ps ls; room = 0 }) (clear e)
 
-      pub end-ended : judgedDraws d (wordsOf draws) .number ≡ 0 → answers (endedDesk d (wordsOf draws)) 0 0 ≡ endDesk d ps ls draws
+      pub end-ended : drawn .number ≡ 0 → answers (endedDesk d (wordsOf draws)) 0 0 ≡ endDesk d ps ls draws
       unfolding endDesk answered endedDesk calls.accepted
       end-ended e =
           let a = accepted-answer 0 (end (wordsOf draws)) (clear e) in
@@ -145,7 +150,7 @@ module _ (d : Desk) (w : Wide d) (ps ls : List ℕ) where
       placeless true false c e i j h = absurd (omega arith)
       placeless false b c e i j h = absurd (omega arith)
 
-      no-place : judgedDraws d (wordsOf draws) .number ≡ 0 → judgedDraws d (wordsOf draws) .place ≡ 0
+      no-place : drawn .number ≡ 0 → drawn .place ≡ 0
       unfolding judgedDraws refusals.judged
       no-place =
           let p = supplyOf (d .plan) in
@@ -156,11 +161,11 @@ module _ (d : Desk) (w : Wide d) (ps ls : List ℕ) where
           placeless (eqb (v .phase) 1) (eqb (length ds) (p .n)) (allFrom allowed 0 (v .slots)) (allFrom held 0 (v .slots)) (lowestFrom allowed 0 (v .slots)) (lowestFrom held 0 (v .slots))
 
       -- either way the judge of the draws has the verdict
-      pub end-judged : judgedDraws d (wordsOf draws) ≡ endDesk d ps ls draws .verdict
-      end-judged = by-cases (ℕ-discrete (judgedDraws d (wordsOf draws) .number) 0) accepts refuses
+      pub end-judged : drawn ≡ endDesk d ps ls draws .verdict
+      end-judged = by-cases (ℕ-discrete (drawn .number) 0) accepts refuses
         where
-          accepts : judgedDraws d (wordsOf draws) .number ≡ 0 → judgedDraws d (wordsOf draws) ≡ endDesk d ps ls draws .verdict
+          accepts : drawn .number ≡ 0 → drawn ≡ endDesk d ps ls draws .verdict
           accepts e = (λ t. record { number = e t; place = no-place e t }) ∙ ap (λ (a : Answer). a .verdict) (end-ended e)
 
-          refuses : (judgedDraws d (wordsOf draws) .number ≡ 0 → ⊥) → judgedDraws d (wordsOf draws) ≡ endDesk d ps ls draws .verdict
+          refuses : (drawn .number ≡ 0 → ⊥) → drawn ≡ endDesk d ps ls draws .verdict
           refuses n = ap (λ (a : Answer). a .verdict) (end-refused n)

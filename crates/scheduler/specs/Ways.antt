@@ -18,11 +18,10 @@ use Rattle.desk.specs.Ready.{Ready}
 use Rattle.desk.specs.Records.{answers, notBegun}
 use Rattle.soundness.specs.Facts.{soundDesk}
 use Rattle.soundness.specs.Ready.{sound-ready}
-use Rattle.draws.specs.Draws.{judgedDraws}
 use Rattle.ends.specs.Ends.{Drawn}
 use Rattle.sweep.specs.Steps.{begunDesk, sweptOf, begunOf, endedDesk}
 use Rattle.sweep.specs.Laws.{begun-of}
-use Rattle.scheduler.specs.Answers.{begin-unsound, begin-in-sweep, begin-no-room, begin-begun, end-unsound, end-between, end-refused, end-drawn, end-ended}
+use Rattle.scheduler.specs.Answers.{begin-unsound, begin-in-sweep, begin-no-room, begin-begun, drawn, end-unsound, end-between, end-refused, end-drawn, end-ended}
 
 module _ (d : Desk) (w : Wide d) (z : legality.Wide (d .plan .figures)) (ps ls : List ℕ) where
   -- ---- begin
@@ -83,12 +82,12 @@ module _ (d : Desk) (w : Wide d) (z : legality.Wide (d .plan .figures)) (ps ls :
       pub answer : answers (endedDesk d (wordsOf draws)) 0 0 ≡ endDesk d ps ls draws
 
     end-ways : ((k : ℕ) × (i : ℕ) × NotEnded k i) ⊎ HasEnded
-    end-ways = go (soundDesk d ps ls) refl (ℕ-discrete (d .phase) 1) (ℕ-discrete (judgedDraws d (wordsOf draws) .number) 0)
+    end-ways = go (soundDesk d ps ls) refl (ℕ-discrete (d .phase) 1) (ℕ-discrete (drawn d w ps ls draws .number) 0)
       where
-        go : (t : Bool) → soundDesk d ps ls ≡ t → Dec (d .phase ≡ 1) → Dec (judgedDraws d (wordsOf draws) .number ≡ 0) → ((k : ℕ) × (i : ℕ) × NotEnded k i) ⊎ HasEnded
+        go : (t : Bool) → soundDesk d ps ls ≡ t → Dec (d .phase ≡ 1) → Dec (drawn d w ps ls draws .number ≡ 0) → ((k : ℕ) × (i : ℕ) × NotEnded k i) ⊎ HasEnded
         go false s p n = inl (14, 0, record { some = omega arith; answer = end-unsound d w ps ls draws s })
         go true s (no p) n = inl (15, 0, record { some = omega arith; answer = end-between d w ps ls draws s p })
-        go true s (yes p) (no n) = inl (judgedDraws d (wordsOf draws) .number, judgedDraws d (wordsOf draws) .place, record { some = omega arith; answer = end-refused d w ps ls draws s n })
+        go true s (yes p) (no n) = inl (drawn d w ps ls draws .number, drawn d w ps ls draws .place, record { some = omega arith; answer = end-refused d w ps ls draws s n })
         go true s (yes p) (yes n) =
             inr (record { ready = sound-ready d ps ls z s; drawn = end-drawn d w ps ls draws s n; answer = end-ended d w ps ls draws s n })
 

@@ -6,6 +6,8 @@ use desk::Desk;
 use desk::answer_with;
 use desk::not_begun;
 use draws::judge_draws;
+use draws::most_drawn;
+use fetches::sweep_bound;
 use floor::sum_leads;
 use gather::gather;
 use layout::write_entries;
@@ -122,6 +124,7 @@ pub fn judge_end(desk: Desk, positions: &[u8], leads: &[u8], draws: &[u8]) -> Ve
         };
     }
     let figures = desk.plan.figures;
+    let streams = desk.plan.streams as usize;
     let g = gather(
         &desk.kinds,
         &desk.next,
@@ -129,9 +132,19 @@ pub fn judge_end(desk: Desk, positions: &[u8], leads: &[u8], draws: &[u8]) -> Ve
         &figures.times,
         positions,
         leads,
-        desk.plan.streams as usize,
+        streams,
     );
-    judge_draws(desk, g, draws)
+    let bound = sweep_bound(
+        &desk.kinds,
+        &desk.held,
+        &g.times,
+        streams,
+        desk.plan.buffer - figures.bytes,
+        figures.hop,
+        figures.back,
+    );
+    let most = most_drawn(figures.rate, bound);
+    judge_draws(&desk.kinds, &desk.held, streams, most, draws)
 }
 
 // Ends a sweep with a draw for each of the n slots: 14, 15, 19, 20, 21.

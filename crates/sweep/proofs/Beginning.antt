@@ -6,7 +6,6 @@ use mathlib.Core.List.{List, map}
 use native.Mathlib.Omega.{arith}
 use lib.ListN.{length, getD}
 use Rattle.laws.specs.Each.{Both, both-at, both-length}
-use Rattle.plan.specs.Plan as F
 use Rattle.safety.specs.Scheduler.{Slot, freeSlot, at, leads, lowWater, started, tries, begun, entries, bound}
 use Rattle.safety.specs.Order.{bySlot}
 use Rattle.safety.specs.Orderly.{Kept, kept-refl}
@@ -20,12 +19,13 @@ use Rattle.desk.specs.declared.Desk.{Desk}
 use Rattle.desk.specs.declared.Fetches.{Fetches}
 use Rattle.desk.specs.declared.Gathered.{Gathered}
 use Rattle.desk.specs.Desk.{supplyOf, slotsIn, viewOf, deskOf, verdict, fetchesOf}
-use Rattle.desk.specs.View.{Wide, same-length}
-use Rattle.desk.specs.Ready.{Ready, Gathers, buffer-has}
+use Rattle.desk.specs.View.{Wide}
+use Rattle.desk.specs.Shown.{Slots, OfNext, Gathers}
+use Rattle.desk.specs.Ready.{Ready, room-left}
 use Rattle.desk.specs.Slots.{length-in, slot-in}
 use Rattle.floor.specs.Floor.{mark-is}
-use Rattle.grants.specs.Grants.{ample, Slots, Asks}
-use Rattle.fetches.specs.Shown.{Shown, OfNext}
+use Rattle.grants.specs.Grants.{ample, Asks}
+use Rattle.fetches.specs.Told.{Timed, Placed}
 use Rattle.sweep.specs.Steps.{begunDesk, sweptOf}
 use Rattle.sweep.specs.Laws.{begun-kept}
 
@@ -33,10 +33,6 @@ use Rattle.sweep.specs.Laws.{begun-kept}
 pub floor-is : (d : Desk) (mark sum : ℕ) → mark ≡ 2000000 * d .plan .figures .bytes + d .plan .figures .rate * sum → sum ≡ leads (supplyOf (d .plan)) (slotsIn d)
     → mark ≡ lowWater (supplyOf (d .plan)) (leads (supplyOf (d .plan)) (slotsIn d))
 floor-is d mark sum e q = e ∙ sym (mark-is (d .plan) sum) ∙ ap (lowWater (supplyOf (d .plan))) q
-
-pub slots-own : (d : Desk) → Wide d → Ready d → Slots (supplyOf (d .plan)) (d .plan .streams) (d .kinds) (d .next) (d .held)
-unfolding viewOf supplyOf
-slots-own d w r = record { long = w .kinds; same = same-length d w; unused = r .sound .unused }
 
 -- d has other kinds ks, and so the slots ts, which a step of a begin may leave
 module _ (d : Desk) (w : Wide d) (r : Ready d) (ks : List ℕ) (ts : List (Slot ℕ)) (q : slotsOf (supplyOf (d .plan)) ks (d .next) (d .held) ≡ ts)
@@ -53,9 +49,6 @@ module _ (d : Desk) (w : Wide d) (r : Ready d) (ks : List ℕ) (ts : List (Slot 
   pub slots-kept : Slots (supplyOf (d .plan)) (d .plan .streams) ks (d .next) (d .held)
   slots-kept = record { long = long; same = record { nexts = w .next ∙ sym long; helds = w .held ∙ sym long }; unused = unused }
 
-  pub shown-kept : Shown (d .plan) (d .plan .streams) (d .plan .buffer - d .plan .figures .bytes) ks (d .next) (d .held)
-  shown-kept = record { kinds = long; next = w .next; held = w .held; unused = unused; spare = omega (arith, buffer-has (d .plan) (r .planned)) }
-
   -- a slot that asks, fills or plays now did so before
   before : (i : ℕ) → 1 ≤ getD ks i 0 → getD ks i 0 ≤ 3 → (1 ≤ getD (d .kinds) i 0) × (getD (d .kinds) i 0 ≤ 3)
   unfolding supplyOf
@@ -67,11 +60,11 @@ module _ (d : Desk) (w : Wide d) (r : Ready d) (ks : List ℕ) (ts : List (Slot 
       omega (arith, now, was, k .occupied, k .rises)
 
   -- so what was gathered for it stays true
-  pub gathered-kept : (f : ℕ → ℕ) (vs : List ℕ) → OfNext f (d .kinds) (d .next) vs → OfNext f ks (d .next) vs
+  pub gathered-kept : (f : ℕ → ℕ) (vs : List ℕ) → OfNext (supplyOf (d .plan)) f (d .kinds) (d .next) vs → OfNext (supplyOf (d .plan)) f ks (d .next) vs
   gathered-kept f vs u i l a b = let k = before i a b in u i l (k .0) (k .1)
 
 -- filling slots have started to play: d has the kinds ks
-module _ (d : Desk) (w : Wide d) (r : Ready d) (g : Gathered) (u : Gathers d g) (x : ℕ) (ks : List ℕ)
+module _ (d : Desk) (w : Wide d) (r : Ready d) (g : Gathered) (u : Gathers (supplyOf (d .plan)) (d .kinds) (d .next) g) (x : ℕ) (ks : List ℕ)
     (q : slotsOf (supplyOf (d .plan)) ks (d .next) (d .held) ≡ started (supplyOf (d .plan)) x (slotsIn d)) where
   pub slots-started : Slots (supplyOf (d .plan)) (d .plan .streams) ks (d .next) (d .held)
   slots-started = slots-kept d w r ks _ q (started-kept (supplyOf (d .plan)) x (slotsIn d))
@@ -87,7 +80,7 @@ module _ (d : Desk) (w : Wide d) (r : Ready d) (g : Gathered) (u : Gathers d g) 
         rate = refl;
         leads = e ∙ sym (started-leads p x (slotsIn d)) ∙ ap (leads p) (sym q);
         least = l;
-        own = λ i h k. gathered-kept d w r ks _ q (started-kept p x (slotsIn d)) (F.leadOf (d .plan .figures)) (g .leads) (u .leads) i h (omega arith) (omega arith);
+        own = λ i h k. gathered-kept d w r ks _ q (started-kept p x (slotsIn d)) (p .lead) (g .leads) (u .leads) i h (omega arith) (omega arith);
       }
 
   -- then asked slots were granted, and the kinds are js
@@ -105,11 +98,30 @@ module _ (d : Desk) (w : Wide d) (r : Ready d) (g : Gathered) (u : Gathers d g) 
 
 -- both steps are done: d has the kinds ks
 module _ (d : Desk) (w : Wide d) (r : Ready d) (ks : List ℕ) (q : slotsOf (supplyOf (d .plan)) ks (d .next) (d .held) ≡ begun (supplyOf (d .plan)) (slotsIn d)) where
-  pub shown-begun : Shown (d .plan) (d .plan .streams) (d .plan .buffer - d .plan .figures .bytes) ks (d .next) (d .held)
-  shown-begun = shown-kept d w r ks _ q (begun-kept d r)
+  slots-begun : Slots (supplyOf (d .plan)) (d .plan .streams) ks (d .next) (d .held)
+  slots-begun = slots-kept d w r ks _ q (begun-kept d r)
 
-  pub gathered-begun : (f : ℕ → ℕ) (vs : List ℕ) → OfNext f (d .kinds) (d .next) vs → OfNext f ks (d .next) vs
-  gathered-begun = gathered-kept d w r ks _ q (begun-kept d r)
+  module _ (g : Gathered) (u : Gathers (supplyOf (d .plan)) (d .kinds) (d .next) g) where
+    -- what the sweep bound and the list of fetches are told
+    pub timed-begun : Timed (supplyOf (d .plan)) (d .plan .streams) (d .plan .buffer - d .plan .figures .bytes) (d .plan .figures .hop) (d .plan .figures .back)
+        ks (d .next) (d .held) (g .times)
+    unfolding supplyOf
+    timed-begun = record {
+      slots = slots-begun;
+      times = gathered-kept d w r ks _ q (begun-kept d r) (supplyOf (d .plan) .time) (g .times) (u .times);
+      spare = room-left d r;
+      moves = λ k. refl;
+    }
+
+    pub placed-begun : Placed (supplyOf (d .plan)) (d .plan .streams) (d .plan .buffer - d .plan .figures .bytes) ks (d .next) (d .held) (g .positions)
+    unfolding supplyOf
+    placed-begun = record {
+      slots = slots-begun;
+      positions = gathered-kept d w r ks _ q (begun-kept d r) (supplyOf (d .plan) .position) (g .positions) (u .positions);
+      spare = room-left d r;
+      alone = λ b. refl;
+      own = λ b. refl;
+    }
 
   -- the answer
   pub begun-is : (b : ℕ) (es : Fetches) → b ≡ bound (supplyOf (d .plan)) (slotsOf (supplyOf (d .plan)) ks (d .next) (d .held))

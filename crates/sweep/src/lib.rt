@@ -14,7 +14,9 @@ use grants::start_playing;
 ghost use mathlib.Core.Path.{_≡_};
 ghost use Prim.Native.Nat.{_*_, _≤_};
 ghost use Rattle.words.specs.Words.{wordsOf};
-ghost use Rattle.desk.specs.Ready.{Ready, Gathers, InRange};
+ghost use Rattle.desk.specs.Desk.{supplyOf};
+ghost use Rattle.desk.specs.Shown.{Gathers, InRange};
+ghost use Rattle.desk.specs.Ready.{Ready};
 ghost use Rattle.floor.specs.Floor.{leadSum};
 ghost use Rattle.ends.specs.Ends.{Drawn};
 ghost use Rattle.sweep.specs.Steps.{begunDesk, sweptOf, notSwept, endedDesk};
@@ -44,7 +46,7 @@ pub fn not_swept(kinds: [u32; 256], number: u32) -> Swept
 
 // A begin: filling slots start to play, asked slots are granted, and the sweep's fetches are listed. `sum` is the desk's leads.
 pub fn begin_sweep(desk: Desk, g: Gathered, sum: u32) -> Swept
-    requires { ⌜ (Ready desk) × (Gathers desk g) × (InRange g) × (sum ≡ leadSum desk) × (sum ≤ 256 * 3999999) ⌝ }
+    requires { ⌜ (Ready desk) × (Gathers (supplyOf (desk .plan)) (desk .kinds) (desk .next) g) × (InRange g) × (sum ≡ leadSum desk) × (sum ≤ 256 * 3999999) ⌝ }
     ensures { λ r. ⌜ r ≡ sweptOf (begunDesk desk) ⌝ }
 {
     let figures = desk.plan.figures;

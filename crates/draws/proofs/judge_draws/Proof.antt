@@ -1,97 +1,56 @@
 use native.Mathlib.Omega.{arith}
-use Prim.Native.Nat.{_/_}
-use mathlib.Core.Path.{_≡_, refl}
+use mathlib.Core.Path.{_≡_, sym, _∙_}
 use lib.ListN.{length}
-use Rattle.words.specs.Words.{wordsOf}
-use Rattle.safety.specs.Scheduler.{mostDrawn}
-use Rattle.desk.specs.View.{Wide}
-use Rattle.desk.specs.Desk.{supplyOf, slotsIn}
-use Rattle.desk.specs.Ready.{streams-are, buffer-has}
-use Rattle.draws.proofs.Drawing.{limits-in, helds-in, shown-ready, most-is, judged-length, judged-excess, judged-overdrawn, judged-accepted}
 use borrow.Author.Needs.{needs}
+use Rattle.words.specs.Words.{wordsOf}
+use Rattle.draws.proofs.Drawing.{judged-length, judged-excess, judged-overdrawn, judged-accepted}
 use Rattle.draws.proofs.judge_draws.Statement.{statement}
 use Rattle.draws.proofs.judge_draws.Tie as tie
-
--- the arrays have 256 entries
-wide : (c : tie.Start) → Wide (c .args .t1)
-wide c = record { kinds = search needs; next = search needs; held = search needs }
 
 abbrev start : tie.Else1 → tie.Start
 start c = c .before .before .before
 
-abbrev counted : tie.After-product → tie.Else1
-counted c = c .before .before .before .before .before .before .before
-
 -- there are n draws
-count : (c : tie.Else1) → length (wordsOf (start c .args .draws .now)) ≡ start c .args .t1 .plan .streams
-count c = omega (arith, c .before .entries .ensures)
-
--- the most that may be drawn
-most : (c : tie.After-product) → (let d = start (counted c) .args .t1 in c .product .result / 1000000 ≡ mostDrawn (supplyOf (d .plan)) (slotsIn d))
-most c =
-    let s = start (counted c) in
-    let d = s .args .t1 in
-    let b = c .before .sweep-bound in
-    most-is d (b .result) (c .product .result) _ (b .ensures (d .plan) (d .next) (shown-ready d (wide s) (s .pre .0)) (s .pre .1 .times) refl refl) (c .product .ensures) refl
-
-cast-n : tie.Need-cast-n
-cast-n c = search needs
+count : (c : tie.Else1) → length (wordsOf (start c .args .draws .now)) ≡ start c .args .streams
+count c = sym (c .before .entries .ensures) ∙ c .if1 .left
 
 entries-requires : tie.Need-entries-requires
 entries-requires c κs = search needs
 
 returns : tie.Need-returns
-returns c = let a = c .before .before .before in
-    judged-length (a .args .t1) (wide a) (a .pre .0) (a .pre .3) _ (λ z. omega (arith, c .before .entries .ensures))
-
-sub-sweep-bound : tie.Need-sub-sweep-bound
-sub-sweep-bound c = let a = start (c .before .before .before .before .before) in omega (arith, buffer-has (a .args .t1 .plan) (a .pre .0 .planned))
-
-sweep-bound-requires : tie.Need-sweep-bound-requires
-sweep-bound-requires c κs = let a = start (c .before .before .before .before .before) in
-    let r = a .pre .0 in (streams-are (a .args .t1) r, a .pre .2 .times, r .legal .hop .1, r .legal .back .1)
-
-product-requires : tie.Need-product-requires
-product-requires c κs = search needs
+returns c = λ p v xs o. judged-length p v _ _ _ xs _ o _ (λ z. c .if1 .taken (c .before .entries .ensures ∙ z))
 
 first-excess-requires : tie.Need-first-excess-requires
-first-excess-requires c κs = let e = counted (c .before .before) in omega (arith, count e, streams-are (start e .args .t1) (start e .pre .0))
+first-excess-requires c κs = omega (arith, count c, start c .pre)
 
 first-overdrawn-requires : tie.Need-first-overdrawn-requires
-first-overdrawn-requires c κs = let e = counted (c .before .before .before .before .before) in omega (arith, count e, streams-are (start e .args .t1) (start e .pre .0))
+first-overdrawn-requires c κs = let e = c .before in omega (arith, count e, start e .pre)
 
 returns-2 : tie.Need-returns-2
-returns-2 c = let m = c .before .before .before .before .before .before .before in
-    let a = start (counted m) in
-    let e = c .before .before .before .before .first-excess in
-    judged-excess (a .args .t1) (wide a) (a .pre .0) (a .pre .3) _ (count (counted m)) _ (most m) (e .result) (limits-in _ (wide a) _ _ _ (e .ensures)) (omega arith)
+returns-2 c = λ p v xs o. let f = c .before .before in
+    let e = f .before in
+    judged-excess p v _ _ _ xs _ o _ (start e .pre) (count e) (f .first-excess .result) (f .first-excess .ensures) (c .if2 .taken)
 
 returns-3 : tie.Need-returns-3
-returns-3 c = let m = c .before .before .before .before .before .before .before .before in
-    let a = start (counted m) in
-    let e = c .before .before .before .before .before .first-excess in
-    let o = c .before .before .first-overdrawn in
-    judged-overdrawn (a .args .t1) (wide a) (a .pre .0) (a .pre .3) _ (count (counted m)) _ (most m) (e .result) (limits-in _ (wide a) _ _ _ (e .ensures)) (omega arith)
-    (o .result) (helds-in _ (wide a) _ _ (o .ensures)) (omega arith)
+returns-3 c = λ p v xs o. let h = c .before .before in
+    let f = h .before in
+    let e = f .before in
+    judged-overdrawn p v _ _ _ xs _ o _ (start e .pre) (count e) (f .first-excess .result) (f .first-excess .ensures) (c .before .if2 .left)
+    (h .first-overdrawn .result) (h .first-overdrawn .ensures) (c .if3 .taken)
 
 returns-4 : tie.Need-returns-4
-returns-4 c = let m = c .before .before .before .before .before .before .before .before in
-    let a = start (counted m) in
-    let e = c .before .before .before .before .before .first-excess in
-    let o = c .before .before .first-overdrawn in
-    judged-accepted (a .args .t1) (wide a) (a .pre .0) (a .pre .3) _ (count (counted m)) _ (most m) (e .result) (limits-in _ (wide a) _ _ _ (e .ensures)) (omega arith)
-    (o .result) (helds-in _ (wide a) _ _ (o .ensures)) (omega arith)
+returns-4 c = λ p v xs o. let h = c .before .before in
+    let f = h .before in
+    let e = f .before in
+    judged-accepted p v _ _ _ xs _ o _ (start e .pre) (count e) (f .first-excess .result) (f .first-excess .ensures) (c .before .if2 .left)
+    (h .first-overdrawn .result) (h .first-overdrawn .ensures) (c .if3 .left)
 
 pub judge-draws-spec : {M : Type 1} → statement M
 judge-draws-spec =
     tie.close
     (tie.spec
-    cast-n
     entries-requires
     returns
-    sub-sweep-bound
-    sweep-bound-requires
-    product-requires
     first-excess-requires
     first-overdrawn-requires
     returns-2

@@ -63,14 +63,7 @@ ended-slot-requires c κs = let a = c .before .before .before .before .before .b
     let d = a .args .desk in
     let ds = wordsOf (a .args .draws .now) in
     let f = fair-now d (wide a) (a .pre .0) ds (a .pre .1) (l .i) (inside (c .before .before .before .before) .0) (l .d) (l .inv .2) in
-    let e : c .word-at .result ≡ getD ds (l .i) 0 = c .word-at .ensures in (
-      omega (arith, f .drawn),
-      λ z. e ∙ f .none z,
-      f .kinds,
-      f .named,
-      omega (arith, buffer-has (d .plan) (a .pre .0 .planned), buffer-most (d .plan) (a .pre .0 .legal) (a .pre .0 .planned)),
-      a .pre .0 .legal .bytes .0,
-    )
+    (rw (c .word-at .ensures) f, omega (arith, buffer-has (d .plan) (a .pre .0 .planned), buffer-most (d .plan) (a .pre .0 .legal) (a .pre .0 .planned)))
 
 mul-d : tie.Need-mul-d Inv-loop μ-loop
 mul-d c = omega (arith, inside (c .before .before .before .before .before))

@@ -1,32 +1,54 @@
 use native.Mathlib.Omega.{arith}
-use Rattle.ends.proofs.Ending.{swept-full, swept-last, swept-on}
+use mathlib.Core.Path.{sym, _∙_}
 use borrow.Author.Needs.{needs}
+use Rattle.ends.proofs.Ending.{swept-full, swept-last, swept-on}
 use Rattle.ends.proofs.swept.Statement.{statement}
 use Rattle.ends.proofs.swept.Tie as tie
 
+abbrev start : tie.After-next-block → tie.Start
+start c = c .before .before .before
+
 sub-t9 : tie.Need-sub-t9
-sub-t9 c = search needs
+sub-t9 c = omega (arith, c .before .before .before .pre .0 .drawn)
 
 returns : tie.Need-returns
 returns c = λ p f. let a = c .before .before .before in
-    swept-full p _ _ _ f (a .args .slot) (a .args .draw) (a .pre .0) (a .pre .1) (omega arith)
+    swept-full p _ _ _ f (a .args .slot) (a .args .draw) (a .pre .1) (a .pre .2) (omega arith)
 
-add-next : tie.Need-add-next
-add-next c = search needs
+next-block-requires : tie.Need-next-block-requires
+next-block-requires c κs = let a = c .before .before in
+    omega (arith, a .pre .0 .named (a .pre .1) (a .pre .2))
 
 sub-held : tie.Need-sub-held
-sub-held c = search needs
+sub-held c = omega (arith, start (c .before) .pre .0 .drawn)
 
 add-held : tie.Need-add-held
-add-held c = search needs
+add-held c = omega (arith, start (c .before) .pre .0 .drawn)
+
+is-past-requires : tie.Need-is-past-requires
+is-past-requires c κs = search needs
 
 returns-2 : tie.Need-returns-2
-returns-2 c = λ p f. let a = c .before .before .before .before .before in
-    swept-last p _ _ _ f (a .args .slot) (a .args .draw) (a .pre .0) (a .pre .1) (omega arith) (a .pre .5) (omega arith)
+returns-2 c = λ p f. let n = c .before .before .before in
+    let a = start n in
+    swept-last p _ _ _ f (a .args .slot) (a .args .draw) (a .pre .1) (a .pre .2) (omega arith) (n .next-block .result) (n .next-block .ensures)
+    (sym (c .before .is-past .ensures) ∙ c .if2 .taken)
 
 returns-3 : tie.Need-returns-3
-returns-3 c = λ p f. let a = c .before .before .before .before .before in
-    swept-on p _ _ _ f (a .args .slot) (a .args .draw) (a .pre .0) (a .pre .1) (omega arith) (λ z. omega arith)
+returns-3 c = λ p f. let n = c .before .before .before in
+    let a = start n in
+    swept-on p _ _ _ f (a .args .slot) (a .args .draw) (a .pre .1) (a .pre .2) (omega arith) (n .next-block .result) (n .next-block .ensures)
+    (sym (c .before .is-past .ensures) ∙ c .if2 .left)
 
 pub swept-spec : {M : Type 1} → statement M
-swept-spec = tie.close (tie.spec sub-t9 returns add-next sub-held add-held returns-2 returns-3)
+swept-spec =
+    tie.close
+    (tie.spec
+    sub-t9
+    returns
+    next-block-requires
+    sub-held
+    add-held
+    is-past-requires
+    returns-2
+    returns-3)

@@ -5,7 +5,8 @@ use mathlib.Core.List.{List}
 use mathlib.Core.Logic.{⊎-elim}
 use lib.ListN.{length, getD, length-set}
 use Rattle.safety.specs.Supply.{Supply}
-use Rattle.grants.specs.Grants.{Slots, Asks}
+use Rattle.desk.specs.Shown.{Slots}
+use Rattle.grants.specs.Grants.{Asks}
 use Rattle.grants.proofs.Granting.{Granted, grants-none, grants-yes, grants-no, grants-end}
 use Rattle.grants.proofs.grant_asked.Statement.{statement}
 use Rattle.grants.proofs.grant_asked.Tie as tie

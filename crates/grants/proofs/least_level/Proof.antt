@@ -4,10 +4,12 @@ use mathlib.Core.Path.{_≡_}
 use mathlib.Core.List.{List}
 use lib.ListN.{take}
 use borrow.Author.Needs.{needs}
+use Rattle.numbers.specs.Units.{parts}
 use Rattle.safety.specs.Supply.{Supply}
 use Rattle.safety.specs.Arrays.{slotsOf}
 use Rattle.safety.specs.Turns.{leastHeld, least-none}
-use Rattle.grants.specs.Grants.{ample, Slots}
+use Rattle.desk.specs.Shown.{Slots}
+use Rattle.grants.specs.Grants.{ample}
 use Rattle.grants.proofs.Levels.{least-turn, least-end}
 use Rattle.grants.proofs.least_level.Statement.{statement}
 use Rattle.grants.proofs.least_level.Tie as tie
@@ -15,7 +17,7 @@ use Rattle.grants.proofs.least_level.Tie as tie
 -- the least of the first i slots is found
 abbrev Inv-loop : tie.InvT-loop
 Inv-loop kinds held streams level₀ i₀ level i = (i ≤ streams)
-    × ((p : Supply ℕ) (xs : List ℕ) → Slots p streams kinds xs held → level ≡ 2000000 * leastHeld p ample (take i (slotsOf p kinds xs held)))
+    × ((p : Supply ℕ) (xs : List ℕ) → Slots p streams kinds xs held → level ≡ parts * leastHeld p ample (take i (slotsOf p kinds xs held)))
 
 abbrev μ-loop : tie.MeasureT-loop
 μ-loop kinds held streams level₀ i₀ level i = streams - i

@@ -7,7 +7,7 @@ use borrow.Author.Needs.{needs}
 use Rattle.safety.specs.Supply.{Supply}
 use Rattle.safety.specs.Arrays.{slotsOf}
 use Rattle.safety.specs.Turns.{startedTo}
-use Rattle.grants.specs.Grants.{Slots}
+use Rattle.desk.specs.Shown.{Slots}
 use Rattle.grants.proofs.Granting.{started-none, started-turn, started-end}
 use Rattle.grants.proofs.start_playing.Statement.{statement}
 use Rattle.grants.proofs.start_playing.Tie as tie

@@ -1,12 +1,11 @@
 use native.Mathlib.Omega.{arith}
 use mathlib.Core.Path.{_≡_, refl}
-use Rattle.plan.specs.Plan as F
 use Rattle.safety.specs.Scheduler.{started, begun}
 use Rattle.safety.specs.Arrays.{slotsOf}
 use Rattle.desk.specs.View.{Wide}
 use Rattle.desk.specs.Desk.{supplyOf, slotsIn}
-use Rattle.desk.specs.Ready.{streams-are, buffer-has}
-use Rattle.sweep.proofs.Beginning.{floor-is, slots-own, slots-started, asks-started, begun-all, shown-begun, gathered-begun, begun-is}
+use Rattle.desk.specs.Ready.{streams-are, buffer-has, ready-slots}
+use Rattle.sweep.proofs.Beginning.{floor-is, slots-started, asks-started, begun-all, timed-begun, placed-begun, begun-is}
 use borrow.Author.Needs.{needs}
 use Rattle.sweep.proofs.begin_sweep.Statement.{statement}
 use Rattle.sweep.proofs.begin_sweep.Tie as tie
@@ -25,7 +24,7 @@ played c = c .before .before .before .before .before .before .before .before
 first : (c : tie.After-start-playing) → (let d = start c .args .t1 in
     slotsOf (supplyOf (d .plan)) (c .start-playing .last .0) (d .next) (d .held) ≡ started (supplyOf (d .plan)) (c .before .before .before .before .low-water .result) (slotsIn d))
 first c = let s = start c in
-    let d = s .args .t1 in c .start-playing .ensures (supplyOf (d .plan)) (d .next) (slots-own d (wide s) (s .pre .0))
+    let d = s .args .t1 in c .start-playing .ensures (supplyOf (d .plan)) (d .next) (ready-slots d (wide s) (s .pre .0))
 
 -- both steps are done
 all : (c : tie.After-grant-asked) → (let d = start (played c) .args .t1 in
@@ -86,8 +85,8 @@ returns c =
     let r = s .pre .0 in
     let b = c .before .before .before .before .before .before .before .sweep-bound in
     begun-is d w r _ (all k) (b .result) (c .list-fetches .result)
-    (b .ensures (d .plan) (d .next) (shown-begun d w r _ (all k)) (gathered-begun d w r _ (all k) (F.timeOf (d .plan .figures)) (s .args .t2 .times) (s .pre .1 .times)) refl refl)
-    (c .list-fetches .ensures (d .plan) (shown-begun d w r _ (all k)) (gathered-begun d w r _ (all k) (F.placeOf (d .plan .figures)) (s .args .t2 .positions) (s .pre .1 .positions)))
+    (b .ensures (supplyOf (d .plan)) (d .next) (timed-begun d w r _ (all k) (s .args .t2) (s .pre .1)))
+    (c .list-fetches .ensures (supplyOf (d .plan)) (placed-begun d w r _ (all k) (s .args .t2) (s .pre .1)))
 
 pub begin-sweep-spec : {M : Type 1} → statement M
 begin-sweep-spec =

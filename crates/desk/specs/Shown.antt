@@ -1,0 +1,33 @@
+-- What the arrays of a sweep show of a supply p: kinds ks, next blocks xs and held bytes hs of its slots, and a number for each next block.
+-- Assumes nothing.
+use Prim.Native.Nat.{ℕ, _≤_, _<_}
+use mathlib.Core.Path.{_≡_}
+use mathlib.Core.List.{List}
+use lib.ListN.{length, getD}
+use Rattle.numbers.specs.Limits.{maxPositions, maxTime}
+use Rattle.safety.specs.Supply.{Supply}
+use Rattle.safety.specs.Arrays.{slotsOf, SameLength}
+use Rattle.safety.specs.Sound.{FreeFrom}
+use Rattle.desk.specs.declared.Gathered.{Gathered}
+
+-- 256 slots, of which those from n on are free
+pub record Slots (p : Supply ℕ) (n : ℕ) (ks xs hs : List ℕ) : Type 0 where
+  pub long : length ks ≡ 256
+  pub same : SameLength p ks xs hs
+  pub unused : FreeFrom p n (slotsOf p ks xs hs)
+
+-- vs has f of the next block of each asked, filling or playing slot
+abbrev pub OfNext : Supply ℕ → (ℕ → ℕ) → List ℕ → List ℕ → List ℕ → Type 0
+OfNext p f ks xs vs = (i : ℕ) → i < 256 → 1 ≤ getD ks i 0 → getD ks i 0 ≤ 3 → getD vs i 0 ≡ f (getD xs i (p .none))
+
+-- time, lead and position of these blocks were gathered
+pub record Gathers (p : Supply ℕ) (ks xs : List ℕ) (g : Gathered) : Type 0 where
+  pub times : OfNext p (p .time) ks xs (g .times)
+  pub leads : OfNext p (p .lead) ks xs (g .leads)
+  pub positions : OfNext p (p .position) ks xs (g .positions)
+
+-- and all that was gathered is in its range
+pub record InRange (g : Gathered) : Type 0 where
+  pub times : (i : ℕ) → getD (g .times) i 0 ≤ maxTime
+  pub leads : (i : ℕ) → getD (g .leads) i 0 ≤ 3999999
+  pub positions : (i : ℕ) → getD (g .positions) i 0 < maxPositions
