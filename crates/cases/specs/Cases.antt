@@ -14,11 +14,11 @@ use Rattle.laws.specs.Greatest.{greatestOf, greatest}
 use Rattle.words.specs.Words.{wordsOf}
 use Rattle.placement.specs.Placement.{place, worstTime}
 use Rattle.placement.specs.Zones.{timeAt}
-use Rattle.pacing.specs.Film.{row as run, span, lead, once}
+use Rattle.pacing.specs.Film.{row as run, span, lead}
 use Rattle.pacing.specs.Streams.{overhead, load, streams, bufferOf}
-use Rattle.pacing.specs.Laid.{laidFilm, slowest, margin}
+use Rattle.pacing.specs.Laid.{slowest, margin}
 use Rattle.plan.specs.declared.Plan.{Plan}
-use Rattle.plan.specs.Plan.{timeOf, worst2Of, streamsOf, marginOf, filmOf, leadOf, bufferSize, planOf, blankPlan, row, positionsOf, leadsOf}
+use Rattle.plan.specs.Plan.{timeOf, worst2Of, streamsOf, marginOf, bufferSize, planOf, blankPlan, row, positionsOf, leadsOf}
 use Rattle.plan.specs.Answer.{planFault, refusal, planned}
 use Rattle.cases.specs.Story.{Story, story}
 use Rattle.cases.specs.Bench.{entries, film, sixOnes, bench, alike}

@@ -13,10 +13,10 @@ use Rattle.card.specs.Card.{totalPositions, filmFault, zoneFaults, zerosFrom, u
 use Rattle.card.specs.declared.Figures.{Figures}
 use Rattle.placement.specs.Placement.{place, worstTime}
 use Rattle.placement.specs.Zones.{timeAt}
-use Rattle.pacing.specs.Film.{row as run, span, lead, once}
+use Rattle.pacing.specs.Film.{row as run, span, lead}
 use Rattle.pacing.specs.Streams.{overhead, load, streams, bufferOf}
-use Rattle.pacing.specs.Laid.{laidFilm, slowest, margin}
-use Rattle.plan.specs.Plan.{worst2Of, streamsOf, marginOf, filmOf, leadOf, bufferSize, planOf, row, positionsOf, leadsOf}
+use Rattle.pacing.specs.Laid.{slowest, margin}
+use Rattle.plan.specs.Plan.{worst2Of, streamsOf, marginOf, leadOf, bufferSize, planOf, row, positionsOf, leadsOf}
 use Rattle.plan.specs.Answer.{begins, sameNumbers, isPlan}
 use Rattle.safety.specs.Scheduler as S
 use Rattle.safety.specs.Sound.{isZero, soundSlot, sound}
@@ -26,7 +26,7 @@ use Rattle.safety.specs.Calls.{refusals, accepted, answer}
 use Rattle.safety.specs.Arrays.{slotsOf}
 use Rattle.desk.specs.declared.Desk.{Desk}
 use Rattle.desk.specs.declared.Begun.{Begun}
-use Rattle.desk.specs.Desk.{supplyOf, viewOf, deskOf, zeros, freshDesk, openDesk, answerOf, answered, joinDesk, beginDesk, endDesk, array, fetchesOf}
+use Rattle.desk.specs.Desk.{supplyOf, slotsIn, viewOf, deskOf, zeros, freshDesk, openDesk, answerOf, answered, joinDesk, beginDesk, endDesk, array, fetchesOf}
 use Rattle.cases.specs.Bench.{entries, film, bench}
 
 -- the bench film's plan and its two lists
@@ -54,8 +54,11 @@ firstBegin = beginDesk joinedDesk positions leads 16
 unfoldable pub firstEnd : Desk
 firstEnd = endDesk (firstBegin .desk) positions leads (draws 0) .desk
 
+unfoldable pub secondJoin : Desk
+secondJoin = joinDesk firstEnd positions leads 1 0 .desk
+
 unfoldable pub secondBegin : Begun
-secondBegin = beginDesk (joinDesk firstEnd positions leads 1 0 .desk) positions leads 16
+secondBegin = beginDesk secondJoin positions leads 16
 
 -- slot 0 draws 21695; the third sweep
 unfoldable pub secondEnd : Desk
@@ -63,6 +66,14 @@ secondEnd = endDesk (secondBegin .desk) positions leads (draws 21695) .desk
 
 unfoldable pub thirdBegin : Begun
 thirdBegin = beginDesk secondEnd positions leads 16
+
+-- the floor that asked slot i is granted against at the next begin of a desk: after its starts, with the asked slot's lead added, in
+-- two-millionths of a byte
+unfoldable pub floorFor : Desk → ℕ → ℕ
+floorFor d i =
+    let p = supplyOf (d .plan) in
+    let ss = S.started p (S.lowWater p (S.leads p (slotsIn d))) (slotsIn d) in
+    S.lowWater p (S.leads p ss + p .lead (S.at p ss i .next))
 
 pub record Story : Type 0 where
   -- `begin gives position 0, slot 0, block 0, bound 49940`
@@ -74,17 +85,17 @@ pub record Story : Type 0 where
   -- `Begin: slot 0 plays, bound 43390; slot 1 waits, its floor being 263781.5`, in two-millionths
   pub second-kinds : (getD (secondBegin .desk .kinds) 0 0 ≡ 3) × (getD (secondBegin .desk .kinds) 1 0 ≡ 1)
   pub second-bound : secondBegin .bound ≡ 43390
-  pub second-floor : S.lowWater (supplyOf (planOf figures)) (0 + 6550) ≡ 2 * 263781500000
+  pub second-floor : floorFor secondJoin 1 ≡ 2 * 263781500000
   -- `Slot 0 may draw 21695; 21696 is 20`
   pub drawn : endDesk (secondBegin .desk) positions leads (draws 21695) .verdict .number ≡ 0
   pub overdrawn : (endDesk (secondBegin .desk) positions leads (draws 21696) .verdict .number ≡ 20) × (endDesk (secondBegin .desk) positions leads (draws 21696) .verdict .place ≡ 0)
   -- `After 21695 it holds 502593, and slot 1 is granted at the next begin against 264559`
   pub second-held : getD (secondEnd .held) 0 0 ≡ 502593
   pub third-kinds : (getD (thirdBegin .desk .kinds) 0 0 ≡ 3) × (getD (thirdBegin .desk .kinds) 1 0 ≡ 2)
-  pub third-floor : S.lowWater (supplyOf (planOf figures)) (3110 + 6550) ≡ 2000000 * 264559
+  pub third-floor : floorFor secondEnd 1 ≡ 2000000 * 264559
 
 pub story : Story
-unfolding sumBy allBy greatestOf greatest mapFrom allFrom lowestFrom wordsOf bytesOf first below above outside thenAbove faultOf totalPositions filmFault zoneFaults zerosFrom unusedZero recordFault place worstTime timeAt run span lead overhead load streams bufferOf slowest margin worst2Of streamsOf marginOf bufferSize planOf row positionsOf leadsOf begins sameNumbers isPlan S.before S.insert S.sorted S.entriesAt S.reads S.leadOf S.leads S.lowWater S.holds S.joined S.left S.startedSlot S.started S.playersHold S.grantable S.granted S.tried S.tries S.begun S.isFetched S.entriesFrom S.entries S.timeOf S.times S.fetchCount S.bound S.sweptBy S.released S.endedSlot S.ended S.mostDrawn S.drawLimit isZero soundSlot sound drawAllowed drawHeld judged verdict bySlot refusals accepted answer slotsOf supplyOf viewOf deskOf zeros freshDesk openDesk answerOf answered joinDesk beginDesk endDesk array fetchesOf entries film positions leads joinedDesk firstBegin firstEnd secondBegin secondEnd thirdBegin
+unfolding sumBy allBy greatestOf greatest mapFrom allFrom lowestFrom wordsOf bytesOf first below above outside thenAbove faultOf totalPositions filmFault zoneFaults zerosFrom unusedZero recordFault place worstTime timeAt run span lead overhead load streams bufferOf slowest margin worst2Of streamsOf marginOf bufferSize planOf row positionsOf leadsOf begins sameNumbers isPlan S.before S.insert S.sorted S.entriesAt S.reads S.leadOf S.leads S.lowWater S.holds S.joined S.left S.startedSlot S.started S.playersHold S.grantable S.granted S.tried S.tries S.begun S.isFetched S.entriesFrom S.entries S.timeOf S.times S.fetchCount S.bound S.sweptBy S.released S.endedSlot S.ended S.mostDrawn S.drawLimit isZero soundSlot sound drawAllowed drawHeld judged verdict bySlot refusals accepted answer slotsOf supplyOf viewOf deskOf zeros freshDesk openDesk answerOf answered joinDesk beginDesk endDesk array fetchesOf entries film positions leads joinedDesk firstBegin firstEnd secondJoin secondBegin secondEnd thirdBegin floorFor
 story = record {
   first-fetch = (refl, refl, refl, refl, refl);
   first-bound = refl;
