@@ -17,7 +17,7 @@ module _ (N : ℕ) (time place : ℕ → ℕ) where
     runs = λ b e. omega (arith, ltb-true b N e);
   }
 
-  -- 'lead(N) is 0'
+  -- lead(N)
   pub once-end : (w : ℕ) → lead (once N time place) w N ≡ 0
   once-end w = lead-none (once N time place) w N (le-ltb N N (omega arith))
 
