@@ -1,4 +1,4 @@
--- The figures of a record, and the card that is made of them.
+-- The figures of a record, their judge (R23), and the card that is made of them (K3).
 use Prim.Native.Nat.{ℕ, zero, suc, _+_, _≤_, _<_}
 use mathlib.Core.Path.{_≡_}
 use mathlib.Core.List.{List, [], _∷_, _++_}
@@ -15,7 +15,7 @@ use Rattle.card.specs.declared.CardWritten.{CardWritten}
 use Rattle.card.specs.declared.fields.Rule.the-variants.{Zones, Positions, Time, Blocks, Measure}
 use Rattle.card.specs.Ranges.{first, faultOf}
 
--- ---- legal figures: document 01's table of ranges, as plain facts
+-- ---- legal figures: the table of ranges as plain facts (K4)
 
 -- P, the positions of all zones
 unfoldable pub totalPositions : Figures → ℕ
@@ -60,7 +60,7 @@ zoneFaults (suc left) i f total before =
 unfoldable pub zerosFrom : ℕ → List ℕ → List ℕ → Bool
 zerosFrom i ps ts = allBy (λ (v : ℕ). eqb v 0) (drop i ps) && allBy (λ (v : ℕ). eqb v 0) (drop i ts)
 
--- a record's unused zones are zero
+-- a record's unused zones are zero (K7)
 unfoldable pub unusedZero : Figures → Bool
 unusedZero f = zerosFrom (f .zones) (f .positions) (f .times)
 
@@ -92,11 +92,11 @@ unfoldable pub bytesOf : List ℕ → List ℕ
 bytesOf [] = []
 bytesOf (v ∷ vs) = groups v ++ bytesOf vs
 
--- THE CARD OF FIGURES
+-- the card of figures
 unfoldable pub cardOf : Figures → List ℕ
 cardOf f = bytesOf (numbersOf f)
 
--- ---- the writer: 4 to 10, then 13
+-- ---- the writer (K9)
 
 unfoldable pub writeFault : Figures → ℕ → ℕ
 writeFault f room = first (recordFault f) (cond (leb (length (cardOf f)) room) 0 tooShort)

@@ -1,4 +1,4 @@
--- The ranges of a card's figures (document 01, the table of ranges) and the refusal of each.
+-- The ranges of a card's figures (K4), and the refusal of each (R3 to R10).
 use Prim.Native.Nat.{ℕ, zero, suc, _+_}
 use mathlib.Core.Bool.{cond}
 use lib.Dec.{leb}

@@ -1,4 +1,4 @@
--- A card is read number by number, form before range, and the first fault ends it.
+-- The reader of a card (K6): number by number, form before range (R22), and the first fault ends it.
 use Prim.Native.Nat.{ℕ, zero, suc, _+_}
 use mathlib.Core.List.{List}
 use mathlib.Core.Bool.{cond}
@@ -25,8 +25,7 @@ unfoldable pub onFault : ℕ → ℕ → ℕ → ℕ → Field
 onFault zero at v next = Value v next
 onFault (suc k) at v next = Refused (suc k) at
 
--- document 01's number and place for each answer of a number: the card ends too early is 1 with the card's length; not the
--- shortest form, over five bytes or above 4,294,967,295 is 2 with the number's offset
+-- number and place of each answer (R1, R2): the card's length where it ends too early, the number's offset where its form is wrong
 unfoldable pub onNumber : (ℕ → ℕ) → ℕ → Number → Field
 onNumber judge at (number.Value v next) = onFault (judge v) at v next
 onNumber judge at (number.CutOff size) = Refused cardEnds size
@@ -87,7 +86,7 @@ withFilm f n b c hop ret = record {
   back = ret;
 }
 
--- after the last figure no byte is left over
+-- after the last figure no byte is left over (R11)
 unfoldable pub cardEnd : List ℕ → ℕ → Figures → CardRead
 cardEnd s at f = cond (ltb at (length s)) (refusedCard cardGoesOn at) (record { verdict = accepted; figures = f })
 
@@ -109,7 +108,7 @@ zonesFrom (suc left) s at i f total before =
     thenField (fieldAt Time before s at₁) (λ t at₂.
     zonesFrom left s at₂ (i + 1) (withZone f i p t) (total + p) t))
 
--- THE CARD: kind, zones, each zone innermost first, the film. The first zone's time is bounded by the greatest time alone
+-- the card (K3); the first zone's time is bounded by the greatest time alone
 unfoldable pub readCard : List ℕ → CardRead
 readCard s =
     thenField (fieldAt Kind 0 s 0) (λ kind at₁.

@@ -1,4 +1,4 @@
--- A fact for each element of a list, for each element with its place, and for two lists side by side.
+-- A fact for each element of a list, for each element with its index, and for two lists side by side.
 -- Assumes nothing.
 use Prim.Native.Nat.{ℕ, zero, suc, _+_, _<_}
 use mathlib.Core.Path.{_≡_, refl, ap}
@@ -13,7 +13,7 @@ abbrev pub Each : {A : Type 0} → (A → Type 0) → List A → Type 0
 Each Q [] = Unit {0}
 Each Q (x ∷ xs) = Q x × Each Q xs
 
--- the places are counted from i
+-- the indices are counted from i
 abbrev pub EachFrom : {A : Type 0} → (ℕ → A → Type 0) → ℕ → List A → Type 0
 EachFrom Q i [] = Unit {0}
 EachFrom Q i (x ∷ xs) = Q i x × EachFrom Q (suc i) xs
@@ -40,7 +40,7 @@ module _ {A : Type 0} (Q : A → Type 0) where
   each-append [] ys h k = k
   each-append (x ∷ xs) ys h k = (h .0, each-append xs ys (h .1) k)
 
-  -- from the fact at each place
+  -- from the fact at each index
   pub each-by : (xs : List A) (d : A) → ((i : ℕ) → i < length xs → Q (getD xs i d)) → Each Q xs
   each-by [] d h = tt
   each-by (x ∷ xs) d h = (h 0 (omega arith), each-by xs d (λ i l. h (suc i) (omega arith)))

@@ -1,4 +1,4 @@
--- A test at each element and its place, and the lowest place that fails; a list changed element by element (Map), seen at one place.
+-- A test of each element with its index, and the lowest index that fails; a list changed element by element (Map), seen at one index.
 -- Assumes nothing.
 use Prim.Native.Nat.{ℕ, zero, suc, _+_, _≤_, _<_}
 use mathlib.Core.Path.{_≡_, refl, sym, ap, _∙_, subst}
@@ -11,12 +11,12 @@ use Rattle.laws.specs.Map.{mapFrom, mapTo, mapTo-none}
 use Rattle.laws.specs.Each.{EachFrom}
 
 module _ {A : Type 0} (f : ℕ → A → Bool) where
-  -- each element passes with its place, counted from i
+  -- each element passes with its index, counted from i
   unfoldable pub allFrom : ℕ → List A → Bool
   allFrom i [] = true
   allFrom i (x ∷ xs) = f i x && allFrom (suc i) xs
 
-  -- the lowest place that fails; one past the last where none does
+  -- the lowest index that fails; one past the last where none does
   unfoldable pub lowestFrom : ℕ → List A → ℕ
   lowestFrom i [] = i
   lowestFrom i (x ∷ xs) = cond (f i x) (lowestFrom (suc i) xs) i
@@ -53,7 +53,7 @@ module _ {A : Type 0} (f : ℕ → A → Bool) where
       later : (allFrom (suc i) xs ≡ false) × (lowestFrom (suc i) xs ≡ suc i + j) → (allFrom i (x ∷ xs) ≡ false) × (lowestFrom i (x ∷ xs) ≡ i + suc j)
       later r = (rw q (r .0), rw q (omega (arith, r .1)))
 
-  -- one that stops at its first failure, place j
+  -- one that stops at its first failure, j
   pub first-failed : (d : A) (xs : List A) (j : ℕ) → j < length xs → ((k : ℕ) → k < j → f k (getD xs k d) ≡ true)
       → f j (getD xs j d) ≡ false → (allFrom 0 xs ≡ false) × (lowestFrom 0 xs ≡ j)
   first-failed d xs j l h e =
@@ -63,7 +63,7 @@ module _ {A : Type 0} (f : ℕ → A → Bool) where
       whole : (allFrom 0 xs ≡ false) × (lowestFrom 0 xs ≡ 0 + j) → (allFrom 0 xs ≡ false) × (lowestFrom 0 xs ≡ j)
       whole r = (r .0, omega (arith, r .1))
 
-  -- m is the lowest place that fails, j elements after place i
+  -- m is the lowest index that fails, j elements after i
   abbrev Found : A → ℕ → List A → ℕ → Type 0
   Found d i xs m =
       (j : ℕ) × (m ≡ i + j) × (j < length xs) × (f (i + j) (getD xs j d) ≡ false) × ((k : ℕ) → k < j → f (i + k) (getD xs k d) ≡ true)
@@ -91,7 +91,7 @@ module _ {A : Type 0} (f : ℕ → A → Bool) where
     pub fails : f i (getD xs i d) ≡ false
     pub below : (k : ℕ) → k < i → f k (getD xs k d) ≡ true
 
-  -- where not all pass, the lowest place that fails is that place
+  -- where not all pass, lowestFrom finds it
   pub lowest-fails : (d : A) (xs : List A) → allFrom 0 xs ≡ false → Lowest d xs (lowestFrom 0 xs)
   lowest-fails d xs e = go (lowestFrom 0 xs) (found d 0 xs e)
     where
@@ -145,7 +145,7 @@ module _ {A : Type 0} (f : ℕ → A → A) where
   pub mapTo-rest : (d : A) (n : ℕ) (xs : List A) → ((j : ℕ) → n ≤ j → j < length xs → f j (getD xs j d) ≡ getD xs j d) → mapTo f 0 n xs ≡ mapFrom f 0 xs
   mapTo-rest d n xs h = rest-by d 0 n xs (λ j l m. subst (λ (k : ℕ). f k (getD xs j d) ≡ getD xs j d) (omega arith) (h j l m))
 
--- where the place does not matter
+-- where the index does not matter
 pub mapFrom-map : {A : Type 0} (f : A → A) (i : ℕ) (xs : List A) → mapFrom (λ j x. f x) i xs ≡ map f xs
 unfolding mapFrom
 mapFrom-map f i [] = refl

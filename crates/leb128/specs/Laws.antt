@@ -229,15 +229,15 @@ scan-is (suc left) s start j sum w (b ∷ bs) e =
         → cond t (judged start (start + j - start) b (sum + b * w)) (scan left s start (start + (j + 1)) (sum + b % 128 * w) (w * 128))
         ≡ scanned (suc left) (length s) start j sum w (b ∷ bs) (cond t 0 (suc (continuing left bs)))
     go true t ih =
-        let place : start + j - start ≡ j + 0 = omega arith in
+        let index : start + j - start ≡ j + 0 = omega arith in
         let whole : b % 128 + 128 * 0 ≡ b = omega (arith, ltb-true b 128 t) in
         let sums : sum + b * w ≡ sum + w * b = omega arith in
-        rw (lt-leb (suc left) 0 (omega arith), lt-leb (suc (length bs)) 0 (omega arith), place, whole, sums)
+        rw (lt-leb (suc left) 0 (omega arith), lt-leb (suc (length bs)) 0 (omega arith), index, whole, sums)
     go false t ih =
         let k = continuing left bs in
-        let place : j + 1 + k ≡ j + suc k = omega arith in
+        let index : j + 1 + k ≡ j + suc k = omega arith in
         let sums : sum + b % 128 * w + w * 128 * joined (take (suc k) bs) ≡ sum + w * (b % 128 + 128 * joined (take (suc k) bs)) = omega arith in
-        ih ∙ rw (leb·suc-suc left k, leb·suc-suc (length bs) k, place, sums)
+        ih ∙ rw (leb·suc-suc left k, leb·suc-suc (length bs) k, index, sums)
 
 -- THE CODE'S SCAN IS THE DEFINITION
 pub scan-number : (s : List ℕ) (start : ℕ) → scan 5 s start start 0 1 ≡ numberAt s start

@@ -1,4 +1,4 @@
--- One number of a card, as document 01 gives it: groups of seven bits, lowest first, one group a byte; the top bit is set on every byte but the last.
+-- One number of a card: how it is written (K1), and how it is read (K2, R1, R2, R24).
 use Prim.Native.Nat.{ℕ, zero, suc, _+_, _-_, _*_, _/_, _%_}
 use mathlib.Core.List.{List, [], _∷_}
 use mathlib.Core.Bool.{cond, _&&_}
@@ -41,7 +41,7 @@ numberIn size start bs k =
     (cond (leb (length bs) k) (CutOff size)
     (judged start k (getD bs k 0) (joined (take (suc k) bs))))
 
--- THE NUMBER AT AN OFFSET: five bytes that all continue are malformed; fewer, cut off, end too early
+-- the number at an offset (R24): five bytes that all continue are malformed; fewer, cut off, end too early
 unfoldable pub numberAt : List ℕ → ℕ → Number
 numberAt s start = numberIn (length s) start (drop start s) (continuing 5 (drop start s))
 

@@ -8,30 +8,30 @@ use lib.Dec.{ltb, eqb}
 use Rattle.laws.specs.Greatest.{greatestOf}
 use Rattle.numbers.specs.Refusals.{noSuchBlock}
 
--- A names what a slot reads next: in document 01 the number of a block
+-- A names what a slot reads next: a block's number in the base, as `once` says. Fields that only document 02 needs say what they are there
 pub record Film (A : Type 0) : Type 0 where
-  -- the name in a free slot, and its test
+  -- the name in a free slot, and its test: block 0
   pub none : A
   pub isNone : A → Bool
   -- names a block of the film
   pub isBlock : A → Bool
-  -- the number of the refusal of a join there; 0 where it is a block
+  -- the number that refuses a join there, 0 where it is a block: 18 for all others
   pub fault : A → ℕ
-  -- past the last block: N in document 01
+  -- past the last block: it is N
   pub isEnd : A → Bool
   -- the block after
   pub next : A → A
-  -- its number in the film
+  -- its number in the film: itself
   pub number : A → ℕ
-  -- its position, and further ones where a block has several (document 02)
+  -- its position (P1), and further ones: none
   pub place : A → ℕ
   pub others : A → List ℕ
-  -- time(b): the time of the zone where it is laid
+  -- time(b) (P2)
   pub time : A → ℕ
-  -- the most blocks of a run that starts there
+  -- the most blocks of a run that starts there: those to the film's end
   pub longest : A → ℕ
 
--- all that the laws of leads rely on. In document 01 w is worst2 and m the greatest time(b)
+-- all that the laws of leads rely on; in the base w is worst2 and m the greatest time(b)
 pub record Paced {A : Type 0} (film : Film A) (w m : ℕ) : Type 0 where
   -- after a block comes a block or the end
   pub goes : (a : A) → film .isBlock a ≡ true → film .isEnd (film .next a) ≡ false → film .isBlock (film .next a) ≡ true
@@ -57,12 +57,11 @@ module _ {A : Type 0} (film : Film A) where
   abbrev pub runSum : ℕ → A → ℕ → ℕ
   runSum w a j = cond (row j a) (2 * span j a - j * w) 0
 
-  -- lead(b), in half microseconds, w being worst2: 'the greatest sum of 2 × time − worst2 over a run of blocks starting at b,
-  -- the empty run (0) included'
+  -- lead(b) in half microseconds (P6), w being worst2
   unfoldable pub lead : ℕ → A → ℕ
   lead w a = greatestOf (runSum w a) (suc (film .longest a))
 
--- the film of document 01, shown once through: N blocks in the order of their numbers. 'The film does not wrap'
+-- the film of document 01: N blocks, once through in the order of their numbers
 abbrev pub once : ℕ → (ℕ → ℕ) → (ℕ → ℕ) → Film ℕ
 once N time place = record {
   none = 0;

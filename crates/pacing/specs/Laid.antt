@@ -24,7 +24,7 @@ module _ (τ l : ℕ → ℕ) (N : ℕ) where
   unfoldable pub slowest : ℕ
   slowest = greatestOf (λ b. τ (l b)) N
 
-  -- margin: 'twice the greatest time(b), less worst2'
+  -- margin (P5)
   unfoldable pub margin : ℕ
   margin = 2 * slowest - worstTime τ l N
 
@@ -74,7 +74,7 @@ pub margin-quick : (P N : ℕ) → N ≤ P → 0 < N → (τ : ℕ → ℕ) → 
 unfolding margin slowest
 margin-quick P N np some τ falls = rw (slowest-quick P N np τ falls some)
 
--- of any laying 'with [its worst time] in place of worst2 no number above n in the range of streams meets the formula of streams'
+-- with any laying's worst time in place of worst2 no number above streams meets the formula (P10)
 pub no-laying-feeds-more : (P N : ℕ) → N ≤ P → (τ : ℕ → ℕ) → Falling P τ → (l : ℕ → ℕ) → Laying P N l
     → (c : ℕ) (over : ℕ → ℕ) (B n : ℕ) → streams c (worstTime τ (place P N) N) over B < n → n ≤ maxStreams → parts * B < load c (worstTime τ l N) over n
 no-laying-feeds-more P N np τ falls l lay c over B n m u =

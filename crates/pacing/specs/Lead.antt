@@ -1,4 +1,4 @@
--- Document 01's lead: the greatest sum over a run, and what the desk relies on of it.
+-- A lead is the greatest sum over a run (P6), and what the desk relies on of it.
 -- Assumes nothing.
 use Prim.Native.Nat.{ℕ, zero, suc, _+_, _*_, _-_, _≤_}
 use mathlib.Core.Path.{_≡_, refl}
@@ -41,7 +41,7 @@ module _ {A : Type 0} (film : Film A) where
       let (k, v, s, d) = lead-attained w a in
       omega (arith, lead-above w j a u r, above k v s, d)
 
-  -- past the last block: 'lead(N) is 0'
+  -- past the last block it is 0
   pub lead-none : (w : ℕ) (a : A) → film .isBlock a ≡ false → lead film w a ≡ 0
   unfolding lead row span
   lead-none w a e = omega (arith, greatestOf-least (runSum film w a) (suc (film .longest a)) 0 (λ j u. none j))

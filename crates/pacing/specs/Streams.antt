@@ -1,6 +1,6 @@
--- Document 01's streams and buffer, over any overhead of a sweep.
+-- Streams (P4) and buffer (P7), over any overhead of a sweep.
 -- Assumes nothing.
-use Prim.Native.Nat.{ℕ, _+_, _*_, _-_, _/_, _≤_, _<_}
+use Prim.Native.Nat.{ℕ, _+_, _*_, _-_, _≤_, _<_}
 use mathlib.Core.Path.{_≡_, refl}
 use mathlib.Core.Bool.{Bool}
 use native.Mathlib.Nat.{mul-le-mul-left, mul-le-mul-right, le-refl}
@@ -12,7 +12,7 @@ use Rattle.laws.specs.Greatest.{greatest, greatest-le, greatest-above, greatest
 use Rattle.numbers.specs.Units.{parts, wholeBytes}
 use Rattle.numbers.specs.Limits.{maxStreams}
 
--- the overhead of a sweep that fetches k blocks: 'count × hop, plus return'. All else knows only that it never falls
+-- what a sweep that fetches k blocks takes beside their times (D11). All else knows only that it never falls
 unfoldable pub overhead : ℕ → ℕ → ℕ → ℕ
 overhead hop ret k = k * hop + ret
 
@@ -20,7 +20,7 @@ pub overhead-rises : (hop ret j k : ℕ) → j ≤ k → overhead hop ret j ≤ 
 unfolding overhead
 overhead-rises hop ret j k h = omega (arith, mul-le-mul-right hop h)
 
--- the left side of the formula of streams: c × (n × worst2 + 2 × overhead), w being worst2 and over the overhead
+-- the left side of the formula of streams (P4), w being worst2 and over the overhead
 unfoldable pub load : ℕ → ℕ → (ℕ → ℕ) → ℕ → ℕ
 load c w over n = c * (n * w + 2 * over n)
 
@@ -28,11 +28,11 @@ load c w over n = c * (n * w + 2 * over n)
 abbrev pub fits : ℕ → ℕ → (ℕ → ℕ) → ℕ → ℕ → Bool
 fits c w over B n = leb (load c w over n) (parts * B)
 
--- streams: 'the greatest whole number from 1 to 256, called n', that meets the formula; 0 where none does
+-- streams (P4); 0 where no number from 1 on meets the formula
 unfoldable pub streams : ℕ → ℕ → (ℕ → ℕ) → ℕ → ℕ
 streams c w over B = greatest (fits c w over B) maxStreams
 
--- buffer: '3 × B plus c × n × margin / 2,000,000 rounded up, in bytes'
+-- buffer (P7), in bytes
 unfoldable pub bufferOf : ℕ → ℕ → ℕ → ℕ → ℕ
 bufferOf c n margin B = 3 * B + wholeBytes (c * n * margin)
 
@@ -69,7 +69,7 @@ pub load-rises : (c w : ℕ) (over : ℕ → ℕ) → ((j k : ℕ) → j ≤ k �
 unfolding load
 load-rises c w over rises j k h = omega (arith, mul-le-mul-left c (mul-le-mul-right w h), mul-le-mul-left c (rises j k h))
 
--- where one stream does not fit, no number does: 'not even one stream fits'
+-- where one stream does not fit, no number does (P11)
 pub streams-none : (c w : ℕ) (over : ℕ → ℕ) (B : ℕ) → ((j k : ℕ) → j ≤ k → over j ≤ over k) → parts * B < load c w over 1 → streams c w over B ≡ 0
 streams-none c w over B rises h = go (decLt 0 (streams c w over B))
   where

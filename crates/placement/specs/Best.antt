@@ -64,7 +64,7 @@ module _ (P N : ℕ) (τ : ℕ → ℕ) (falls : Falling P τ) (l : ℕ → ℕ)
       go false d true e = omega (arith, pair-bound (P - N + suc b / 2) (P - 1 - b / 2) (omega (arith, eqb-true)) (omega (arith, eqb-true)) (omega (arith, eqb-true)) (omega (arith, eqb-true)))
       go false d false e = absurd (omega (arith, eqb-false (b % 2) 0 d, eqb-false (suc b % 2) 0 e))
 
--- 'Every laying's [worst time] is at least worst2'
+-- no laying has a smaller worst time (P10)
 pub placement-best : (P N : ℕ) → N ≤ P → (τ : ℕ → ℕ) → Falling P τ → (l : ℕ → ℕ) → Laying P N l → worstTime τ (place P N) N ≤ worstTime τ l N
 unfolding worstTime
 placement-best P N np τ falls l lay =

@@ -1,5 +1,4 @@
--- Document 01, 'The card' and 'Laying the film': zones as two lists, innermost zone first: the positions of each and the time of each.
--- Entries past the last zone may follow; they are zero.
+-- Zones as two lists, innermost zone first: the positions of each and the time of each. Zero entries may follow the last zone.
 -- Assumes nothing.
 use Prim.Native.Nat.{ℕ, zero, suc, _+_, _-_, _≤_, _<_}
 use mathlib.Core.Path.{_≡_, refl}
@@ -18,14 +17,13 @@ use Rattle.placement.specs.Placement.{Falling}
 unfoldable pub total : List ℕ → ℕ
 total ps = sumBy (λ p. p) ps
 
--- the time to read a block at position q: the time of the zone that q is in.
--- 'Positions are numbered from 0, innermost zone first'
+-- the time to read a block at position q (P2): that of the zone that q is in, positions counted from the innermost zone on
 unfoldable pub timeAt : List ℕ → List ℕ → ℕ → ℕ
 timeAt [] ts q = 0
 timeAt (p ∷ ps) [] q = 0
 timeAt (p ∷ ps) (t ∷ ts) q = cond (ltb q p) t (timeAt ps ts (q - p))
 
--- a zone time is 'never above the zone before'
+-- zone times never rise (K4)
 unfoldable pub Descending : List ℕ → Type 0
 Descending ts = (i : ℕ) → suc i < length ts → getD ts (suc i) 0 ≤ getD ts i 0
 

@@ -7,6 +7,8 @@ use native.Mathlib.Omega.{arith}
 use native.Mathlib.Decide.{decLt}
 use lib.ListN.{take}
 use Rattle.laws.specs.Greatest.{greatestOf, greatestOf-least}
+use Rattle.numbers.specs.Limits.{maxTime, maxStreams}
+use Rattle.numbers.specs.Units.{parts}
 use Rattle.card.specs.declared.Figures.{Figures}
 use Rattle.card.specs.Card.{Legal, totalPositions}
 use Rattle.placement.specs.Placement.{Laying, Falling, worstTime}
@@ -42,7 +44,7 @@ module _ (f : Figures) (ok : Legal f) where
     quick = λ i. by-cases (decLt i (f .zones)) (λ u. ok .times i u .1) (λ u. omega (arith, ok .unused i (omega arith) .1));
   }
 
-  -- zone times 'never above the zone before'
+  -- times never rise with the position
   pub legal-falling : Falling (totalPositions f) (timeOn f)
   legal-falling =
       subst (λ (n : ℕ). Falling n (timeOn f)) (sym total-is)
@@ -57,18 +59,18 @@ module _ (f : Figures) (ok : Legal f) where
   pub time-positive : (q : ℕ) → q < totalPositions f → 0 < timeOn f q
   time-positive q h = timeAt-positive (f .positions) (f .times) (f .zones) q (λ i u. ok .times i u .0) (omega (arith, total-zones))
 
-  pub time-small : (q : ℕ) → q < totalPositions f → timeOn f q ≤ 4000000
-  time-small q h = timeAt-within (f .positions) (f .times) (f .zones) q 4000000 (λ i u. ok .times i u .1) (omega (arith, total-zones))
+  pub time-small : (q : ℕ) → q < totalPositions f → timeOn f q ≤ maxTime
+  time-small q h = timeAt-within (f .positions) (f .times) (f .zones) q maxTime (λ i u. ok .times i u .1) (omega (arith, total-zones))
 
   -- worst2 from one pair of positions for every two blocks
   pub worst2-quick : worst2Of f ≡ greatestOf (λ i. timeOn f (totalPositions f - f .blocks + i) + timeOn f (totalPositions f - 1 - i)) (f .blocks / 2)
   unfolding worst2Of
   worst2-quick = worst-quick (totalPositions f) (f .blocks) (ok .room) (timeOn f) legal-falling
 
-  pub worst2-small : worst2Of f ≤ 8000000
+  pub worst2-small : worst2Of f ≤ 2 * maxTime
   unfolding worst2Of worstTime
   worst2-small =
-      greatestOf-least (λ b. timeOf f b + timeOf f (suc b)) (f .blocks - 1) 8000000
+      greatestOf-least (λ b. timeOf f b + timeOf f (suc b)) (f .blocks - 1) (2 * maxTime)
       (λ b u. omega (arith, time-small (placeOf f b) (place-below b (omega arith)), time-small (placeOf f (suc b)) (place-below (suc b) (omega arith))))
 
   -- the margin from the innermost position of the film
@@ -98,17 +100,17 @@ module _ (f : Figures) (ok : Legal f) where
       (λ h. let e : suc (b - 1) ≡ b = omega (arith, ok .blocks) in
       omega (arith, rw e at (pair-within (timeOn f) (placeOf f) (f .blocks) (b - 1) (omega (arith, ok .blocks))), time-positive (placeOf f (b - 1)) (place-below (b - 1) (omega arith))))
 
-  pub lead-small : (b : ℕ) → b < f .blocks → leadOf f b ≤ 3999999
+  pub lead-small : (b : ℕ) → b < f .blocks → leadOf f b ≤ maxTime - 1
   lead-small b u = omega (arith, lead-is b u, time-less b u, time-small (placeOf f b) (place-below b u))
 
   -- ---- streams and buffer
 
-  pub streams-few : streamsOf f ≤ 256
+  pub streams-few : streamsOf f ≤ maxStreams
   unfolding streamsOf
   streams-few = streams-le (f .rate) (worst2Of f) (overOf f) (f .bytes)
 
   -- the formula of streams
-  pub streams-fit : 0 < streamsOf f → load (f .rate) (worst2Of f) (overOf f) (streamsOf f) ≤ 2000000 * f .bytes
+  pub streams-fit : 0 < streamsOf f → load (f .rate) (worst2Of f) (overOf f) (streamsOf f) ≤ parts * f .bytes
   unfolding streamsOf
   streams-fit h = streams-fits (f .rate) (worst2Of f) (overOf f) (f .bytes) h
 

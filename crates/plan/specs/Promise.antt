@@ -1,11 +1,13 @@
 -- What the planner promises of the plan of legal figures: all that the desk relies on, and that no laying is better.
 -- Assumes nothing.
-use Prim.Native.Nat.{ℕ, suc, _+_, _*_, _-_, _/_, _≤_, _<_}
+use Prim.Native.Nat.{ℕ, suc, _+_, _*_, _-_, _≤_, _<_}
 use mathlib.Core.Path.{_≡_, refl}
 use mathlib.Core.Bool.{Bool, true, false, cond}
 use native.Mathlib.Omega.{arith}
 use lib.Dec.{eqb}
 use borrow.Author.Tests.{eqb-true, lt-ltb}
+use Rattle.numbers.specs.Limits.{maxTime, maxStreams}
+use Rattle.numbers.specs.Units.{parts, wholeBytes}
 use Rattle.card.specs.declared.Figures.{Figures}
 use Rattle.card.specs.Card.{Legal, totalPositions}
 use Rattle.placement.specs.Placement.{Laying, worstTime}
@@ -20,7 +22,7 @@ use Rattle.plan.specs.Legal.{legal-falling, legal-laying, place-below, t
 
 -- ---- leads
 
--- the lead laws of a film: it is paced by worst2, a lead pays for its block, no lead is above the margin, and 'lead(N) is 0'
+-- the lead laws of a film: it is paced by worst2, a lead pays for its block, none is above the margin, and that past the end is 0
 pub record LeadLaws (f : Figures) : Type 0 where
   pub paced : Paced (filmOf f) (worst2Of f) (slowestOf f)
   pub pays : (b : ℕ) → b < f .blocks → 2 * timeOf f b + leadOf f (suc b) ≤ leadOf f b + worst2Of f
@@ -63,22 +65,22 @@ pub record Promise (f : Figures) : Type 0 where
   pub leads : LeadLaws f
   -- streams
   pub some : 0 < streamsOf f
-  pub few : streamsOf f ≤ 256
-  pub fits : load (f .rate) (worst2Of f) (overOf f) (streamsOf f) ≤ 2000000 * f .bytes
+  pub few : streamsOf f ≤ maxStreams
+  pub fits : load (f .rate) (worst2Of f) (overOf f) (streamsOf f) ≤ parts * f .bytes
   pub rises : (j k : ℕ) → j ≤ k → overOf f j ≤ overOf f k
   -- the buffer
-  pub buffer : bufferSize f ≡ 3 * f .bytes + (f .rate * streamsOf f * marginOf f + 1999999) / 2000000
+  pub buffer : bufferSize f ≡ 3 * f .bytes + wholeBytes (f .rate * streamsOf f * marginOf f)
   pub four : bufferSize f ≤ 4 * f .bytes
   -- positions: below P, and no two alike
   pub laying : Laying (totalPositions f) (f .blocks) (placeOf f)
   -- sizes
-  pub worst2 : worst2Of f ≤ 8000000
+  pub worst2 : worst2Of f ≤ 2 * maxTime
   pub margin : marginOf f + 1 ≤ worst2Of f
   pub margin-is : marginOf f ≡ 2 * slowestOf f - worst2Of f
-  pub lead : (b : ℕ) → b < f .blocks → leadOf f b ≤ 3999999
-  pub time : (b : ℕ) → b < f .blocks → (0 < timeOf f b) × (timeOf f b ≤ 4000000)
+  pub lead : (b : ℕ) → b < f .blocks → leadOf f b ≤ maxTime - 1
+  pub time : (b : ℕ) → b < f .blocks → (0 < timeOf f b) × (timeOf f b ≤ maxTime)
 
-pub buffer-formula : (f : Figures) → bufferSize f ≡ 3 * f .bytes + (f .rate * streamsOf f * marginOf f + 1999999) / 2000000
+pub buffer-formula : (f : Figures) → bufferSize f ≡ 3 * f .bytes + wholeBytes (f .rate * streamsOf f * marginOf f)
 unfolding bufferSize bufferOf
 buffer-formula f = refl
 
@@ -102,13 +104,13 @@ promise f ok some = record {
 -- ---- the best placement
 
 module _ (f : Figures) (ok : Legal f) (l : ℕ → ℕ) (lay : Laying (totalPositions f) (f .blocks) l) where
-  -- 'Every laying's is at least worst2'
+  -- no laying has a smaller worst time (P10)
   pub best-time : worst2Of f ≤ worstTime (timeOn f) l (f .blocks)
   unfolding worst2Of
   best-time = placement-best (totalPositions f) (f .blocks) (ok .room) (timeOn f) (legal-falling f ok) l lay
 
-  -- 'and with it in place of worst2 no number above n in the range of streams meets the formula of streams'
-  pub best-streams : (n : ℕ) → streamsOf f < n → n ≤ 256 → 2000000 * f .bytes < load (f .rate) (worstTime (timeOn f) l (f .blocks)) (overOf f) n
+  -- nor lets more streams fit
+  pub best-streams : (n : ℕ) → streamsOf f < n → n ≤ maxStreams → parts * f .bytes < load (f .rate) (worstTime (timeOn f) l (f .blocks)) (overOf f) n
   unfolding worst2Of streamsOf
   best-streams n h u =
       no-laying-feeds-more (totalPositions f) (f .blocks) (ok .room) (timeOn f) (legal-falling f ok) l lay (f .rate) (overOf f) (f .bytes) n h u

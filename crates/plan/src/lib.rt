@@ -4,6 +4,8 @@ use card::Figures;
 use card::Verdict;
 ghost use mathlib.Core.Path.{_≡_};
 ghost use Prim.Native.Nat.{ℕ, _*_, _≤_, _<_};
+ghost use Rattle.numbers.specs.Limits.{maxStreams};
+ghost use Rattle.numbers.specs.Units.{parts};
 ghost use Rattle.card.specs.declared.Figures.{Figures};
 ghost use Rattle.card.specs.Card.{Legal, totalPositions};
 ghost use Rattle.placement.specs.Placement.{Laying, worstTime};
@@ -67,7 +69,7 @@ pub fn blank_plan() -> Plan
 pub fn placement_best()
     ensures best { λ _. ⌜ ((f : Figures) → Legal f → (l : ℕ → ℕ) → Laying (totalPositions f) (f .blocks) l
         → (worst2Of f ≤ worstTime (timeOn f) l (f .blocks))
-        × ((n : ℕ) → streamsOf f < n → n ≤ 256 → 2000000 * f .bytes < load (f .rate) (worstTime (timeOn f) l (f .blocks)) (overOf f) n)) ⌝ }
+        × ((n : ℕ) → streamsOf f < n → n ≤ maxStreams → parts * f .bytes < load (f .rate) (worstTime (timeOn f) l (f .blocks)) (overOf f) n)) ⌝ }
     ensures own { λ _. ⌜ ((f : Figures) → Legal f → Laying (totalPositions f) (f .blocks) (placeOf f) × (worstTime (timeOn f) (placeOf f) (f .blocks) ≡ worst2Of f)) ⌝ }
 {}
 

@@ -87,7 +87,7 @@ record ZonesLegal (left i : ℕ) (f : Figures) (total before : ℕ) : Type 0 whe
   sum : total + sumFrom left i f ≤ maxPositions
   film : FilmLegal f (total + sumFrom left i f)
 
--- a fact at the i-th place and from the next on is a fact from the i-th on
+-- a fact at i and from the next on is a fact from i on
 from-here : (P : ℕ → Type 0) (i left : ℕ) → P i → ((j : ℕ) → i + 1 ≤ j → j < i + 1 + left → P j) → (j : ℕ) → i ≤ j → j < i + suc left → P j
 from-here P i left here later j l h = by-cases (ℕ-discrete i j) (λ e. subst P e here) (λ n. later j (omega arith) (omega arith))
 
@@ -153,7 +153,7 @@ zones-legal-fault (suc left) i f total before w l =
 abbrev zeros : ℕ → List ℕ → Bool
 zeros z xs = allBy (λ (v : ℕ). eqb v 0) (drop z xs)
 
--- a test that holds at each place holds of the list
+-- a test that holds at each index holds of the list
 all-by : (g : ℕ → Bool) (xs : List ℕ) → ((i : ℕ) → i < length xs → g (getD xs i 0) ≡ true) → allBy g xs ≡ true
 unfolding allBy
 all-by g [] h = refl
@@ -165,8 +165,8 @@ zeros-at z xs e i l = by-cases (decLt i (length xs)) inside (λ h. List·getD-eq
   where
     inside : i < length xs → getD xs i 0 ≡ 0
     inside h =
-        let place : z + (i - z) ≡ i = omega arith in
-        rw place at (sym (getD-drop z xs (i - z) 0) ∙ eqb-true (getD (drop z xs) (i - z) 0) 0 (all-at 0 (λ (v : ℕ). eqb v 0) (drop z xs) (i - z) e (omega (arith, length-drop z xs))))
+        let index : z + (i - z) ≡ i = omega arith in
+        rw index at (sym (getD-drop z xs (i - z) 0) ∙ eqb-true (getD (drop z xs) (i - z) 0) 0 (all-at 0 (λ (v : ℕ). eqb v 0) (drop z xs) (i - z) e (omega (arith, length-drop z xs))))
 
 at-zeros : (z : ℕ) (xs : List ℕ) → ((i : ℕ) → z ≤ i → getD xs i 0 ≡ 0) → zeros z xs ≡ true
 at-zeros z xs h = all-by (λ (v : ℕ). eqb v 0) (drop z xs) (λ i l. eq-eqb (getD (drop z xs) i 0) 0 (getD-drop z xs i 0 ∙ h (z + i) (omega arith)))

@@ -13,7 +13,7 @@ use Rattle.safety.specs.Order.{Scheduler, Order, opened}
 use Rattle.safety.specs.Refusals.{Verdict, verdict, drawAllowed, drawHeld}
 use Rattle.safety.specs.Ledger.{Line, openedLedger, recorded}
 
--- `Lent lists, slots, blocks and draws may be anything at each call`
+-- what a call is given, which may be anything each time (B1)
 pub record Given (A : Type 0) : Type 0 where
   pub call : Call A
   -- the record is the plan of its figures and both lent lists begin with its entries
@@ -116,7 +116,7 @@ module _ {A Q : Type 0} (p : Supply A) (o : Order A Q) where
         let a = answer (v .scheduler) x in
         record { scheduler = a .scheduler; ledger = recorded (p .B) (v .ledger) (u .move x) (isAccepted (a .number)) (a .entries) }
 
-    -- `each call gets the desk that the last one left; a refused one leaves the desk it was given`
+    -- a list of calls, each on what the last one left (B1)
     unfoldable pub after : State A Q → List X → State A Q
     after v [] = v
     after v (x ∷ xs) = after (turn v x) xs

@@ -1,4 +1,4 @@
--- The claim of document 01 about every list of calls, for every lawful supply.
+-- The claim about every list of calls, for every lawful supply (B3 to B6).
 -- Assumes nothing.
 use Prim.Native.Nat.{ℕ, zero, suc, _+_, _*_, _/_, _≤_, _<_}
 use mathlib.Core.Path.{_≡_, refl, sym, _∙_, subst}
@@ -47,21 +47,19 @@ module _ {A Q : Type 0} (p : Supply A) (o : Order A Q) where
 
   -- the rule gives the kind of a slot after an accepted call
   pub record Safe (rule : Scheduler A Q → Call A → ℕ → ℕ) (xs : List (Given A)) : Type 0 where
-    -- `a desk has 256 slots, all free at the start`
+    -- D1
     pub all-slots : length (stateAfter xs .scheduler .slots) ≡ maxStreams
     pub opens-free : (i : ℕ) → slotAfter [] i .kind ≡ free
-    -- `the occupied slots (kinds 1 to 4) are exactly the open ones`
+    -- B3
     pub occupied-open : (i : ℕ) → ((1 ≤ slotAfter xs i .kind) × (slotAfter xs i .kind ≤ 4)) ↔ (lineAfter xs i .isOpen ≡ true)
-    -- `for each, held + drawn equals fetched × B`
+    -- B4
     pub accounted : (i : ℕ) → lineAfter xs i .isOpen ≡ true
         → slotAfter xs i .buffered + lineAfter xs i .consumed ≡ lineAfter xs i .fetched * p .B
-    -- `and held is at most buffer`
     pub fits : (i : ℕ) → slotAfter xs i .buffered ≤ p .buffer
-    -- `a sweep starts with an accepted begin: where that is the last call, each playing slot holds at least c × bound / 1,000,000, rounded
-    -- down, with the bound it answered`
+    -- B5
     pub starts-full : (ys : List (Given A)) (x : Given A) → xs ≡ ys ++ (x ∷ []) → x .call ≡ begin → answerAfter ys x .number ≡ 0
         → (i : ℕ) → slotAfter xs i .kind ≡ playing → p .c * answerAfter ys x .bound / micros ≤ slotAfter xs i .buffered
-    -- `each slot's kind is the one that the desk's rules give over the same list`: a refused call leaves it
+    -- B6; a refused call leaves the kind
     pub ruled : (ys : List (Given A)) (x : Given A) → xs ≡ ys ++ (x ∷ []) → (i : ℕ) → i < maxStreams
         → slotAfter xs i .kind ≡ cond (isAccepted (answerAfter ys x .number)) (rule (stateAfter ys .scheduler) (x .call) i) (slotAfter ys i .kind)
     -- the record is sound, so that a call with fair lists is never answered 14

@@ -1,4 +1,4 @@
--- The kind of one slot after an accepted call, in document 01's words, and that the scheduler gives it that kind.
+-- The kind of one slot after an accepted call, by document 01's rules told slot by slot (B6), and that the scheduler gives it that kind.
 -- Assumes nothing.
 use Prim.Native.Nat.{ℕ, zero, suc, _+_, _-_, _<_}
 use mathlib.Core.Path.{_≡_, refl, sym, ap, _∙_}

@@ -1,4 +1,4 @@
--- The ledger (01: the book). It is fed the calls, whether each was accepted, and the entries that a begin answers; it reads nothing of the scheduler.
+-- The ledger (01: the book; B2): what it is fed are its arguments, and no scheduler is among them.
 -- Assumes nothing.
 use Prim.Native.Nat.{ℕ, _+_, _*_}
 use mathlib.Core.Bool.{Bool, true, false, cond, _&&_, _||_}
@@ -17,7 +17,7 @@ pub record Line : Type 0 where
   pub consumed : ℕ
   pub marked : Bool
 
--- `closed, 0 and unmarked`
+-- a line at the opening
 abbrev pub blank : Line
 blank = record { isOpen = false; fetched = 0; consumed = 0; marked = false }
 
@@ -27,11 +27,11 @@ lineAt ls i = getD ls i blank
 unfoldable pub openedLedger : List Line
 openedLedger = replicate maxStreams blank
 
--- join: `the slot opens, fetched and drawn 0`
+-- the line after a join
 abbrev pub openedLine : Line → Line
 openedLine l = record { isOpen = true; fetched = 0; consumed = 0; marked = l .marked }
 
--- leave: `the slot closes`
+-- after a leave
 abbrev pub closeBy : Bool → Line → Line
 closeBy true l = record { isOpen = false; fetched = l .fetched; consumed = l .consumed; marked = l .marked }
 closeBy false l = l
@@ -41,20 +41,20 @@ unfoldable pub isNamed : ℕ → List Entry → Bool
 isNamed i [] = false
 isNamed i (e ∷ es) = eqb i (e .slot) || isNamed i es
 
--- begin: `each slot named in the entries .. is marked`
+-- after a begin
 unfoldable pub markedLine : List Entry → ℕ → Line → Line
 markedLine es i l = record { isOpen = l .isOpen; fetched = l .fetched; consumed = l .consumed; marked = isNamed i es || l .marked }
 
--- end: `each open slot's drawn rises by its draw. Each marked slot's fetched rises by one and its mark goes`
+-- after an end, with the draw d: who is open has drawn it, who is marked has one block more
 unfoldable pub drawnLine : Line → ℕ → Line
 drawnLine l d = record { isOpen = l .isOpen; fetched = l .fetched + bit (l .marked); consumed = l .consumed + cond (l .isOpen) d 0; marked = false }
 
 module _ (B : ℕ) where
-  -- `then an open slot with fetched at least 1 and fetched × B equal to drawn closes`
+  -- then who was fetched for and has drawn it all closes
   unfoldable pub settledLine : Line → Line
   settledLine l = closeBy (l .isOpen && (leb 1 (l .fetched) && eqb (l .fetched * B) (l .consumed))) l
 
-  -- the ledger after a call; the flag says whether it was accepted. `Refused call: nothing changes`
+  -- the ledger after a call; the flag says whether it was accepted
   unfoldable pub recorded : {A : Type 0} → List Line → Call A → Bool → List Entry → List Line
   recorded ls c false es = ls
   recorded ls (join i b) true es = set ls i (openedLine (lineAt ls i))

@@ -9,7 +9,7 @@ use Rattle.numbers.specs.Slots.{between}
 use Rattle.safety.specs.Supply.{Supply}
 use Rattle.safety.specs.Scheduler.{Slot, freeSlot, begun}
 
--- `between sweeps (0) or in one (1)`, 256 slots, and what the order keeps
+-- the phase (D2), the slots, and what the order keeps: nothing in the base
 pub record Scheduler (A Q : Type 0) : Type 0 where
   pub phase : ℕ
   pub slots : List (Slot A)
@@ -20,7 +20,7 @@ pub record Begun (A Q : Type 0) : Type 0 where
   pub slots : List (Slot A)
   pub queue : Q
 
--- Q is what the order keeps beside the slots: nothing in 01
+-- Q is what the order keeps beside the slots. In the base there is nothing to keep, so all but `begins` serve document 02 alone
 pub record Order (A Q : Type 0) : Type 0 where
   pub opening : Q
   -- the queue after the slot joined, and after it left: of the queue and the slots before
@@ -31,7 +31,7 @@ pub record Order (A Q : Type 0) : Type 0 where
   pub queueSound : Q → List (Slot A) → Bool
 
 module _ {A : Type 0} (p : Supply A) where
-  -- 01's order: slot by slot
+  -- the order of the base: slot by slot (D8)
   unfoldable pub bySlot : Order A (Unit {0})
   bySlot = record {
     opening = tt;
@@ -41,6 +41,6 @@ module _ {A : Type 0} (p : Supply A) where
     queueSound = λ q ss. true;
   }
 
-  -- `256 slots, all free at the start`, between sweeps
+  -- all slots free, between sweeps (D1, D3)
   unfoldable pub opened : {Q : Type 0} → Order A Q → Scheduler A Q
   opened o = record { phase = between; slots = replicate maxStreams (freeSlot p); queue = o .opening }

@@ -1,4 +1,4 @@
--- When a call is turned down: document 01's number and what it returns with it, in 01's order. The slot that is returned is the place.
+-- When a call is turned down (R13 to R21), in document 01's order (R25). The place is the slot that is returned with the number.
 -- Assumes nothing.
 use Prim.Native.Nat.{ℕ, _*_}
 use mathlib.Core.Bool.{Bool, true, false, _&&_}
@@ -36,9 +36,7 @@ module _ {A : Type 0} (p : Supply A) where
   drawHeld ds i s = leb (getD ds i 0) (s .buffered)
 
   module _ {Q : Type 0} (d : Scheduler A Q) where
-    -- a call on a sound record; room is the length of the lent fetch list. 13 fetch list too short, 15 wrong phase, 16 slot n or above,
-    -- 17 join on an occupied or leave on a free slot, the fault (18) start block N or above, 19 draw list not n long, 20 draw above what
-    -- the slot may draw, 21 draw above held
+    -- a call on a sound record; room is the length of the lent fetch list, and the fault of b is 18 from N on
     unfoldable pub judged : ℕ → Call A → Verdict
     judged room (join i b) =
         unless (eqb (d .phase) between) wrongPhase 0
@@ -63,6 +61,6 @@ module _ {A : Type 0} (p : Supply A) where
         (unless (allFrom (drawHeld ds) 0 (d .slots)) drawAboveHeld (lowestFrom (drawHeld ds) 0 (d .slots))
         accept)))
 
-  -- 14 record not sound; fair: it is the plan of its figures and both lent lists begin with its entries
+  -- R14; fair: the record is the plan of its figures and both lent lists begin with its entries
   unfoldable pub verdict : {Q : Type 0} → Order A Q → Scheduler A Q → Bool → ℕ → Call A → Verdict
   verdict o d fair room c = unless (fair && sound p o d) notSound 0 (judged d room c)

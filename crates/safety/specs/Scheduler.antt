@@ -1,5 +1,4 @@
--- The scheduler (01: the desk): its slots, and what join, leave, begin and end make of them, in the order of document 01's sentences.
--- Byte counts that are compared with the low-water mark are in two-millionths of a byte, so nothing is rounded.
+-- The scheduler (01: the desk): its slots, and what join, leave, begin and end make of them (D2 to D14, in that order).
 -- Assumes nothing.
 use Prim.Native.Nat.{ℕ, zero, suc, _+_, _-_, _*_, _/_}
 use mathlib.Core.Bool.{Bool, true, false, cond, _&&_, _||_}
@@ -13,13 +12,13 @@ use Rattle.numbers.specs.Slots.{free, waiting, filling, playing, draining}
 use Rattle.numbers.specs.Units.{parts, micros}
 use Rattle.safety.specs.Supply.{Supply}
 
--- a slot: its kind, its next block and its held bytes
+-- a slot (D2); buffered is what it holds
 pub record Slot (A : Type 0) : Type 0 where
   pub kind : ℕ
   pub next : A
   pub buffered : ℕ
 
--- an entry of the fetch list
+-- an entry of the fetch list (D10)
 pub record Entry : Type 0 where
   pub position : ℕ
   pub slot : ℕ
@@ -32,7 +31,7 @@ pub data Call (A : Type 0) : Type 0 where
   begin : Call A
   end : List ℕ → Call A
 
--- ---- entries `by rising position, then slot`
+-- ---- the order of the entries (D10)
 
 unfoldable pub before : Entry → Entry → Bool
 before a b = ltb (a .position) (b .position) || (eqb (a .position) (b .position) && leb (a .slot) (b .slot))
@@ -51,7 +50,7 @@ entriesAt i b [] = []
 entriesAt i b (q ∷ qs) = record { position = q; slot = i; block = b } ∷ entriesAt i b qs
 
 module _ {A : Type 0} (p : Supply A) where
-  -- `free, all zero`
+  -- free, all zero (D6)
   abbrev pub freeSlot : Slot A
   freeSlot = record { kind = free; next = p .none; buffered = 0 }
 
@@ -62,7 +61,7 @@ module _ {A : Type 0} (p : Supply A) where
   unfoldable pub reads : Slot A → Bool
   reads s = eqb (s .kind) filling || eqb (s .kind) playing
 
-  -- ---- the low-water mark (01: the floor)
+  -- ---- the low-water mark (01: the floor; D4), in parts of a byte, so that nothing is rounded
 
   -- the lead at the next block of a filling or playing slot
   unfoldable pub leadOf : Slot A → ℕ
@@ -71,7 +70,7 @@ module _ {A : Type 0} (p : Supply A) where
   unfoldable pub leads : List (Slot A) → ℕ
   leads ss = sumBy leadOf ss
 
-  -- B plus c / 2,000,000 times leads that add up to L
+  -- L is the sum of the leads
   unfoldable pub lowWater : ℕ → ℕ
   lowWater L = parts * p .B + p .c * L
 
@@ -79,9 +78,8 @@ module _ {A : Type 0} (p : Supply A) where
   unfoldable pub holds : ℕ → Slot A → Bool
   holds x s = leb x (parts * s .buffered)
 
-  -- ---- join and leave
+  -- ---- join (D5) and leave (D6)
 
-  -- `asked, with its start block`
   abbrev pub waitingSlot : A → Slot A
   waitingSlot b = record { kind = waiting; next = b; buffered = 0 }
 
@@ -91,7 +89,7 @@ module _ {A : Type 0} (p : Supply A) where
   unfoldable pub left : List (Slot A) → ℕ → List (Slot A)
   left ss i = set ss i freeSlot
 
-  -- ---- begin
+  -- ---- begin: who starts to play (D7)
 
   abbrev pub playingSlot : Slot A → Slot A
   playingSlot s = record { kind = playing; next = s .next; buffered = s .buffered }
@@ -100,22 +98,23 @@ module _ {A : Type 0} (p : Supply A) where
   startBy true s = playingSlot s
   startBy false s = s
 
-  -- `first, each filling slot that holds at least the floor becomes playing`: x is the floor
+  -- x is the floor
   unfoldable pub startedSlot : ℕ → Slot A → Slot A
   startedSlot x s = startBy (eqb (s .kind) filling && holds x s) s
 
   unfoldable pub started : ℕ → List (Slot A) → List (Slot A)
   started x ss = map (startedSlot x) ss
 
+  -- ---- who is granted (D8)
+
   -- every playing slot holds at least x
   unfoldable pub playersHold : ℕ → List (Slot A) → Bool
   playersHold x ss = allBy (λ s. implies (eqb (s .kind) playing) (holds x s)) ss
 
-  -- slot i is asked, and `every playing slot holds at least the floor with the asked slot's lead added`
+  -- slot i asks, and the playing slots hold what the floor would be with its lead
   unfoldable pub grantable : List (Slot A) → ℕ → Bool
   grantable ss i = eqb (at ss i .kind) waiting && playersHold (lowWater (leads ss + p .lead (at ss i .next))) ss
 
-  -- slot i `becomes filling`
   abbrev pub fillingSlot : Slot A → Slot A
   fillingSlot s = record { kind = filling; next = s .next; buffered = s .buffered }
 
@@ -129,7 +128,7 @@ module _ {A : Type 0} (p : Supply A) where
   unfoldable pub tried : List (Slot A) → ℕ → List (Slot A)
   tried ss i = grantBy (grantable ss i) ss i
 
-  -- `then, in slot order`: k slots from i on, each over what the one before left
+  -- k slots from i on, each over what the one before left
   unfoldable pub tries : List (Slot A) → ℕ → ℕ → List (Slot A)
   tries ss i zero = ss
   tries ss i (suc k) = tries (tried ss i) (suc i) k
@@ -137,7 +136,8 @@ module _ {A : Type 0} (p : Supply A) where
   unfoldable pub begun : List (Slot A) → List (Slot A)
   begun ss = tries (started (lowWater (leads ss)) ss) 0 (length ss)
 
-  -- `then one block is fetched for each filling or playing slot with held + B at most the buffer`
+  -- ---- what is fetched (D9), and the sweep bound (D11)
+
   unfoldable pub isFetched : Slot A → Bool
   isFetched s = reads s && leb (s .buffered + p .B) (p .buffer)
 
@@ -150,7 +150,6 @@ module _ {A : Type 0} (p : Supply A) where
   unfoldable pub entries : List (Slot A) → List Entry
   entries ss = sorted (entriesFrom 0 ss)
 
-  -- the sweep bound: `fetched times added up, plus count × hop, plus return`
   unfoldable pub timeOf : Slot A → ℕ
   timeOf s = cond (isFetched s) (p .time (s .next)) 0
 
@@ -165,8 +164,7 @@ module _ {A : Type 0} (p : Supply A) where
 
   -- ---- end
 
-  -- d is the draw, and the flag says whether the slot was fetched for. `Each held loses its draw; each fetched slot gains B and
-  -- its next block rises by one. A slot that reaches N becomes tail`
+  -- d is the draw, and the flag says whether the slot was fetched for (D12); one that reaches the film's end becomes tail (D13)
   unfoldable pub sweptBy : Bool → Slot A → ℕ → Slot A
   sweptBy true s d = record { kind = cond (p .isEnd (p .next (s .next))) draining (s .kind); next = p .next (s .next); buffered = s .buffered - d + p .B }
   sweptBy false s d = record { kind = s .kind; next = s .next; buffered = s .buffered - d }
@@ -175,7 +173,7 @@ module _ {A : Type 0} (p : Supply A) where
   releaseBy true s = freeSlot
   releaseBy false s = s
 
-  -- `a tail that holds 0 becomes free`
+  -- a tail is done when it holds nothing (D13)
   unfoldable pub released : Slot A → Slot A
   released s = releaseBy (eqb (s .kind) draining && eqb (s .buffered) 0) s
 
@@ -185,10 +183,11 @@ module _ {A : Type 0} (p : Supply A) where
   unfoldable pub ended : List (Slot A) → List ℕ → List (Slot A)
   ended ss ds = mapFrom (λ i s. endedSlot s (getD ds i 0)) 0 ss
 
-  -- what a playing or tail slot may draw: `c × bound / 1,000,000, rounded down`
+  -- ---- what a slot may draw (D14)
+
   unfoldable pub mostDrawn : List (Slot A) → ℕ
   mostDrawn ss = p .c * bound ss / micros
 
-  -- what a slot may draw where m is the most; `other kinds draw 0`
+  -- m is the most
   unfoldable pub drawLimit : ℕ → Slot A → ℕ
   drawLimit m s = cond (eqb (s .kind) playing || eqb (s .kind) draining) m 0

@@ -23,8 +23,7 @@ module _ {A : Type 0} (p : Supply A) where
   unfoldable pub isZero : Slot A → Bool
   isZero s = eqb (s .kind) free && (p .isNone (s .next) && eqb (s .buffered) 0)
 
-  -- `each kind is 0 to 4, free slots .. are zero, asked slots hold 0, next is below N for kinds 1 to 3 and N for tail,
-  -- tail holds 1 or more, no slot holds above the buffer, and each playing slot holds at least the floor`: L is the sum of the leads
+  -- a slot of a sound record (D16), condition by condition; L is the sum of the leads
   unfoldable pub soundSlot : ℕ → Slot A → Bool
   soundSlot L s =
       leb (s .kind) draining
@@ -36,7 +35,7 @@ module _ {A : Type 0} (p : Supply A) where
       && (leb (s .buffered) (p .buffer)
       && implies (eqb (s .kind) playing) (holds p (lowWater p L) s)))))))
 
-  -- `the phase is 0 or 1`, each slot, and `all slots from n on are zero`
+  -- a sound record (D16): its phase, each slot, and the slots that are not used
   unfoldable pub sound : {Q : Type 0} → Order A Q → Scheduler A Q → Bool
   sound o d =
       leb (d .phase) sweeping

@@ -1,7 +1,8 @@
 -- What the scheduler is told of the film, and all that it relies on: the planner's promise.
--- A is what a slot names. In document 01 that is ℕ: a block's number, N past the last one, 0 in a free slot.
+-- A is what a slot names: in the base a block's number, N past the last one, 0 in a free slot. Fields that only document 02 needs
+-- say what they are in the base; `supplied` of crate `desk` makes it so.
 -- Assumes nothing.
-use Prim.Native.Nat.{ℕ, _+_, _*_, _/_, _≤_, _<_}
+use Prim.Native.Nat.{ℕ, _+_, _*_, _≤_, _<_}
 use mathlib.Core.Path.{_≡_}
 use mathlib.Core.Logic.{_≢_}
 use mathlib.Core.Bool.{Bool, true, false, cond}
@@ -10,35 +11,35 @@ use Rattle.numbers.specs.Units.{parts, wholeBytes}
 use Rattle.numbers.specs.Refusals.{notSound}
 
 pub record Supply (A : Type 0) : Type 0 where
-  -- the name that stands in a free slot, and its test
+  -- the name that stands in a free slot, and its test: 0
   pub none : A
   pub isNone : A → Bool
-  -- it names a block: 01's `below N`
+  -- it names a block: it is below N
   pub isBlock : A → Bool
-  -- the number that refuses a join there, 0 where none does: 01's 18 from N on
+  -- the number that refuses a join there, 0 where none does: 18 from N on
   pub fault : A → ℕ
-  -- it stands past the last block: 01's `N`
+  -- it stands past the last block: it is N
   pub isEnd : A → Bool
-  -- the name after it: 01's `rises by one`
+  -- the name after it: one more
   pub next : A → A
-  -- its block in a fetch entry
+  -- its block in a fetch entry: itself
   pub number : A → ℕ
-  -- the position of its first visit, and those of the further visits that it takes: none in 01
+  -- its position (P1), and those of further visits that it takes: none
   pub position : A → ℕ
   pub others : A → List ℕ
-  -- 01's time(b)
+  -- time(b) (P2)
   pub time : A → ℕ
-  -- 01's lead(b), in half microseconds
+  -- lead(b), in half microseconds (P6)
   pub lead : A → ℕ
-  -- what a sweep of k blocks takes beside the times: 01's k × hop + return
+  -- what a sweep of k blocks takes beside their times (D11)
   pub overhead : ℕ → ℕ
-  -- how many entries a block gives: 1 in 01
+  -- how many entries a block gives: 1
   pub visits : ℕ
-  -- 01's B, c and streams n
+  -- B, c and streams (P4)
   pub B : ℕ
   pub c : ℕ
   pub n : ℕ
-  -- 01's worst2: the worst time of two successive blocks
+  -- worst2 (P3), margin (P5) and buffer (P7)
   pub pairTime : ℕ
   pub margin : ℕ
   pub buffer : ℕ
@@ -48,13 +49,13 @@ pub record Lawful {A : Type 0} (p : Supply A) : Type 0 where
   pub some-bytes : 0 < p .B
   -- a sweep of more blocks has no less overhead
   pub overhead-rises : (j k : ℕ) → j ≤ k → p .overhead j ≤ p .overhead k
-  -- the formula of streams
+  -- the formula of streams (P4)
   pub streams-fit : p .c * (p .n * p .pairTime + 2 * p .overhead (p .n)) ≤ parts * p .B
-  -- the formula of the buffer, rounded up
+  -- that of the buffer (P7)
   pub buffer-holds : 3 * p .B + wholeBytes (p .c * p .n * p .margin) ≤ p .buffer
   -- after a block comes a block or the end
   pub next-block : (a : A) → p .isBlock a ≡ true → p .isEnd (p .next a) ≡ false → p .isBlock (p .next a) ≡ true
-  -- a lead covers what reading its block takes beyond half of worst2, and the lead after it. lead(N) is 0
+  -- a lead covers what reading its block takes beyond half of worst2, and the lead after it (P6)
   pub lead-covers : (a : A) → p .isBlock a ≡ true
       → 2 * p .time a + cond (p .isEnd (p .next a)) 0 (p .lead (p .next a)) ≤ p .lead a + p .pairTime
   pub lead-top : (a : A) → p .isBlock a ≡ true → p .lead a ≤ p .margin
