@@ -1,6 +1,6 @@
 pub mod Answer
 pub mod Check
-pub mod Cursors
+pub mod Disk
 pub mod Legal
 pub mod Plan
 pub mod Promise
