@@ -17,7 +17,7 @@ use Rattle.plan.specs.Plan.{row}
 use Rattle.plan.specs.Rows.{row-length, row-more, begins-yes, begins-at}
 use Rattle.placement.specs.Placement.{place, place-even, place-odd}
 use Rattle.placement.specs.Zones.{timeAt}
-use Rattle.plan.specs.Cursors.{leadAt}
+use Rattle.plan.specs.Disk.{leadAt}
 use Rattle.plan.specs.Answer.{begins}
 
 -- ---- writing

@@ -15,7 +15,7 @@ use Rattle.words.specs.Words.{wordsOf}
 use Rattle.placement.specs.Zones.{total, timeAt}
 use Rattle.plan.specs.Plan.{placeOf, timeOf, leadOf}
 use Rattle.plan.specs.Answer.{isPlan}
-use Rattle.plan.specs.Cursors.{Zoned}
+use Rattle.plan.specs.Disk.{Zoned}
 use Rattle.plan.specs.Check.{checked}
 use Rattle.plan.specs.Legal.{total-is, legal-zoned, place-below, time-small, lead-small}
 use Rattle.desk.specs.declared.Desk.{Desk}

@@ -4,7 +4,7 @@ use desk::zeros;
 use words::word_at;
 use zones::time_at;
 ghost use Prim.Native.Nat.{_≤_};
-ghost use Rattle.plan.specs.Cursors.{Zoned};
+ghost use Rattle.plan.specs.Disk.{Zoned};
 ghost use Rattle.gather.specs.Gather.{Reach, Reached, Found, Collected};
 
 // Time, lead and position of a block.

@@ -17,7 +17,7 @@ use Rattle.words.specs.Words.{Bytes, wordsOf}
 use Rattle.plan.specs.declared.Plan.{Plan}
 use Rattle.plan.specs.declared.Planned.{Planned}
 use Rattle.plan.specs.Plan.{streamsOf}
-use Rattle.plan.specs.Cursors.{Zoned}
+use Rattle.plan.specs.Disk.{Zoned}
 use Rattle.plan.specs.Legal.{legal-zoned, place-below, total-is}
 use Rattle.plan.specs.Answer.{planFault, faultAfter, refusal, answer, planned, positionsAfter, leadsAfter, isPlan}
 use Rattle.plan.specs.Check.{checked, checked-legal, plan-passes}

@@ -1,23 +1,23 @@
 -- What legal figures say of the disk and of the film: the zones as the code walks them, the times, and the quick forms of worst2, margin and leads.
 -- Assumes nothing.
-use Prim.Native.Nat.{ℕ, suc, _+_, _*_, _-_, _/_, _≤_, _<_}
+use Prim.Native.Nat.{ℕ, suc, _+_, _*_, _-_, _≤_, _<_}
 use mathlib.Core.Path.{_≡_, refl, sym, subst}
 use mathlib.Core.Logic.{by-cases}
 use native.Mathlib.Omega.{arith}
 use native.Mathlib.Decide.{decLt}
 use lib.ListN.{take}
-use Rattle.laws.specs.Greatest.{greatestOf, greatestOf-least}
+use Rattle.laws.specs.Greatest.{greatestOf-least}
 use Rattle.numbers.specs.Limits.{maxTime, maxStreams}
 use Rattle.numbers.specs.Units.{parts}
 use Rattle.card.specs.declared.Figures.{Figures}
 use Rattle.card.specs.Card.{Legal, totalPositions}
 use Rattle.placement.specs.Placement.{Laying, Falling, worstTime}
 use Rattle.placement.specs.Best.{place-laying}
-use Rattle.placement.specs.Quick.{worst-quick, slowest-quick}
+use Rattle.placement.specs.Quick.{slowest-quick}
 use Rattle.placement.specs.Zones.{total, total-first, timeAt-positive, timeAt-within, descending-first, zones-falling}
 use Rattle.pacing.specs.Streams.{load, bufferOf, streams-le, streams-fits, buffer-bound}
 use Rattle.pacing.specs.Laid.{slowest, laid-lead, margin-quick, margin-small, pair-within, worst-within}
-use Rattle.plan.specs.Cursors.{Zoned, Disk}
+use Rattle.plan.specs.Disk.{Zoned, Disk}
 use Rattle.plan.specs.Plan.{timeOn, placeOf, timeOf, worst2Of, overOf, streamsOf, marginOf, filmOf, leadOf, bufferSize}
 
 module _ (f : Figures) (ok : Legal f) where
@@ -33,8 +33,6 @@ module _ (f : Figures) (ok : Legal f) where
   pub legal-zoned : Zoned (f .positions)
   legal-zoned = record {
     wide = ok .wide .0;
-    solid = λ i h. by-cases (decLt i (f .zones)) (λ u. ok .positions i u)
-        (λ u. absurd (omega (arith, total-first (f .positions) i (λ j v. ok .unused j (omega arith) .0))));
     small = omega (arith, total-is, ok .total);
   }
 
@@ -61,11 +59,6 @@ module _ (f : Figures) (ok : Legal f) where
 
   pub time-small : (q : ℕ) → q < totalPositions f → timeOn f q ≤ maxTime
   time-small q h = timeAt-within (f .positions) (f .times) (f .zones) q maxTime (λ i u. ok .times i u .1) (omega (arith, total-zones))
-
-  -- worst2 from one pair of positions for every two blocks
-  pub worst2-quick : worst2Of f ≡ greatestOf (λ i. timeOn f (totalPositions f - f .blocks + i) + timeOn f (totalPositions f - 1 - i)) (f .blocks / 2)
-  unfolding worst2Of
-  worst2-quick = worst-quick (totalPositions f) (f .blocks) (ok .room) (timeOn f) legal-falling
 
   pub worst2-small : worst2Of f ≤ 2 * maxTime
   unfolding worst2Of worstTime

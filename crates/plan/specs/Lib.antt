@@ -1,6 +1,6 @@
 pub mod Answer
 pub mod Check
-pub mod Cursors
+pub mod Disk
 pub mod Greatest
 pub mod Legal
 pub mod Plan

@@ -20,7 +20,7 @@ use Rattle.words.specs.Words.{Bytes, wordsOf, withWords}
 use Rattle.plan.specs.declared.Plan.{Plan}
 use Rattle.plan.specs.declared.Planned.{Planned}
 use Rattle.plan.specs.Plan.{placeOf, worst2Of, streamsOf, leadOf, planOf, row, positionsOf, leadsOf}
-use Rattle.plan.specs.Cursors.{Film, leadAt}
+use Rattle.plan.specs.Disk.{Film, leadAt}
 use Rattle.plan.specs.Legal.{total-is, legal-disk, lead-is}
 use Rattle.plan.specs.Answer.{planFault, faultAfter, refusal, answer, filled, planned, positionsAfter, leadsAfter, judged, begins, sameNumbers, isPlan}
 use Rattle.plan.specs.Rows.{row-same, begins-short}

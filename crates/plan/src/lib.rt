@@ -34,13 +34,6 @@ pub struct Planned {
     pub plan: Plan,
 }
 
-// A zone by its number, with one of its borders: the first position after it for a cursor that rises, its first position for one
-// that falls.
-pub struct Zone {
-    pub index: usize,
-    pub border: u32,
-}
-
 // A plan that is all zero.
 pub fn blank_plan() -> Plan
     ensures { λ r. ⌜ r ≡ blankPlan ⌝ }

@@ -1,1 +1,2 @@
-pub mod Cursors
+mod Cursors
+mod Runs

@@ -1,95 +1,27 @@
-// The times of positions, by cursors over the zones, and the greatest time of a pair.
-use plan::Zone;
+// The zones of a disk, and one walk over a film: how long each block takes where it lies.
 ghost use mathlib.Core.Path.{_≡_};
-ghost use Prim.Native.Nat.{_+_, _-_, _*_, _≤_, _<_, max};
-ghost use lib.ListN.{getD, take};
-ghost use Rattle.laws.specs.Greatest.{greatestOf};
+ghost use Prim.Native.Nat.{_≤_, _<_, min, max};
+ghost use lib.ListN.{take};
+ghost use Rattle.placement.specs.Placement.{place, worstTime};
 ghost use Rattle.placement.specs.Zones.{total, timeAt};
-ghost use Rattle.plan.specs.Cursors.{Zoned, Disk, Climbs, Above, Drops, Below};
+ghost use Rattle.plan.specs.Disk.{Zoned, Film};
+ghost use Rattle.zones.specs.Walk.{ZoneOf, Seeks, Holds, Position, Ends, RunEnd, Cursors, Runs};
 
-// P, the positions of all zones.
-pub fn sum_positions(positions: &[u32; 64], zones: u32) -> u32
-    requires { ⌜ (Zoned (now positions)) × (zones ≤ 64) ⌝ }
-    ensures { λ r. ⌜ r ≡ total (take zones (now (positions .entry))) ⌝ }
-{
-    let count = zones as usize;
-    let mut sum: u32 = 0;
-    let mut i: usize = 0;
-    while i < count {
-        sum += positions[i];
-        i += 1;
-    }
-    sum
+// A zone by its number, with its first position and the first after it.
+pub struct Zone {
+    pub index: usize,
+    pub first: u32,
+    pub end: u32,
 }
 
-// The zone of a position, with the first position after it.
-pub fn zone_of(positions: &[u32; 64], q: u32) -> Zone
-    requires { ⌜ (Zoned (now positions)) × (q < total (now positions)) ⌝ }
-    ensures { λ r. ⌜ Above (now (positions .entry)) r q ⌝ }
-{
-    let mut index: usize = 0;
-    let mut end: u32 = positions[0];
-    while end <= q {
-        index += 1;
-        end += positions[index];
-    }
-    Zone {
-        index: index,
-        border: end,
-    }
-}
-
-// The zone of a position, with its first position.
-pub fn zone_from(positions: &[u32; 64], q: u32) -> Zone
-    requires { ⌜ (Zoned (now positions)) × (q < total (now positions)) ⌝ }
-    ensures { λ r. ⌜ Below (now (positions .entry)) r q ⌝ }
-{
-    let zone = zone_of(positions, q);
-    let index = zone.index;
-    Zone {
-        index: index,
-        border: zone.border - positions[index],
-    }
-}
-
-// The zone of q, from a cursor that rises and stands at it or one zone before it.
-pub fn zone_up(positions: &[u32; 64], at: Zone, q: u32) -> Zone
-    requires { ⌜ (Zoned (now positions)) × (Climbs (now positions) at q) × (q < total (now positions)) ⌝ }
-    ensures { λ r. ⌜ Above (now (positions .entry)) r q ⌝ }
-{
-    if q < at.border {
-        return at;
-    }
-    let index = at.index + 1;
-    Zone {
-        index: index,
-        border: at.border + positions[index],
-    }
-}
-
-// The zone of q, from a cursor that falls and stands at it or one zone after it.
-pub fn zone_down(positions: &[u32; 64], at: Zone, q: u32) -> Zone
-    requires { ⌜ (Zoned (now positions)) × (Drops (now positions) at q) ⌝ }
-    ensures { λ r. ⌜ Below (now (positions .entry)) r q ⌝ }
-{
-    if at.border <= q {
-        return at;
-    }
-    let index = at.index - 1;
-    Zone {
-        index: index,
-        border: at.border - positions[index],
-    }
-}
-
-// The time to read a block at a position.
-pub fn time_at<'a>(positions: &'a [u32; 64], times: &'a [u32; 64], q: u32) -> u32
-    requires { ⌜ (Zoned (now positions)) × (q < total (now positions)) ⌝ }
-    ensures { λ r. ⌜ r ≡ timeAt (now (positions .entry)) (now (times .entry)) q ⌝ }
-{
-    let zone = zone_of(positions, q);
-    let index = zone.index;
-    times[index]
+// A walk over the blocks of a film. Those of even and those of odd number lie on two sides: a cursor for each, and the time there, which
+// all blocks of that side have that come before block `until`.
+pub struct Walk {
+    pub low: Zone,
+    pub high: Zone,
+    pub even: u32,
+    pub odd: u32,
+    pub until: u32,
 }
 
 fn greater(a: u32, b: u32) -> u32
@@ -101,28 +33,177 @@ fn greater(a: u32, b: u32) -> u32
     a
 }
 
-// The greatest time of a pair of positions: the i-th from `first` upward and the i-th from `last` downward.
-pub fn worst_pair<'a>(
-    positions: &'a [u32; 64],
-    times: &'a [u32; 64],
-    first: u32,
-    last: u32,
-    pairs: u32,
-) -> u32
-    requires { ⌜ (Disk (now positions) (now times)) × (last < total (now positions)) × (first ≤ last) × (first + 2 * pairs ≤ last + 1) ⌝ }
-    ensures { λ r. ⌜ (r ≡ greatestOf (λ i. timeAt (now (positions .entry)) (now (times .entry)) (first + i) + timeAt (now (positions .entry)) (now (times .entry)) (last - i)) pairs) × (r ≤ 8000000) ⌝ }
+fn lesser(a: u32, b: u32) -> u32
+    ensures { λ r. ⌜ r ≡ min a b ⌝ }
 {
-    let mut low = zone_of(positions, first);
-    let mut high = zone_from(positions, last);
-    let mut worst: u32 = 0;
-    let mut i: u32 = 0;
-    while i < pairs {
-        low = zone_up(positions, low, first + i);
-        high = zone_down(positions, high, last - i);
-        let inner = low.index;
-        let outer = high.index;
-        worst = greater(worst, times[inner] + times[outer]);
+    if a < b {
+        return a;
+    }
+    b
+}
+
+// P, the positions of all zones.
+pub fn sum_positions(sizes: &[u32; 64], zones: u32) -> u32
+    requires { ⌜ (Zoned (now sizes)) × (zones ≤ 64) ⌝ }
+    ensures { λ r. ⌜ r ≡ total (take zones (now (sizes .entry))) ⌝ }
+{
+    let count = zones as usize;
+    let mut sum: u32 = 0;
+    let mut i: usize = 0;
+    while i < count {
+        sum += sizes[i];
         i += 1;
+    }
+    sum
+}
+
+// The innermost zone.
+fn innermost(sizes: &[u32; 64]) -> Zone
+    requires { ⌜ Zoned (now sizes) ⌝ }
+    ensures { λ r. ⌜ (ZoneOf (now (sizes .entry)) r) × (r .first ≡ 0) ⌝ }
+{
+    Zone {
+        index: 0,
+        first: 0,
+        end: sizes[0],
+    }
+}
+
+// The zone of position q, from one that does not begin after it.
+fn zone_above(sizes: &[u32; 64], at: Zone, q: u32) -> Zone
+    requires { ⌜ (Seeks (now sizes) at q) × (at .first ≤ q) ⌝ }
+    ensures { λ r. ⌜ Holds (now (sizes .entry)) r q ⌝ }
+{
+    let mut zone = at;
+    while zone.end <= q {
+        let index = zone.index + 1;
+        let first = zone.end;
+        let end = first + sizes[index];
+        zone = Zone {
+            index: index,
+            first: first,
+            end: end,
+        };
+    }
+    zone
+}
+
+// The zone of position q, from one that does not end before it.
+fn zone_below(sizes: &[u32; 64], at: Zone, q: u32) -> Zone
+    requires { ⌜ (Seeks (now sizes) at q) × (q < at .end) ⌝ }
+    ensures { λ r. ⌜ Holds (now (sizes .entry)) r q ⌝ }
+{
+    let mut zone = at;
+    while q < zone.first {
+        let index = zone.index - 1;
+        let end = zone.first;
+        let first = end - sizes[index];
+        zone = Zone {
+            index: index,
+            first: first,
+            end: end,
+        };
+    }
+    zone
+}
+
+// The zone of position q, from any zone.
+fn zone_near(sizes: &[u32; 64], at: Zone, q: u32) -> Zone
+    requires { ⌜ Seeks (now sizes) at q ⌝ }
+    ensures { λ r. ⌜ Holds (now (sizes .entry)) r q ⌝ }
+{
+    if q < at.end {
+        return zone_below(sizes, at, q);
+    }
+    zone_above(sizes, at, q)
+}
+
+// The time to read a block at position q.
+pub fn time_at<'a>(sizes: &'a [u32; 64], times: &'a [u32; 64], q: u32) -> u32
+    requires { ⌜ (Zoned (now sizes)) × (q < total (now sizes)) ⌝ }
+    ensures { λ r. ⌜ r ≡ timeAt (now (sizes .entry)) (now (times .entry)) q ⌝ }
+{
+    let zone = zone_above(sizes, innermost(sizes), q);
+    let index = zone.index;
+    times[index]
+}
+
+// The laying: the position of block b, or of the one that would follow the last; `total` is P.
+pub fn position_of(total: u32, blocks: u32, b: u32) -> u32
+    requires { ⌜ (0 < blocks) × (blocks ≤ total) × (b ≤ blocks) ⌝ }
+    ensures { λ r. ⌜ Position total blocks b r ⌝ }
+{
+    if b % 2 == 0 {
+        return total - blocks + b / 2;
+    }
+    total - 1 - b / 2
+}
+
+// How far the laying stays in a zone of the even and one of the odd blocks: the first block, at most N, from which it may leave one.
+fn run_end(total: u32, blocks: u32, low: Zone, high: Zone) -> u32
+    requires { ⌜ Ends total blocks low high ⌝ }
+    ensures { λ r. ⌜ RunEnd total blocks low high r ⌝ }
+{
+    let even = 2 * (low.end - (total - blocks));
+    let odd = 2 * (total - high.first) + 1;
+    lesser(blocks, lesser(even, odd))
+}
+
+// A walk that has met no block.
+pub fn set_out(sizes: &[u32; 64]) -> Walk
+    requires { ⌜ Zoned (now sizes) ⌝ }
+    ensures { λ r. ⌜ Cursors (now (sizes .entry)) r ⌝ }
+{
+    let zone = innermost(sizes);
+    Walk {
+        low: zone,
+        high: zone,
+        even: 0,
+        odd: 0,
+        until: 0,
+    }
+}
+
+// The walk goes on to block b: the times of b, of the next, and of all that lie in the same two zones.
+pub fn walk_on<'a>(
+    sizes: &'a [u32; 64],
+    times: &'a [u32; 64],
+    total: u32,
+    blocks: u32,
+    walk: Walk,
+    b: u32,
+) -> Walk
+    requires { ⌜ (Film (now sizes) (now times) total blocks) × (Cursors (now sizes) walk) × (b < blocks) ⌝ }
+    ensures { λ r. ⌜ Runs (now (sizes .entry)) (now (times .entry)) total blocks b r ⌝ }
+{
+    let even = b + b % 2;
+    let odd = b + 1 - b % 2;
+    let low = zone_near(sizes, walk.low, position_of(total, blocks, even));
+    let high = zone_near(sizes, walk.high, position_of(total, blocks, odd));
+    let inner = low.index;
+    let outer = high.index;
+    Walk {
+        low: low,
+        high: high,
+        even: times[inner],
+        odd: times[outer],
+        until: run_end(total, blocks, low, high),
+    }
+}
+
+// The greatest time of two successive blocks; `total` is P.
+pub fn worst_time<'a>(sizes: &'a [u32; 64], times: &'a [u32; 64], total: u32, blocks: u32) -> u32
+    requires { ⌜ Film (now sizes) (now times) total blocks ⌝ }
+    ensures { λ r. ⌜ r ≡ worstTime (timeAt (now (sizes .entry)) (now (times .entry))) (place total blocks) blocks ⌝ }
+{
+    let last = blocks - 1;
+    let mut walk = set_out(sizes);
+    let mut worst: u32 = 0;
+    let mut b: u32 = 0;
+    while b < last {
+        walk = walk_on(sizes, times, total, blocks, walk, b);
+        worst = greater(worst, walk.even + walk.odd);
+        b = walk.until - 1;
     }
     worst
 }

@@ -14,14 +14,14 @@ abbrev μ-loop : tie.MeasureT-loop
 μ-loop positions zones count sum₀ i₀ sum i = zones - i
 
 -- one zone more
-turn : (c : tie.After-sum Inv-loop μ-loop) → (let ps = c .before .before .before .args .positions .now in let i = c .before .before .loop .i in
+turn : (c : tie.After-sum Inv-loop μ-loop) → (let ps = c .before .before .before .args .sizes .now in let i = c .before .before .loop .i in
     total (take (i + 1) ps) ≡ total (take i ps) + getD ps i 0)
 turn c =
     let l = c .before .before .loop in
-    total-more (c .before .before .before .args .positions .now) (l .i) (l .i + 1) (omega arith) (omega (arith, c .before .before .before .pre .0 .wide))
+    total-more (c .before .before .before .args .sizes .now) (l .i) (omega (arith, c .before .before .before .pre .0 .wide))
 
 loop-holds : tie.Need-loop-holds Inv-loop μ-loop
-loop-holds c = let z = total-none (c .args .positions .now) in omega arith
+loop-holds c = let z = total-none (c .args .sizes .now) in omega arith
 
 mul-sum : tie.Need-mul-sum Inv-loop μ-loop
 mul-sum c = omega arith
@@ -30,7 +30,7 @@ element-copy-out-sum : tie.Need-element-copy-out-sum Inv-loop μ-loop
 element-copy-out-sum c = omega arith
 
 add-sum : tie.Need-add-sum Inv-loop μ-loop
-add-sum c = let ps = c .before .before .before .args .positions .now in
+add-sum c = let ps = c .before .before .before .args .sizes .now in
     let l = c .before .before .loop in
     omega (arith, turn c, total-take ps (l .i + 1), c .before .before .before .pre .0 .small)
 
@@ -48,7 +48,7 @@ returns : tie.Need-returns Inv-loop μ-loop
 returns c = let a = c .before .before .args in
     let l = c .before .loop in
     let e : l .i ≡ a .zones = omega arith in
-    l .inv .2 ∙ ap (λ (n : ℕ). total (take n (a .positions .now))) e
+    l .inv .2 ∙ ap (λ (n : ℕ). total (take n (a .sizes .now))) e
 
 pub sum-positions-spec : {M : Type 1} → statement M
 sum-positions-spec =
