@@ -1,4 +1,4 @@
 pub mod Card
-pub mod Laws
+pub mod RangeLaws
 pub mod Ranges
 pub mod Read

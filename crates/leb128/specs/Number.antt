@@ -1,5 +1,5 @@
 -- One number of a card: how it is written (K1), and how it is read (K2, R1, R2, R24).
-use Prim.Native.Nat.{ℕ, zero, suc, _+_, _-_, _*_, _/_, _%_}
+use Prim.Native.Nat.{ℕ, zero, suc, _+_, _-_, _*_, _/_, _%_, _<_}
 use mathlib.Core.List.{List, [], _∷_}
 use mathlib.Core.Bool.{cond, _&&_}
 use lib.ListN.{length, getD, take, drop}
@@ -7,6 +7,10 @@ use lib.Dec.{leb, ltb, eqb}
 use Rattle.numbers.specs.Limits.{noNumber}
 use Rattle.leb128.specs.declared.Number.{Number}
 use Rattle.leb128.specs.declared.Number.the-variants.{Value, CutOff, Malformed}
+
+-- every element is a byte
+abbrev pub Bytes : List ℕ → Type 0
+Bytes s = (i : ℕ) → getD s i 0 < 256
 
 -- the groups of a number, with at most k before the last
 unfoldable pub groupsFrom : ℕ → ℕ → List ℕ

@@ -14,7 +14,7 @@ use Rattle.numbers.specs.Limits.{noNumber}
 use Rattle.card.specs.Card.{bytesOf}
 use Rattle.mkcard.specs.declared.scan.Scan.{Scan}
 use Rattle.mkcard.specs.Scan.{capped, begun, ended, lineAfter, stepped, scanned, numbersFrom, cardOfWords, digits, textOf, Spelled, cardOfText}
-use Rattle.mkcard.proofs.Laws.{grown-digit, step-word, ended-none, blank-none, capped-small, numbers-kept, numbers-end}
+use Rattle.mkcard.proofs.WordWays.{grown-digit, step-word, ended-none, blank-none, capped-small, numbers-kept, numbers-end}
 
 -- one piece of a text after the other
 scanned-append : (s : Scan) (xs ys : List ℕ) → scanned s (xs ++ ys) ≡ scanned (scanned s xs) ys

@@ -20,7 +20,7 @@ use Rattle.card.specs.declared.fields.Rule.the-variants.{Zones, Positions, Time
 use Rattle.card.specs.Ranges.{faultOf}
 use Rattle.card.specs.Card.{Legal, totalPositions, filmFault, zoneFaults, zerosFrom, unusedZero, recordFault, judgeRecord}
 use Rattle.card.specs.Read.{accepted}
-use Rattle.card.specs.Laws.{first-none, first-clear, zones-range, positions-range, time-range, blocks-range, measure-range, zones-legal, positions-legal, time-legal, blocks-legal, measure-legal}
+use Rattle.card.specs.RangeLaws.{first-none, first-clear, zones-range, positions-range, time-range, blocks-range, measure-range, zones-legal, positions-legal, time-legal, blocks-legal, measure-legal}
 
 -- a record has 64 zone entries
 abbrev pub Wide : Figures → Type 0

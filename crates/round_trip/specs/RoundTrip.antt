@@ -15,8 +15,8 @@ use Rattle.numbers.specs.Limits.{cardKind, noNumber, maxZones, maxTime, maxByte
 use Rattle.numbers.specs.Refusals.{cardGoesOn}
 use Rattle.leb128.specs.declared.Number.{Number}
 use Rattle.leb128.specs.declared.Number.the-variants as number
-use Rattle.leb128.specs.Number.{groups, numberAt}
-use Rattle.leb128.specs.Laws.{Bytes, Stands, written-read, read-written}
+use Rattle.leb128.specs.Number.{Bytes, groups, numberAt}
+use Rattle.leb128.specs.NumberLaws.{Stands, written-read, read-written}
 use Rattle.card.specs.declared.Figures.{Figures}
 use Rattle.card.specs.declared.CardRead.{CardRead}
 use Rattle.card.specs.declared.fields.Rule.{Rule}
@@ -26,7 +26,7 @@ use Rattle.card.specs.declared.fields.Field.the-variants.{Value, Refused}
 use Rattle.card.specs.Ranges.{first, faultOf}
 use Rattle.card.specs.Card.{Legal, filmFault, zoneFaults, recordFault, filmNumbers, zoneNumbers, numbersOf, bytesOf, cardOf, writeFault, writtenCard, bufferAfter}
 use Rattle.card.specs.Read.{onFault, onNumber, fieldAt, blankZones, blankFigures, accepted, refusedCard, thenField, withZones, withZone, withFilm, cardEnd, filmFrom, zonesFrom, readCard}
-use Rattle.card.specs.Laws.{first-none, first-clear, kind-range, zones-range, positions-range, time-range, kind-legal, zones-legal}
+use Rattle.card.specs.RangeLaws.{first-none, first-clear, kind-range, zones-range, positions-range, time-range, kind-legal, zones-legal}
 use Rattle.round_trip.specs.Entries.{Agree, agree-self, agree-all, agree-next, agree-back}
 use Rattle.round_trip.specs.Legality.{Wide, fault-judged, judged-fault, fault-film, fault-legal, legal-fault}
 

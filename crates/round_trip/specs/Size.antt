@@ -15,7 +15,7 @@ use Rattle.card.specs.declared.Figures.{Figures}
 use Rattle.card.specs.declared.fields.Rule.the-variants.{Positions, Time}
 use Rattle.card.specs.Ranges.{faultOf}
 use Rattle.card.specs.Card.{Legal, filmFault, zoneFaults, filmNumbers, zoneNumbers, numbersOf, bytesOf, cardOf}
-use Rattle.card.specs.Laws.{first-none, positions-range, time-range}
+use Rattle.card.specs.RangeLaws.{first-none, positions-range, time-range}
 use Rattle.round_trip.specs.Legality.{fault-film, fault-judged, legal-fault}
 
 -- a number below 128 ^ suc k takes one to suc k bytes

@@ -4,7 +4,7 @@ ghost use mathlib.Core.Logic.{_↔_};
 ghost use mathlib.Core.List.{List, _++_};
 ghost use Prim.Native.Nat.{ℕ, suc, _≤_};
 ghost use lib.ListN.{length, drop};
-ghost use Rattle.leb128.specs.Laws.{Bytes};
+ghost use Rattle.leb128.specs.Number.{Bytes};
 ghost use Rattle.card.specs.declared.Figures.{Figures};
 ghost use Rattle.card.specs.Card.{Legal, recordFault, judgeRecord, cardOf, writtenCard, bufferAfter};
 ghost use Rattle.card.specs.Read.{accepted, blankFigures, readCard};

@@ -1,5 +1,5 @@
 use mathlib.Core.Path.{_∙_}
-use Rattle.card_reader.proofs.Laws.{card-stops, card-goes, zones-bound}
+use Rattle.card_reader.proofs.ReaderWays.{card-stops, card-goes, zones-bound}
 use Rattle.card.specs.Read.{readCard}
 use borrow.Author.Needs.{needs}
 use Rattle.card_reader.proofs.read_card.Statement.{statement}

@@ -1,7 +1,7 @@
 use mathlib.Core.Path.{_≡_, sym, _∙_}
 use native.Mathlib.Omega.{arith}
-use Rattle.card_writer.proofs.Laws.{write-faulty, write-short, write-fits}
-use Rattle.card.specs.Laws.{fault-zones}
+use Rattle.card_writer.proofs.WriterWays.{write-faulty, write-short, write-fits}
+use Rattle.card.specs.RangeLaws.{fault-zones}
 use Rattle.card.specs.Card.{recordFault}
 use borrow.Author.Needs.{needs}
 use Rattle.card_writer.proofs.write_card.Statement.{statement}

@@ -1,6 +1,6 @@
 use Prim.Native.Nat.{_+_, _*_}
 use mathlib.Core.Logic.{⊎-elim}
-use Rattle.leb128.proofs.Laws.{judged-zero, judged-first, judged-more, judged-great-first, judged-great-more}
+use Rattle.leb128.proofs.NumberWays.{judged-zero, judged-first, judged-more, judged-great-first, judged-great-more}
 use borrow.Author.Needs.{needs}
 use Rattle.leb128.proofs.last_group.Statement.{statement}
 use Rattle.leb128.proofs.last_group.Tie as tie

@@ -1,6 +1,6 @@
 use native.Mathlib.Omega.{arith}
 use borrow.Author.Needs.{needs}
-use Rattle.leb128.proofs.Laws.{Counting, count-start, count-more, count-end}
+use Rattle.leb128.proofs.NumberWays.{Counting, count-start, count-more, count-end}
 use Rattle.leb128.proofs.number_length.Statement.{statement}
 use Rattle.leb128.proofs.number_length.Tie as tie
 

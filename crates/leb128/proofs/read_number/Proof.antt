@@ -3,8 +3,8 @@ use mathlib.Core.Path.{_≡_, _∙_, sym, refl}
 use native.Mathlib.Omega.{arith}
 use lib.ListN.{getD}
 use Rattle.leb128.specs.Number.{scan, numberAt}
-use Rattle.leb128.specs.Laws.{scan-number}
-use Rattle.leb128.proofs.Laws.{Room, room-weight, room-group, room-more, scan-none, scan-short, scan-last, scan-more}
+use Rattle.leb128.specs.NumberLaws.{scan-number}
+use Rattle.leb128.proofs.NumberWays.{Room, room-weight, room-group, room-more, scan-none, scan-short, scan-last, scan-more}
 use Rattle.leb128.proofs.read_number.Statement.{statement}
 use Rattle.leb128.proofs.read_number.Tie as tie
 

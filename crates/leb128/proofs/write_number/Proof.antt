@@ -1,6 +1,6 @@
 use native.Mathlib.Omega.{arith}
 use borrow.Author.Needs.{needs}
-use Rattle.leb128.proofs.Laws.{Writing, write-start, write-room, write-more, write-end}
+use Rattle.leb128.proofs.NumberWays.{Writing, write-start, write-room, write-more, write-end}
 use Rattle.leb128.proofs.write_number.Statement.{statement}
 use Rattle.leb128.proofs.write_number.Tie as tie
 

@@ -1,5 +1,5 @@
 use Rattle.words.specs.Laws.{bytes-fit}
-use Rattle.listing.proofs.Laws.{accepted-plan}
+use Rattle.listing.proofs.ListedPlan.{accepted-plan}
 use borrow.Author.Needs.{needs}
 use Rattle.listing.proofs.list.Statement.{statement}
 use Rattle.listing.proofs.list.Tie as tie

@@ -4,7 +4,7 @@ use lib.ListN.{length}
 use Rattle.round_trip.specs.Legality.{Wide}
 use Rattle.words.specs.Words.{wordsOf}
 use Rattle.plan.specs.Check.{checked}
-use Rattle.listing.proofs.Laws.{plan-zoned, position-on}
+use Rattle.listing.proofs.ListedPlan.{plan-zoned, position-on}
 use borrow.Author.Needs.{needs}
 use Rattle.listing.proofs.print_block.Statement.{statement}
 use Rattle.listing.proofs.print_block.Tie as tie

@@ -4,7 +4,7 @@ use native.Mathlib.Omega.{arith}
 use lib.ListN.{length}
 use lib.Seq.{length-take-le}
 use Rattle.mkcard.specs.declared.make.Made.{Made}
-use Rattle.mkcard.proofs.Laws.{made-short}
+use Rattle.mkcard.proofs.WordWays.{made-short}
 use borrow.Author.Needs.{needs}
 use Rattle.mkcard.proofs.answer.Statement.{statement}
 use Rattle.mkcard.proofs.answer.Tie as tie

@@ -1,6 +1,6 @@
 use Prim.Native.Nat.{ℕ, _+_}
 use mathlib.Core.Path.{ap, _∙_}
-use Rattle.card.proofs.Laws.{by-rule}
+use Rattle.card.proofs.JudgeWays.{by-rule}
 use Rattle.numbers.specs.Limits.{maxPositions}
 use Rattle.numbers.specs.Refusals.{wrongPositions, risingTime, blocksAbovePositions}
 use Rattle.card.specs.Ranges.{faultOf, thenAbove}

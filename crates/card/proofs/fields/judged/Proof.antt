@@ -1,7 +1,7 @@
 use Prim.Native.Nat.{ℕ}
 use Rattle.card.specs.Read.{onFault}
 use mathlib.Core.Path.{sym, ap, _∙_}
-use Rattle.card.proofs.Laws.{on-none, on-some}
+use Rattle.card.proofs.JudgeWays.{on-none, on-some}
 use mathlib.Core.Path.{_∙_, sym, ap}
 use borrow.Author.Needs.{needs}
 use Rattle.card.proofs.fields.judged.Statement.{statement}

@@ -1,4 +1,4 @@
-use Rattle.card.proofs.Laws.{outside-low, outside-high, outside-none}
+use Rattle.card.proofs.JudgeWays.{outside-low, outside-high, outside-none}
 use Rattle.card.proofs.fields.outside.Statement.{statement}
 use Rattle.card.proofs.fields.outside.Tie as tie
 

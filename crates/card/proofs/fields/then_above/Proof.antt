@@ -1,4 +1,4 @@
-use Rattle.card.proofs.Laws.{then-first, then-high, then-none}
+use Rattle.card.proofs.JudgeWays.{then-first, then-high, then-none}
 use Rattle.card.proofs.fields.then_above.Statement.{statement}
 use Rattle.card.proofs.fields.then_above.Tie as tie
 

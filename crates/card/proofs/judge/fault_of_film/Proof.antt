@@ -1,5 +1,5 @@
 use mathlib.Core.Path.{_∙_}
-use Rattle.card.proofs.Laws.{first-stops, first-goes}
+use Rattle.card.proofs.JudgeWays.{first-stops, first-goes}
 use Rattle.card.specs.Card.{filmFault}
 use borrow.Author.Needs.{needs}
 use Rattle.card.proofs.judge.fault_of_film.Statement.{statement}

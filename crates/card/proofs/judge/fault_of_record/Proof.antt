@@ -1,6 +1,6 @@
 use mathlib.Core.Path.{sym, _∙_}
-use Rattle.card.proofs.Laws.{first-stops, first-goes}
-use Rattle.card.specs.Laws.{zones-range}
+use Rattle.card.proofs.JudgeWays.{first-stops, first-goes}
+use Rattle.card.specs.RangeLaws.{zones-range}
 use Rattle.card.specs.Card.{unusedZero, recordFault}
 use borrow.Author.Needs.{needs}
 use Rattle.card.proofs.judge.fault_of_record.Statement.{statement}

@@ -5,7 +5,7 @@ use native.Mathlib.Omega.{arith}
 use borrow.Author.Needs.{needs}
 use Rattle.numbers.specs.Limits.{maxZones}
 use Rattle.numbers.specs.Refusals.{wrongZones}
-use Rattle.card.proofs.Laws.{unused-positions, unused-times, unused-more, unused-end}
+use Rattle.card.proofs.JudgeWays.{unused-positions, unused-times, unused-more, unused-end}
 use Rattle.card.specs.Card.{zerosFrom}
 use Rattle.card.proofs.judge.fault_of_unused.Statement.{statement}
 use Rattle.card.proofs.judge.fault_of_unused.Tie as tie

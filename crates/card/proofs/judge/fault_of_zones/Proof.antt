@@ -3,8 +3,8 @@ use mathlib.Core.Path.{_≡_, sym, ap, _∙_}
 use native.Mathlib.Omega.{arith}
 use borrow.Author.Needs.{needs}
 use Rattle.numbers.specs.Limits.{maxPositions, maxTime}
-use Rattle.card.specs.Laws.{positions-range}
-use Rattle.card.proofs.Laws.{zones-done, zones-few, zones-slow, zones-more}
+use Rattle.card.specs.RangeLaws.{positions-range}
+use Rattle.card.proofs.JudgeWays.{zones-done, zones-few, zones-slow, zones-more}
 use Rattle.card.specs.declared.Figures.{Figures}
 use Rattle.card.specs.Card.{filmFault, zoneFaults}
 use Rattle.card.proofs.judge.fault_of_zones.Statement.{statement}

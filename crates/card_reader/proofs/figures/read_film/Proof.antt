@@ -1,5 +1,5 @@
 use mathlib.Core.Path.{_∙_}
-use Rattle.card_reader.proofs.Laws.{card-stops, card-goes, end-left, end-none}
+use Rattle.card_reader.proofs.ReaderWays.{card-stops, card-goes, end-left, end-none}
 use Rattle.card.specs.Read.{filmFrom}
 use Rattle.card_reader.specs.Film.{cardWith}
 use borrow.Author.Needs.{needs}

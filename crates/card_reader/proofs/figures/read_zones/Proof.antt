@@ -5,7 +5,7 @@ use borrow.Author.Needs.{needs}
 use mathlib.Core.List.{List}
 use Rattle.numbers.specs.Limits.{maxPositions, maxTime}
 use Rattle.card.specs.declared.Figures.{Figures}
-use Rattle.card_reader.proofs.Laws.{field-fits, film-stops, film-goes, read-done, read-few, read-slow, read-more}
+use Rattle.card_reader.proofs.ReaderWays.{field-fits, film-stops, film-goes, read-done, read-few, read-slow, read-more}
 use Rattle.card.specs.Read.{zonesFrom, withZones}
 use Rattle.card_reader.proofs.figures.read_zones.Statement.{statement}
 use Rattle.card_reader.proofs.figures.read_zones.Tie as tie

@@ -4,7 +4,7 @@ use mathlib.Core.Path.{_≡_, ap}
 use native.Mathlib.Omega.{arith}
 use borrow.Author.Needs.{needs}
 use lib.ListN.{length}
-use Rattle.card_writer.proofs.Laws.{length-more, length-head, numbers-done}
+use Rattle.card_writer.proofs.WriterWays.{length-more, length-head, numbers-done}
 use Rattle.card.specs.Card.{cardOf, bytesOf, zoneNumbers}
 use Rattle.card_writer.proofs.writing.card_length.Statement.{statement}
 use Rattle.card_writer.proofs.writing.card_length.Tie as tie

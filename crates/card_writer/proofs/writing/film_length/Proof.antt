@@ -1,5 +1,5 @@
 use native.Mathlib.Omega.{arith}
-use Rattle.card_writer.proofs.Laws.{length-film}
+use Rattle.card_writer.proofs.WriterWays.{length-film}
 use borrow.Author.Needs.{needs}
 use Rattle.card_writer.proofs.writing.film_length.Statement.{statement}
 use Rattle.card_writer.proofs.writing.film_length.Tie as tie

@@ -1,6 +1,6 @@
 use mathlib.Core.List.{[], _∷_}
 use borrow.Author.Needs.{needs}
-use Rattle.card_writer.proofs.Laws.{Writes, writes-start, writes-fits, writes-next, writes-done}
+use Rattle.card_writer.proofs.WriterWays.{Writes, writes-start, writes-fits, writes-next, writes-done}
 use Rattle.card.specs.Card.{filmNumbers}
 use borrow.Author.Needs.{needs}
 use Rattle.card_writer.proofs.writing.write_film.Statement.{statement}

@@ -4,7 +4,7 @@ use mathlib.Core.List.{_∷_}
 use lib.ListN.{length}
 use native.Mathlib.Omega.{arith}
 use borrow.Author.Needs.{needs}
-use Rattle.card_writer.proofs.Laws.{Writes, writes-start, writes-fits, writes-next}
+use Rattle.card_writer.proofs.WriterWays.{Writes, writes-start, writes-fits, writes-next}
 use Rattle.card.specs.Card.{cardOf, numbersOf, zoneNumbers, bytesOf}
 use borrow.Author.Needs.{needs}
 use Rattle.card_writer.proofs.writing.write_numbers.Statement.{statement}

@@ -4,7 +4,7 @@ use mathlib.Core.Path.{_≡_, ap, _∙_, subst}
 use native.Mathlib.Omega.{arith}
 use borrow.Author.Needs.{needs}
 use lib.ListN.{length, getD}
-use Rattle.card_writer.proofs.Laws.{Writes, writes-start, writes-fits, writes-next, numbers-done, numbers-more}
+use Rattle.card_writer.proofs.WriterWays.{Writes, writes-start, writes-fits, writes-next, numbers-done, numbers-more}
 use Rattle.card.specs.Card.{bytesOf, zoneNumbers}
 use Rattle.card_writer.proofs.writing.write_zones.Statement.{statement}
 use Rattle.card_writer.proofs.writing.write_zones.Tie as tie

@@ -1,4 +1,4 @@
-use Rattle.mkcard.proofs.Laws.{line-end, line-past, line-word}
+use Rattle.mkcard.proofs.WordWays.{line-end, line-past, line-word}
 use borrow.Author.Needs.{needs}
 use Rattle.mkcard.proofs.make.line_of.Statement.{statement}
 use Rattle.mkcard.proofs.make.line_of.Tie as tie

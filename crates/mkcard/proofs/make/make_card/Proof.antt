@@ -6,7 +6,7 @@ use lib.ListN.{length, take}
 use lib.Seq.{length-take-le}
 use Rattle.card.specs.Read.{readCard}
 use Rattle.mkcard.specs.Scan.{cardOfWords, numbersIn, lineOf}
-use Rattle.mkcard.proofs.Laws.{card-long, card-taken, card-fits, made-card, made-none}
+use Rattle.mkcard.proofs.WordWays.{card-long, card-taken, card-fits, made-card, made-none}
 use borrow.Author.Needs.{needs}
 use Rattle.mkcard.proofs.make.make_card.Statement.{statement}
 use Rattle.mkcard.proofs.make.make_card.Tie as tie

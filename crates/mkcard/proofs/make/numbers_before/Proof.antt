@@ -7,7 +7,7 @@ use native.Mathlib.Omega.{arith}
 use borrow.Author.Tests.{lt-ltb, le-ltb}
 use lib.ListN.{length, take, drop}
 use Rattle.mkcard.specs.Scan.{numbersIn}
-use Rattle.mkcard.proofs.Laws.{before-more, before-done, before-place}
+use Rattle.mkcard.proofs.WordWays.{before-more, before-done, before-place}
 use Rattle.mkcard.proofs.make.numbers_before.Statement.{statement}
 use Rattle.mkcard.proofs.make.numbers_before.Tie as tie
 

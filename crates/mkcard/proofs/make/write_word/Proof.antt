@@ -1,8 +1,8 @@
 use mathlib.Core.Path.{_∙_, ap}
 use native.Mathlib.Omega.{arith}
 use lib.ListN.{length, length-set}
-use Rattle.leb128.specs.Laws.{groups-long}
-use Rattle.mkcard.proofs.Laws.{capped-small, capped-great, great-long, put-great}
+use Rattle.leb128.specs.NumberLaws.{groups-long}
+use Rattle.mkcard.proofs.WordWays.{capped-small, capped-great, great-long, put-great}
 use borrow.Author.Needs.{needs}
 use Rattle.mkcard.proofs.make.write_word.Statement.{statement}
 use Rattle.mkcard.proofs.make.write_word.Tie as tie

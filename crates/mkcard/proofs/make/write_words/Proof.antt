@@ -3,9 +3,9 @@ use Prim.Native.Nat.{_+_, _*_, _≤_, _-_}
 use mathlib.Core.List.{_∷_}
 use native.Mathlib.Omega.{arith}
 use lib.ListN.{getD}
-use Rattle.card_writer.proofs.Laws.{Writes, writes-start, writes-next}
+use Rattle.card_writer.proofs.WriterWays.{Writes, writes-start, writes-next}
 use Rattle.mkcard.specs.Scan.{capped, numbersFrom}
-use Rattle.mkcard.proofs.Laws.{numbers-kept, numbers-end, numbers-done, capped-long, card-room, words-done}
+use Rattle.mkcard.proofs.WordWays.{numbers-kept, numbers-end, numbers-done, capped-long, card-room, words-done}
 use Rattle.mkcard.proofs.make.write_words.Statement.{statement}
 use Rattle.mkcard.proofs.make.write_words.Tie as tie
 

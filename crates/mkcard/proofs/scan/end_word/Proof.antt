@@ -1,4 +1,4 @@
-use Rattle.mkcard.proofs.Laws.{ended-none, ended-full, ended-kept, off, on}
+use Rattle.mkcard.proofs.WordWays.{ended-none, ended-full, ended-kept, off, on}
 use borrow.Author.Needs.{needs}
 use Rattle.mkcard.proofs.scan.end_word.Statement.{statement}
 use Rattle.mkcard.proofs.scan.end_word.Tie as tie

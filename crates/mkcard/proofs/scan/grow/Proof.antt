@@ -1,5 +1,5 @@
 use native.Mathlib.Omega.{arith}
-use Rattle.mkcard.proofs.Laws.{grown-below, grown-above, grown-great, grown-digit}
+use Rattle.mkcard.proofs.WordWays.{grown-below, grown-above, grown-great, grown-digit}
 use borrow.Author.Needs.{needs}
 use Rattle.mkcard.proofs.scan.grow.Statement.{statement}
 use Rattle.mkcard.proofs.scan.grow.Tie as tie

@@ -5,7 +5,7 @@ use native.Mathlib.Omega.{arith}
 use lib.ListN.{length, drop}
 use Rattle.mkcard.specs.declared.scan.Scan.{Scan}
 use Rattle.mkcard.specs.Scan.{scanned}
-use Rattle.mkcard.proofs.Laws.{scanned-more, scanned-done}
+use Rattle.mkcard.proofs.WordWays.{scanned-more, scanned-done}
 use Rattle.mkcard.proofs.scan.read_text.Statement.{statement}
 use Rattle.mkcard.proofs.scan.read_text.Tie as tie
 

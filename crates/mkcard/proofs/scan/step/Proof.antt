@@ -1,5 +1,5 @@
 use mathlib.Core.Path.{_∙_}
-use Rattle.mkcard.proofs.Laws.{step-last, step-line, step-comment, step-hash, step-blank, step-word, blank-key, blank-none}
+use Rattle.mkcard.proofs.WordWays.{step-last, step-line, step-comment, step-hash, step-blank, step-word, blank-key, blank-none}
 use borrow.Author.Needs.{needs}
 use Rattle.mkcard.proofs.scan.step.Statement.{statement}
 use Rattle.mkcard.proofs.scan.step.Tie as tie

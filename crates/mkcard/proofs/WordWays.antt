@@ -14,11 +14,11 @@ use borrow.Author.Tests.{lt-ltb, le-ltb, le-leb, lt-leb, eq-eqb, ne-eqb, ltb-tru
 use Rattle.laws.specs.Overwrite.{overwrite, overwrite-more, overwrite-front, overwrite-length}
 use Rattle.numbers.specs.Limits.{noNumber}
 use Rattle.leb128.specs.Number.{groups, groupsFrom}
-use Rattle.leb128.specs.Laws.{groups-long}
+use Rattle.leb128.specs.NumberLaws.{groups-long}
 use Rattle.card.specs.Card.{bytesOf}
 use Rattle.card.specs.Read.{readCard}
 use Rattle.card.specs.declared.CardRead.{CardRead}
-use Rattle.card_writer.proofs.Laws.{Writes, writes-done}
+use Rattle.card_writer.proofs.WriterWays.{Writes, writes-done}
 use Rattle.mkcard.specs.declared.make.Made.{Made}
 use Rattle.mkcard.specs.declared.scan.Scan.{Scan}
 use Rattle.mkcard.specs.Scan.{capped, grown, ended, lineAfter, commented, longer, blank, stepped, scanned, numbersFrom, cardOfWords, numbersIn, lineOf, madeBy, made}

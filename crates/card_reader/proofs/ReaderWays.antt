@@ -17,7 +17,7 @@ use Rattle.card.specs.declared.fields.Rule.{Rule}
 use Rattle.card.specs.declared.fields.Rule.the-variants.{Zones, Positions, Time}
 use Rattle.card.specs.declared.fields.Field.{Field}
 use Rattle.card.specs.declared.fields.Field.the-variants.{Value, Refused}
-use Rattle.card.specs.Laws.{positions-range, zones-range}
+use Rattle.card.specs.RangeLaws.{positions-range, zones-range}
 use Rattle.card.specs.Ranges.{faultOf}
 use Rattle.card.specs.Read.{onFault, onNumber, fieldAt, thenField, refusedCard, cardEnd, filmFrom, zonesFrom, withZone, withFilm}
 use Rattle.card_reader.specs.declared.figures.Film.{Film}

@@ -14,11 +14,7 @@ use Rattle.laws.specs.Bools.{clash}
 use Rattle.numbers.specs.Limits.{noNumber}
 use Rattle.leb128.specs.declared.Number.{Number}
 use Rattle.leb128.specs.declared.Number.the-variants.{Value, CutOff, Malformed}
-use Rattle.leb128.specs.Number.{groupsFrom, groups, continuing, joined, judged, numberIn, numberAt, scan}
-
--- every element is a byte
-abbrev pub Bytes : List ℕ → Type 0
-Bytes s = (i : ℕ) → getD s i 0 < 256
+use Rattle.leb128.specs.Number.{Bytes, groupsFrom, groups, continuing, joined, judged, numberIn, numberAt, scan}
 
 -- ---- the groups of a number
 
