@@ -5,37 +5,70 @@ use desk::Desk;
 use desk::answer_with;
 use desk::blank_desk;
 use desk::fresh_desk;
+use desk::verdict;
 use desk::with_slot;
+use desk::zeros;
+use numbers::refusals::ACCEPTED;
+use numbers::refusals::NO_SUCH_BLOCK;
+use numbers::refusals::NO_SUCH_SLOT;
+use numbers::refusals::NOT_SOUND;
+use numbers::refusals::SLOT_STATE;
+use numbers::refusals::WRONG_PHASE;
+use numbers::slots::BETWEEN;
+use numbers::slots::FREE;
+use numbers::slots::WAITING;
 use plan::Plan;
-use soundness::is_sound;
+use soundness::test_record;
 ghost use mathlib.Core.Path.{_≡_};
-ghost use Rattle.desk.specs.Desk.{verdict, openDesk, joinDesk, leaveDesk};
+ghost use Rattle.desk.specs.Desk.{openDesk, joinDesk, leaveDesk};
+ghost use Rattle.desk.specs.View.{Wide};
+ghost use Rattle.soundness.specs.Facts.{recordOf};
+ghost use Rattle.admission.specs.Slot.{SlotPassed, SlotRefused};
 
 // Opens a desk: 14 where the record and the lists are not the plan of its figures; the new desk is then all zero.
 pub fn open(plan: Plan, positions: &[u8], leads: &[u8]) -> Answer
     ensures { λ r. ⌜ r ≡ openDesk plan (now (positions .entry)) (now (leads .entry)) ⌝ }
 {
     if !planner::is_plan(plan, positions, leads) {
-        return answer_with(blank_desk(), 14, 0);
+        return answer_with(blank_desk(), NOT_SOUND, 0);
     }
-    answer_with(fresh_desk(plan), 0, 0)
+    answer_with(fresh_desk(plan), ACCEPTED, 0)
 }
 
-// Document 01's number and place.
-fn judged(number: u32, place: usize) -> Verdict
-    ensures { λ r. ⌜ r ≡ verdict number place ⌝ }
+// What a join and a leave are refused for alike, 14 to 16, or 0.
+fn judge_slot<'a>(
+    plan: Plan,
+    phase: u32,
+    kinds: &'a [u32; 256],
+    next: &'a [u32; 256],
+    held: &'a [u32; 256],
+    positions: &[u8],
+    leads: &[u8],
+    slot: u32,
+) -> Verdict
+    requires { ⌜ Wide (recordOf plan phase (now kinds) (now next) (now held)) ⌝ }
+    ensures passed { λ r. ⌜ (r .number ≡ 0 → SlotPassed (recordOf plan phase (now (kinds .entry)) (now (next .entry)) (now (held .entry))) (now (positions .entry)) (now (leads .entry)) slot) ⌝ }
+    ensures refused { λ r. ⌜ ((r .number ≡ 0 → ⊥) → SlotRefused (recordOf plan phase (now (kinds .entry)) (now (next .entry)) (now (held .entry))) (now (positions .entry)) (now (leads .entry)) slot r) ⌝ }
 {
-    Verdict {
-        number: number,
-        place: place,
+    let mut found = zeros();
+    let tested = test_record(plan, phase, kinds, next, held, positions, leads, &mut found);
+    if !tested.sound {
+        return verdict(NOT_SOUND, 0);
     }
+    if phase != BETWEEN {
+        return verdict(WRONG_PHASE, 0);
+    }
+    if slot >= plan.streams {
+        return verdict(NO_SUCH_SLOT, slot as usize);
+    }
+    verdict(ACCEPTED, 0)
 }
 
 // The refusal of a join, 14 to 18, or 0.
 pub fn judge_join(desk: Desk, positions: &[u8], leads: &[u8], slot: u32, block: u32) -> Verdict
     ensures { λ r. ⌜ r ≡ joinDesk desk (now (positions .entry)) (now (leads .entry)) slot block .verdict ⌝ }
 {
-    if !is_sound(
+    let judged = judge_slot(
         desk.plan,
         desk.phase,
         &desk.kinds,
@@ -43,23 +76,19 @@ pub fn judge_join(desk: Desk, positions: &[u8], leads: &[u8], slot: u32, block: 
         &desk.held,
         positions,
         leads,
-    ) {
-        return judged(14, 0);
-    }
-    if desk.phase != 0 {
-        return judged(15, 0);
+        slot,
+    );
+    if judged.number != ACCEPTED {
+        return judged;
     }
     let i = slot as usize;
-    if slot >= desk.plan.streams {
-        return judged(16, i);
-    }
-    if desk.kinds[i] != 0 {
-        return judged(17, i);
+    if desk.kinds[i] != FREE {
+        return verdict(SLOT_STATE, i);
     }
     if block >= desk.plan.figures.blocks {
-        return judged(18, i);
+        return verdict(NO_SUCH_BLOCK, i);
     }
-    judged(0, 0)
+    verdict(ACCEPTED, 0)
 }
 
 // A free slot becomes asked (safety: waiting), with its start block: 14 to 18. A refused call answers the desk it was given.
@@ -67,20 +96,20 @@ pub fn join(desk: Desk, positions: &[u8], leads: &[u8], slot: u32, block: u32) -
     ensures { λ r. ⌜ r ≡ joinDesk desk (now (positions .entry)) (now (leads .entry)) slot block ⌝ }
 {
     let verdict = judge_join(desk, positions, leads, slot, block);
-    if verdict.number != 0 {
+    if verdict.number != ACCEPTED {
         return Answer {
             verdict: verdict,
             desk: desk,
         };
     }
-    answer_with(with_slot(desk, slot as usize, 1, block), 0, 0)
+    answer_with(with_slot(desk, slot as usize, WAITING, block), ACCEPTED, 0)
 }
 
 // The refusal of a leave, 14 to 17, or 0.
 pub fn judge_leave(desk: Desk, positions: &[u8], leads: &[u8], slot: u32) -> Verdict
     ensures { λ r. ⌜ r ≡ leaveDesk desk (now (positions .entry)) (now (leads .entry)) slot .verdict ⌝ }
 {
-    if !is_sound(
+    let judged = judge_slot(
         desk.plan,
         desk.phase,
         &desk.kinds,
@@ -88,20 +117,16 @@ pub fn judge_leave(desk: Desk, positions: &[u8], leads: &[u8], slot: u32) -> Ver
         &desk.held,
         positions,
         leads,
-    ) {
-        return judged(14, 0);
-    }
-    if desk.phase != 0 {
-        return judged(15, 0);
+        slot,
+    );
+    if judged.number != ACCEPTED {
+        return judged;
     }
     let i = slot as usize;
-    if slot >= desk.plan.streams {
-        return judged(16, i);
+    if desk.kinds[i] == FREE {
+        return verdict(SLOT_STATE, i);
     }
-    if desk.kinds[i] == 0 {
-        return judged(17, i);
-    }
-    judged(0, 0)
+    verdict(ACCEPTED, 0)
 }
 
 // An occupied slot becomes free, all zero: 14 to 17. A refused call answers the desk it was given.
@@ -109,11 +134,11 @@ pub fn leave(desk: Desk, positions: &[u8], leads: &[u8], slot: u32) -> Answer
     ensures { λ r. ⌜ r ≡ leaveDesk desk (now (positions .entry)) (now (leads .entry)) slot ⌝ }
 {
     let verdict = judge_leave(desk, positions, leads, slot);
-    if verdict.number != 0 {
+    if verdict.number != ACCEPTED {
         return Answer {
             verdict: verdict,
             desk: desk,
         };
     }
-    answer_with(with_slot(desk, slot as usize, 0, 0), 0, 0)
+    answer_with(with_slot(desk, slot as usize, FREE, 0), ACCEPTED, 0)
 }

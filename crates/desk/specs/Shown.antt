@@ -20,14 +20,12 @@ pub record Slots (p : Supply ℕ) (n : ℕ) (ks xs hs : List ℕ) : Type 0 where
 abbrev pub OfNext : Supply ℕ → (ℕ → ℕ) → List ℕ → List ℕ → List ℕ → Type 0
 OfNext p f ks xs vs = (i : ℕ) → i < 256 → 1 ≤ getD ks i 0 → getD ks i 0 ≤ 3 → getD vs i 0 ≡ f (getD xs i (p .none))
 
--- time, lead and position of these blocks were gathered
+-- time and position of these blocks were gathered
 pub record Gathers (p : Supply ℕ) (ks xs : List ℕ) (g : Gathered) : Type 0 where
   pub times : OfNext p (p .time) ks xs (g .times)
-  pub leads : OfNext p (p .lead) ks xs (g .leads)
   pub positions : OfNext p (p .position) ks xs (g .positions)
 
 -- and all that was gathered is in its range
 pub record InRange (g : Gathered) : Type 0 where
   pub times : (i : ℕ) → getD (g .times) i 0 ≤ maxTime
-  pub leads : (i : ℕ) → getD (g .leads) i 0 ≤ 3999999
   pub positions : (i : ℕ) → getD (g .positions) i 0 < maxPositions

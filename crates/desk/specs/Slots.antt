@@ -3,12 +3,16 @@
 use Prim.Native.Nat.{ℕ, zero, suc}
 use mathlib.Core.Path.{_≡_, refl, sym, ap, _∙_}
 use mathlib.Core.List.{List, [], _∷_, map}
-use lib.ListN.{length, getD, set, List·getD-map}
+use lib.ListN.{length, getD, set, length-replicate, List·getD-map}
 use Rattle.safety.specs.Scheduler.{Slot, freeSlot, at}
 use Rattle.safety.specs.Arrays.{slotOf, length-slots, slot-at}
 use Rattle.desk.specs.declared.Desk.{Desk}
-use Rattle.desk.specs.Desk.{supplyOf, slotsIn, viewOf, deskOf}
+use Rattle.desk.specs.Desk.{supplyOf, slotsIn, viewOf, deskOf, zeros}
 use Rattle.desk.specs.View.{Wide, same-length, desk-of-view}
+
+pub length-zeros : length zeros ≡ 256
+unfolding zeros
+length-zeros = length-replicate {A = ℕ} 256 0
 
 -- the record with other slots
 abbrev pub withSlots : Desk → List (Slot ℕ) → Desk

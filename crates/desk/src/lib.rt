@@ -5,7 +5,7 @@ use plan::blank_plan;
 ghost use mathlib.Core.Path.{_≡_};
 ghost use mathlib.Core.List.{[]};
 ghost use Prim.Native.Nat.{_<_};
-ghost use Rattle.desk.specs.Desk.{zeros, freshDesk, blankDesk, fetchesOf};
+ghost use Rattle.desk.specs.Desk.{zeros, freshDesk, blankDesk, verdict, fetchesOf};
 ghost use Rattle.desk.specs.Records.{answers, withSlot, notBegun};
 
 // A desk: a plan record, the phase (0 between sweeps, 1 in one) and 256 slots.
@@ -49,10 +49,9 @@ pub struct Fetch {
     pub block: u32,
 }
 
-// What is gathered of the lent lists and the zones for each slot: time, lead and position of its next block (kinds 1 to 3).
+// What is gathered of the list of positions and the zones for each slot: time and position of its next block (kinds 1 to 3).
 pub struct Gathered {
     pub times: [u32; 256],
-    pub leads: [u32; 256],
     pub positions: [u32; 256],
 }
 
@@ -83,7 +82,17 @@ pub fn blank_desk() -> Desk
     fresh_desk(blank_plan())
 }
 
-// A desk with document 01's number and place.
+// Document 01's number and place.
+pub fn verdict(number: u32, place: usize) -> Verdict
+    ensures { λ r. ⌜ r ≡ verdict number place ⌝ }
+{
+    Verdict {
+        number: number,
+        place: place,
+    }
+}
+
+// A desk with them.
 pub fn answer_with(desk: Desk, number: u32, place: usize) -> Answer
     ensures { λ r. ⌜ r ≡ answers desk number place ⌝ }
 {

@@ -1,40 +1,92 @@
-// The floor of document 01 (safety: the low-water mark): the leads of a desk's filling and playing slots, and the mark that they give.
+// The leads of slots, and the floor of document 01 (safety: the low-water mark) that they give.
+use numbers::slots::FILLING;
+use numbers::slots::PLAYING;
+use numbers::slots::WAITING;
+use numbers::units::PARTS;
 use streams::product;
 use words::word_at;
 ghost use mathlib.Core.Path.{_≡_};
-ghost use Prim.Native.Nat.{_+_, _*_, _≤_, _<_};
-ghost use lib.ListN.{length};
+ghost use mathlib.Core.List.{List};
+ghost use Prim.Native.Nat.{ℕ, _+_, _*_, _≤_, _<_, min};
+ghost use lib.ListN.{length, getD};
 ghost use Rattle.words.specs.Words.{wordsOf};
-ghost use Rattle.floor.specs.Floor.{Leading, slotLead, slotLeads};
+ghost use Rattle.numbers.specs.Limits.{maxBytes, maxRate, maxStreams};
+ghost use Rattle.numbers.specs.Slots.{waiting, filling, playing};
+ghost use Rattle.numbers.specs.Units.{parts};
+ghost use Rattle.safety.specs.Supply.{Supply};
+ghost use Rattle.safety.specs.Scheduler.{leads};
+ghost use Rattle.safety.specs.Arrays.{slotsOf};
+ghost use Rattle.safety.specs.Turns.{leastHeld};
+ghost use Rattle.desk.specs.Shown.{Slots, OfNext};
+ghost use Rattle.floor.specs.Floor.{mostLead, ample, Listed, Taken};
 
-// The lead that a slot adds to the sum: that of its next block where it is filling or playing, else 0.
-fn lead_of(kind: u32, next: u32, leads: &[u8]) -> u32
-    requires { ⌜ (2 ≤ kind → kind ≤ 3 → next < length (wordsOf (now leads))) ⌝ }
-    ensures { λ r. ⌜ r ≡ slotLead (wordsOf (now (leads .entry))) kind next ⌝ }
+// Stands for the least that a playing slot holds where none plays, in two-millionths of a byte: above every floor.
+const AMPLE: u64 = 2000000000000000000;
+
+// The lead of a block: the lent list has it.
+fn lead_at(leads: &[u8], block: u32) -> u32
+    requires { ⌜ block < length (wordsOf (now leads)) ⌝ }
+    ensures { λ r. ⌜ r ≡ getD (wordsOf (now (leads .entry))) block 0 ⌝ }
 {
-    if kind < 2 {
-        return 0;
-    }
-    if kind > 3 {
-        return 0;
-    }
-    word_at(leads, next as usize)
+    word_at(leads, block as usize)
 }
 
-// The leads at the next blocks of the filling and playing slots among the first `streams`, added up.
-pub fn sum_leads<'a>(
+// The lead of the next block of a slot that is asked, filling or playing; 0 for another kind.
+fn next_lead(kind: u32, next: u32, leads: &[u8]) -> u32
+    requires { ⌜ (waiting ≤ kind → kind ≤ playing → next < length (wordsOf (now leads))) ⌝ }
+    ensures block { λ r. ⌜ (waiting ≤ kind → kind ≤ playing → r ≡ getD (wordsOf (now (leads .entry))) next 0) ⌝ }
+    ensures none { λ r. ⌜ ((waiting ≤ kind → kind ≤ playing → ⊥) → r ≡ 0) ⌝ }
+{
+    match kind {
+        WAITING => lead_at(leads, next),
+        FILLING => lead_at(leads, next),
+        PLAYING => lead_at(leads, next),
+        _ => 0,
+    }
+}
+
+// Puts the lead of the next block of each of the first `streams` slots into `found`; 0 for free slots and tails.
+pub fn gather_leads<'a>(
     kinds: &'a [u32; 256],
     next: &'a [u32; 256],
     streams: usize,
     leads: &[u8],
-) -> u32
-    requires { ⌜ Leading (wordsOf (now leads)) (now kinds) (now next) streams ⌝ }
-    ensures { λ r. ⌜ (r ≡ slotLeads (wordsOf (now (leads .entry))) (now (kinds .entry)) (now (next .entry)) streams) × (r ≤ 1023999744) ⌝ }
+    found: &mut [u32; 256],
+)
+    requires { ⌜ (streams ≤ maxStreams) × (Listed (wordsOf (now leads)) (now kinds) (now next) streams) × (length (now found) ≡ maxStreams) ⌝ }
+    ensures { λ _. ⌜ Taken (wordsOf (now (leads .entry))) (now (kinds .entry)) (now (next .entry)) streams (now (found .exit)) ⌝ }
+{
+    let mut i: usize = 0;
+    while i < streams {
+        found[i] = next_lead(kinds[i], next[i], leads);
+        i += 1;
+    }
+}
+
+// What a slot adds to the sum: its lead where it is filling or playing.
+fn added(kind: u32, lead: u32) -> u32
+    ensures reads { λ r. ⌜ (filling ≤ kind → kind ≤ playing → r ≡ lead) ⌝ }
+    ensures other { λ r. ⌜ ((filling ≤ kind → kind ≤ playing → ⊥) → r ≡ 0) ⌝ }
+    ensures most { λ r. ⌜ r ≤ lead ⌝ }
+{
+    match kind {
+        FILLING => lead,
+        PLAYING => lead,
+        _ => 0,
+    }
+}
+
+// The leads at the next blocks of the filling and playing slots, added up, of what was gathered. The slots from `streams` on are free.
+pub fn sum_leads(kinds: &[u32; 256], found: &[u32; 256], streams: usize) -> u32
+    requires { ⌜ (streams ≤ maxStreams) × ((i : ℕ) → i < streams → getD (now found) i 0 ≤ mostLead) ⌝ }
+    ensures sum { λ r. ⌜ ((p : Supply ℕ) (xs hs : List ℕ) → Slots p streams (now (kinds .entry)) xs hs
+        → OfNext p (p .lead) (now (kinds .entry)) xs (now (found .entry)) → r ≡ leads p (slotsOf p (now (kinds .entry)) xs hs)) ⌝ }
+    ensures most { λ r. ⌜ r ≤ maxStreams * mostLead ⌝ }
 {
     let mut sum: u32 = 0;
     let mut i: usize = 0;
     while i < streams {
-        sum += lead_of(kinds[i], next[i], leads);
+        sum += added(kinds[i], found[i]);
         i += 1;
     }
     sum
@@ -42,8 +94,40 @@ pub fn sum_leads<'a>(
 
 // The floor in two-millionths of a byte, for leads that add up to `leads`: B plus c / 2,000,000 times the leads.
 pub fn low_water(bytes: u32, rate: u32, leads: u32) -> u64
-    requires { ⌜ (bytes ≤ 4194304) × (rate ≤ 10000000) ⌝ }
-    ensures { λ r. ⌜ r ≡ 2000000 * bytes + rate * leads ⌝ }
+    requires { ⌜ (bytes ≤ maxBytes) × (rate ≤ maxRate) ⌝ }
+    ensures { λ r. ⌜ r ≡ parts * bytes + rate * leads ⌝ }
 {
-    product(2000000, bytes) + product(rate, leads)
+    product(PARTS, bytes) + product(rate, leads)
+}
+
+// The lower of a level and what a playing slot holds, in two-millionths of a byte.
+fn lower(kind: u32, held: u32, level: u64) -> u64
+    ensures plays { λ r. ⌜ (kind ≡ playing → r ≡ min level (parts * held)) ⌝ }
+    ensures other { λ r. ⌜ ((kind ≡ playing → ⊥) → r ≡ level) ⌝ }
+{
+    match kind {
+        PLAYING => {
+            let own = product(PARTS, held);
+            if own < level {
+                return own;
+            }
+            level
+        }
+        _ => level,
+    }
+}
+
+// The least that a playing slot holds, in two-millionths of a byte; where none plays, above every floor. The slots from `streams` on are free.
+pub fn least_level<'a>(kinds: &'a [u32; 256], held: &'a [u32; 256], streams: usize) -> u64
+    requires { ⌜ streams ≤ maxStreams ⌝ }
+    ensures { λ r. ⌜ ((p : Supply ℕ) (xs : List ℕ) → Slots p streams (now (kinds .entry)) xs (now (held .entry))
+        → r ≡ parts * leastHeld p ample (slotsOf p (now (kinds .entry)) xs (now (held .entry)))) ⌝ }
+{
+    let mut level: u64 = AMPLE;
+    let mut i: usize = 0;
+    while i < streams {
+        level = lower(kinds[i], held[i], level);
+        i += 1;
+    }
+    level
 }

@@ -14,6 +14,7 @@ use borrow.Author.Tests.{eqb-true, eq-eqb}
 use Rattle.laws.specs.Bools.{and-left, and-right}
 use Rattle.laws.specs.Map.{store-next}
 use Rattle.safety.specs.Supply.{Supply}
+use Rattle.numbers.specs.Limits.{maxBytes, maxRate}
 use Rattle.numbers.specs.Slots.{waiting, filling}
 use Rattle.numbers.specs.Units.{parts}
 use Rattle.safety.specs.Scheduler.{Slot, freeSlot, at, leads, lowWater, startedSlot, started, playersHold, fillingSlot, tries}
@@ -21,7 +22,8 @@ use Rattle.safety.specs.Arrays.{slotOf, slotsOf, SameLength, length-slots, slot
 use Rattle.safety.specs.Turns.{startedTo, startedTo-none, startedTo-rest, least-holds}
 use Rattle.safety.specs.Turns.{tries-none, tries-past, tries-other, tries-waits, tries-granted, tries-rest}
 use Rattle.desk.specs.Shown.{Slots}
-use Rattle.grants.specs.Grants.{ample, Asks}
+use Rattle.floor.specs.Floor.{mostLead, ample}
+use Rattle.grants.specs.Grants.{Asks}
 
 module _ (p : Supply ℕ) (n : ℕ) (ks₀ xs hs : List ℕ) (w : Slots p n ks₀ xs hs) where
   -- the slots before the loop
@@ -67,7 +69,7 @@ module _ (p : Supply ℕ) (n : ℕ) (ks₀ xs hs : List ℕ) (w : Slots p n ks�
     grants-none = let q = sym (tries-none p ss) in record { slots = q; leads = a .leads ∙ ap (leads p) q }
 
     module _ (ks : List ℕ) (long : length ks ≡ 256) (sum i : ℕ) (l : i < 256) (inv : Granted ks sum i)
-        (top : sum + getD ls i 0 ≤ 513 * 3999999) (B-most : B ≤ 4194304) (c-most : c ≤ 10000000) where
+        (top : sum + getD ls i 0 ≤ 513 * mostLead) (B-most : B ≤ maxBytes) (c-most : c ≤ maxRate) where
       -- the sum with the lead of slot i
       abbrev raised : ℕ
       raised = sum + getD ls i 0
@@ -87,7 +89,7 @@ module _ (p : Supply ℕ) (n : ℕ) (ks₀ xs hs : List ℕ) (w : Slots p n ks�
       players : playersHold p (lowWater p raised) ss ≡ leb (parts * B + c * raised) level
       unfolding lowWater
       players =
-          let most : c * raised ≤ 10000000 * (513 * 3999999) = mul-le-mul c-most top in
+          let most : c * raised ≤ maxRate * (513 * mostLead) = mul-le-mul c-most top in
           ap₂ (λ (b r : ℕ). playersHold p (parts * b + r * raised) ss) (sym (a .bytes)) (sym (a .rate))
           ∙ least-holds p ample (parts * B + c * raised) ss (omega arith) ∙ ap (leb (parts * B + c * raised)) (sym (a .least))
 

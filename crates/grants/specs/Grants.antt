@@ -1,4 +1,4 @@
--- What the grants are compared with, and what they are told of the slots of a supply: kinds ks, next blocks xs, held bytes hs.
+-- What the grants are told of the slots of a supply: kinds ks, next blocks xs, held bytes hs.
 -- Assumes nothing.
 use Prim.Native.Nat.{ℕ, _*_, _<_}
 use mathlib.Core.Path.{_≡_}
@@ -10,10 +10,7 @@ use Rattle.numbers.specs.Units.{parts}
 use Rattle.safety.specs.Scheduler.{leads}
 use Rattle.safety.specs.Arrays.{slotsOf}
 use Rattle.safety.specs.Turns.{leastHeld}
-
--- stands for the least that a playing slot holds where none plays: 2,000,000 times it is above every floor
-abbrev pub ample : ℕ
-ample = 1000000000000
+use Rattle.floor.specs.Floor.{ample}
 
 -- B and c are the supply's, sum and level those of the slots, and ls has the lead of each asked slot's next block
 pub record Asks (p : Supply ℕ) (B c sum level : ℕ) (ls ks xs hs : List ℕ) : Type 0 where

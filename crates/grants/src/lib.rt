@@ -8,18 +8,18 @@ use streams::product;
 ghost use mathlib.Core.Path.{_≡_};
 ghost use mathlib.Core.Bool.{_&&_};
 ghost use mathlib.Core.List.{List};
-ghost use Prim.Native.Nat.{ℕ, _+_, _*_, _≤_, min};
+ghost use Prim.Native.Nat.{ℕ, _+_, _*_, _≤_, _<_};
 ghost use lib.ListN.{length, getD};
 ghost use lib.Dec.{leb, eqb};
 ghost use Rattle.numbers.specs.Limits.{maxBytes, maxRate, maxStreams};
-ghost use Rattle.numbers.specs.Slots.{waiting, playing};
+ghost use Rattle.numbers.specs.Slots.{waiting};
 ghost use Rattle.numbers.specs.Units.{parts};
 ghost use Rattle.safety.specs.Supply.{Supply};
 ghost use Rattle.safety.specs.Scheduler.{startedSlot, started, tries};
 ghost use Rattle.safety.specs.Arrays.{slotOf, slotsOf};
-ghost use Rattle.safety.specs.Turns.{leastHeld};
 ghost use Rattle.desk.specs.Shown.{Slots};
-ghost use Rattle.grants.specs.Grants.{ample, Asks};
+ghost use Rattle.floor.specs.Floor.{mostLead};
+ghost use Rattle.grants.specs.Grants.{Asks};
 
 // The kind of a slot after it was tested against the mark: a filling one that holds it plays.
 fn started_kind(kind: u32, held: u32, mark: u64) -> u32
@@ -49,38 +49,6 @@ pub fn start_playing(kinds: &mut [u32; 256], held: &[u32; 256], streams: usize, 
     }
 }
 
-// The lower of a level and what a playing slot holds, in two-millionths of a byte.
-fn lower(kind: u32, held: u32, level: u64) -> u64
-    ensures plays { λ r. ⌜ (kind ≡ playing → r ≡ min level (parts * held)) ⌝ }
-    ensures other { λ r. ⌜ ((kind ≡ playing → ⊥) → r ≡ level) ⌝ }
-{
-    match kind {
-        PLAYING => {
-            let own = product(PARTS, held);
-            if own < level {
-                return own;
-            }
-            level
-        }
-        _ => level,
-    }
-}
-
-// The least that a playing slot holds, in two-millionths of a byte; where none plays, above every mark. The slots from `streams` on are free.
-pub fn least_level<'a>(kinds: &'a [u32; 256], held: &'a [u32; 256], streams: usize) -> u64
-    requires { ⌜ streams ≤ maxStreams ⌝ }
-    ensures { λ r. ⌜ ((p : Supply ℕ) (xs : List ℕ) → Slots p streams (now (kinds .entry)) xs (now (held .entry))
-        → r ≡ parts * leastHeld p ample (slotsOf p (now (kinds .entry)) xs (now (held .entry)))) ⌝ }
-{
-    let mut level: u64 = 2000000000000000000;
-    let mut i: usize = 0;
-    while i < streams {
-        level = lower(kinds[i], held[i], level);
-        i += 1;
-    }
-    level
-}
-
 // A slot is granted: it is asked, and the least level holds the mark of the leads with its own.
 fn is_granted(kind: u32, bytes: u32, rate: u32, leads: u32, level: u64) -> bool
     requires { ⌜ (bytes ≤ maxBytes) × (rate ≤ maxRate) ⌝ }
@@ -103,7 +71,7 @@ pub fn grant_asked(
     sum: u32,
     level: u64,
 )
-    requires { ⌜ (streams ≤ maxStreams) × (length (now kinds) ≡ 256) × ((i : ℕ) → getD (now leads) i 0 ≤ 3999999) × (bytes ≤ maxBytes) × (rate ≤ maxRate) × (sum ≤ 256 * 3999999) ⌝ }
+    requires { ⌜ (streams ≤ maxStreams) × (length (now kinds) ≡ 256) × ((i : ℕ) → i < streams → getD (now leads) i 0 ≤ mostLead) × (bytes ≤ maxBytes) × (rate ≤ maxRate) × (sum ≤ maxStreams * mostLead) ⌝ }
     ensures { λ _. ⌜ ((p : Supply ℕ) (xs hs : List ℕ) → Slots p streams (now (kinds .entry)) xs hs
         → Asks p bytes rate sum level (now (leads .entry)) (now (kinds .entry)) xs hs
         → slotsOf p (now (kinds .exit)) xs hs ≡ tries p (slotsOf p (now (kinds .entry)) xs hs) 0 256) ⌝ }

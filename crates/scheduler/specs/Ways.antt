@@ -20,7 +20,7 @@ use Rattle.soundness.specs.Facts.{soundDesk}
 use Rattle.soundness.specs.Ready.{sound-ready}
 use Rattle.ends.specs.Ends.{Drawn}
 use Rattle.sweep.specs.Steps.{begunDesk, sweptOf, begunOf, endedDesk}
-use Rattle.sweep.specs.Laws.{begun-of}
+use Rattle.sweep.specs.Kept.{begun-of}
 use Rattle.scheduler.specs.Answers.{begin-unsound, begin-in-sweep, begin-no-room, begin-begun, drawn, end-unsound, end-between, end-refused, end-drawn, end-ended}
 
 module _ (d : Desk) (w : Wide d) (z : legality.Wide (d .plan .figures)) (ps ls : List ℕ) where

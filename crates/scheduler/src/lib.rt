@@ -5,13 +5,20 @@ use desk::Begun;
 use desk::Desk;
 use desk::answer_with;
 use desk::not_begun;
+use desk::verdict;
+use desk::zeros;
 use draws::judge_draws;
 use draws::most_drawn;
 use fetches::sweep_bound;
-use floor::sum_leads;
 use gather::gather;
 use layout::write_entries;
-use soundness::is_sound;
+use numbers::refusals::ACCEPTED;
+use numbers::refusals::NOT_SOUND;
+use numbers::refusals::TOO_SHORT;
+use numbers::refusals::WRONG_PHASE;
+use numbers::slots::BETWEEN;
+use numbers::slots::SWEEPING;
+use soundness::test_record;
 use sweep::Swept;
 use sweep::begin_sweep;
 use sweep::end_sweep;
@@ -27,7 +34,8 @@ ghost use Rattle.sweep.specs.Steps.{sweptOf};
 pub fn judge_begin(desk: Desk, positions: &[u8], leads: &[u8], room: usize) -> Swept
     ensures { λ r. ⌜ r ≡ sweptOf (beginDesk desk (now (positions .entry)) (now (leads .entry)) room) ⌝ }
 {
-    if !is_sound(
+    let mut found = zeros();
+    let tested = test_record(
         desk.plan,
         desk.phase,
         &desk.kinds,
@@ -35,15 +43,17 @@ pub fn judge_begin(desk: Desk, positions: &[u8], leads: &[u8], room: usize) -> S
         &desk.held,
         positions,
         leads,
-    ) {
-        return not_swept(desk.kinds, 14);
+        &mut found,
+    );
+    if !tested.sound {
+        return not_swept(desk.kinds, NOT_SOUND);
     }
-    if desk.phase != 0 {
-        return not_swept(desk.kinds, 15);
+    if desk.phase != BETWEEN {
+        return not_swept(desk.kinds, WRONG_PHASE);
     }
     let streams = desk.plan.streams as usize;
     if room < streams {
-        return not_swept(desk.kinds, 13);
+        return not_swept(desk.kinds, TOO_SHORT);
     }
     let figures = desk.plan.figures;
     let g = gather(
@@ -52,11 +62,9 @@ pub fn judge_begin(desk: Desk, positions: &[u8], leads: &[u8], room: usize) -> S
         &figures.positions,
         &figures.times,
         positions,
-        leads,
         streams,
     );
-    let sum = sum_leads(&desk.kinds, &desk.next, streams, leads);
-    begin_sweep(desk, g, sum)
+    begin_sweep(desk, g, &found, tested.sum)
 }
 
 // Begins a sweep, where the caller has room for so many fetch entries: 14, 15, 13.
@@ -65,13 +73,13 @@ pub fn begin(desk: Desk, positions: &[u8], leads: &[u8], room: usize) -> Begun
 {
     let swept = judge_begin(desk, positions, leads, room);
     let verdict = swept.verdict;
-    if verdict.number != 0 {
+    if verdict.number != ACCEPTED {
         return not_begun(desk, verdict.number);
     }
     let kinds = swept.kinds;
     let fetches = swept.fetches;
     let mut begun = desk;
-    begun.phase = 1;
+    begun.phase = SWEEPING;
     begun.kinds = kinds;
     Begun {
         verdict: verdict,
@@ -103,7 +111,8 @@ pub fn begin_into(desk: Desk, positions: &[u8], leads: &[u8], fetches: &mut [u8]
 pub fn judge_end(desk: Desk, positions: &[u8], leads: &[u8], draws: &[u8]) -> Verdict
     ensures { λ r. ⌜ r ≡ endDesk desk (now (positions .entry)) (now (leads .entry)) (now (draws .entry)) .verdict ⌝ }
 {
-    if !is_sound(
+    let mut found = zeros();
+    let tested = test_record(
         desk.plan,
         desk.phase,
         &desk.kinds,
@@ -111,17 +120,13 @@ pub fn judge_end(desk: Desk, positions: &[u8], leads: &[u8], draws: &[u8]) -> Ve
         &desk.held,
         positions,
         leads,
-    ) {
-        return Verdict {
-            number: 14,
-            place: 0,
-        };
+        &mut found,
+    );
+    if !tested.sound {
+        return verdict(NOT_SOUND, 0);
     }
-    if desk.phase != 1 {
-        return Verdict {
-            number: 15,
-            place: 0,
-        };
+    if desk.phase != SWEEPING {
+        return verdict(WRONG_PHASE, 0);
     }
     let figures = desk.plan.figures;
     let streams = desk.plan.streams as usize;
@@ -131,7 +136,6 @@ pub fn judge_end(desk: Desk, positions: &[u8], leads: &[u8], draws: &[u8]) -> Ve
         &figures.positions,
         &figures.times,
         positions,
-        leads,
         streams,
     );
     let bound = sweep_bound(
@@ -152,11 +156,11 @@ pub fn end(desk: Desk, positions: &[u8], leads: &[u8], draws: &[u8]) -> Answer
     ensures { λ r. ⌜ r ≡ endDesk desk (now (positions .entry)) (now (leads .entry)) (now (draws .entry)) ⌝ }
 {
     let verdict = judge_end(desk, positions, leads, draws);
-    if verdict.number != 0 {
+    if verdict.number != ACCEPTED {
         return Answer {
             verdict: verdict,
             desk: desk,
         };
     }
-    answer_with(end_sweep(desk, draws), 0, 0)
+    answer_with(end_sweep(desk, draws), ACCEPTED, 0)
 }

@@ -1,3 +1,3 @@
 pub mod Facts
-pub mod Laws
 pub mod Ready
+pub mod Tests

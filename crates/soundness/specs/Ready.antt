@@ -6,7 +6,6 @@ use mathlib.Core.Bool.{true}
 use mathlib.Core.List.{List}
 use native.Mathlib.Omega.{arith}
 use Rattle.laws.specs.Bools.{and-left, and-right}
-use Rattle.words.specs.Words.{wordsOf}
 use Rattle.round_trip.specs.Legality as legality
 use Rattle.plan.specs.declared.Plan.{Plan}
 use Rattle.plan.specs.Plan.{streamsOf, planOf}
@@ -16,12 +15,9 @@ use Rattle.plan.specs.Legal.{lead-small, streams-few}
 use Rattle.safety.specs.Sound.{sound-says}
 use Rattle.desk.specs.declared.Desk.{Desk}
 use Rattle.desk.specs.Desk.{supplyOf, orderOf, viewOf}
-use Rattle.desk.specs.View.{Wide}
 use Rattle.desk.specs.Promise.{supply-named}
 use Rattle.desk.specs.Ready.{Ready}
-use Rattle.floor.specs.Floor.{leadSum, LeadList, Leading, slotLeads}
-use Rattle.soundness.specs.Facts.{soundDesk}
-use Rattle.soundness.specs.Laws.{sound-tidy, tidy-leading, tidy-leads}
+use Rattle.soundness.specs.Facts.{soundDesk, LeadList}
 
 -- the lent leads of a plan
 pub plan-leads : (p : Plan) (ps ls : List ℕ) → legality.Wide (p .figures) → isPlan p ps ls ≡ true → LeadList (p .figures) ls
@@ -52,15 +48,3 @@ sound-ready d ps ls w e =
       planned = h .plan;
       sound = sound-says (supplyOf p) (supply-named p) (orderOf p) (viewOf d) (and-right (isPlan p ps ls) _ e);
     }
-
--- and the leads of its first n slots are all its leads
-module _ (d : Desk) (w : Wide d) (ps ls : List ℕ) (v : legality.Wide (d .plan .figures)) (e : soundDesk d ps ls ≡ true) where
-  pub sound-leading : Leading (wordsOf ls) (d .kinds) (d .next) (d .plan .streams)
-  sound-leading =
-      let i = sound-plan d ps ls e in
-      tidy-leading d w (sound-tidy d w (sound-ready d ps ls v e .sound)) ls (plan-leads (d .plan) ps ls v i) (plan-streams (d .plan) ps ls v i)
-
-  pub sound-leads : slotLeads (wordsOf ls) (d .kinds) (d .next) (d .plan .streams) ≡ leadSum d
-  sound-leads =
-      let i = sound-plan d ps ls e in
-      tidy-leads d w (sound-tidy d w (sound-ready d ps ls v e .sound)) ls (plan-leads (d .plan) ps ls v i) (plan-streams (d .plan) ps ls v i)

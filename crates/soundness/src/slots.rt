@@ -1,7 +1,12 @@
 // The test of the slots of a record.
-use streams::product;
+use numbers::slots::DRAINING;
+use numbers::slots::FILLING;
+use numbers::slots::FREE;
+use numbers::slots::PLAYING;
+use numbers::slots::WAITING;
 ghost use Prim.Native.Nat.{_≤_};
-ghost use Rattle.soundness.specs.Facts.{Tells, Tidy, RestZero, SlotsTidy, PlayersHold};
+ghost use Rattle.numbers.specs.Limits.{maxStreams};
+ghost use Rattle.soundness.specs.Facts.{Tells, Tidy, RestZero, SlotsTidy};
 
 // Is a slot sound but for the low-water mark (01: the floor)? `blocks` is N.
 fn is_tidy(blocks: u32, buffer: u32, kind: u32, next: u32, held: u32) -> bool
@@ -11,26 +16,21 @@ fn is_tidy(blocks: u32, buffer: u32, kind: u32, next: u32, held: u32) -> bool
         return false;
     }
     match kind {
-        // free
-        0 => {
+        FREE => {
             if next != 0 {
                 return false;
             }
             return held == 0;
         }
-        // asked
-        1 => {
+        WAITING => {
             if held != 0 {
                 return false;
             }
             return next < blocks;
         }
-        // filling
-        2 => return next < blocks,
-        // playing
-        3 => return next < blocks,
-        // tail
-        4 => {
+        FILLING => return next < blocks,
+        PLAYING => return next < blocks,
+        DRAINING => {
             if held == 0 {
                 return false;
             }
@@ -47,7 +47,7 @@ fn rest_zero<'a>(
     next: &'a [u32; 256],
     held: &'a [u32; 256],
 ) -> bool
-    requires { ⌜ streams ≤ 256 ⌝ }
+    requires { ⌜ streams ≤ maxStreams ⌝ }
     ensures { λ r. ⌜ Tells r (RestZero streams (now (kinds .entry)) (now (next .entry)) (now (held .entry)) 256) ⌝ }
 {
     let mut bits: u32 = 0;
@@ -68,7 +68,7 @@ pub fn all_tidy<'a>(
     next: &'a [u32; 256],
     held: &'a [u32; 256],
 ) -> bool
-    requires { ⌜ streams ≤ 256 ⌝ }
+    requires { ⌜ streams ≤ maxStreams ⌝ }
     ensures { λ r. ⌜ Tells r (SlotsTidy blocks buffer streams (now (kinds .entry)) (now (next .entry)) (now (held .entry))) ⌝ }
 {
     if !rest_zero(streams, kinds, next, held) {
@@ -78,28 +78,6 @@ pub fn all_tidy<'a>(
     while i < streams {
         if !is_tidy(blocks, buffer, kinds[i], next[i], held[i]) {
             return false;
-        }
-        i += 1;
-    }
-    true
-}
-
-// Does each playing slot of the first n hold at least the low-water mark (01: the floor), given in two-millionths of a byte?
-pub fn players_hold<'a>(
-    streams: usize,
-    kinds: &'a [u32; 256],
-    held: &'a [u32; 256],
-    mark: u64,
-) -> bool
-    requires { ⌜ streams ≤ 256 ⌝ }
-    ensures { λ r. ⌜ Tells r (PlayersHold streams (now (kinds .entry)) (now (held .entry)) mark) ⌝ }
-{
-    let mut i: usize = 0;
-    while i < streams {
-        if kinds[i] == 3 {
-            if product(2000000, held[i]) < mark {
-                return false;
-            }
         }
         i += 1;
     }

@@ -6,6 +6,7 @@ use mathlib.Core.List.{List, map}
 use native.Mathlib.Omega.{arith}
 use lib.ListN.{length, getD}
 use Rattle.laws.specs.Each.{Both, both-at, both-length}
+use Rattle.numbers.specs.Units.{parts}
 use Rattle.safety.specs.Scheduler.{Slot, freeSlot, at, leads, lowWater, started, tries, begun, entries, bound}
 use Rattle.safety.specs.Order.{bySlot}
 use Rattle.safety.specs.Orderly.{Kept, kept-refl}
@@ -23,14 +24,14 @@ use Rattle.desk.specs.View.{Wide}
 use Rattle.desk.specs.Shown.{Slots, OfNext, Gathers}
 use Rattle.desk.specs.Ready.{Ready, room-left}
 use Rattle.desk.specs.Slots.{length-in, slot-in}
-use Rattle.floor.specs.Floor.{mark-is}
-use Rattle.grants.specs.Grants.{ample, Asks}
+use Rattle.floor.specs.Floor.{ample, Leads, mark-is}
+use Rattle.grants.specs.Grants.{Asks}
 use Rattle.fetches.specs.Told.{Timed, Placed}
 use Rattle.sweep.specs.Steps.{begunDesk, sweptOf}
-use Rattle.sweep.specs.Laws.{begun-kept}
+use Rattle.sweep.specs.Kept.{begun-kept}
 
 -- the floor
-pub floor-is : (d : Desk) (mark sum : ℕ) → mark ≡ 2000000 * d .plan .figures .bytes + d .plan .figures .rate * sum → sum ≡ leads (supplyOf (d .plan)) (slotsIn d)
+pub floor-is : (d : Desk) (mark sum : ℕ) → mark ≡ parts * d .plan .figures .bytes + d .plan .figures .rate * sum → sum ≡ leads (supplyOf (d .plan)) (slotsIn d)
     → mark ≡ lowWater (supplyOf (d .plan)) (leads (supplyOf (d .plan)) (slotsIn d))
 floor-is d mark sum e q = e ∙ sym (mark-is (d .plan) sum) ∙ ap (lowWater (supplyOf (d .plan))) q
 
@@ -64,23 +65,23 @@ module _ (d : Desk) (w : Wide d) (r : Ready d) (ks : List ℕ) (ts : List (Slot 
   gathered-kept f vs u i l a b = let k = before i a b in u i l (k .0) (k .1)
 
 -- filling slots have started to play: d has the kinds ks
-module _ (d : Desk) (w : Wide d) (r : Ready d) (g : Gathered) (u : Gathers (supplyOf (d .plan)) (d .kinds) (d .next) g) (x : ℕ) (ks : List ℕ)
+module _ (d : Desk) (w : Wide d) (r : Ready d) (x : ℕ) (ks : List ℕ)
     (q : slotsOf (supplyOf (d .plan)) ks (d .next) (d .held) ≡ started (supplyOf (d .plan)) x (slotsIn d)) where
   pub slots-started : Slots (supplyOf (d .plan)) (d .plan .streams) ks (d .next) (d .held)
   slots-started = slots-kept d w r ks _ q (started-kept (supplyOf (d .plan)) x (slotsIn d))
 
-  pub asks-started : (sum level : ℕ) → sum ≡ leads (supplyOf (d .plan)) (slotsIn d)
-      → level ≡ 2000000 * leastHeld (supplyOf (d .plan)) ample (slotsOf (supplyOf (d .plan)) ks (d .next) (d .held))
-      → Asks (supplyOf (d .plan)) (d .plan .figures .bytes) (d .plan .figures .rate) sum level (g .leads) ks (d .next) (d .held)
+  pub asks-started : (ls : List ℕ) (sum level : ℕ) → Leads (supplyOf (d .plan)) (d .plan .streams) (d .kinds) (d .next) (d .held) ls sum
+      → level ≡ parts * leastHeld (supplyOf (d .plan)) ample (slotsOf (supplyOf (d .plan)) ks (d .next) (d .held))
+      → Asks (supplyOf (d .plan)) (d .plan .figures .bytes) (d .plan .figures .rate) sum level ls ks (d .next) (d .held)
   unfolding supplyOf
-  asks-started sum level e l =
+  asks-started ls sum level f l =
       let p = supplyOf (d .plan) in
       record {
         bytes = refl;
         rate = refl;
-        leads = e ∙ sym (started-leads p x (slotsIn d)) ∙ ap (leads p) (sym q);
+        leads = f .sums ∙ sym (started-leads p x (slotsIn d)) ∙ ap (leads p) (sym q);
         least = l;
-        own = λ i h k. gathered-kept d w r ks _ q (started-kept p x (slotsIn d)) (p .lead) (g .leads) (u .leads) i h (omega arith) (omega arith);
+        own = λ i h k. gathered-kept d w r ks _ q (started-kept p x (slotsIn d)) (p .lead) ls (f .each) i h (omega arith) (omega arith);
       }
 
   -- then asked slots were granted, and the kinds are js

@@ -7,17 +7,18 @@ use desk::no_fetches;
 use ends::end_slots;
 use fetches::list_fetches;
 use fetches::sweep_bound;
+use floor::least_level;
 use floor::low_water;
 use grants::grant_asked;
-use grants::least_level;
 use grants::start_playing;
+use numbers::refusals::ACCEPTED;
+use numbers::slots::BETWEEN;
 ghost use mathlib.Core.Path.{_≡_};
-ghost use Prim.Native.Nat.{_*_, _≤_};
 ghost use Rattle.words.specs.Words.{wordsOf};
 ghost use Rattle.desk.specs.Desk.{supplyOf};
 ghost use Rattle.desk.specs.Shown.{Gathers, InRange};
 ghost use Rattle.desk.specs.Ready.{Ready};
-ghost use Rattle.floor.specs.Floor.{leadSum};
+ghost use Rattle.floor.specs.Floor.{Leads};
 ghost use Rattle.ends.specs.Ends.{Drawn};
 ghost use Rattle.sweep.specs.Steps.{begunDesk, sweptOf, notSwept, endedDesk};
 
@@ -44,9 +45,10 @@ pub fn not_swept(kinds: [u32; 256], number: u32) -> Swept
     }
 }
 
-// A begin: filling slots start to play, asked slots are granted, and the sweep's fetches are listed. `sum` is the desk's leads.
-pub fn begin_sweep(desk: Desk, g: Gathered, sum: u32) -> Swept
-    requires { ⌜ (Ready desk) × (Gathers (supplyOf (desk .plan)) (desk .kinds) (desk .next) g) × (InRange g) × (sum ≡ leadSum desk) × (sum ≤ 256 * 3999999) ⌝ }
+// A begin: filling slots start to play, asked slots are granted, and the sweep's fetches are listed. `leads` are those of the slots' next
+// blocks, and `sum` is what those of filling and playing slots add up to.
+pub fn begin_sweep(desk: Desk, g: Gathered, leads: &[u32; 256], sum: u32) -> Swept
+    requires { ⌜ (Ready desk) × (Gathers (supplyOf (desk .plan)) (desk .kinds) (desk .next) g) × (InRange g) × (Leads (supplyOf (desk .plan)) (desk .plan .streams) (desk .kinds) (desk .next) (desk .held) (now leads) sum) ⌝ }
     ensures { λ r. ⌜ r ≡ sweptOf (begunDesk desk) ⌝ }
 {
     let figures = desk.plan.figures;
@@ -58,7 +60,7 @@ pub fn begin_sweep(desk: Desk, g: Gathered, sum: u32) -> Swept
     let level = least_level(&kinds, &desk.held, streams);
     grant_asked(
         &mut kinds,
-        &g.leads,
+        leads,
         streams,
         figures.bytes,
         figures.rate,
@@ -77,7 +79,7 @@ pub fn begin_sweep(desk: Desk, g: Gathered, sum: u32) -> Swept
     let fetches = list_fetches(&kinds, &desk.next, &desk.held, &g.positions, streams, room);
     Swept {
         verdict: Verdict {
-            number: 0,
+            number: ACCEPTED,
             place: 0,
         },
         kinds: kinds,
@@ -92,6 +94,6 @@ pub fn end_sweep(desk: Desk, draws: &[u8]) -> Desk
     ensures { λ r. ⌜ r ≡ endedDesk desk (wordsOf (now (draws .entry))) ⌝ }
 {
     let mut ended = end_slots(desk, draws);
-    ended.phase = 0;
+    ended.phase = BETWEEN;
     ended
 }

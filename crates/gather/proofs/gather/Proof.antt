@@ -1,17 +1,20 @@
-use Prim.Native.Nat.{_-_, _≤_, _<_}
+use Prim.Native.Nat.{_-_, _<_}
 use mathlib.Core.Path.{_≡_, sym}
 use native.Mathlib.Omega.{arith}
 use borrow.Author.Needs.{needs}
-use Rattle.gather.specs.Gather.{Long, Collected, long-none, long-next, collected-none, collected-next}
+use Rattle.gather.proofs.Collecting.{Collecting, collecting-none, collecting-next}
 use Rattle.gather.proofs.gather.Statement.{statement}
 use Rattle.gather.proofs.gather.Tie as tie
 
 -- the next blocks of the first i slots are collected
 abbrev Inv-loop : tie.InvT-loop
-Inv-loop kinds next sizes times positions leads streams g₀ i₀ g i = (i ≤ streams) × Long g × Collected sizes times positions leads kinds next i g
+Inv-loop kinds next sizes times positions streams g₀ i₀ g i = Collecting sizes times positions kinds next streams g i
 
 abbrev μ-loop : tie.MeasureT-loop
-μ-loop kinds next sizes times positions leads streams g₀ i₀ g i = streams - i
+μ-loop kinds next sizes times positions streams g₀ i₀ g i = streams - i
+
+abbrev start : tie.At-loop Inv-loop μ-loop → tie.Start Inv-loop μ-loop
+start c = c .before .before .before .before
 
 zeros-requires : tie.Need-zeros-requires Inv-loop μ-loop
 zeros-requires c κs = search needs
@@ -19,15 +22,8 @@ zeros-requires c κs = search needs
 zeros-requires-2 : tie.Need-zeros-requires-2 Inv-loop μ-loop
 zeros-requires-2 c κs = search needs
 
-zeros-requires-3 : tie.Need-zeros-requires-3 Inv-loop μ-loop
-zeros-requires-3 c κs = search needs
-
 loop-holds : tie.Need-loop-holds Inv-loop μ-loop
-loop-holds c =
-    let a = c .before .before .zeros .ensures in
-    let b = c .before .zeros2 .ensures in
-    let d = c .zeros3 .ensures in
-    (omega arith, long-none _ a b d, collected-none _ a b d _ _ _ _ _ _)
+loop-holds c = collecting-none _ _ _ _ _ _ _ (c .before .zeros .ensures) (c .zeros2 .ensures)
 
 mul-next-block : tie.Need-mul-next-block Inv-loop μ-loop
 mul-next-block c = omega arith
@@ -42,9 +38,9 @@ element-copy-out-next-block-2 : tie.Need-element-copy-out-next-block-2 Inv-loop 
 element-copy-out-next-block-2 c = omega arith
 
 next-block-requires : tie.Need-next-block-requires Inv-loop μ-loop
-next-block-requires c κs =
-    let s = c .before .before .before .before .before .before .before .before .before in
-    (s .pre .1, s .pre .2 (c .before .before .before .loop .i) (c .before .before .loop-test .taken))
+next-block-requires c κs = let t = c .before .before in
+    let s = start (t .before) in
+    (s .pre .1, s .pre .2 (t .before .loop .i) (t .loop-test .taken))
 
 mul-g : tie.Need-mul-g Inv-loop μ-loop
 mul-g c = omega arith
@@ -58,12 +54,6 @@ mul-g-2 c = omega arith
 element-write-g-2 : tie.Need-element-write-g-2 Inv-loop μ-loop
 element-write-g-2 c = omega arith
 
-mul-g-3 : tie.Need-mul-g-3 Inv-loop μ-loop
-mul-g-3 c = omega arith
-
-element-write-g-3 : tie.Need-element-write-g-3 Inv-loop μ-loop
-element-write-g-3 c = omega arith
-
 add-i : tie.Need-add-i Inv-loop μ-loop
 add-i c = omega arith
 
@@ -72,15 +62,16 @@ loop-less c = omega arith
 
 loop-again : tie.Need-loop-again Inv-loop μ-loop
 loop-again c =
-    let l = c .before .before .before .before .loop in
-    let h : l .i < 256 = omega (arith, c .before .before .before .loop-test .taken, c .before .before .before .before .before .before .before .before .before .before .pre .0) in
-    (omega arith, long-next (l .g) (l .i) (c .next-block .result) (l .inv .1), collected-next _ _ _ _ _ _ (l .g) (l .i) (c .next-block .result) (l .inv .1) h (l .inv .2) (c .next-block .ensures))
+    let t = c .before .before .before in
+    let l = t .before .loop in
+    let h : l .i < 256 = omega (arith, t .loop-test .taken, start (t .before) .pre .0) in
+    collecting-next _ _ _ _ _ _ (l .g) (l .i) (c .next-block .result) (l .inv) (t .loop-test .taken) h (c .next-block .ensures)
 
 returns : tie.Need-returns Inv-loop μ-loop
 returns c =
     let l = c .before .loop in
-    let e : l .i ≡ c .before .before .before .before .before .before .before .args .streams = omega arith in
-    rw (sym e) (l .inv .2)
+    let e : l .i ≡ start (c .before) .args .streams = omega (arith, c .loop-test .left, l .inv .few) in
+    rw (sym e) (l .inv .collected)
 
 pub gather-spec : {M : Type 1} → statement M
 gather-spec =
@@ -90,7 +81,6 @@ gather-spec =
     μ-loop
     zeros-requires
     zeros-requires-2
-    zeros-requires-3
     loop-holds
     mul-next-block
     element-copy-out-next-block
@@ -101,8 +91,6 @@ gather-spec =
     element-write-g
     mul-g-2
     element-write-g-2
-    mul-g-3
-    element-write-g-3
     add-i
     loop-less
     loop-again

@@ -1,40 +1,37 @@
-use mathlib.Core.Path.{refl, ap, _∙_}
+use mathlib.Core.Path.{refl}
 use native.Mathlib.Omega.{arith}
-use Rattle.placement.specs.Zones.{timeAt}
-use Rattle.gather.specs.Gather.{Reach}
 use Rattle.gather.proofs.next_block.Statement.{statement}
 use Rattle.gather.proofs.next_block.Tie as tie
 
--- past the tests of the kind
-has : (c : tie.Else2) → (let a = c .before .before .before .before .args in Reach (a .sizes .now) (a .positions .now) (a .leads .now) (a .next))
-has c = c .before .before .before .before .pre .1 (omega arith) (omega arith)
+block-at-requires : tie.Need-block-at-requires
+block-at-requires c κs = let s = c .before .before in (s .pre .0, s .pre .1 (omega arith) (omega arith))
+
+block-at-requires-2 : tie.Need-block-at-requires-2
+block-at-requires-2 c κs = let s = c .before .before in (s .pre .0, s .pre .1 (omega arith) (omega arith))
+
+block-at-requires-3 : tie.Need-block-at-requires-3
+block-at-requires-3 c κs = let s = c .before .before in (s .pre .0, s .pre .1 (omega arith) (omega arith))
 
 returns : tie.Need-returns
-returns c = record { time = λ a b. absurd (omega arith); lead = λ a b. absurd (omega arith); position = λ a b. absurd (omega arith); other = λ _. (refl, refl, refl) }
+returns c = record { here = λ a b. c .block-at .ensures; other = λ n. absurd (n (omega arith) (omega arith)) }
 
 returns-2 : tie.Need-returns-2
-returns-2 c = record { time = λ a b. absurd (omega arith); lead = λ a b. absurd (omega arith); position = λ a b. absurd (omega arith); other = λ _. (refl, refl, refl) }
-
-word-at-requires : tie.Need-word-at-requires
-word-at-requires c κs = has c .place
-
-time-at-requires : tie.Need-time-at-requires
-time-at-requires c κs = let s = c .before .before .before .before .before in (s .pre .0, omega (arith, has (c .before) .within, c .word-at .ensures))
-
-word-at-requires-2 : tie.Need-word-at-requires-2
-word-at-requires-2 c κs = has (c .before .before) .lead
+returns-2 c = record { here = λ a b. c .block-at2 .ensures; other = λ n. absurd (n (omega arith) (omega arith)) }
 
 returns-3 : tie.Need-returns-3
-returns-3 c =
-    let s = c .before .before .before .before .before .before .before in
-    record {
-      time = λ a b. c .before .time-at .ensures ∙ ap (timeAt (s .args .sizes .now) (s .args .times .now)) (c .before .before .word-at .ensures);
-      lead = λ a b. c .word-at2 .ensures;
-      position = λ a b. c .before .before .word-at .ensures;
-      other = λ n. absurd (n (omega arith) (omega arith));
-    }
+returns-3 c = record { here = λ a b. c .block-at3 .ensures; other = λ n. absurd (n (omega arith) (omega arith)) }
+
+returns-4 : tie.Need-returns-4
+returns-4 c = record { here = λ a b. absurd (omega arith); other = λ n. (refl, refl) }
 
 pub next-block-spec : {M : Type 1} → statement M
 next-block-spec =
     tie.close
-    (tie.spec returns returns-2 word-at-requires time-at-requires word-at-requires-2 returns-3)
+    (tie.spec
+    block-at-requires
+    block-at-requires-2
+    block-at-requires-3
+    returns
+    returns-2
+    returns-3
+    returns-4)

@@ -13,15 +13,19 @@ use Rattle.grants.proofs.start_playing.Statement.{statement}
 use Rattle.grants.proofs.start_playing.Tie as tie
 
 -- the first i slots are done
+record Starting (kinds₀ held : List ℕ) (streams mark : ℕ) (kinds : List ℕ) (i : ℕ) : Type 0 where
+  few : i ≤ streams
+  long : length kinds ≡ 256
+  started : (p : Supply ℕ) (xs : List ℕ) → Slots p streams kinds₀ xs held → slotsOf p kinds xs held ≡ startedTo p mark i (slotsOf p kinds₀ xs held)
+
 abbrev Inv-loop : tie.InvT-loop
-Inv-loop kinds₀ held streams mark i₀ kinds i = (i ≤ streams) × (length kinds ≡ 256)
-    × ((p : Supply ℕ) (xs : List ℕ) → Slots p streams kinds₀ xs held → slotsOf p kinds xs held ≡ startedTo p mark i (slotsOf p kinds₀ xs held))
+Inv-loop kinds₀ held streams mark i₀ kinds i = Starting kinds₀ held streams mark kinds i
 
 abbrev μ-loop : tie.MeasureT-loop
 μ-loop kinds₀ held streams mark i₀ kinds i = streams - i
 
 loop-holds : tie.Need-loop-holds Inv-loop μ-loop
-loop-holds c = (omega arith, c .pre .1, λ p xs w. started-none p _ _ xs _ w _)
+loop-holds c = record { few = omega arith; long = c .pre .1; started = λ p xs w. started-none p _ _ xs _ w _ }
 
 mul-started-kind : tie.Need-mul-started-kind Inv-loop μ-loop
 mul-started-kind c = omega arith
@@ -51,16 +55,20 @@ loop-less : tie.Need-loop-less Inv-loop μ-loop
 loop-less c = omega arith
 
 loop-again : tie.Need-loop-again Inv-loop μ-loop
-loop-again c = let l = c .before .before .before .before .loop in
-    let a = c .before .before .before .before .before in (
-      omega arith,
-      length-set (l .kinds) (l .i) _ ∙ l .inv .1,
-      λ p xs w. started-turn p _ _ xs _ w (a .args .mark) (l .i) (c .started-kind .result) (l .kinds) (l .inv .1) (l .inv .2 p xs w)
-          (omega (arith, c .before .before .before .loop-test .taken, a .pre .0)) (c .started-kind .ensures),
-    )
+loop-again c =
+    let t = c .before .before .before in
+    let l = t .before .loop in
+    let a = t .before .before in
+    record {
+      few = omega (arith, t .loop-test .taken);
+      long = length-set (l .kinds) (l .i) _ ∙ l .inv .long;
+      started = λ p xs w. started-turn p _ _ xs _ w (a .args .mark) (l .i) (c .started-kind .result) (l .kinds) (l .inv .long) (l .inv .started p xs w)
+          (omega (arith, t .loop-test .taken, a .pre .0)) (c .started-kind .ensures);
+    }
 
 returns : tie.Need-returns Inv-loop μ-loop
-returns c = let l = c .before .loop in λ p xs w. started-end p _ _ xs _ w _ (l .i) (l .kinds) (l .inv .2 p xs w) (omega arith)
+returns c = let l = c .before .loop in
+    λ p xs w. started-end p _ _ xs _ w _ (l .i) (l .kinds) (l .inv .started p xs w) (omega (arith, c .loop-test .left, l .inv .few))
 
 pub start-playing-spec : {M : Type 1} → statement M
 start-playing-spec =

@@ -14,33 +14,47 @@ use Rattle.sweep.proofs.begin_sweep.Tie as tie
 wide : (c : tie.Start) → Wide (c .args .t1)
 wide c = record { kinds = search needs; next = search needs; held = search needs }
 
-abbrev start : tie.After-start-playing → tie.Start
-start c = c .before .before .before .before .before .before .before .before
+-- ---- the places, each from a later one
 
-abbrev played : tie.After-grant-asked → tie.After-start-playing
-played c = c .before .before .before .before .before .before .before .before
+abbrev start : tie.After-low-water → tie.Start
+start c = c .before .before .before .before
+
+abbrev marked : tie.After-start-playing → tie.After-low-water
+marked c = c .before .before .before .before
+
+abbrev played : tie.After-least-level → tie.After-start-playing
+played c = c .before .before .before .before
+
+abbrev leveled : tie.After-grant-asked → tie.After-least-level
+leveled c = c .before .before
+
+abbrev granted : tie.After-sweep-bound → tie.After-grant-asked
+granted c = c .before .before .before .before .before .before
+
+-- ---- what is known there
 
 -- filling slots have started to play
-first : (c : tie.After-start-playing) → (let d = start c .args .t1 in
-    slotsOf (supplyOf (d .plan)) (c .start-playing .last .0) (d .next) (d .held) ≡ started (supplyOf (d .plan)) (c .before .before .before .before .low-water .result) (slotsIn d))
-first c = let s = start c in
+first : (c : tie.After-start-playing) → (let d = start (marked c) .args .t1 in
+    slotsOf (supplyOf (d .plan)) (c .start-playing .last .0) (d .next) (d .held) ≡ started (supplyOf (d .plan)) (marked c .low-water .result) (slotsIn d))
+first c = let s = start (marked c) in
     let d = s .args .t1 in c .start-playing .ensures (supplyOf (d .plan)) (d .next) (ready-slots d (wide s) (s .pre .0))
 
 -- both steps are done
-all : (c : tie.After-grant-asked) → (let d = start (played c) .args .t1 in
+all : (c : tie.After-grant-asked) → (let d = start (marked (played (leveled c))) .args .t1 in
     slotsOf (supplyOf (d .plan)) (c .grant-asked .last .0) (d .next) (d .held) ≡ begun (supplyOf (d .plan)) (slotsIn d))
 all c =
-    let b = played c in
-    let s = start b in
+    let b = played (leveled c) in
+    let s = start (marked b) in
     let d = s .args .t1 in
-    let g = s .args .t2 in
-    let m = b .before .before .before .before .low-water in
-    let v = slots-started d (wide s) (s .pre .0) g (s .pre .1) (m .result) _ (first b) in
-    let l = c .before .before .before .before .least-level in
-    begun-all d (wide s) (s .pre .0) g (s .pre .1) (m .result) _ (first b) _
+    let m = marked b .low-water in
+    let v = slots-started d (wide s) (s .pre .0) (m .result) _ (first b) in
+    let l = leveled c .least-level in
+    begun-all d (wide s) (s .pre .0) (m .result) _ (first b) _
     (c .grant-asked .ensures (supplyOf (d .plan)) (d .next) (d .held) v
-    (asks-started d (wide s) (s .pre .0) g (s .pre .1) (m .result) _ (first b) (s .args .sum) (l .result) (s .pre .3) (l .ensures (supplyOf (d .plan)) (d .next) v)))
-    (floor-is d (m .result) (s .args .sum) (m .ensures) (s .pre .3))
+    (asks-started d (wide s) (s .pre .0) (m .result) _ (first b) _ (s .args .sum) (l .result) (s .pre .3) (l .ensures (supplyOf (d .plan)) (d .next) v)))
+    (floor-is d (m .result) (s .args .sum) (m .ensures) (s .pre .3 .sums))
+
+-- ---- the needs
 
 cast-streams : tie.Need-cast-streams
 cast-streams c = search needs
@@ -52,38 +66,41 @@ low-water-requires : tie.Need-low-water-requires
 low-water-requires c κs = let s = c .before .before .before in (s .pre .0 .legal .bytes .1, s .pre .0 .legal .rate .1)
 
 start-playing-requires : tie.Need-start-playing-requires
-start-playing-requires c κs = let s = c .before .before .before .before .before .before .before in (streams-are (s .args .t1) (s .pre .0), wide s .kinds)
+start-playing-requires c κs = let s = start (c .before .before .before) in (streams-are (s .args .t1) (s .pre .0), wide s .kinds)
 
 least-level-requires : tie.Need-least-level-requires
-least-level-requires c κs = let s = start (c .before .before .before) in streams-are (s .args .t1) (s .pre .0)
+least-level-requires c κs = let s = start (marked (c .before .before .before)) in streams-are (s .args .t1) (s .pre .0)
 
 grant-asked-requires : tie.Need-grant-asked-requires
-grant-asked-requires c κs = let b = c .before .before .before .before .before .before .before in
-    let s = start b in
+grant-asked-requires c κs =
+    let b = played (c .before) in
+    let s = start (marked b) in
     let d = s .args .t1 in (
       streams-are d (s .pre .0),
-      slots-started d (wide s) (s .pre .0) (s .args .t2) (s .pre .1) _ _ (first b) .long,
-      s .pre .2 .leads,
+      slots-started d (wide s) (s .pre .0) _ _ (first b) .long,
+      s .pre .3 .small,
       s .pre .0 .legal .bytes .1,
       s .pre .0 .legal .rate .1,
-      s .pre .4,
+      s .pre .3 .most,
     )
 
 sweep-bound-requires : tie.Need-sweep-bound-requires
-sweep-bound-requires c κs = let s = start (played (c .before .before .before .before .before)) in
+sweep-bound-requires c κs = let s = start (marked (played (leveled (c .before .before .before .before .before)))) in
     (streams-are (s .args .t1) (s .pre .0), s .pre .2 .times, s .pre .0 .legal .hop .1, s .pre .0 .legal .back .1)
 
 list-fetches-requires : tie.Need-list-fetches-requires
-list-fetches-requires c κs = let s = start (played (c .before .before .before .before .before .before .before .before .before .before .before .before)) in (streams-are (s .args .t1) (s .pre .0), s .pre .2 .positions)
+list-fetches-requires c κs = let s = start (marked (played (leveled (granted (c .before .before .before .before .before .before))))) in
+    (streams-are (s .args .t1) (s .pre .0), s .pre .2 .positions)
 
 returns : tie.Need-returns
 returns c =
-    let k = c .before .before .before .before .before .before .before .before .before .before .before .before .before in
-    let s = start (played k) in
+    let f = c .before .before .before .before .before .before .before in
+    let k = granted f in
+    let s = start (marked (played (leveled k))) in
     let d = s .args .t1 in
     let w = wide s in
     let r = s .pre .0 in
-    let b = c .before .before .before .before .before .before .before .sweep-bound in
+    let b = f .sweep-bound in
     begun-is d w r _ (all k) (b .result) (c .list-fetches .result)
     (b .ensures (supplyOf (d .plan)) (d .next) (timed-begun d w r _ (all k) (s .args .t2) (s .pre .1)))
     (c .list-fetches .ensures (supplyOf (d .plan)) (placed-begun d w r _ (all k) (s .args .t2) (s .pre .1)))

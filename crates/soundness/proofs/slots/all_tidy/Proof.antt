@@ -7,7 +7,7 @@ use borrow.Author.Count.{below-more}
 use borrow.Author.Tests.{not-true, not-false}
 use lib.ListN.{getD}
 use Rattle.soundness.specs.Facts.{Tidy}
-use Rattle.soundness.proofs.Laws.{tells-yes, tells-no, zero-tidy}
+use Rattle.soundness.proofs.Tells.{tells-yes, tells-no, zero-tidy}
 use Rattle.soundness.proofs.slots.all_tidy.Statement.{statement}
 use Rattle.soundness.proofs.slots.all_tidy.Tie as tie
 

@@ -1,5 +1,5 @@
 use native.Mathlib.Omega.{arith}
-use Rattle.soundness.proofs.Laws.{tells-no, tells-equal, tells-below, no-kind}
+use Rattle.soundness.proofs.Tells.{tells-no, tells-equal, tells-below, no-kind}
 use Rattle.soundness.proofs.slots.is_tidy.Statement.{statement}
 use Rattle.soundness.proofs.slots.is_tidy.Tie as tie
 

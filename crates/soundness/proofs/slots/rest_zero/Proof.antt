@@ -4,7 +4,7 @@ use native.Mathlib.Omega.{arith}
 use borrow.Author.Needs.{needs}
 use borrow.Author.Count.{below-more}
 use Rattle.soundness.specs.Facts.{RestZero}
-use Rattle.soundness.proofs.Laws.{tells-equal, none-set, both-unset}
+use Rattle.soundness.proofs.Tells.{tells-equal, none-set, both-unset}
 use Rattle.soundness.proofs.slots.rest_zero.Statement.{statement}
 use Rattle.soundness.proofs.slots.rest_zero.Tie as tie
 

@@ -9,10 +9,10 @@ use Rattle.safety.specs.Supply.{Supply}
 use Rattle.safety.specs.Arrays.{slotsOf}
 use Rattle.safety.specs.Turns.{leastHeld, least-none}
 use Rattle.desk.specs.Shown.{Slots}
-use Rattle.grants.specs.Grants.{ample}
-use Rattle.grants.proofs.Levels.{least-turn, least-end}
-use Rattle.grants.proofs.least_level.Statement.{statement}
-use Rattle.grants.proofs.least_level.Tie as tie
+use Rattle.floor.specs.Floor.{ample}
+use Rattle.floor.proofs.Levels.{least-turn, least-end}
+use Rattle.floor.proofs.least_level.Statement.{statement}
+use Rattle.floor.proofs.least_level.Tie as tie
 
 -- the least of the first i slots is found
 abbrev Inv-loop : tie.InvT-loop

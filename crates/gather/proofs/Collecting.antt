@@ -1,0 +1,71 @@
+-- One turn of the loop that collects the next blocks of the slots.
+-- Assumes nothing.
+use Prim.Native.Nat.{ℕ, _+_, _≤_, _<_}
+use mathlib.Core.Path.{_≡_, sym, ap, _∙_, subst}
+use mathlib.Core.Logic.{_≢_}
+use mathlib.Core.List.{List}
+use native.Mathlib.Omega.{arith}
+use lib.ListN.{length, getD, set, length-set, length-replicate}
+use lib.Seq.{getD-set-same, getD-set-other}
+use borrow.Author.Count.{below-more}
+use Rattle.laws.specs.Each.{zero-at}
+use Rattle.desk.specs.declared.Gathered.{Gathered}
+use Rattle.desk.specs.Desk.{zeros}
+use Rattle.gather.specs.declared.Block.{Block}
+use Rattle.gather.specs.Gather.{Found, blockAt, Collected}
+
+-- the next blocks of the first i slots are collected, in two arrays of 256
+pub record Collecting (sizes times ps ks xs : List ℕ) (n : ℕ) (g : Gathered) (i : ℕ) : Type 0 where
+  pub few : i ≤ n
+  pub long : length (g .times) ≡ 256
+  pub wide : length (g .positions) ≡ 256
+  pub collected : Collected sizes times ps ks xs i g
+
+-- the block of slot i is stored; other slots keep theirs
+stored : Gathered → ℕ → Block → Gathered
+stored g i b = record { times = set (g .times) i (b .time); positions = set (g .positions) i (b .position) }
+
+module _ (sizes times ps ks xs : List ℕ) (n : ℕ) where
+  pub collecting-none : (g : Gathered) → g .times ≡ zeros → g .positions ≡ zeros → Collecting sizes times ps ks xs n g 0
+  unfolding zeros
+  collecting-none g a b =
+      let z = length-replicate {A = ℕ} 256 0 in
+      record {
+        few = omega arith;
+        long = ap length a ∙ z;
+        wide = ap length b ∙ z;
+        collected = record {
+          found = λ i h. absurd (omega arith);
+          rest = λ i h. (ap (λ (v : List ℕ). getD v i 0) a ∙ zero-at 256 i, ap (λ (v : List ℕ). getD v i 0) b ∙ zero-at 256 i);
+        };
+      }
+
+  module _ (g : Gathered) (i : ℕ) (b : Block) (c : Collecting sizes times ps ks xs n g i) where
+    other : (j : ℕ) → j ≢ i → blockAt (stored g i b) j ≡ blockAt g j
+    unfolding stored
+    other j m = λ t. record { time = getD-set-other (g .times) i j (b .time) 0 m t; position = getD-set-other (g .positions) i j (b .position) 0 m t }
+
+    own : i < 256 → blockAt (stored g i b) i ≡ b
+    unfolding stored
+    own h = λ t. record {
+      time = getD-set-same (g .times) i (b .time) 0 (omega (arith, c .long)) t;
+      position = getD-set-same (g .positions) i (b .position) 0 (omega (arith, c .wide)) t;
+    }
+
+    pub collecting-next : i < n → i < 256 → Found sizes times ps (getD ks i 0) (getD xs i 0) b
+        → Collecting sizes times ps ks xs n (record { times = set (g .times) i (b .time); positions = set (g .positions) i (b .position) }) (i + 1)
+    unfolding stored
+    collecting-next l h f = record {
+      few = omega arith;
+      long = length-set (g .times) i (b .time) ∙ c .long;
+      wide = length-set (g .positions) i (b .position) ∙ c .wide;
+      collected = record {
+        found = below-more _ i
+            (λ j u. subst (Found sizes times ps (getD ks j 0) (getD xs j 0)) (sym (other j (λ e. omega arith))) (c .collected .found j u))
+            (subst (Found sizes times ps (getD ks i 0) (getD xs i 0)) (sym (own h)) f);
+        rest = λ j u.
+            let q = other j (λ e. omega arith) in
+            let z = c .collected .rest j (omega arith) in
+            (ap (λ (x : Block). x .time) q ∙ z .0, ap (λ (x : Block). x .position) q ∙ z .1);
+      };
+    }

@@ -1,0 +1,164 @@
+-- The facts of a record and the rules' test of it (crate safety): each way that the test in code can take.
+-- Assumes nothing.
+use Prim.Native.Nat.{ℕ, _+_, _*_, _≤_, _<_}
+use mathlib.Core.Path.{_≡_, refl, sym, ap, ap₂, _∙_, subst}
+use mathlib.Core.Bool.{Bool, true, false}
+use mathlib.Core.List.{List}
+use mathlib.Core.Logic.{by-cases}
+use native.Mathlib.Omega.{arith}
+use native.Mathlib.Decide.{decLe, decLt}
+use lib.ListN.{getD, List·getD-eq-default}
+use lib.Dec.{leb, eqb}
+use borrow.Author.Tests.{ltb-true, eqb-true, lt-ltb, eq-eqb, le-leb}
+use Rattle.laws.specs.Bools.{clash, implies-of}
+use Rattle.laws.specs.Each.{each-at, each-map, all-of-each}
+use Rattle.numbers.specs.Slots.{waiting, playing, sweeping}
+use Rattle.numbers.specs.Units.{parts}
+use Rattle.words.specs.Words.{wordsOf}
+use Rattle.plan.specs.declared.Plan.{Plan}
+use Rattle.safety.specs.Scheduler.{freeSlot, leads, lowWater, holds, playersHold}
+use Rattle.safety.specs.Order.{bySlot}
+use Rattle.safety.specs.Arrays.{slotOf}
+use Rattle.safety.specs.Sound.{Good, Sound, sound-of-good}
+use Rattle.safety.specs.BySlot.{floored-of-test}
+use Rattle.safety.specs.Turns.{leastHeld, least-holds, sound-yes, sound-no, sound-at}
+use Rattle.desk.specs.declared.Desk.{Desk}
+use Rattle.desk.specs.Desk.{supplyOf, orderOf, slotsIn, viewOf}
+use Rattle.desk.specs.View.{Wide, same-length}
+use Rattle.desk.specs.Shown.{Slots, OfNext}
+use Rattle.desk.specs.Promise.{supply-named}
+use Rattle.desk.specs.Slots.{length-in, slot-in, kind-in}
+use Rattle.floor.specs.Floor.{mostLead, ample, leadSum, Listed, Taken, mark-is}
+use Rattle.soundness.specs.Facts.{slotsSound, Tidy, AllTidy, LeadList}
+
+-- ---- one slot
+
+-- a good slot is tidy, and a tidy one is good where it holds the low-water mark
+pub good-tidy : (p : Plan) (L k x h : ℕ) → Good (supplyOf p) L (slotOf (supplyOf p) k x h) → Tidy (p .figures .blocks) (p .buffer) k x h
+unfolding supplyOf
+good-tidy p L k x h g = record {
+  kinds = g .kinds;
+  zeros = g .zeros;
+  empty = g .empty;
+  named = λ a b. ltb-true x (p .figures .blocks) (g .named a b);
+  past = λ e. eqb-true x (p .figures .blocks) (g .past e);
+  some = g .some;
+  fits = g .fits;
+}
+
+pub tidy-good : (p : Plan) (L k x h : ℕ) → Tidy (p .figures .blocks) (p .buffer) k x h → (k ≡ playing → lowWater (supplyOf p) L ≤ parts * h)
+    → Good (supplyOf p) L (slotOf (supplyOf p) k x h)
+unfolding supplyOf
+tidy-good p L k x h t f = record {
+  kinds = t .kinds;
+  zeros = t .zeros;
+  empty = t .empty;
+  named = λ a b. lt-ltb x (p .figures .blocks) (t .named a b);
+  past = λ e. eq-eqb x (p .figures .blocks) (t .past e);
+  some = t .some;
+  fits = t .fits;
+  floored = f;
+}
+
+-- ---- the whole record
+
+module _ (d : Desk) (w : Wide d) where
+  -- the low-water mark
+  abbrev mark : ℕ
+  mark = lowWater (supplyOf (d .plan)) (leadSum d)
+
+  abbrev IsSound : Type 0
+  IsSound = Sound (supplyOf (d .plan)) (orderOf (d .plan)) (viewOf d)
+
+  pub good-at : IsSound → (i : ℕ)
+      → Good (supplyOf (d .plan)) (leadSum d) (slotOf (supplyOf (d .plan)) (getD (d .kinds) i 0) (getD (d .next) i 0) (getD (d .held) i 0))
+  unfolding viewOf
+  good-at h i =
+      subst (Good (supplyOf (d .plan)) (leadSum d)) (slot-in d w i)
+      (sound-at (supplyOf (d .plan)) (supply-named (d .plan)) (orderOf (d .plan)) (viewOf d) h i)
+
+  -- what soundness says of the arrays
+  pub sound-tidy : IsSound → AllTidy d
+  unfolding viewOf supplyOf
+  sound-tidy h = record {
+    slots = λ i l. good-tidy (d .plan) _ _ _ _ (good-at h i);
+    unused = λ i l u. sym (kind-in d w i) ∙ h .unused i u;
+  }
+
+  -- the slots of a tidy record, as the steps see them
+  pub tidy-slots : AllTidy d → Slots (supplyOf (d .plan)) (d .plan .streams) (d .kinds) (d .next) (d .held)
+  tidy-slots t = record {
+    long = w .kinds;
+    same = same-length d w;
+    unused = λ i l. kind-in d w i ∙ by-cases (decLt i 256) (λ b. t .unused i b l) (λ b. List·getD-eq-default (d .kinds) 0 {n = i} (omega (arith, w .kinds)));
+  }
+
+  -- its next blocks are in the list of leads ls, and what is taken from there are their leads
+  module _ (t : AllTidy d) (n : d .plan .streams ≤ 256) (ls : List ℕ) (q : LeadList (d .plan .figures) ls) where
+    pub tidy-listed : Listed (wordsOf ls) (d .kinds) (d .next) (d .plan .streams)
+    tidy-listed i l a b = omega (arith, t .slots i (omega arith) .named a b, q .long)
+
+    module _ (vs : List ℕ) (k : Taken (wordsOf ls) (d .kinds) (d .next) (d .plan .streams) vs) where
+      below : (i : ℕ) → i < 256 → waiting ≤ getD (d .kinds) i 0 → i < d .plan .streams
+      below i l a = by-cases (decLt i (d .plan .streams)) (λ h. h) (λ h. absurd (omega (arith, t .unused i l (omega arith))))
+
+      pub tidy-each : OfNext (supplyOf (d .plan)) (supplyOf (d .plan) .lead) (d .kinds) (d .next) vs
+      unfolding supplyOf
+      tidy-each i l a b = k .block i (below i l a) a b ∙ q .here _ (t .slots i l .named a b)
+
+      pub tidy-small : (i : ℕ) → i < d .plan .streams → getD vs i 0 ≤ mostLead
+      tidy-small i l =
+          by-cases (decLe waiting (getD (d .kinds) i 0))
+          (λ a. by-cases (decLe (getD (d .kinds) i 0) playing)
+          (λ b. let x = t .slots i (omega arith) .named a b in omega (arith, k .block i l a b, q .here _ x, q .small _ x))
+          (λ b. omega (arith, k .none i l (λ _ c. b c))))
+          (λ a. omega (arith, k .none i l (λ c _. a c)))
+
+  -- `each playing slot holds at least the floor`, as the rules test it
+  abbrev players : Bool
+  players = playersHold (supplyOf (d .plan)) mark (slotsIn d)
+
+  sound-players : IsSound → players ≡ true
+  unfolding viewOf playersHold holds
+  sound-players h =
+      all-of-each _ (slotsIn d)
+      (each-map _ _ (slotsIn d)
+      (λ s g. implies-of (eqb (s .kind) playing) _ (λ e. le-leb mark (parts * s .buffered) (g .floored (eqb-true (s .kind) playing e)))) (h .slots))
+
+  sound-phase : IsSound → d .phase ≤ sweeping
+  unfolding viewOf
+  sound-phase h = h .phase
+
+  -- and a record of which all this holds is sound
+  facts-sound : d .phase ≤ sweeping → AllTidy d → players ≡ true → slotsSound d ≡ true
+  unfolding viewOf bySlot supplyOf
+  facts-sound e t h =
+      let p = supplyOf (d .plan) in
+      let f = floored-of-test p (leadSum d) (slotsIn d) h in
+      let floored : (j : ℕ) → getD (d .kinds) j 0 ≡ playing → mark ≤ parts * getD (d .held) j 0 =
+      λ j. rw (slot-in d w j) at (each-at _ (slotsIn d) j (freeSlot p) f (λ z. absurd (omega arith)))
+      in
+      sound-yes p (supply-named (d .plan)) (orderOf (d .plan)) (viewOf d) e
+      (λ j l. let u : j < 256 = omega (arith, length-in d w) in
+      sound-of-good p (supply-named (d .plan)) _ _ (subst (Good p (leads p (slotsIn d))) (sym (slot-in d w j)) (tidy-good (d .plan) _ _ _ _ (t .slots j u) (floored j))))
+      (λ j n l. kind-in d w j ∙ t .unused j (omega (arith, length-in d w)) n)
+      refl
+
+  -- the ways of the test
+  pub unsound-phase : sweeping < d .phase → false ≡ slotsSound d
+  unsound-phase l = sym (sound-no (supplyOf (d .plan)) (supply-named (d .plan)) (orderOf (d .plan)) (viewOf d) (λ h. omega (arith, sound-phase h)))
+
+  pub unsound-slots : (AllTidy d → ⊥) → false ≡ slotsSound d
+  unsound-slots n = sym (sound-no (supplyOf (d .plan)) (supply-named (d .plan)) (orderOf (d .plan)) (viewOf d) (λ h. n (sound-tidy h)))
+
+  -- m is the mark as the code computes it, L the sum of the leads, and level the least that a playing slot holds
+  pub sound-told : (m level L : ℕ) → L ≡ leadSum d → m ≡ parts * d .plan .figures .bytes + d .plan .figures .rate * L → m ≤ parts * ample
+      → level ≡ parts * leastHeld (supplyOf (d .plan)) ample (slotsIn d) → d .phase ≤ sweeping → AllTidy d → leb m level ≡ slotsSound d
+  sound-told m level L a b c v e t =
+      let p = supplyOf (d .plan) in
+      let q : m ≡ mark = b ∙ sym (mark-is (d .plan) L) ∙ ap (lowWater p) a in
+      ap₂ leb q v ∙ sym (least-holds p ample mark (slotsIn d) (rw q at c)) ∙ go players refl
+    where
+      go : (r : Bool) → players ≡ r → r ≡ slotsSound d
+      go true h = sym (facts-sound e t h)
+      go false h = sym (sound-no (supplyOf (d .plan)) (supply-named (d .plan)) (orderOf (d .plan)) (viewOf d) (λ s. clash (sound-players s) h))
