@@ -24,10 +24,18 @@ use numbers::slots::SWEEPING;
 use numbers::slots::WAITING;
 use scheduler::judge_begin;
 use scheduler::judge_end;
+use sweep::Swept;
 use sweep::end_sweep;
 ghost use mathlib.Core.Path.{_≡_};
+ghost use Prim.Native.Nat.{_≤_};
+ghost use lib.ListN.{length};
+ghost use Rattle.numbers.specs.Slots.{sweeping};
+ghost use Rattle.words.specs.Words.{wordsOf, withWords};
+ghost use Rattle.layout.specs.Layout.{deskWords, deskIn, deskSize};
+ghost use Rattle.layout.specs.Parts.{withKinds};
+ghost use Rattle.layout.specs.Entries.{rows};
 ghost use Rattle.desk_strings.specs.Calls.{openedFrom, openAnswer, openString, joinAnswer, joinString, leaveAnswer, leaveString, beginAnswer, beginString, fetchString, endAnswer, endString};
-ghost use Rattle.desk_strings.specs.Laws.{DeskRead};
+ghost use Rattle.desk_strings.specs.Laws.{DeskRead, FetchesFit, sweptAnswer};
 
 // Opens what a plan string says; 14 where it has another length.
 fn open_plan(plan: &[u8], positions: &[u8], leads: &[u8]) -> Answer
@@ -101,7 +109,32 @@ pub fn leave(desk: &mut [u8], positions: &[u8], leads: &[u8], slot: u32) -> Film
     verdict_answer(judged)
 }
 
-// Begins a sweep: 14, 15, 13. A refused call writes nothing, another the fetches, the phase and the kinds alone.
+// Writes what an accepted begin changes: the fetches, the phase and the kinds.
+fn write_begun(desk: &mut [u8], fetches: &mut [u8], swept: Swept) -> FilmdiskAnswer
+    requires { ⌜ FetchesFit (swept .fetches .count) (now fetches) × (deskSize ≤ length (now desk)) ⌝ }
+    ensures { λ r. ⌜ (r ≡ sweptAnswer swept)
+        × (now (desk .exit) ≡ withWords (now (desk .entry)) 0 (deskWords (withKinds (deskIn (wordsOf (now (desk .entry)))) sweeping (swept .kinds))))
+        × (now (fetches .exit) ≡ withWords (now (fetches .entry)) 0 (rows 0 (swept .fetches .count) (swept .fetches))) ⌝ }
+{
+    let list = swept.fetches;
+    write_entries(
+        &list.positions,
+        &list.slots,
+        &list.blocks,
+        list.count as usize,
+        fetches,
+    );
+    put_kinds(desk, SWEEPING, &swept.kinds);
+    let verdict = swept.verdict;
+    FilmdiskAnswer {
+        number: verdict.number,
+        place: verdict.place,
+        count: list.count,
+        bound: swept.bound,
+    }
+}
+
+// Begins a sweep: 14, 15, 13. A refused call writes nothing.
 pub fn begin(desk: &mut [u8], positions: &[u8], leads: &[u8], fetches: &mut [u8]) -> FilmdiskAnswer
     ensures { λ r. ⌜ (r ≡ beginAnswer (now (desk .entry)) (now (positions .entry)) (now (leads .entry)) (now (fetches .entry)))
         × (now (desk .exit) ≡ beginString (now (desk .entry)) (now (positions .entry)) (now (leads .entry)) (now (fetches .entry)))
@@ -113,21 +146,7 @@ pub fn begin(desk: &mut [u8], positions: &[u8], leads: &[u8], fetches: &mut [u8]
     if judged.number != ACCEPTED {
         return verdict_answer(judged);
     }
-    let list = swept.fetches;
-    write_entries(
-        &list.positions,
-        &list.slots,
-        &list.blocks,
-        list.count as usize,
-        fetches,
-    );
-    put_kinds(desk, SWEEPING, &swept.kinds);
-    FilmdiskAnswer {
-        number: judged.number,
-        place: judged.place,
-        count: list.count,
-        bound: swept.bound,
-    }
+    write_begun(desk, fetches, swept)
 }
 
 // Ends a sweep: 14, 15, 19, 20, 21. A refused call writes nothing.
