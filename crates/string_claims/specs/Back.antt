@@ -34,9 +34,10 @@ use Rattle.desk.specs.Promise.{order-orderly, supply-named}
 use Rattle.trace.specs.Opening.{checked-lawful, fair-of}
 use Rattle.layout.specs.declared.FilmdiskAnswer.{FilmdiskAnswer}
 use Rattle.layout.specs.Answers.{verdictAnswer}
-use Rattle.layout.specs.Fields.{words-each, words-number, words-array}
+use Rattle.layout.specs.Fields.{_&_}
+use Rattle.layout.specs.FieldLaws.{words-each}
 use Rattle.layout.specs.Layout.{planWords, deskWords, planIn, deskIn}
-use Rattle.layout.specs.Laws.{PlanSized, plan-sized, DeskSized, desk-written}
+use Rattle.layout.specs.RoundTrip.{PlanSized, plan-sized, DeskSized, desk-fit, desk-written}
 use Rattle.layout.specs.Legal.{legal-words}
 use Rattle.desk_strings.specs.Laws.{enough, said-sized, said-wide, right-answer, right-string}
 use Rattle.desk_strings.specs.Calls.{refusedBy, openedFrom, openAnswer, openString, said, answerBy, stringBy, joinAnswer, joinString, leaveAnswer, leaveString, endAnswer, endString, roomIn, begunAnswer, beginAnswer, beginString}
@@ -86,15 +87,13 @@ module _ (p : Plan) (ps ls : List ℕ) (w : Wide (p .figures)) (i : isPlan p ps 
 
   -- the record of a sound scheduler
   pub sound-fits : (s : Scheduler ℕ Queue) → Sound (supplyOf p) (orderOf p) s → Words (deskWords (deskOf p s))
-  unfolding deskWords deskOf
-  sound-fits s h =
-      let ks : List ℕ = map (λ x. x .kind) (s .slots) in
-      let ns : List ℕ = map (λ x. x .next) (s .slots) in
-      let hs : List ℕ = map (λ x. x .buffered) (s .slots) in
-      words-array (planWords p) (s .phase ∷ (ks ++ (ns ++ hs))) plan-fits
-      (words-number (s .phase) (ks ++ (ns ++ hs)) (omega (arith, h .phase))
-      (words-array ks (ns ++ hs) (words-each ks (kinds-fit _ (s .slots) (h .slots)))
-      (words-array ns hs (words-each ns (nexts-fit _ (s .slots) (h .slots))) (words-each hs (helds-fit _ (s .slots) (h .slots))))))
+  unfolding deskOf
+  sound-fits s h = desk-fit (deskOf p s) plan-fits
+      (omega (arith, h .phase)
+      & words-each (map (λ x. x .kind) (s .slots)) (kinds-fit _ (s .slots) (h .slots))
+      & words-each (map (λ x. x .next) (s .slots)) (nexts-fit _ (s .slots) (h .slots))
+      & words-each (map (λ x. x .buffered) (s .slots)) (helds-fit _ (s .slots) (h .slots))
+      & tt)
 
 -- ---- sizes
 
@@ -189,11 +188,10 @@ unfolding freshDesk zeros
 fresh-sized p z = let l = length-replicate {A = ℕ} 256 0 in record { plan = z; kinds = l; next = l; held = l }
 
 fresh-fits : (p : Plan) → Words (planWords p) → Words (deskWords (freshDesk p))
-unfolding freshDesk deskWords zeros
+unfolding freshDesk zeros
 fresh-fits p y =
-    let xs : List ℕ = replicate 256 0 in
-    let z : Words xs = words-each xs (each-replicate (λ (v : ℕ). v < 4294967296) 256 0 (omega arith)) in
-    words-array (planWords p) (0 ∷ (xs ++ (xs ++ xs))) y (words-number 0 (xs ++ (xs ++ xs)) (omega arith) (words-array xs (xs ++ xs) z (words-array xs xs z z)))
+    let z : Words zeros = words-each zeros (each-replicate (λ (v : ℕ). v < 4294967296) 256 0 (omega arith)) in
+    desk-fit (freshDesk p) y (omega arith & z & z & z & tt)
 
 pub opened-wide : (P : List ℕ) → length P ≡ 552 → Wide (planIn (wordsOf P) .figures)
 opened-wide P l = let z = plan-sized (wordsOf P) (omega (arith, words-length P, l)) in (z .positions, z .times)

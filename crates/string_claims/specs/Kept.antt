@@ -22,7 +22,7 @@ use Rattle.admission.specs.Refused.{refused-same, refused-desk}
 use Rattle.layout.specs.declared.FilmdiskAnswer.{FilmdiskAnswer}
 use Rattle.layout.specs.Answers.{verdictAnswer}
 use Rattle.layout.specs.Layout.{deskWords, planIn, zeroBytes}
-use Rattle.layout.specs.Laws.{desk-kept, desk-zero}
+use Rattle.layout.specs.RoundTrip.{desk-kept, desk-zero}
 use Rattle.desk_strings.specs.Laws.{enough, said-wide, right-answer, right-string, other-string}
 use Rattle.desk_strings.specs.Calls.{openedFrom, openVerdict, openAnswer, openString, said, answerBy, stringBy, joinAnswer, joinString, leaveAnswer, leaveString, endAnswer, endString, roomIn, begunAnswer, beginAnswer, beginString, fetchString}
 

@@ -20,7 +20,7 @@ use Rattle.plan.specs.declared.Plan.{Plan}
 use Rattle.plan.specs.Plan.{planOf, blankPlan, positionsOf, leadsOf}
 use Rattle.plan.specs.Answer.{refusal, answer, filled}
 use Rattle.layout.specs.Layout.{planWords, planIn, zeroBytes}
-use Rattle.layout.specs.Laws.{plan-written, plan-zero}
+use Rattle.layout.specs.RoundTrip.{plan-written, plan-zero}
 use Rattle.layout.specs.Legal.{legal-sized, legal-words}
 use Rattle.layout.specs.Answers.{verdictAnswer}
 use Rattle.plan_strings.specs.Calls.{planFaultOf, plannedOf, planFilled, planAnswer, planString, positionsString, leadsString}
