@@ -110,32 +110,32 @@ desk-of-sized p s z l = record {
 -- ---- an accepted call
 
 module _ (D ps ls : List ℕ) where
-  module _ (room : ℕ) (call : Call ℕ) (a : FilmdiskAnswer) (e : a .number ≡ answerOf (said D) ps ls room call .number) (n : answerBy D a .number ≡ 0) where
+  -- the answer a has the number that the rules give, and accepts: the desk string has the right length, and so do the rules
+  accepted-right : (room : ℕ) (call : Call ℕ) (a : FilmdiskAnswer) → a .number ≡ answerOf (said D) ps ls room call .number → answerBy D a .number ≡ 0
+      → (length D ≡ 3628) × (answerOf (said D) ps ls room call .number ≡ 0)
+  unfolding answerBy refusedBy verdictAnswer
+  accepted-right room call a e n = by-cases (ℕ-discrete (length D) 3628)
+      (λ l. (l, sym e ∙ sym (ap (λ (x : FilmdiskAnswer). x .number) (right-answer D l a)) ∙ n))
+      (λ o. wrong (rw (ne-eqb (length D) 3628 o) at n))
+    where
+      wrong : _≡_ {A = ℕ} 14 0 → (length D ≡ 3628) × (answerOf (said D) ps ls room call .number ≡ 0)
+      wrong z = absurd (omega arith)
+
+  module _ (room : ℕ) (call : Call ℕ) (right : length D ≡ 3628) (zeroed : answerOf (said D) ps ls room call .number ≡ 0) where
     abbrev d : Desk
     d = said D
 
     abbrev p : Plan
     p = said D .plan
 
-    -- only a desk of the right length is accepted
-    right : length D ≡ 3628
-    unfolding answerBy refusedBy verdictAnswer
-    right = by-cases (ℕ-discrete (length D) 3628) (λ l. l) (λ o. wrong (rw (ne-eqb (length D) 3628 o) at n))
-      where
-        wrong : _≡_ {A = ℕ} 14 0 → length D ≡ 3628
-        wrong z = absurd (omega arith)
-
-    zeroed : answerOf d ps ls room call .number ≡ 0
-    zeroed = sym e ∙ sym (ap (λ (x : FilmdiskAnswer). x .number) (right-answer D right a)) ∙ n
-
-    wide : Wide (p .figures)
+    pub wide : Wide (p .figures)
     wide = let s = said-sized D right in (s .plan .positions, s .plan .times)
 
     judged : rulesOf p .verdict (viewOf d) (record { call = call; fair = isPlan p ps ls; room = room }) .number ≡ 0
     unfolding answerOf
     judged = verdict-zero (supplyOf p) (orderOf p) (rulesOf p) (viewOf d) _ zeroed
 
-    fair : isPlan p ps ls ≡ true
+    pub fair : isPlan p ps ls ≡ true
     fair = fair-of p (viewOf d) (record { call = call; fair = isPlan p ps ls; room = room }) judged
 
     was-sound : Sound (supplyOf p) (orderOf p) (viewOf d)
@@ -143,7 +143,7 @@ module _ (D ps ls : List ℕ) where
     was-sound = sound-says (supplyOf p) (supply-named p) (orderOf p) (viewOf d)
         (accepted-was-sound (supplyOf p) (supply-named p) (orderOf p) (viewOf d) (isPlan p ps ls) room call judged)
 
-    stays-sound : Sound (supplyOf p) (orderOf p) (answerOf d ps ls room call .scheduler)
+    pub stays-sound : Sound (supplyOf p) (orderOf p) (answerOf d ps ls room call .scheduler)
     unfolding answerOf
     stays-sound = sound-says (supplyOf p) (supply-named p) (orderOf p) _
         (K.accepted-stays-sound (supplyOf p) (checked-lawful p ps ls wide fair) (supply-named p) (orderOf p) (order-orderly p) (viewOf d)
@@ -168,19 +168,19 @@ module _ (D ps ls : List ℕ) where
 
   pub join-back : (slot block : ℕ) → joinAnswer D ps ls slot block .number ≡ 0 → said (joinString D ps ls slot block) ≡ joinDesk (said D) ps ls slot block .desk
   unfolding joinAnswer joinString joinDesk answered verdictAnswer
-  join-back slot block n = call-back 0 (join slot block) _ refl n
+  join-back slot block n = let (l, z) = accepted-right 0 (join slot block) _ refl n in call-back 0 (join slot block) l z
 
   pub leave-back : (slot : ℕ) → leaveAnswer D ps ls slot .number ≡ 0 → said (leaveString D ps ls slot) ≡ leaveDesk (said D) ps ls slot .desk
   unfolding leaveAnswer leaveString leaveDesk answered verdictAnswer
-  leave-back slot n = call-back 0 (leave slot) _ refl n
+  leave-back slot n = let (l, z) = accepted-right 0 (leave slot) _ refl n in call-back 0 (leave slot) l z
 
   pub end-back : (draws : List ℕ) → endAnswer D ps ls draws .number ≡ 0 → said (endString D ps ls draws) ≡ endDesk (said D) ps ls draws .desk
   unfolding endAnswer endString endDesk answered verdictAnswer
-  end-back draws n = call-back 0 (end (wordsOf draws)) _ refl n
+  end-back draws n = let (l, z) = accepted-right 0 (end (wordsOf draws)) _ refl n in call-back 0 (end (wordsOf draws)) l z
 
   pub begin-back : (F : List ℕ) → beginAnswer D ps ls F .number ≡ 0 → said (beginString D ps ls F) ≡ beginDesk (said D) ps ls (roomIn F) .desk
   unfolding beginAnswer beginString beginDesk begunAnswer
-  begin-back F n = call-back (roomIn F) begin _ refl n
+  begin-back F n = let (l, z) = accepted-right (roomIn F) begin _ refl n in call-back (roomIn F) begin l z
 
 -- ---- an accepted opening
 

@@ -37,29 +37,31 @@ module _ (D : List ℕ) where
       (λ n. other-string D n d)
 
   module _ (ps ls : List ℕ) where
-    -- any call whose answer a has the number that the rules give
-    module _ (room : ℕ) (call : Call ℕ) (a : FilmdiskAnswer) (e : a .number ≡ answerOf (said D) ps ls room call .number) (n : answerBy D a .number ≡ 0 → ⊥) where
-      refused-number : length D ≡ 3628 → answerOf (said D) ps ls room call .number ≡ 0 → ⊥
-      refused-number l z = n (ap (λ (x : FilmdiskAnswer). x .number) (right-answer D l a) ∙ e ∙ z)
+    module _ (room : ℕ) (call : Call ℕ) where
+      pub call-kept : Bytes D → (length D ≡ 3628 → answerOf (said D) ps ls room call .number ≡ 0 → ⊥)
+          → stringBy D (deskOf (said D .plan) (answerOf (said D) ps ls room call .scheduler)) ≡ D
+      call-kept y n = same-string y _ (λ l. refused-desk (said D) ps ls room call (said-wide D l) (n l))
 
-      pub call-kept : Bytes D → stringBy D (deskOf (said D .plan) (answerOf (said D) ps ls room call .scheduler)) ≡ D
-      call-kept y = same-string y _ (λ l. refused-desk (said D) ps ls room call (said-wide D l) (refused-number l))
+      -- the answer a has the number that the rules give, and refuses
+      refused-number : (a : FilmdiskAnswer) → a .number ≡ answerOf (said D) ps ls room call .number → (answerBy D a .number ≡ 0 → ⊥)
+          → length D ≡ 3628 → answerOf (said D) ps ls room call .number ≡ 0 → ⊥
+      refused-number a e n l z = n (ap (λ (x : FilmdiskAnswer). x .number) (right-answer D l a) ∙ e ∙ z)
 
     pub join-kept : (slot block : ℕ) → Bytes D → (joinAnswer D ps ls slot block .number ≡ 0 → ⊥) → joinString D ps ls slot block ≡ D
     unfolding joinAnswer joinString joinDesk answered verdictAnswer
-    join-kept slot block y n = call-kept 0 (join slot block) _ refl n y
+    join-kept slot block y n = call-kept 0 (join slot block) y (refused-number 0 (join slot block) _ refl n)
 
     pub leave-kept : (slot : ℕ) → Bytes D → (leaveAnswer D ps ls slot .number ≡ 0 → ⊥) → leaveString D ps ls slot ≡ D
     unfolding leaveAnswer leaveString leaveDesk answered verdictAnswer
-    leave-kept slot y n = call-kept 0 (leave slot) _ refl n y
+    leave-kept slot y n = call-kept 0 (leave slot) y (refused-number 0 (leave slot) _ refl n)
 
     pub end-kept : (draws : List ℕ) → Bytes D → (endAnswer D ps ls draws .number ≡ 0 → ⊥) → endString D ps ls draws ≡ D
     unfolding endAnswer endString endDesk answered verdictAnswer
-    end-kept draws y n = call-kept 0 (end (wordsOf draws)) _ refl n y
+    end-kept draws y n = call-kept 0 (end (wordsOf draws)) y (refused-number 0 (end (wordsOf draws)) _ refl n)
 
     pub begin-kept : (F : List ℕ) → Bytes D → (beginAnswer D ps ls F .number ≡ 0 → ⊥) → beginString D ps ls F ≡ D
     unfolding beginAnswer beginString beginDesk begunAnswer
-    begin-kept F y n = call-kept (roomIn F) begin _ refl n y
+    begin-kept F y n = call-kept (roomIn F) begin y (refused-number (roomIn F) begin _ refl n)
 
     -- and a begin leaves the fetch list
     pub fetches-kept : (F : List ℕ) → (beginAnswer D ps ls F .number ≡ 0 → ⊥) → fetchString D ps ls F ≡ F

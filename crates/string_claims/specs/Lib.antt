@@ -1,4 +1,6 @@
 pub mod Back
+pub mod Entries
 pub mod Kept
 pub mod Lists
+pub mod Past
 pub mod Plans

@@ -32,7 +32,7 @@ abbrev pub NeedsBlock : Desk → ℕ → Type 0
 NeedsBlock d i =
     ((getD (d .kinds) i 0 ≡ filling) ⊎ (getD (d .kinds) i 0 ≡ playing)) × (getD (d .held) i 0 + d .plan .figures .bytes ≤ d .plan .buffer)
 
-abbrev blankEntry : Entry
+abbrev pub blankEntry : Entry
 blankEntry = record { position = 0; slot = 0; block = 0 }
 
 abbrev pub entryAt : List Entry → ℕ → Entry
@@ -212,7 +212,7 @@ module _ {A : Type 0} (p : Supply A) (alone : (a : A) → p .others a ≡ []) wh
 -- ---- a begin
 
 module _ (q : Plan) (s : Scheduler ℕ Queue) where
-  kind-at : (i : ℕ) → getD (deskOf q s .kinds) i 0 ≡ at (supplyOf q) (s .slots) i .kind
+  pub kind-at : (i : ℕ) → getD (deskOf q s .kinds) i 0 ≡ at (supplyOf q) (s .slots) i .kind
   unfolding deskOf
   kind-at i = List·getD-map (λ x. x .kind) (s .slots) i (freeSlot (supplyOf q))
 
@@ -220,7 +220,7 @@ module _ (q : Plan) (s : Scheduler ℕ Queue) where
   unfolding deskOf
   held-at i = List·getD-map (λ x. x .buffered) (s .slots) i (freeSlot (supplyOf q))
 
-  next-at : (i : ℕ) → getD (deskOf q s .next) i 0 ≡ at (supplyOf q) (s .slots) i .next
+  pub next-at : (i : ℕ) → getD (deskOf q s .next) i 0 ≡ at (supplyOf q) (s .slots) i .next
   unfolding deskOf supplyOf
   next-at i = List·getD-map (λ x. x .next) (s .slots) i (freeSlot (supplyOf q))
 

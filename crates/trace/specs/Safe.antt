@@ -4,14 +4,18 @@ use Prim.Native.Nat.{ℕ, zero, suc, _+_, _*_, _/_, _≤_, _<_}
 use mathlib.Core.Path.{_≡_, refl, sym, ap, _∙_, subst}
 use mathlib.Core.Logic.{_↔_, _≢_}
 use mathlib.Core.Bool.{true, cond}
-use mathlib.Core.List.{List, [], _∷_, _++_}
+use mathlib.Core.List.{List, [], _∷_, _++_, map, map-append}
 use native.Mathlib.Omega.{arith}
 use lib.ListN.{getD, length-map}
 use Rattle.words.specs.Words.{wordsOf}
+use Rattle.numbers.specs.Limits.{maxStreams}
+use Rattle.numbers.specs.Refusals.{notSound}
+use Rattle.numbers.specs.Slots.{waiting, playing, draining}
+use Rattle.numbers.specs.Units.{micros}
 use Rattle.plan.specs.declared.Plan.{Plan}
 use Rattle.plan.specs.Answer.{isPlan}
 use Rattle.safety.specs.Supply.{Supply, Lawful}
-use Rattle.safety.specs.Scheduler.{Slot, join, leave, begin, end, at}
+use Rattle.safety.specs.Scheduler.{Slot, Call, join, leave, begin, end, at}
 use Rattle.safety.specs.Order.{Scheduler, Order, bySlot}
 use Rattle.safety.specs.Order as A
 use Rattle.safety.specs.Sound.{sound}
@@ -26,7 +30,7 @@ use Rattle.desk.specs.Desk.{supplyOf, rulesOf, orderOf, Queue, viewOf, deskOf, 
 use Rattle.desk.specs.Entries.{entries-in}
 use Rattle.desk.specs.View.{view-of-desk}
 use Rattle.desk.specs.Promise.{supply-named}
-use Rattle.trace.specs.List.{Request, joins, leaves, begins, ends, Lent, moveOf, Answered, answerTo, called, World, turn, after, opened}
+use Rattle.trace.specs.List.{Request, joins, leaves, begins, ends, Lent, moveOf, answerTo, called, World, turn, after, opened}
 
 -- ---- the same list for the rules
 
@@ -163,58 +167,67 @@ module _ (p : Plan) where
 
 -- ---- the claim
 
--- a request that is a begin
-abbrev pub IsBegin : Request → Type 0
-IsBegin (joins slot block) = ⊥
-IsBegin (leaves slot) = ⊥
-IsBegin (begins room) = Unit {0}
-IsBegin (ends draws) = ⊥
+-- a list of calls of type X as their caller sees it
+pub record Seen (X : Type 0) : Type 0 where
+  -- the desk and the book after a list
+  pub desk : List X → Desk
+  pub book : List X → List Line
+  -- the number and the bound that one more call is answered
+  pub number : List X → X → ℕ
+  pub bound : List X → X → ℕ
+  -- a call's move, and the two lists that are lent to it
+  pub move : X → Call ℕ
+  pub positions : X → List ℕ
+  pub leads : X → List ℕ
 
+-- from the opening of a plan, the calls on its record
 module _ (p : Plan) where
-  -- the desk and the book after a list from the opening
   abbrev pub worldAfter : List Lent → World
   worldAfter xs = after (p .figures .bytes) (opened (freshDesk p)) xs
 
-  abbrev pub kindAt : List Lent → ℕ → ℕ
-  kindAt xs i = getD (worldAfter xs .desk .kinds) i 0
+  abbrev pub onRecord : Seen Lent
+  onRecord = record {
+    desk = λ xs. worldAfter xs .desk;
+    book = λ xs. worldAfter xs .book;
+    number = λ xs x. called (worldAfter xs .desk) x .number;
+    bound = λ xs x. called (worldAfter xs .desk) x .bound;
+    move = λ x. moveOf (x .request);
+    positions = λ x. x .positions;
+    leads = λ x. x .leads;
+  }
 
-  abbrev pub heldAt : List Lent → ℕ → ℕ
-  heldAt xs i = getD (worldAfter xs .desk .held) i 0
+module _ {X : Type 0} (p : Plan) (v : Seen X) where
+  abbrev pub kindAt : List X → ℕ → ℕ
+  kindAt xs i = getD (v .desk xs .kinds) i 0
 
-  abbrev pub lineOf : List Lent → ℕ → Line
-  lineOf xs i = lineAt (worldAfter xs .book) i
+  abbrev pub heldAt : List X → ℕ → ℕ
+  heldAt xs i = getD (v .desk xs .held) i 0
 
-  -- what one more call answers
-  abbrev pub answerAfter : List Lent → Lent → Answered
-  answerAfter xs x = called (worldAfter xs .desk) x
+  abbrev pub lineOf : List X → ℕ → Line
+  lineOf xs i = lineAt (v .book xs) i
 
-  -- AFTER EVERY LIST, for each of the 256 slots
-  pub record Safe (xs : List Lent) : Type 0 where
+  -- AFTER EVERY LIST from an opening of p, for each of the 256 slots
+  pub record Safe (xs : List X) : Type 0 where
     -- `the occupied slots (kinds 1 to 4) are exactly the open ones`
-    pub occupied-open : (i : ℕ) → i < 256 → ((1 ≤ kindAt xs i) × (kindAt xs i ≤ 4)) ↔ (lineOf xs i .isOpen ≡ true)
+    pub occupied-open : (i : ℕ) → i < maxStreams → ((waiting ≤ kindAt xs i) × (kindAt xs i ≤ draining)) ↔ (lineOf xs i .isOpen ≡ true)
     -- `for each, held + drawn equals fetched × B`
-    pub accounted : (i : ℕ) → i < 256 → lineOf xs i .isOpen ≡ true → heldAt xs i + lineOf xs i .consumed ≡ lineOf xs i .fetched * p .figures .bytes
+    pub accounted : (i : ℕ) → i < maxStreams → lineOf xs i .isOpen ≡ true
+        → heldAt xs i + lineOf xs i .consumed ≡ lineOf xs i .fetched * p .figures .bytes
     -- `and held is at most buffer`
-    pub fits : (i : ℕ) → i < 256 → heldAt xs i ≤ p .buffer
+    pub fits : (i : ℕ) → i < maxStreams → heldAt xs i ≤ p .buffer
     -- `a sweep starts with an accepted begin: where that is the last call, each playing slot holds at least c × bound / 1,000,000, rounded
     -- down, with the bound it answered`
-    pub starts-full : (ys : List Lent) (x : Lent) → xs ≡ ys ++ (x ∷ []) → IsBegin (x .request) → answerAfter ys x .number ≡ 0
-        → (i : ℕ) → i < 256 → kindAt xs i ≡ 3 → p .figures .rate * answerAfter ys x .bound / 1000000 ≤ heldAt xs i
+    pub starts-full : (ys : List X) (x : X) → xs ≡ ys ++ (x ∷ []) → v .move x ≡ begin → v .number ys x ≡ 0
+        → (i : ℕ) → i < maxStreams → kindAt xs i ≡ playing → p .figures .rate * v .bound ys x / micros ≤ heldAt xs i
     -- `each slot's kind is the one that the desk's rules give over the same list`; a refused call leaves it
-    pub ruled-kinds : (ys : List Lent) (x : Lent) → xs ≡ ys ++ (x ∷ []) → (i : ℕ) → i < 256
-        → kindAt xs i ≡ cond (isAccepted (answerAfter ys x .number)) (kindAfter (supplyOf p) (viewOf (worldAfter ys .desk)) (moveOf (x .request)) i) (kindAt ys i)
+    pub ruled-kinds : (ys : List X) (x : X) → xs ≡ ys ++ (x ∷ []) → (i : ℕ) → i < maxStreams
+        → kindAt xs i ≡ cond (isAccepted (v .number ys x)) (kindAfter (supplyOf p) (viewOf (v .desk ys)) (v .move x) i) (kindAt ys i)
     -- the record stays the plan's, and sound: a call with the plan's own lists is never answered 14
-    pub same-plan : worldAfter xs .desk .plan ≡ p
-    pub stays-sound : sound (supplyOf p) (orderOf p) (viewOf (worldAfter xs .desk)) ≡ true
-    pub never-unsound : (x : Lent) → isPlan p (x .positions) (x .leads) ≡ true → answerAfter xs x .number ≢ 14
+    pub same-plan : v .desk xs .plan ≡ p
+    pub stays-sound : sound (supplyOf p) (orderOf p) (viewOf (v .desk xs)) ≡ true
+    pub never-unsound : (x : X) → isPlan p (v .positions x) (v .leads x) ≡ true → v .number xs x ≢ notSound
 
 -- ---- its proof
-
-begin-move : (r : Request) → IsBegin r → moveOf r ≡ begin
-begin-move (joins slot block) b = absurd b
-begin-move (leaves slot) b = absurd b
-begin-move (begins room) b = refl
-begin-move (ends draws) b = absurd b
 
 module _ (p : Plan) where
   givens-last : (ys : List Lent) (x : Lent) → givensOf p (ys ++ (x ∷ [])) ≡ givensOf p ys ++ (givenOf p x ∷ [])
@@ -247,27 +260,27 @@ module _ (p : Plan) where
     safe : (xs : List Lent) → K.Safe (supplyOf p) o (kindAfter (supplyOf p)) (givensOf p xs)
     safe xs = K.every-list-safe (supplyOf p) ok (supply-named p) (givensOf p xs)
 
-    kind-same : (xs : List Lent) (i : ℕ) → K.slotAfter (supplyOf p) o (givensOf p xs) i .kind ≡ kindAt p xs i
+    kind-same : (xs : List Lent) (i : ℕ) → K.slotAfter (supplyOf p) o (givensOf p xs) i .kind ≡ kindAt p (onRecord p) xs i
     kind-same xs i = ap (λ (s : Slot ℕ). s .kind) (slot-same (worldAfter p xs) _ (same xs) i)
 
-    held-same : (xs : List Lent) (i : ℕ) → K.slotAfter (supplyOf p) o (givensOf p xs) i .buffered ≡ heldAt p xs i
+    held-same : (xs : List Lent) (i : ℕ) → K.slotAfter (supplyOf p) o (givensOf p xs) i .buffered ≡ heldAt p (onRecord p) xs i
     held-same xs i = ap (λ (s : Slot ℕ). s .buffered) (slot-same (worldAfter p xs) _ (same xs) i)
 
-    line-same : (xs : List Lent) (i : ℕ) → K.lineAfter (supplyOf p) o (givensOf p xs) i ≡ lineOf p xs i
+    line-same : (xs : List Lent) (i : ℕ) → K.lineAfter (supplyOf p) o (givensOf p xs) i ≡ lineOf p (onRecord p) xs i
     line-same xs i = ap (λ (ls : List Line). lineAt ls i) (sym (same xs .book))
 
-    number-same : (xs : List Lent) (x : Lent) → answerAfter p xs x .number ≡ K.answerAfter (supplyOf p) o (givensOf p xs) (givenOf p x) .number
+    number-same : (xs : List Lent) (x : Lent) → onRecord p .number xs x ≡ K.answerAfter (supplyOf p) o (givensOf p xs) (givenOf p x) .number
     number-same xs x =
         by-rules p (worldAfter p xs .desk) x (same xs .plan) .number ∙ ap (λ (w : Scheduler ℕ Queue). ruled p w (givenOf p x) .number) (same xs .view)
 
-    bound-same : (xs : List Lent) (x : Lent) → answerAfter p xs x .bound ≡ K.answerAfter (supplyOf p) o (givensOf p xs) (givenOf p x) .bound
+    bound-same : (xs : List Lent) (x : Lent) → onRecord p .bound xs x ≡ K.answerAfter (supplyOf p) o (givensOf p xs) (givenOf p x) .bound
     bound-same xs x =
         by-rules p (worldAfter p xs .desk) x (same xs .plan) .bound ∙ ap (λ (w : Scheduler ℕ Queue). ruled p w (givenOf p x) .bound) (same xs .view)
 
     last : (xs ys : List Lent) (x : Lent) → xs ≡ ys ++ (x ∷ []) → givensOf p xs ≡ givensOf p ys ++ (givenOf p x ∷ [])
     last xs ys x e = ap (givensOf p) e ∙ givens-last ys x
 
-    account : (xs : List Lent) (i : ℕ) → lineOf p xs i .isOpen ≡ true → heldAt p xs i + lineOf p xs i .consumed ≡ lineOf p xs i .fetched * p .figures .bytes
+    account : (xs : List Lent) (i : ℕ) → lineOf p (onRecord p) xs i .isOpen ≡ true → heldAt p (onRecord p) xs i + lineOf p (onRecord p) xs i .consumed ≡ lineOf p (onRecord p) xs i .fetched * p .figures .bytes
     unfolding supplyOf
     account xs i e =
         let l = line-same xs i in
@@ -276,20 +289,20 @@ module _ (p : Plan) where
         ∙ safe xs .accounted i (ap (λ (x : Line). x .isOpen) l ∙ e)
         ∙ (λ t. l t .fetched * p .figures .bytes)
 
-    hold : (xs : List Lent) (i : ℕ) → heldAt p xs i ≤ p .buffer
+    hold : (xs : List Lent) (i : ℕ) → heldAt p (onRecord p) xs i ≤ p .buffer
     unfolding supplyOf
     hold xs i = subst (λ (h : ℕ). h ≤ p .buffer) (held-same xs i) (safe xs .fits i)
 
-    start : (xs ys : List Lent) (x : Lent) → xs ≡ ys ++ (x ∷ []) → IsBegin (x .request) → answerAfter p ys x .number ≡ 0
-        → (i : ℕ) → kindAt p xs i ≡ 3 → p .figures .rate * answerAfter p ys x .bound / 1000000 ≤ heldAt p xs i
+    start : (xs ys : List Lent) (x : Lent) → xs ≡ ys ++ (x ∷ []) → moveOf (x .request) ≡ begin → onRecord p .number ys x ≡ 0
+        → (i : ℕ) → kindAt p (onRecord p) xs i ≡ 3 → p .figures .rate * onRecord p .bound ys x / 1000000 ≤ heldAt p (onRecord p) xs i
     unfolding supplyOf
     start xs ys x e b n i k =
-        let f = safe xs .starts-full (givensOf p ys) (givenOf p x) (last xs ys x e) (begin-move (x .request) b) (sym (number-same ys x) ∙ n) i (kind-same xs i ∙ k) in
-        subst (λ (h : ℕ). p .figures .rate * answerAfter p ys x .bound / 1000000 ≤ h) (held-same xs i)
+        let f = safe xs .starts-full (givensOf p ys) (givenOf p x) (last xs ys x e) b (sym (number-same ys x) ∙ n) i (kind-same xs i ∙ k) in
+        subst (λ (h : ℕ). p .figures .rate * onRecord p .bound ys x / 1000000 ≤ h) (held-same xs i)
         (subst (λ (m : ℕ). p .figures .rate * m / 1000000 ≤ K.slotAfter (supplyOf p) o (givensOf p xs) i .buffered) (sym (bound-same ys x)) f)
 
     kinds : (xs ys : List Lent) (x : Lent) → xs ≡ ys ++ (x ∷ []) → (i : ℕ) → i < 256
-        → kindAt p xs i ≡ cond (isAccepted (answerAfter p ys x .number)) (kindAfter (supplyOf p) (viewOf (worldAfter p ys .desk)) (moveOf (x .request)) i) (kindAt p ys i)
+        → kindAt p (onRecord p) xs i ≡ cond (isAccepted (onRecord p .number ys x)) (kindAfter (supplyOf p) (viewOf (worldAfter p ys .desk)) (moveOf (x .request)) i) (kindAt p (onRecord p) ys i)
     kinds xs ys x e i u =
         let n = number-same ys x in
         let v = same ys .view in
@@ -299,7 +312,7 @@ module _ (p : Plan) where
         ∙ (λ t. cond (isAccepted (sym n t)) (kindAfter (supplyOf p) (sym v t) (moveOf (x .request)) i) (k t))
 
     -- DEMAND 3: every list is safe
-    pub list-safe : (xs : List Lent) → Safe p xs
+    pub list-safe : (xs : List Lent) → Safe p (onRecord p) xs
     list-safe xs = record {
       occupied-open = λ i u. (
         λ k. ap (λ (l : Line). l .isOpen) (sym (line-same xs i)) ∙ safe xs .occupied-open i .0 (omega (arith, kind-same xs i)),
@@ -313,3 +326,29 @@ module _ (p : Plan) where
       stays-sound = ap (sound (supplyOf p) o) (same xs .view) ∙ safe xs .stays-sound;
       never-unsound = λ x f n. safe xs .never-unsound (givenOf p x) f (sym (number-same xs x) ∙ n);
     }
+
+-- ---- calls of another type, seen as these
+
+module _ {X Y : Type 0} (g : X → Y) (v : Seen Y) where
+  abbrev pub seenAs : Seen X
+  seenAs = record {
+    desk = λ xs. v .desk (map g xs);
+    book = λ xs. v .book (map g xs);
+    number = λ xs x. v .number (map g xs) (g x);
+    bound = λ xs x. v .bound (map g xs) (g x);
+    move = λ x. v .move (g x);
+    positions = λ x. v .positions (g x);
+    leads = λ x. v .leads (g x);
+  }
+
+  pub safe-as : (p : Plan) (xs : List X) → Safe p v (map g xs) → Safe p seenAs xs
+  safe-as p xs s = record {
+    occupied-open = s .occupied-open;
+    accounted = s .accounted;
+    fits = s .fits;
+    starts-full = λ ys x e. s .starts-full (map g ys) (g x) (ap (map g) e ∙ map-append g ys (x ∷ []));
+    ruled-kinds = λ ys x e. s .ruled-kinds (map g ys) (g x) (ap (map g) e ∙ map-append g ys (x ∷ []));
+    same-plan = s .same-plan;
+    stays-sound = s .stays-sound;
+    never-unsound = λ x. s .never-unsound (g x);
+  }
