@@ -1,6 +1,8 @@
 pub mod Back
-pub mod Entries
+pub mod EntryLaws
 pub mod Kept
+pub mod ListLaws
 pub mod Lists
-pub mod Past
 pub mod Plans
+pub mod Unfilled
+pub mod UnfilledLaws

@@ -22,7 +22,7 @@ use Rattle.layout.specs.Layout.{planWords, planIn, zeroBytes}
 use Rattle.layout.specs.Laws.{plan-written, plan-zero}
 use Rattle.layout.specs.Legal.{legal-sized, legal-words}
 use Rattle.layout.specs.Answers.{verdictAnswer}
-use Rattle.trace.specs.Planned.{accepted-told, plan-opens}
+use Rattle.trace.specs.PlannedLaws.{accepted-told, plan-opens}
 use Rattle.desk.specs.Desk.{freshDesk}
 use Rattle.desk_strings.specs.Calls.{openedFrom, openAnswer, openString, said}
 use Rattle.string_claims.specs.Kept.{open-number}

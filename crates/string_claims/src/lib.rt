@@ -16,7 +16,7 @@ ghost use Rattle.layout.specs.Layout.{planIn, zeroBytes};
 ghost use Rattle.plan_strings.specs.Calls.{planAnswer, planString, positionsString, leadsString};
 ghost use Rattle.desk_strings.specs.Calls.{openAnswer, openString, said, joinAnswer, joinString, leaveAnswer, leaveString, endAnswer, endString, roomIn, beginAnswer, beginString, fetchString};
 ghost use Rattle.string_claims.specs.Lists.{StringCall, stringsAfter, onString};
-ghost use Rattle.string_claims.specs.Past.{SameFrom};
+ghost use Rattle.string_claims.specs.Unfilled.{SameFrom};
 
 // A refused join, leave, begin or end leaves every string as it was: desk (D), fetch list (F). The lists are only read.
 pub fn refused_call_keeps_strings()

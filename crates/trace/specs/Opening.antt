@@ -22,7 +22,8 @@ use Rattle.desk.specs.declared.Desk.{Desk}
 use Rattle.desk.specs.Desk.{supplyOf, rulesOf, orderOf, Queue, viewOf, openBy, openDesk, freshDesk}
 use Rattle.desk.specs.Promise.{order-orderly, supply-named, plan-lawful}
 use Rattle.trace.specs.List.{Lent, called}
-use Rattle.trace.specs.Safe.{Safe, onRecord, list-safe, givenOf, called-ruled}
+use Rattle.trace.specs.Safe.{Safe, onRecord}
+use Rattle.trace.specs.SafeLists.{list-safe, givenOf, called-ruled}
 
 -- a record that passes the check has a lawful supply
 pub checked-lawful : (p : Plan) (ps ls : List ℕ) → Wide (p .figures) → isPlan p ps ls ≡ true → Lawful (supplyOf p)

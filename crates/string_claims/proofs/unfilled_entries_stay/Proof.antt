@@ -1,4 +1,4 @@
-use Rattle.string_claims.specs.Past.{lists-past, strings-past, fetches-past, card-past}
+use Rattle.string_claims.specs.UnfilledLaws.{lists-past, strings-past, fetches-past, card-past}
 use Rattle.string_claims.proofs.unfilled_entries_stay.Statement.{statement}
 use Rattle.string_claims.proofs.unfilled_entries_stay.Tie as tie
 

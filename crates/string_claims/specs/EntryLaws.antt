@@ -1,9 +1,9 @@
--- The fetch entries that a C caller reads: of the fetch string that a begin left, as many as the begin counted. They are those of the rules.
+-- The fetch entries that a C caller reads are those of the rules.
 -- Assumes nothing.
 use Prim.Native.Nat.{ℕ, zero, suc, _+_, _*_, _≤_, _<_}
 use mathlib.Core.Path.{_≡_, refl, sym, ap, ap₂, _∙_, subst}
 use mathlib.Core.Logic.{⊎-elim, by-cases}
-use mathlib.Core.List.{List, [], _∷_}
+use mathlib.Core.List.{List, [], _∷_, _++_}
 use native.Mathlib.Omega.{arith}
 use native.Mathlib.Decide.{decLt, ℕ-discrete}
 use borrow.Author.Tests.{eq-eqb, ltb-true}
@@ -11,7 +11,8 @@ use lib.ListN.{length, getD, drop}
 use lib.Seq.{getD-drop}
 use Rattle.laws.specs.Each.{Each, each-at, each-by}
 use Rattle.words.specs.Words.{Words, wordsOf, withWords}
-use Rattle.words.specs.Laws.{word-written}
+use Rattle.laws.specs.Overwrite.{overwrite-front}
+use Rattle.words.specs.Laws.{words-withWords}
 use Rattle.card.specs.Card.{Legal}
 use Rattle.plan.specs.declared.Plan.{Plan}
 use Rattle.plan.specs.Plan.{placeOf, planOf}
@@ -24,17 +25,14 @@ use Rattle.admission.specs.Refused.{refused-same}
 use Rattle.desk.specs.declared.Desk.{Desk}
 use Rattle.desk.specs.Desk.{supplyOf, orderOf, Queue, deskOf, answerOf, fetchesOf, beginDesk, entriesOf, entryWords, fetchListAfter}
 use Rattle.desk.specs.Entries.{entriesIn, entries-in}
-use Rattle.trace.specs.Fetches.{blankEntry, NeedsBlock, begin-fetched, kind-at, next-at}
+use Rattle.trace.specs.Answers.{blankEntry, NeedsBlock}
+use Rattle.trace.specs.FetchLaws.{begin-fetched, kind-at, next-at}
 use Rattle.scheduler.specs.Count.{begin-few}
 use Rattle.layout.specs.declared.FilmdiskAnswer.{FilmdiskAnswer}
 use Rattle.desk_strings.specs.Laws.{said-wide, right-answer}
 use Rattle.desk_strings.specs.Calls.{said, roomIn, begunAnswer, beginAnswer, fetchString}
 use Rattle.string_claims.specs.Back.{wide, fair, stays-sound}
-
--- whole entries of three words, position, slot and block: the first k of a list of words
-unfoldable pub entriesRead : ℕ → List ℕ → List Entry
-entriesRead zero ws = []
-entriesRead (suc k) ws = record { position = getD ws 0 0; slot = getD ws 1 0; block = getD ws 2 0 } ∷ entriesRead k (drop 3 ws)
+use Rattle.string_claims.specs.Lists.{entriesRead}
 
 -- ---- what is written is read
 
@@ -55,25 +53,17 @@ entry-words (e ∷ es) h (suc zero) = h .0 .1
 entry-words (e ∷ es) h (suc (suc zero)) = h .0 .2
 entry-words (e ∷ es) h (suc (suc (suc i))) = entry-words es (h .1) i
 
--- the words are those of the entries, so far as these go
-same-read : (es : List Entry) (ws : List ℕ) → ((j : ℕ) → j < 3 * length es → getD ws j 0 ≡ getD (entryWords es) j 0) → entriesRead (length es) ws ≡ es
+-- entries that stand before other words
+front-read : (es : List Entry) (ws : List ℕ) → entriesRead (length es) (entryWords es ++ ws) ≡ es
 unfolding entriesRead entryWords
-same-read [] ws h = refl
-same-read (e ∷ es) ws h = ap₂ (λ (x : Entry) (xs : List Entry). x ∷ xs) first (same-read es (drop 3 ws) rest)
-  where
-    first : _≡_ {A = Entry} (record { position = getD ws 0 0; slot = getD ws 1 0; block = getD ws 2 0 }) e
-    first = λ t. record { position = h 0 (omega arith) t; slot = h 1 (omega arith) t; block = h 2 (omega arith) t }
-
-    rest : (j : ℕ) → j < 3 * length es → getD (drop 3 ws) j 0 ≡ getD (entryWords es) j 0
-    rest j l =
-        let e : 3 + j ≡ suc (suc (suc j)) = omega arith in
-        getD-drop 3 ws j 0 ∙ ap (λ (k : ℕ). getD ws k 0) e ∙ h (suc (suc (suc j))) (omega arith)
+front-read [] ws = refl
+front-read (e ∷ es) ws = ap (λ (xs : List Entry). e ∷ xs) (front-read es ws)
 
 read-entries : (es : List Entry) (F : List ℕ) → Each Fits es → 3 * length es ≤ length (wordsOf F)
     → entriesRead (length es) (wordsOf (withWords F 0 (entryWords es))) ≡ es
-read-entries es F f l = same-read es (wordsOf (withWords F 0 (entryWords es))) (λ j u.
-    let e : 0 + j ≡ j = omega arith in
-    rw e at (word-written F 0 (entryWords es) j (entry-words es f) (omega (arith, entry-length es)) (omega arith)))
+read-entries es F f l =
+    ap (entriesRead (length es)) (words-withWords F 0 (entryWords es) (entry-words es f) (omega (arith, entry-length es)) ∙ overwrite-front (wordsOf F) (entryWords es))
+    ∙ front-read es (drop (length (entryWords es)) (wordsOf F))
 
 -- ---- the entries of an accepted begin
 

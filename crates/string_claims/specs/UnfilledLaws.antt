@@ -23,11 +23,8 @@ use Rattle.desk.specs.Desk.{fetchesOf, beginDesk, entriesOf, entryWords, fetchL
 use Rattle.layout.specs.Answers.{verdictAnswer}
 use Rattle.plan_strings.specs.Calls.{planFaultOf, positionsString, leadsString}
 use Rattle.desk_strings.specs.Calls.{refusedBy, said, answerBy, roomIn, begunAnswer, beginAnswer, fetchString}
-use Rattle.string_claims.specs.Entries.{entry-length}
-
--- t is as long as s, and the same from byte m on
-abbrev pub SameFrom : ℕ → List ℕ → List ℕ → Type 0
-SameFrom m s t = (length t ≡ length s) × ((j : ℕ) → m ≤ j → getD t j 0 ≡ getD s j 0)
+use Rattle.string_claims.specs.EntryLaws.{entry-length}
+use Rattle.string_claims.specs.Unfilled.{SameFrom}
 
 -- entries are written from the front
 written-past : (s vs : List ℕ) (m : ℕ) → 4 * length vs ≤ m → SameFrom m s (withWords s 0 vs)

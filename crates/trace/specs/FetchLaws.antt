@@ -1,4 +1,4 @@
--- The fetches of a begin in document 01's words: one block for each filling or playing slot with room, by rising position, then slot.
+-- An accepted begin fetches for each slot that needs a block and for no other, in order.
 -- Assumes nothing.
 use Prim.Native.Nat.{ℕ, zero, suc, _+_, _-_, _≤_, _<_}
 use mathlib.Core.Path.{_≡_, refl, sym, ap, _∙_, subst}
@@ -24,31 +24,7 @@ use Rattle.safety.specs.Lists.{verdict-zero, answer-accepted}
 use Rattle.desk.specs.declared.Desk.{Desk}
 use Rattle.desk.specs.Desk.{supplyOf, orderOf, rulesOf, Queue, viewOf, deskOf, answerOf, beginDesk}
 use Rattle.desk.specs.Entries.{entriesIn, entries-in}
-
--- ---- what is claimed
-
--- slot i is filling or playing, and its held + B is at most the buffer
-abbrev pub NeedsBlock : Desk → ℕ → Type 0
-NeedsBlock d i =
-    ((getD (d .kinds) i 0 ≡ filling) ⊎ (getD (d .kinds) i 0 ≡ playing)) × (getD (d .held) i 0 + d .plan .figures .bytes ≤ d .plan .buffer)
-
-abbrev pub blankEntry : Entry
-blankEntry = record { position = 0; slot = 0; block = 0 }
-
-abbrev pub entryAt : List Entry → ℕ → Entry
-entryAt es k = getD es k blankEntry
-
--- d is the desk that a begin left, es are the entries that it answered
-pub record Fetched (d : Desk) (es : List Entry) : Type 0 where
-  -- each such slot has an entry
-  pub each : (i : ℕ) → NeedsBlock d i → (k : ℕ) × (k < length es) × (entryAt es k .slot ≡ i)
-  -- no other has: an entry names such a slot, its next block and where that is laid
-  pub only : (k : ℕ) → k < length es
-      → NeedsBlock d (entryAt es k .slot) × (entryAt es k .block ≡ getD (d .next) (entryAt es k .slot) 0)
-      × (entryAt es k .position ≡ placeOf (d .plan .figures) (entryAt es k .block))
-  -- by rising position, then slot; so no slot has two
-  pub order : (j k : ℕ) → j < k → k < length es
-      → (entryAt es j .position < entryAt es k .position) ⊎ ((entryAt es j .position ≡ entryAt es k .position) × (entryAt es j .slot < entryAt es k .slot))
+use Rattle.trace.specs.Answers.{NeedsBlock, blankEntry, entryAt, Fetched}
 
 -- ---- entries by how often they occur
 
