@@ -1,2 +1,3 @@
+pub mod Judged
+pub mod Opens
 pub mod Sweeps
-pub mod Ways

@@ -4,6 +4,7 @@ use mathlib.Core.List.{List}
 use mathlib.Core.Bool.{cond}
 use lib.ListN.{length}
 use lib.Dec.{eqb}
+use Rattle.numbers.specs.Refusals.{tooShort, notSound}
 use Rattle.words.specs.Words.{wordsOf, withWords}
 use Rattle.card.specs.declared.Verdict.{Verdict}
 use Rattle.desk.specs.declared.Desk.{Desk}
@@ -12,7 +13,7 @@ use Rattle.desk.specs.declared.Begun.{Begun}
 use Rattle.desk.specs.Desk.{verdict, blankDesk, openDesk, joinDesk, leaveDesk, beginDesk, fetchListAfter, endDesk}
 use Rattle.layout.specs.declared.FilmdiskAnswer.{FilmdiskAnswer}
 use Rattle.layout.specs.Answers.{verdictAnswer}
-use Rattle.layout.specs.Layout.{planIn, deskWords, deskIn}
+use Rattle.layout.specs.Layout.{planIn, planSize, deskWords, deskIn, deskSize}
 
 -- a refusal with no place
 unfoldable pub refusedBy : ℕ → FilmdiskAnswer
@@ -22,17 +23,17 @@ refusedBy k = verdictAnswer (verdict k 0)
 
 -- `of another length is 14 where it is read`
 unfoldable pub openedFrom : List ℕ → List ℕ → List ℕ → Answer
-openedFrom P ps ls = cond (eqb (length P) 552) (openDesk (planIn (wordsOf P)) ps ls) (record { verdict = verdict 14 0; desk = blankDesk })
+openedFrom P ps ls = cond (eqb (length P) planSize) (openDesk (planIn (wordsOf P)) ps ls) (record { verdict = verdict notSound 0; desk = blankDesk })
 
 -- `13 where it is only written`, after 14
 unfoldable pub openVerdict : Answer → Verdict
-openVerdict a = cond (eqb (a .verdict .number) 0) (verdict 13 0) (a .verdict)
+openVerdict a = cond (eqb (a .verdict .number) 0) (verdict tooShort 0) (a .verdict)
 
 unfoldable pub openAnswer : List ℕ → List ℕ → List ℕ → List ℕ → FilmdiskAnswer
-openAnswer P ps ls D = let a = openedFrom P ps ls in verdictAnswer (cond (eqb (length D) 3628) (a .verdict) (openVerdict a))
+openAnswer P ps ls D = let a = openedFrom P ps ls in verdictAnswer (cond (eqb (length D) deskSize) (a .verdict) (openVerdict a))
 
 unfoldable pub openString : List ℕ → List ℕ → List ℕ → List ℕ → List ℕ
-openString P ps ls D = cond (eqb (length D) 3628) (withWords D 0 (deskWords (openedFrom P ps ls .desk))) D
+openString P ps ls D = cond (eqb (length D) deskSize) (withWords D 0 (deskWords (openedFrom P ps ls .desk))) D
 
 -- ---- the other calls: the call on the desk that the bytes say, written back. A desk of another length is 14
 
@@ -41,10 +42,10 @@ said D = deskIn (wordsOf D)
 
 -- the answer, and the desk string after it
 unfoldable pub answerBy : List ℕ → FilmdiskAnswer → FilmdiskAnswer
-answerBy D a = cond (eqb (length D) 3628) a (refusedBy 14)
+answerBy D a = cond (eqb (length D) deskSize) a (refusedBy notSound)
 
 unfoldable pub stringBy : List ℕ → Desk → List ℕ
-stringBy D d = cond (eqb (length D) 3628) (withWords D 0 (deskWords d)) D
+stringBy D d = cond (eqb (length D) deskSize) (withWords D 0 (deskWords d)) D
 
 unfoldable pub joinAnswer : List ℕ → List ℕ → List ℕ → ℕ → ℕ → FilmdiskAnswer
 joinAnswer D ps ls slot block = answerBy D (verdictAnswer (joinDesk (said D) ps ls slot block .verdict))
@@ -78,4 +79,4 @@ unfoldable pub beginString : List ℕ → List ℕ → List ℕ → List ℕ →
 beginString D ps ls F = stringBy D (beginDesk (said D) ps ls (roomIn F) .desk)
 
 unfoldable pub fetchString : List ℕ → List ℕ → List ℕ → List ℕ → List ℕ
-fetchString D ps ls F = cond (eqb (length D) 3628) (fetchListAfter (said D) ps ls (roomIn F) F) F
+fetchString D ps ls F = cond (eqb (length D) deskSize) (fetchListAfter (said D) ps ls (roomIn F) F) F

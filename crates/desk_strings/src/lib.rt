@@ -3,6 +3,7 @@ use admission::judge_join;
 use admission::judge_leave;
 use card::Verdict;
 use desk::Answer;
+use desk::Desk;
 use desk::answer_with;
 use desk::blank_desk;
 use layout::DESK_BYTES;
@@ -15,42 +16,33 @@ use layout::read_plan;
 use layout::verdict_answer;
 use layout::write_desk;
 use layout::write_entries;
+use numbers::refusals::ACCEPTED;
+use numbers::refusals::NOT_SOUND;
+use numbers::refusals::TOO_SHORT;
+use numbers::slots::FREE;
+use numbers::slots::SWEEPING;
+use numbers::slots::WAITING;
 use scheduler::judge_begin;
 use scheduler::judge_end;
+use sweep::Swept;
 use sweep::end_sweep;
 ghost use mathlib.Core.Path.{_≡_};
 ghost use Prim.Native.Nat.{_≤_};
 ghost use lib.ListN.{length};
+ghost use Rattle.numbers.specs.Slots.{sweeping};
 ghost use Rattle.words.specs.Words.{wordsOf, withWords};
-ghost use Rattle.layout.specs.Layout.{deskWords};
-ghost use Rattle.layout.specs.Answers.{verdictAnswer};
-ghost use Rattle.desk_strings.specs.Calls.{refusedBy, openedFrom, openAnswer, openString, joinAnswer, joinString, leaveAnswer, leaveString, beginAnswer, beginString, fetchString, endAnswer, endString};
-
-// A refusal with no place.
-fn refused(number: u32) -> FilmdiskAnswer
-    ensures { λ r. ⌜ r ≡ refusedBy number ⌝ }
-{
-    verdict_answer(Verdict {
-        number: number,
-        place: 0,
-    })
-}
-
-// Writes the desk of an answer.
-fn write_back(desk: &mut [u8], answer: Answer) -> FilmdiskAnswer
-    requires { ⌜ 907 ≤ length (wordsOf (now desk)) ⌝ }
-    ensures { λ r. ⌜ (r ≡ verdictAnswer (answer .verdict)) × (now (desk .exit) ≡ withWords (now (desk .entry)) 0 (deskWords (answer .desk))) ⌝ }
-{
-    write_desk(desk, answer.desk);
-    verdict_answer(answer.verdict)
-}
+ghost use Rattle.layout.specs.Layout.{deskWords, deskIn, deskSize};
+ghost use Rattle.layout.specs.Parts.{withKinds};
+ghost use Rattle.layout.specs.Entries.{rows};
+ghost use Rattle.desk_strings.specs.Calls.{openedFrom, openAnswer, openString, joinAnswer, joinString, leaveAnswer, leaveString, beginAnswer, beginString, fetchString, endAnswer, endString};
+ghost use Rattle.desk_strings.specs.Laws.{DeskRead, FetchesFit, sweptAnswer};
 
 // Opens what a plan string says; 14 where it has another length.
 fn open_plan(plan: &[u8], positions: &[u8], leads: &[u8]) -> Answer
     ensures { λ r. ⌜ r ≡ openedFrom (now (plan .entry)) (now (positions .entry)) (now (leads .entry)) ⌝ }
 {
     if plan.len() != PLAN_BYTES {
-        return answer_with(blank_desk(), 14, 0);
+        return answer_with(blank_desk(), NOT_SOUND, 0);
     }
     admission::open(read_plan(plan), positions, leads)
 }
@@ -61,14 +53,28 @@ pub fn open(plan: &[u8], positions: &[u8], leads: &[u8], desk: &mut [u8]) -> Fil
         × (now (desk .exit) ≡ openString (now (plan .entry)) (now (positions .entry)) (now (leads .entry)) (now (desk .entry))) ⌝ }
 {
     let opened = open_plan(plan, positions, leads);
-    if desk.len() == DESK_BYTES {
-        return write_back(desk, opened);
-    }
     let verdict = opened.verdict;
-    if verdict.number != 0 {
+    if desk.len() == DESK_BYTES {
+        write_desk(desk, opened.desk);
         return verdict_answer(verdict);
     }
-    refused(13)
+    if verdict.number != ACCEPTED {
+        return verdict_answer(verdict);
+    }
+    verdict_answer(Verdict {
+        number: TOO_SHORT,
+        place: 0,
+    })
+}
+
+// The desk that a string says. One of another length says none: the desk that is all zero is not sound, and every call on it is 14.
+fn desk_in(desk: &[u8]) -> Desk
+    ensures { λ r. ⌜ DeskRead (now (desk .entry)) r ⌝ }
+{
+    if desk.len() != DESK_BYTES {
+        return blank_desk();
+    }
+    read_desk(desk)
 }
 
 // A free slot becomes asked: 14 to 18. A refused call writes nothing, another its slot alone.
@@ -82,14 +88,11 @@ pub fn join(
     ensures { λ r. ⌜ (r ≡ joinAnswer (now (desk .entry)) (now (positions .entry)) (now (leads .entry)) slot block)
         × (now (desk .exit) ≡ joinString (now (desk .entry)) (now (positions .entry)) (now (leads .entry)) slot block) ⌝ }
 {
-    if desk.len() != DESK_BYTES {
-        return refused(14);
-    }
-    let judged = judge_join(read_desk(desk), positions, leads, slot, block);
-    if judged.number != 0 {
+    let judged = judge_join(desk_in(desk), positions, leads, slot, block);
+    if judged.number != ACCEPTED {
         return verdict_answer(judged);
     }
-    put_slot(desk, slot as usize, 1, block);
+    put_slot(desk, slot as usize, WAITING, block);
     verdict_answer(judged)
 }
 
@@ -98,29 +101,21 @@ pub fn leave(desk: &mut [u8], positions: &[u8], leads: &[u8], slot: u32) -> Film
     ensures { λ r. ⌜ (r ≡ leaveAnswer (now (desk .entry)) (now (positions .entry)) (now (leads .entry)) slot)
         × (now (desk .exit) ≡ leaveString (now (desk .entry)) (now (positions .entry)) (now (leads .entry)) slot) ⌝ }
 {
-    if desk.len() != DESK_BYTES {
-        return refused(14);
-    }
-    let judged = judge_leave(read_desk(desk), positions, leads, slot);
-    if judged.number != 0 {
+    let judged = judge_leave(desk_in(desk), positions, leads, slot);
+    if judged.number != ACCEPTED {
         return verdict_answer(judged);
     }
-    put_slot(desk, slot as usize, 0, 0);
+    put_slot(desk, slot as usize, FREE, 0);
     verdict_answer(judged)
 }
 
-// Begins a sweep: 14, 15, 13. A refused call writes nothing, another the fetches, the phase and the kinds alone.
-pub fn begin(desk: &mut [u8], positions: &[u8], leads: &[u8], fetches: &mut [u8]) -> FilmdiskAnswer
-    ensures { λ r. ⌜ (r ≡ beginAnswer (now (desk .entry)) (now (positions .entry)) (now (leads .entry)) (now (fetches .entry)))
-        × (now (desk .exit) ≡ beginString (now (desk .entry)) (now (positions .entry)) (now (leads .entry)) (now (fetches .entry)))
-        × (now (fetches .exit) ≡ fetchString (now (desk .entry)) (now (positions .entry)) (now (leads .entry)) (now (fetches .entry))) ⌝ }
+// Writes what an accepted begin changes: the fetches, the phase and the kinds.
+fn write_begun(desk: &mut [u8], fetches: &mut [u8], swept: Swept) -> FilmdiskAnswer
+    requires { ⌜ FetchesFit (swept .fetches .count) (now fetches) × (deskSize ≤ length (now desk)) ⌝ }
+    ensures { λ r. ⌜ (r ≡ sweptAnswer swept)
+        × (now (desk .exit) ≡ withWords (now (desk .entry)) 0 (deskWords (withKinds (deskIn (wordsOf (now (desk .entry)))) sweeping (swept .kinds))))
+        × (now (fetches .exit) ≡ withWords (now (fetches .entry)) 0 (rows 0 (swept .fetches .count) (swept .fetches))) ⌝ }
 {
-    if desk.len() != DESK_BYTES {
-        return refused(14);
-    }
-    let room = words::entries(fetches) / 3;
-    let swept = judge_begin(read_desk(desk), positions, leads, room);
-    let judged = swept.verdict;
     let list = swept.fetches;
     write_entries(
         &list.positions,
@@ -129,16 +124,29 @@ pub fn begin(desk: &mut [u8], positions: &[u8], leads: &[u8], fetches: &mut [u8]
         list.count as usize,
         fetches,
     );
-    if judged.number != 0 {
-        return verdict_answer(judged);
-    }
-    put_kinds(desk, 1, &swept.kinds);
+    put_kinds(desk, SWEEPING, &swept.kinds);
+    let verdict = swept.verdict;
     FilmdiskAnswer {
-        number: judged.number,
-        place: judged.place,
+        number: verdict.number,
+        place: verdict.place,
         count: list.count,
         bound: swept.bound,
     }
+}
+
+// Begins a sweep: 14, 15, 13. A refused call writes nothing.
+pub fn begin(desk: &mut [u8], positions: &[u8], leads: &[u8], fetches: &mut [u8]) -> FilmdiskAnswer
+    ensures { λ r. ⌜ (r ≡ beginAnswer (now (desk .entry)) (now (positions .entry)) (now (leads .entry)) (now (fetches .entry)))
+        × (now (desk .exit) ≡ beginString (now (desk .entry)) (now (positions .entry)) (now (leads .entry)) (now (fetches .entry)))
+        × (now (fetches .exit) ≡ fetchString (now (desk .entry)) (now (positions .entry)) (now (leads .entry)) (now (fetches .entry))) ⌝ }
+{
+    let room = words::entries(fetches) / 3;
+    let swept = judge_begin(desk_in(desk), positions, leads, room);
+    let judged = swept.verdict;
+    if judged.number != ACCEPTED {
+        return verdict_answer(judged);
+    }
+    write_begun(desk, fetches, swept)
 }
 
 // Ends a sweep: 14, 15, 19, 20, 21. A refused call writes nothing.
@@ -146,12 +154,9 @@ pub fn end(desk: &mut [u8], positions: &[u8], leads: &[u8], draws: &[u8]) -> Fil
     ensures { λ r. ⌜ (r ≡ endAnswer (now (desk .entry)) (now (positions .entry)) (now (leads .entry)) (now (draws .entry)))
         × (now (desk .exit) ≡ endString (now (desk .entry)) (now (positions .entry)) (now (leads .entry)) (now (draws .entry))) ⌝ }
 {
-    if desk.len() != DESK_BYTES {
-        return refused(14);
-    }
-    let read = read_desk(desk);
+    let read = desk_in(desk);
     let judged = judge_end(read, positions, leads, draws);
-    if judged.number != 0 {
+    if judged.number != ACCEPTED {
         return verdict_answer(judged);
     }
     write_desk(desk, end_sweep(read, draws));

@@ -1,59 +1,93 @@
--- Fields at offsets of a list of words: a number takes one word, an array as many as it has entries.
--- Assumes nothing.
-use Prim.Native.Nat.{ℕ, zero, suc, _+_, _<_}
-use mathlib.Core.Path.{_≡_, sym, ap, _∙_}
+-- A record in words, by the table of its fields: a number takes one word, an array one for each entry, and each field starts where the one
+-- before it ends.
+use Prim.Native.Nat.{ℕ, _+_}
+use mathlib.Core.Path.{_≡_}
 use mathlib.Core.List.{List, [], _∷_, _++_}
-use native.Mathlib.Omega.{arith}
-use lib.ListN.{length, getD, take, drop, take-append-drop}
-use Rattle.laws.specs.Each.{Each, each-at}
-use Rattle.words.specs.Words.{Words, withWord, withWords}
-use Rattle.words.specs.Laws.{withWords-append}
-use lib.Seq.{drop-cons, drop-drop, take-at, drop-at}
+use lib.ListN.{length, getD, take, drop}
+use Rattle.words.specs.Words.{withWords}
 
--- ---- from the words: the fields one after the other are the words from an offset on
+pub data Field : Type 0 where
+  word : Field
+  array : ℕ → Field
 
-pub number-then : (ws : List ℕ) (k : ℕ) (t : List ℕ) → k < length ws → t ≡ drop (suc k) ws → getD ws k 0 ∷ t ≡ drop k ws
-number-then ws k t h e = ap (λ (x : List ℕ). getD ws k 0 ∷ x) e ∙ sym (drop-cons ws k 0 h)
+-- ---- one field
 
-pub array-then : (ws : List ℕ) (k n : ℕ) (t : List ℕ) → t ≡ drop (k + n) ws → take n (drop k ws) ++ t ≡ drop k ws
-array-then ws k n t e = ap (λ (x : List ℕ). take n (drop k ws) ++ x) (e ∙ sym (drop-drop n k ws)) ∙ take-append-drop n (drop k ws)
+abbrev pub Value : Field → Type 0
+Value word = ℕ
+Value (array n) = List ℕ
 
--- ---- from the fields: what stands at an offset, and what follows it
+abbrev pub width : Field → ℕ
+width word = 1
+width (array n) = n
 
-pub number-at : (ws : List ℕ) (k v : ℕ) (t : List ℕ) → drop k ws ≡ v ∷ t → (getD ws k 0 ≡ v) × (drop (suc k) ws ≡ t)
-number-at [] zero v t e = absurd (omega (arith, ap length e))
-number-at [] (suc k) v t e = absurd (omega (arith, ap length e))
-number-at (w ∷ ws) zero v t e = (ap (λ (x : List ℕ). getD x 0 0) e, ap (drop 1) e)
-number-at (w ∷ ws) (suc k) v t e = number-at ws k v t e
+abbrev pub wordsFor : (f : Field) → Value f → List ℕ
+wordsFor word v = v ∷ []
+wordsFor (array n) a = a
 
-pub array-at : (ws : List ℕ) (k n : ℕ) (a t : List ℕ) → length a ≡ n → drop k ws ≡ a ++ t → (take n (drop k ws) ≡ a) × (drop (k + n) ws ≡ t)
-array-at ws k n a t h e = (ap (take n) e ∙ take-at a t n h, sym (drop-drop n k ws) ∙ ap (drop n) e ∙ drop-at a t n h)
+-- its value, where it starts at word k
+abbrev pub valueAt : (f : Field) → ℕ → List ℕ → Value f
+valueAt word k ws = getD ws k 0
+valueAt (array n) k ws = take n (drop k ws)
 
--- ---- fields written one after the other
+-- ---- a table of fields
 
-module _ (s : List ℕ) {t : List ℕ} where
-  pub put-last : (k v : ℕ) → t ≡ withWord s k v → t ≡ withWords s k (v ∷ [])
-  unfolding withWords
-  put-last k v e = e
+-- a value for each, in their order
+abbrev pub Values : List Field → Type 0
+Values [] = Unit {0}
+Values (f ∷ fs) = Value f × Values fs
 
-  module _ {u : List ℕ} where
-    pub put-then : (k v : ℕ) (vs : List ℕ) → t ≡ withWord s k v → u ≡ withWords t (k + 1) vs → u ≡ withWords s k (v ∷ vs)
-    unfolding withWords
-    put-then k v vs e d = d ∙ ap (λ (x : List ℕ). withWords x (k + 1) vs) e
+infixr 40 _&_
+abbrev pub _&_ : {A B : Type 0} → A → B → A × B
+a & b = (a, b)
 
-    pub write-then : (k n : ℕ) (a vs : List ℕ) → length a ≡ n → t ≡ withWords s k a → u ≡ withWords t (k + n) vs → u ≡ withWords s k (a ++ vs)
-    write-then k n a vs h e d =
-        d ∙ ap (λ (x : List ℕ). withWords x (k + n) vs) e ∙ ap (λ (m : ℕ). withWords (withWords s k a) (k + m) vs) (sym h) ∙ sym (withWords-append s k a vs)
+abbrev pub wordCount : List Field → ℕ
+wordCount [] = 0
+wordCount (f ∷ fs) = width f + wordCount fs
 
--- ---- fields of 32 bits
+-- THE WORDS of a record, and THE RECORD in words from the k-th on
+abbrev pub packed : (fs : List Field) → Values fs → List ℕ
+packed [] vs = []
+packed (f ∷ fs) (v, vs) = wordsFor f v ++ packed fs vs
 
-pub words-each : (vs : List ℕ) → Each (λ v. v < 4294967296) vs → Words vs
-words-each vs h i = each-at (λ (v : ℕ). v < 4294967296) vs i 0 h (omega arith)
+abbrev pub unpacked : (fs : List Field) → ℕ → List ℕ → Values fs
+unpacked [] k ws = tt
+unpacked (f ∷ fs) k ws = (valueAt f k ws, unpacked fs (k + width f) ws)
 
-pub words-number : (v : ℕ) (vs : List ℕ) → v < 4294967296 → Words vs → Words (v ∷ vs)
-words-number v vs h y zero = h
-words-number v vs h y (suc i) = y i
+-- arrays have as many entries as the table says
+abbrev pub Sized : (fs : List Field) → Values fs → Type 0
+Sized [] vs = Unit {0}
+Sized (f ∷ fs) (v, vs) = (length (wordsFor f v) ≡ width f) × Sized fs vs
 
-pub words-array : (a vs : List ℕ) → Words a → Words vs → Words (a ++ vs)
-words-array [] vs x y = y
-words-array (v ∷ a) vs x y = words-number v (a ++ vs) (x 0) (words-array a vs (λ i. x (suc i)) y)
+-- ---- one table behind another
+
+abbrev pub joined : (fs gs : List Field) → Values fs → Values gs → Values (fs ++ gs)
+joined [] gs vs us = us
+joined (f ∷ fs) gs (v, vs) us = (v, joined fs gs vs us)
+
+abbrev pub front : (fs gs : List Field) → Values (fs ++ gs) → Values fs
+front [] gs vs = tt
+front (f ∷ fs) gs (v, vs) = (v, front fs gs vs)
+
+abbrev pub behind : (fs gs : List Field) → Values (fs ++ gs) → Values gs
+behind [] gs vs = vs
+behind (f ∷ fs) gs (v, vs) = behind fs gs vs
+
+-- ---- how code reads and writes them, for its contracts
+
+-- the same values, said field by field; in fours, since the search that proves it of code goes five deep
+abbrev pub Same : (fs : List Field) → Values fs → Values fs → Type 0
+Same [] vs us = Unit {0}
+Same (e ∷ []) (a, vs) (b, us) = a ≡ b
+Same (e ∷ (f ∷ [])) (a, (a₁, vs)) (b, (b₁, us)) = (a ≡ b) × (a₁ ≡ b₁)
+Same (e ∷ (f ∷ (g ∷ []))) (a, (a₁, (a₂, vs))) (b, (b₁, (b₂, us))) = (a ≡ b) × (a₁ ≡ b₁) × (a₂ ≡ b₂)
+Same (e ∷ (f ∷ (g ∷ (h ∷ fs)))) (a, (a₁, (a₂, (a₃, vs)))) (b, (b₁, (b₂, (b₃, us)))) = (a ≡ b) × (a₁ ≡ b₁) × (a₂ ≡ b₂) × (a₃ ≡ b₃) × Same fs vs us
+
+abbrev pub storeRun : List ℕ → ℕ → List ℕ → List ℕ
+storeRun s k [] = s
+storeRun s k (v ∷ vs) = withWords s k (v ∷ vs)
+
+-- a string after the fields are written from word k on, numbers in a row by one store; `run` are those that wait for it
+abbrev pub stored : (fs : List Field) → ℕ → List ℕ → List ℕ → Values fs → List ℕ
+stored [] k s run vs = storeRun s k run
+stored (word ∷ fs) k s run (v, vs) = stored fs k s (run ++ (v ∷ [])) vs
+stored (array n ∷ fs) k s run (a, vs) = stored fs (k + length run + n) (withWords (storeRun s k run) (k + length run) a) [] vs

@@ -1,63 +1,115 @@
--- The byte layouts of a plan and of a desk: 32-bit words, lowest byte first, without padding (crate words). Here are the words.
-use Prim.Native.Nat.{ℕ}
+-- The byte layouts of a plan and of a desk: 32-bit words, lowest byte first, without padding (crate words). Here are the words. A further field
+-- is a line in each of three places: the table, the record's values in its order, and the record of these.
+use Prim.Native.Nat.{ℕ, _*_}
 use mathlib.Core.List.{List, [], _∷_, _++_}
-use lib.ListN.{getD, take, drop, replicate}
+use lib.ListN.{replicate}
+use Rattle.numbers.specs.Limits.{maxZones, maxStreams}
+use Rattle.card.specs.declared.Figures.{Figures}
 use Rattle.plan.specs.declared.Plan.{Plan}
 use Rattle.desk.specs.declared.Desk.{Desk}
+use Rattle.layout.specs.Fields.{Field, word, array, Values, _&_, wordCount, packed, unpacked, joined, front, behind}
 
--- ---- a plan: 138 words
+-- ---- the figures of a card
 
--- the words of a plan, in their order: the zones, then the other numbers
-abbrev pub planNumbers : Plan → List ℕ
-planNumbers p =
-    p .figures .blocks
-    ∷ p .figures .bytes
-    ∷ p .figures .rate
-    ∷ p .figures .hop
-    ∷ p .figures .back
-    ∷ p .streams
-    ∷ p .buffer
-    ∷ p .worst2
-    ∷ p .margin
+abbrev pub figureFields : List Field
+figureFields =
+    -- zones, and positions and time of each
+    word
+    ∷ array maxZones
+    ∷ array maxZones
+    -- N, B, c, hop, return
+    ∷ word
+    ∷ word
+    ∷ word
+    ∷ word
+    ∷ word
     ∷ []
 
+abbrev pub figureValues : Figures → Values figureFields
+figureValues f = f .zones & f .positions & f .times & f .blocks & f .bytes & f .rate & f .hop & f .back & tt
+
+abbrev pub figuresOf : Values figureFields → Figures
+figuresOf (zones, (positions, (times, (blocks, (bytes, (rate, (hop, (back, end)))))))) =
+    record { zones = zones; positions = positions; times = times; blocks = blocks; bytes = bytes; rate = rate; hop = hop; back = back }
+
+-- ---- a plan: its figures, then what was planned
+
+abbrev pub plannedFields : List Field
+plannedFields =
+    -- streams, buffer, worst2, margin
+    word
+    ∷ word
+    ∷ word
+    ∷ word
+    ∷ []
+
+abbrev pub plannedValues : Plan → Values plannedFields
+plannedValues p = p .streams & p .buffer & p .worst2 & p .margin & tt
+
+abbrev pub planWith : Figures → Values plannedFields → Plan
+planWith f (streams, (buffer, (worst2, (margin, end)))) = record { figures = f; streams = streams; buffer = buffer; worst2 = worst2; margin = margin }
+
+abbrev pub planFields : List Field
+planFields = figureFields ++ plannedFields
+
+abbrev pub planValues : Plan → Values planFields
+planValues p = joined figureFields plannedFields (figureValues (p .figures)) (plannedValues p)
+
+abbrev pub planOfValues : Values planFields → Plan
+planOfValues vs = planWith (figuresOf (front figureFields plannedFields vs)) (behind figureFields plannedFields vs)
+
 unfoldable pub planWords : Plan → List ℕ
-planWords p = p .figures .zones ∷ (p .figures .positions ++ (p .figures .times ++ planNumbers p))
+planWords p = packed planFields (planValues p)
 
--- the plan that words say, each figure at its offset
+-- the plan that words say
 unfoldable pub planIn : List ℕ → Plan
-planIn ws = record {
-  figures = record {
-    zones = getD ws 0 0;
-    positions = take 64 (drop 1 ws);
-    times = take 64 (drop 65 ws);
-    blocks = getD ws 129 0;
-    bytes = getD ws 130 0;
-    rate = getD ws 131 0;
-    hop = getD ws 132 0;
-    back = getD ws 133 0;
-  };
-  streams = getD ws 134 0;
-  buffer = getD ws 135 0;
-  worst2 = getD ws 136 0;
-  margin = getD ws 137 0;
-}
+planIn ws = planOfValues (unpacked planFields 0 ws)
 
--- ---- a desk: 907 words
+-- its words and its bytes
+abbrev pub planWordCount : ℕ
+planWordCount = wordCount planFields
 
--- the words of a desk: its plan, the phase, then kind, next block and held bytes of the 256 slots
+abbrev pub planSize : ℕ
+planSize = 4 * planWordCount
+
+-- ---- a desk: its plan, then the phase and the slots
+
+abbrev pub slotFields : List Field
+slotFields =
+    -- phase; kinds, next blocks and held bytes
+    word
+    ∷ array maxStreams
+    ∷ array maxStreams
+    ∷ array maxStreams
+    ∷ []
+
+abbrev pub slotValues : Desk → Values slotFields
+slotValues d = d .phase & d .kinds & d .next & d .held & tt
+
+abbrev pub deskWith : Plan → Values slotFields → Desk
+deskWith p (phase, (kinds, (next, (held, end)))) = record { plan = p; phase = phase; kinds = kinds; next = next; held = held }
+
+abbrev pub deskFields : List Field
+deskFields = planFields ++ slotFields
+
+abbrev pub deskValues : Desk → Values deskFields
+deskValues d = joined planFields slotFields (planValues (d .plan)) (slotValues d)
+
+abbrev pub deskOfValues : Values deskFields → Desk
+deskOfValues vs = deskWith (planOfValues (front planFields slotFields vs)) (behind planFields slotFields vs)
+
 unfoldable pub deskWords : Desk → List ℕ
-deskWords d = planWords (d .plan) ++ (d .phase ∷ (d .kinds ++ (d .next ++ d .held)))
+deskWords d = packed deskFields (deskValues d)
 
 -- the desk that words say
 unfoldable pub deskIn : List ℕ → Desk
-deskIn ws = record {
-  plan = planIn ws;
-  phase = getD ws 138 0;
-  kinds = take 256 (drop 139 ws);
-  next = take 256 (drop 395 ws);
-  held = take 256 (drop 651 ws);
-}
+deskIn ws = deskOfValues (unpacked deskFields 0 ws)
+
+abbrev pub deskWordCount : ℕ
+deskWordCount = wordCount deskFields
+
+abbrev pub deskSize : ℕ
+deskSize = 4 * deskWordCount
 
 -- ---- a string that is all zero
 

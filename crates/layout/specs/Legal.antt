@@ -2,19 +2,18 @@
 -- Assumes nothing.
 use Prim.Native.Nat.{ℕ, suc, _<_}
 use mathlib.Core.Logic.{by-cases}
-use mathlib.Core.List.{List, _++_}
 use native.Mathlib.Omega.{arith}
 use native.Mathlib.Decide.{decLt}
-use Rattle.laws.specs.Each.{Each}
 use Rattle.words.specs.Words.{Words}
 use Rattle.card.specs.declared.Figures.{Figures}
 use Rattle.card.specs.Card.{Legal}
 use Rattle.placement.specs.Zones.{total, total-turn, total-take}
 use Rattle.plan.specs.Plan.{planOf}
 use Rattle.plan.specs.Legal.{total-is, worst2-small, margin-less, streams-few, buffer-small}
-use Rattle.layout.specs.Fields.{words-each, words-number, words-array}
-use Rattle.layout.specs.Layout.{planNumbers, planWords}
-use Rattle.layout.specs.Laws.{PlanSized}
+use Rattle.layout.specs.Fields.{_&_}
+use Rattle.layout.specs.FieldLaws.{AllFit, packed-fit}
+use Rattle.layout.specs.Layout.{planFields, planValues, planWords}
+use Rattle.layout.specs.RoundTrip.{PlanSized}
 
 module _ (f : Figures) (ok : Legal f) where
   pub legal-sized : PlanSized (planOf f)
@@ -29,14 +28,23 @@ module _ (f : Figures) (ok : Legal f) where
   times-small : Words (f .times)
   times-small i = by-cases (decLt i (f .zones)) (λ h. omega (arith, ok .times i h)) (λ h. omega (arith, ok .unused i (omega arith)))
 
-  numbers-small : Each (λ v. v < 4294967296) (planNumbers (planOf f))
+  legal-fit : AllFit planFields (planValues (planOf f))
   unfolding planOf
-  numbers-small = omega (arith, ok .blocks, ok .bytes, ok .rate, ok .hop, ok .back, streams-few f ok, buffer-small f ok, worst2-small f ok, margin-less f ok)
+  legal-fit =
+      omega (arith, ok .zones)
+      & positions-small
+      & times-small
+      & omega (arith, ok .blocks)
+      & omega (arith, ok .bytes)
+      & omega (arith, ok .rate)
+      & omega (arith, ok .hop)
+      & omega (arith, ok .back)
+      & omega (arith, streams-few f ok)
+      & omega (arith, ok .bytes, buffer-small f ok)
+      & omega (arith, worst2-small f ok)
+      & omega (arith, margin-less f ok, worst2-small f ok)
+      & tt
 
   pub legal-words : Words (planWords (planOf f))
-  unfolding planOf planWords
-  legal-words =
-      let numbers : List ℕ = planNumbers (planOf f) in
-      words-number (f .zones) (f .positions ++ (f .times ++ numbers)) (omega (arith, ok .zones))
-      (words-array (f .positions) (f .times ++ numbers) positions-small
-      (words-array (f .times) numbers times-small (words-each numbers numbers-small)))
+  unfolding planWords
+  legal-words = packed-fit planFields (planValues (planOf f)) legal-fit

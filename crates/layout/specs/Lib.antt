@@ -1,8 +1,8 @@
 pub mod Answers
 pub mod Entries
+pub mod FieldLaws
 pub mod Fields
-pub mod Kinds
-pub mod Laws
 pub mod Layout
 pub mod Legal
-pub mod Slot
+pub mod Parts
+pub mod RoundTrip

@@ -12,6 +12,7 @@ use words::read_256;
 use words::word_at;
 use words::write_64;
 use words::write_256;
+use words::write_words;
 ghost use mathlib.Core.Path.{_≡_};
 ghost use Prim.Native.Nat.{ℕ, _*_, _≤_, _<_};
 ghost use mathlib.Core.List.{List, [], _∷_};
@@ -20,10 +21,12 @@ ghost use Rattle.words.specs.Words.{Bytes, Words, wordsOf, withWords};
 ghost use Rattle.plan.specs.declared.Plan.{Plan};
 ghost use Rattle.desk.specs.declared.Desk.{Desk};
 ghost use Rattle.desk.specs.Records.{withSlot};
-ghost use Rattle.layout.specs.Layout.{planWords, planIn, deskWords, deskIn};
-ghost use Rattle.layout.specs.Kinds.{withKinds};
+ghost use Rattle.numbers.specs.Limits.{maxStreams};
+ghost use Rattle.layout.specs.Fields.{wordCount, unpacked, Same};
+ghost use Rattle.layout.specs.Layout.{figureFields, figureValues, plannedFields, plannedValues, planWords, planIn, planWordCount, planSize, slotFields, slotValues, deskWords, deskIn, deskWordCount, deskSize};
 ghost use Rattle.layout.specs.Entries.{rows, listOf};
-ghost use Rattle.layout.specs.Laws.{PlanSized, DeskSized};
+ghost use Rattle.layout.specs.Parts.{withKinds};
+ghost use Rattle.layout.specs.RoundTrip.{PlanSized, DeskSized};
 ghost use Rattle.layout.specs.Answers.{verdictAnswer};
 
 // The answer of every call from C: document 01's refusal number and what is returned with it, and what a begin answers. All zero but
@@ -51,26 +54,35 @@ pub fn verdict_answer(verdict: Verdict) -> FilmdiskAnswer
 }
 
 // Bytes of a plan and of a desk.
-pub const PLAN_BYTES: usize = 552;
+pub const PLAN_BYTES: usize = 4 * offsets::PLAN_WORDS;
 
-pub const DESK_BYTES: usize = 3628;
+pub const DESK_BYTES: usize = 4 * offsets::DESK_WORDS;
 
-// The plan at the front of a string.
-pub fn read_plan(list: &[u8]) -> Plan
-    requires { ⌜ 138 ≤ length (wordsOf (now list)) ⌝ }
-    ensures { λ r. ⌜ r ≡ planIn (wordsOf (now (list .entry))) ⌝ }
+// The figures at the front of a string.
+fn figures_at(list: &[u8]) -> Figures
+    requires { ⌜ wordCount figureFields ≤ length (wordsOf (now list)) ⌝ }
+    ensures { λ r. ⌜ Same figureFields (figureValues r) (unpacked figureFields 0 (wordsOf (now (list .entry)))) ⌝ }
+{
+    Figures {
+        zones: word_at(list, offsets::ZONES),
+        positions: read_64(list, offsets::POSITIONS),
+        times: read_64(list, offsets::TIMES),
+        blocks: word_at(list, offsets::BLOCKS),
+        bytes: word_at(list, offsets::BYTES),
+        rate: word_at(list, offsets::RATE),
+        hop: word_at(list, offsets::HOP),
+        back: word_at(list, offsets::BACK),
+    }
+}
+
+// The plan at the front of a string, field by field.
+fn plan_at(list: &[u8]) -> Plan
+    requires { ⌜ planWordCount ≤ length (wordsOf (now list)) ⌝ }
+    ensures { λ r. ⌜ Same figureFields (figureValues (r .figures)) (unpacked figureFields 0 (wordsOf (now (list .entry))))
+        × Same plannedFields (plannedValues r) (unpacked plannedFields (wordCount figureFields) (wordsOf (now (list .entry)))) ⌝ }
 {
     Plan {
-        figures: Figures {
-            zones: word_at(list, offsets::ZONES),
-            positions: read_64(list, offsets::POSITIONS),
-            times: read_64(list, offsets::TIMES),
-            blocks: word_at(list, offsets::BLOCKS),
-            bytes: word_at(list, offsets::BYTES),
-            rate: word_at(list, offsets::RATE),
-            hop: word_at(list, offsets::HOP),
-            back: word_at(list, offsets::BACK),
-        },
+        figures: figures_at(list),
         streams: word_at(list, offsets::STREAMS),
         buffer: word_at(list, offsets::BUFFER),
         worst2: word_at(list, offsets::WORST2),
@@ -78,53 +90,44 @@ pub fn read_plan(list: &[u8]) -> Plan
     }
 }
 
-// Writes N, B, c, hop and return.
-fn write_film(list: &mut [u8], blocks: u32, bytes: u32, rate: u32, hop: u32, back: u32)
-    requires { ⌜ 138 ≤ length (wordsOf (now list)) ⌝ }
-    ensures { λ _. ⌜ now (list .exit) ≡ withWords (now (list .entry)) 129 (blocks ∷ bytes ∷ rate ∷ hop ∷ back ∷ []) ⌝ }
+// The plan at the front of a string.
+pub fn read_plan(list: &[u8]) -> Plan
+    requires { ⌜ planSize ≤ length (now list) ⌝ }
+    ensures { λ r. ⌜ r ≡ planIn (wordsOf (now (list .entry))) ⌝ }
 {
-    put_word(list, offsets::BLOCKS, blocks);
-    put_word(list, offsets::BYTES, bytes);
-    put_word(list, offsets::RATE, rate);
-    put_word(list, offsets::HOP, hop);
-    put_word(list, offsets::BACK, back);
-}
-
-// Writes what was planned.
-fn write_numbers(list: &mut [u8], streams: u32, buffer: u32, worst2: u32, margin: u32)
-    requires { ⌜ 138 ≤ length (wordsOf (now list)) ⌝ }
-    ensures { λ _. ⌜ now (list .exit) ≡ withWords (now (list .entry)) 134 (streams ∷ buffer ∷ worst2 ∷ margin ∷ []) ⌝ }
-{
-    put_word(list, offsets::STREAMS, streams);
-    put_word(list, offsets::BUFFER, buffer);
-    put_word(list, offsets::WORST2, worst2);
-    put_word(list, offsets::MARGIN, margin);
+    plan_at(list)
 }
 
 // Writes a plan at the front of a string.
 pub fn write_plan(list: &mut [u8], plan: Plan)
-    requires { ⌜ 138 ≤ length (wordsOf (now list)) ⌝ }
-    ensures { λ _. ⌜ now (list .exit) ≡ withWords (now (list .entry)) 0 (planWords plan) ⌝ }
+    requires { ⌜ planSize ≤ length (now list) ⌝ }
+    ensures { λ _. ⌜ (now (list .exit) ≡ withWords (now (list .entry)) 0 (planWords plan)) × (length (planWords plan) ≡ planWordCount) ⌝ }
 {
     let figures = plan.figures;
-    put_word(list, offsets::ZONES, figures.zones);
+    write_words(list, offsets::ZONES, &[figures.zones]);
     write_64(list, offsets::POSITIONS, &figures.positions);
     write_64(list, offsets::TIMES, &figures.times);
-    write_film(
+    write_words(
         list,
-        figures.blocks,
-        figures.bytes,
-        figures.rate,
-        figures.hop,
-        figures.back,
+        offsets::BLOCKS,
+        &[
+            figures.blocks,
+            figures.bytes,
+            figures.rate,
+            figures.hop,
+            figures.back,
+            plan.streams,
+            plan.buffer,
+            plan.worst2,
+            plan.margin,
+        ],
     );
-    write_numbers(list, plan.streams, plan.buffer, plan.worst2, plan.margin);
 }
 
-// The desk at the front of a string.
-pub fn read_desk(list: &[u8]) -> Desk
-    requires { ⌜ 907 ≤ length (wordsOf (now list)) ⌝ }
-    ensures { λ r. ⌜ r ≡ deskIn (wordsOf (now (list .entry))) ⌝ }
+// The desk at the front of a string, field by field.
+fn desk_at(list: &[u8]) -> Desk
+    requires { ⌜ (deskSize ≤ length (now list)) × (deskWordCount ≤ length (wordsOf (now list))) ⌝ }
+    ensures { λ r. ⌜ (r .plan ≡ planIn (wordsOf (now (list .entry)))) × Same slotFields (slotValues r) (unpacked slotFields planWordCount (wordsOf (now (list .entry)))) ⌝ }
 {
     Desk {
         plan: read_plan(list),
@@ -135,13 +138,21 @@ pub fn read_desk(list: &[u8]) -> Desk
     }
 }
 
+// The desk at the front of a string.
+pub fn read_desk(list: &[u8]) -> Desk
+    requires { ⌜ deskSize ≤ length (now list) ⌝ }
+    ensures { λ r. ⌜ r ≡ deskIn (wordsOf (now (list .entry))) ⌝ }
+{
+    desk_at(list)
+}
+
 // Writes a desk at the front of a string.
 pub fn write_desk(list: &mut [u8], desk: Desk)
-    requires { ⌜ 907 ≤ length (wordsOf (now list)) ⌝ }
+    requires { ⌜ deskSize ≤ length (now list) ⌝ }
     ensures { λ _. ⌜ now (list .exit) ≡ withWords (now (list .entry)) 0 (deskWords desk) ⌝ }
 {
     write_plan(list, desk.plan);
-    put_word(list, offsets::PHASE, desk.phase);
+    write_words(list, offsets::PHASE, &[desk.phase]);
     write_256(list, offsets::KINDS, &desk.kinds);
     write_256(list, offsets::NEXT, &desk.next);
     write_256(list, offsets::HELD, &desk.held);
@@ -149,20 +160,20 @@ pub fn write_desk(list: &mut [u8], desk: Desk)
 
 // Writes slot i of the desk at the front of a string: a kind, a next block and nothing held.
 pub fn put_slot(list: &mut [u8], i: usize, kind: u32, next: u32)
-    requires { ⌜ (i < 256) × (907 ≤ length (wordsOf (now list))) ⌝ }
+    requires { ⌜ (i < maxStreams) × (deskSize ≤ length (now list)) ⌝ }
     ensures { λ _. ⌜ now (list .exit) ≡ withWords (now (list .entry)) 0 (deskWords (withSlot (deskIn (wordsOf (now (list .entry)))) i kind next)) ⌝ }
 {
-    put_word(list, offsets::KINDS + i, kind);
-    put_word(list, offsets::NEXT + i, next);
-    put_word(list, offsets::HELD + i, 0);
+    write_words(list, offsets::KINDS + i, &[kind]);
+    write_words(list, offsets::NEXT + i, &[next]);
+    write_words(list, offsets::HELD + i, &[0]);
 }
 
 // Writes the phase and the kinds of the desk at the front of a string.
 pub fn put_kinds(list: &mut [u8], phase: u32, kinds: &[u32; 256])
-    requires { ⌜ (length (now kinds) ≡ 256) × (907 ≤ length (wordsOf (now list))) ⌝ }
+    requires { ⌜ deskSize ≤ length (now list) ⌝ }
     ensures { λ _. ⌜ now (list .exit) ≡ withWords (now (list .entry)) 0 (deskWords (withKinds (deskIn (wordsOf (now (list .entry)))) phase (now (kinds .entry)))) ⌝ }
 {
-    put_word(list, offsets::PHASE, phase);
+    write_words(list, offsets::PHASE, &[phase]);
     write_256(list, offsets::KINDS, kinds);
 }
 
@@ -188,12 +199,12 @@ pub fn write_entries<'a>(
 
 // What is written is read back.
 pub fn written_reads_back()
-    ensures plans { λ _. ⌜ ((s : List ℕ) (p : Plan) → PlanSized p → Words (planWords p) → 138 ≤ length (wordsOf s) → planIn (wordsOf (withWords s 0 (planWords p))) ≡ p) ⌝ }
-    ensures desks { λ _. ⌜ ((s : List ℕ) (d : Desk) → DeskSized d → Words (deskWords d) → 907 ≤ length (wordsOf s) → deskIn (wordsOf (withWords s 0 (deskWords d))) ≡ d) ⌝ }
+    ensures plans { λ _. ⌜ ((s : List ℕ) (p : Plan) → PlanSized p → Words (planWords p) → planWordCount ≤ length (wordsOf s) → planIn (wordsOf (withWords s 0 (planWords p))) ≡ p) ⌝ }
+    ensures desks { λ _. ⌜ ((s : List ℕ) (d : Desk) → DeskSized d → Words (deskWords d) → deskWordCount ≤ length (wordsOf s) → deskIn (wordsOf (withWords s 0 (deskWords d))) ≡ d) ⌝ }
 {}
 
 // What was read is written back, whatever the bytes.
 pub fn read_writes_back()
-    ensures plans { λ _. ⌜ ((s : List ℕ) → Bytes s → 138 ≤ length (wordsOf s) → withWords s 0 (planWords (planIn (wordsOf s))) ≡ s) ⌝ }
-    ensures desks { λ _. ⌜ ((s : List ℕ) → Bytes s → 907 ≤ length (wordsOf s) → withWords s 0 (deskWords (deskIn (wordsOf s))) ≡ s) ⌝ }
+    ensures plans { λ _. ⌜ ((s : List ℕ) → Bytes s → planWordCount ≤ length (wordsOf s) → withWords s 0 (planWords (planIn (wordsOf s))) ≡ s) ⌝ }
+    ensures desks { λ _. ⌜ ((s : List ℕ) → Bytes s → deskWordCount ≤ length (wordsOf s) → withWords s 0 (deskWords (deskIn (wordsOf s))) ≡ s) ⌝ }
 {}

@@ -1,33 +1,40 @@
-// The word at which each field of a plan starts.
+// The word at which each field of a plan starts: where the one before it ends.
+use numbers::limits::MAX_STREAMS;
+use numbers::limits::MAX_ZONES;
+
 pub const ZONES: usize = 0;
 
-pub const POSITIONS: usize = 1;
+pub const POSITIONS: usize = ZONES + 1;
 
-pub const TIMES: usize = 65;
+pub const TIMES: usize = POSITIONS + MAX_ZONES as usize;
 
-pub const BLOCKS: usize = 129;
+pub const BLOCKS: usize = TIMES + MAX_ZONES as usize;
 
-pub const BYTES: usize = 130;
+pub const BYTES: usize = BLOCKS + 1;
 
-pub const RATE: usize = 131;
+pub const RATE: usize = BYTES + 1;
 
-pub const HOP: usize = 132;
+pub const HOP: usize = RATE + 1;
 
-pub const BACK: usize = 133;
+pub const BACK: usize = HOP + 1;
 
-pub const STREAMS: usize = 134;
+pub const STREAMS: usize = BACK + 1;
 
-pub const BUFFER: usize = 135;
+pub const BUFFER: usize = STREAMS + 1;
 
-pub const WORST2: usize = 136;
+pub const WORST2: usize = BUFFER + 1;
 
-pub const MARGIN: usize = 137;
+pub const MARGIN: usize = WORST2 + 1;
 
-// The word at which each field of a desk starts; its plan is in front.
-pub const PHASE: usize = 138;
+pub const PLAN_WORDS: usize = MARGIN + 1;
 
-pub const KINDS: usize = 139;
+// And of a desk; its plan is in front.
+pub const PHASE: usize = PLAN_WORDS;
 
-pub const NEXT: usize = 395;
+pub const KINDS: usize = PHASE + 1;
 
-pub const HELD: usize = 651;
+pub const NEXT: usize = KINDS + MAX_STREAMS as usize;
+
+pub const HELD: usize = NEXT + MAX_STREAMS as usize;
+
+pub const DESK_WORDS: usize = HELD + MAX_STREAMS as usize;

@@ -1,74 +1,73 @@
 -- Each way that the plan call can take.
 -- Assumes nothing.
 use Prim.Native.Nat.{ℕ, zero, suc}
-use mathlib.Core.Path.{_≡_, refl, ap, _∙_}
+use mathlib.Core.Path.{_≡_, refl, sym, ap, _∙_}
+use mathlib.Core.Logic.{_≢_}
 use mathlib.Core.List.{List}
 use lib.ListN.{length}
 use borrow.Author.Tests.{eq-eqb, ne-eqb}
+use Rattle.numbers.specs.Refusals.{tooShort}
 use Rattle.words.specs.Words.{withWords}
+use Rattle.card.specs.declared.CardRead.{CardRead}
 use Rattle.card.specs.Read.{readCard}
 use Rattle.plan.specs.declared.Planned.{Planned}
 use Rattle.plan.specs.Plan.{positionsOf, leadsOf}
 use Rattle.plan.specs.Answer.{refusal, answer, filled, planned, positionsAfter, leadsAfter}
-use Rattle.layout.specs.Layout.{planWords}
+use Rattle.layout.specs.Layout.{planWords, planSize}
 use Rattle.layout.specs.declared.FilmdiskAnswer.{FilmdiskAnswer}
 use Rattle.layout.specs.Answers.{verdictAnswer}
 use Rattle.plan_strings.specs.Calls.{planFaultOf, plannedOf, planFilled, planAnswer, planString, positionsString, leadsString}
 
--- the answer and the later contents of the three strings
+-- ---- a card without room for its plan
+
+-- the answer to a card as it was read
+abbrev pub withoutRoom : CardRead → FilmdiskAnswer
+withoutRoom r = verdictAnswer (answer (r .verdict .number) tooShort r .verdict)
+
+module _ (r : CardRead) (s : List ℕ) (e : r ≡ readCard s) (a : FilmdiskAnswer) where
+  pub card-refused : r .verdict .number ≢ 0 → a ≡ verdictAnswer (r .verdict) → a ≡ withoutRoom (readCard s)
+  unfolding refusal verdictAnswer
+  card-refused n q = q ∙ go (r .verdict .number) n ∙ ap withoutRoom e
+    where
+      go : (k : ℕ) → k ≢ 0
+          → _≡_ {A = FilmdiskAnswer} (record { number = k; place = r .verdict .place; count = 0; bound = 0 }) (verdictAnswer (answer k tooShort r .verdict))
+      go zero n = absurd (n refl)
+      go (suc k) n = refl
+
+  pub card-accepted : r .verdict .number ≡ 0 → a ≡ verdictAnswer (record { number = tooShort; place = 0 }) → a ≡ withoutRoom (readCard s)
+  unfolding refusal
+  card-accepted n q = q ∙ ap (λ (k : ℕ). verdictAnswer (answer k tooShort r .verdict)) (sym n) ∙ ap withoutRoom e
+
+-- ---- the call: the answer, and the later contents of the three strings
+
 abbrev pub Outcome : List ℕ → List ℕ → List ℕ → List ℕ → FilmdiskAnswer → List ℕ → List ℕ → List ℕ → Type 0
 Outcome s p ps ls a q qs ms =
     (a ≡ planAnswer s p ps ls) × (q ≡ planString s p ps ls) × (qs ≡ positionsString s p ps ls) × (ms ≡ leadsString s p ps ls)
 
+-- 13 leaves a list
+none-filled : (k : ℕ) (s vs : List ℕ) → s ≡ filled k tooShort s vs
+none-filled zero s vs = refl
+none-filled (suc k) s vs = refl
+
 module _ (s p ps ls : List ℕ) where
-  -- the plan string has another length: the reader's refusal, or 13
-  module _ (n : length p ≡ 552 → ⊥) where
-    pub other-refused : (readCard s .verdict .number ≡ 0 → ⊥) → Outcome s p ps ls (verdictAnswer (readCard s .verdict)) p ps ls
-    unfolding planAnswer planString positionsString leadsString plannedOf planFaultOf planFilled verdictAnswer refusal
-    other-refused k = rw (ne-eqb (length p) 552 n) (go (readCard s .verdict .number) k)
-      where
-        go : (j : ℕ) → (j ≡ 0 → ⊥)
-            → (_≡_ {A = FilmdiskAnswer} (record { number = j; place = readCard s .verdict .place; count = 0; bound = 0 }) (verdictAnswer (answer j 13 (readCard s) .verdict)))
-            × (p ≡ p)
-            × (ps ≡ filled j 13 ps (positionsOf (readCard s .figures)))
-            × (ls ≡ filled j 13 ls (leadsOf (readCard s .figures)))
-        go zero k = absurd (k refl)
-        go (suc j) k = (refl, refl, refl, refl)
+  -- the plan string has another length
+  pub other-length : (length p ≡ planSize → ⊥) → (r : FilmdiskAnswer) → r ≡ withoutRoom (readCard s)
+      → Outcome s p ps ls r p ps ls
+  unfolding planAnswer planString positionsString leadsString plannedOf planFaultOf planFilled
+  other-length n r e =
+      let k = readCard s .verdict .number in
+      rw (ne-eqb (length p) planSize n) (e, refl, none-filled k ps (positionsOf (readCard s .figures)), none-filled k ls (leadsOf (readCard s .figures)))
 
-    pub other-accepted : readCard s .verdict .number ≡ 0 → Outcome s p ps ls (verdictAnswer (record { number = 13; place = 0 })) p ps ls
-    unfolding planAnswer planString positionsString leadsString plannedOf planFaultOf planFilled verdictAnswer refusal
-    other-accepted k = rw (ne-eqb (length p) 552 n, k) (refl, refl, refl, refl)
+  -- it has the right one, and a was planned: written but for 13
+  module _ (l : length p ≡ planSize) (a : Planned) (qs ms : List ℕ) (e : (a ≡ planned (readCard s) ps ls) × (qs ≡ positionsAfter (readCard s) ps ls) × (ms ≡ leadsAfter (readCard s) ps ls)) (r : FilmdiskAnswer) (v : r ≡ verdictAnswer (a .verdict)) where
+    outcome : (q : List ℕ) → q ≡ planFilled p a → Outcome s p ps ls r q qs ms
+    unfolding planAnswer planString planned plannedOf planFaultOf positionsAfter positionsString leadsAfter leadsString
+    outcome q w = rw (eq-eqb (length p) planSize l) (v ∙ ap (λ (x : Planned). verdictAnswer (x .verdict)) (e .0), w ∙ ap (planFilled p) (e .0), e .1, e .2)
 
-  -- it has the right one: the planner's answer, written but for 13
-  module _ (l : length p ≡ 552) (a : Planned) (e : a ≡ planned (readCard s) ps ls) where
-    same-planned : a ≡ plannedOf (readCard s) p ps ls
-    unfolding planned plannedOf planFaultOf
-    same-planned = rw (eq-eqb (length p) 552 l) e
+    pub short-list : a .verdict .number ≡ tooShort → Outcome s p ps ls r p qs ms
+    unfolding planFilled
+    short-list k = outcome p (rw (eq-eqb (a .verdict .number) tooShort k, eq-eqb (length p) planSize l))
 
-    same-answer : verdictAnswer (a .verdict) ≡ planAnswer s p ps ls
-    unfolding planAnswer
-    same-answer = ap (λ (x : Planned). verdictAnswer (x .verdict)) same-planned
-
-    same-positions : positionsAfter (readCard s) ps ls ≡ positionsString s p ps ls
-    unfolding positionsAfter positionsString planFaultOf
-    same-positions = rw (eq-eqb (length p) 552 l)
-
-    same-leads : leadsAfter (readCard s) ps ls ≡ leadsString s p ps ls
-    unfolding leadsAfter leadsString planFaultOf
-    same-leads = rw (eq-eqb (length p) 552 l)
-
-    pub short-list : a .verdict .number ≡ 13
-        → Outcome s p ps ls (verdictAnswer (a .verdict)) p (positionsAfter (readCard s) ps ls) (leadsAfter (readCard s) ps ls)
-    unfolding planString planFilled
-    short-list k = (same-answer, kept ∙ ap (planFilled p) same-planned, same-positions, same-leads)
-      where
-        kept : p ≡ planFilled p a
-        kept = rw (eq-eqb (a .verdict .number) 13 k, eq-eqb (length p) 552 l)
-
-    pub judged-plan : (a .verdict .number ≡ 13 → ⊥)
-        → Outcome s p ps ls (verdictAnswer (a .verdict)) (withWords p 0 (planWords (a .plan))) (positionsAfter (readCard s) ps ls) (leadsAfter (readCard s) ps ls)
-    unfolding planString planFilled
-    judged-plan k = (same-answer, written ∙ ap (planFilled p) same-planned, same-positions, same-leads)
-      where
-        written : withWords p 0 (planWords (a .plan)) ≡ planFilled p a
-        written = rw (ne-eqb (a .verdict .number) 13 k, eq-eqb (length p) 552 l)
+    pub judged-plan : a .verdict .number ≢ tooShort → (q : List ℕ) → q ≡ withWords p 0 (planWords (a .plan)) → Outcome s p ps ls r q qs ms
+    unfolding planFilled
+    judged-plan k q w = outcome q (w ∙ rw (ne-eqb (a .verdict .number) tooShort k, eq-eqb (length p) planSize l))

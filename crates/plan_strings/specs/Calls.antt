@@ -4,13 +4,14 @@ use mathlib.Core.List.{List}
 use mathlib.Core.Bool.{cond, not, _&&_}
 use lib.ListN.{length}
 use lib.Dec.{eqb}
+use Rattle.numbers.specs.Refusals.{tooShort}
 use Rattle.words.specs.Words.{withWords}
 use Rattle.card.specs.declared.CardRead.{CardRead}
 use Rattle.card.specs.Read.{readCard}
 use Rattle.plan.specs.declared.Planned.{Planned}
 use Rattle.plan.specs.Plan.{positionsOf, leadsOf}
 use Rattle.plan.specs.Answer.{faultAfter, answer, filled}
-use Rattle.layout.specs.Layout.{planWords}
+use Rattle.layout.specs.Layout.{planWords, planSize}
 use Rattle.layout.specs.declared.FilmdiskAnswer.{FilmdiskAnswer}
 use Rattle.layout.specs.Answers.{verdictAnswer}
 
@@ -18,7 +19,7 @@ use Rattle.layout.specs.Answers.{verdictAnswer}
 
 -- after the figures are accepted: 13 where the plan string has another length or a list is too short, then 12
 unfoldable pub planFaultOf : CardRead → List ℕ → List ℕ → List ℕ → ℕ
-planFaultOf r p ps ls = cond (eqb (length p) 552) (faultAfter r ps ls) 13
+planFaultOf r p ps ls = cond (eqb (length p) planSize) (faultAfter r ps ls) tooShort
 
 -- the planner's answer
 unfoldable pub plannedOf : CardRead → List ℕ → List ℕ → List ℕ → Planned
@@ -26,7 +27,7 @@ plannedOf r p ps ls = answer (r .verdict .number) (planFaultOf r p ps ls) r
 
 -- the plan string after an answer: the plan, all zero after 1 to 12; as it was after 13, and where it has another length
 unfoldable pub planFilled : List ℕ → Planned → List ℕ
-planFilled p a = cond (eqb (length p) 552 && not (eqb (a .verdict .number) 13)) (withWords p 0 (planWords (a .plan))) p
+planFilled p a = cond (eqb (length p) planSize && not (eqb (a .verdict .number) tooShort)) (withWords p 0 (planWords (a .plan))) p
 
 -- THE ANSWER of the plan call with a card s, and the three strings after it. A list has its N entries written, or is left as it was
 unfoldable pub planAnswer : List ℕ → List ℕ → List ℕ → List ℕ → FilmdiskAnswer

@@ -110,23 +110,6 @@ words-stored (a ∷ (b ∷ (c ∷ (d ∷ s)))) (suc i) v =
 pub words-withWord : (s : List ℕ) (i v : ℕ) → v < 4294967296 → wordsOf (withWord s i v) ≡ set (wordsOf s) i v
 words-withWord s i v h = words-stored s i v ∙ ap (set (wordsOf s) i) (whole v h)
 
--- the entry itself, and any other
-pub word-same : (s : List ℕ) (i v : ℕ) → v < 4294967296 → i < length (wordsOf s) → getD (wordsOf (withWord s i v)) i 0 ≡ v
-word-same s i v h l = rw (words-withWord s i v h) (getD-set-same (wordsOf s) i v 0 l)
-
-pub word-other : (s : List ℕ) (i v j : ℕ) → j ≢ i → getD (wordsOf (withWord s i v)) j 0 ≡ getD (wordsOf s) j 0
-word-other s i v j n = rw (words-stored s i v) (getD-set-other (wordsOf s) i j (v % 4294967296) 0 n)
-
--- a byte of another entry, or a spare one, stays
-pub withWord-other : (s : List ℕ) (i v j : ℕ) → j / 4 ≢ i → getD (withWord s i v) j 0 ≡ getD s j 0
-unfolding withWord
-withWord-other s i v j n =
-    let p : j ≢ 4 * i = omega arith in
-    let q : j ≢ 4 * i + 1 = omega arith in
-    let r : j ≢ 4 * i + 2 = omega arith in
-    let t : j ≢ 4 * i + 3 = omega arith in
-    simp getD-set-other
-
 set-bytes : (s : List ℕ) (i b : ℕ) → Bytes s → b < 256 → Bytes (set s i b)
 set-bytes [] i b y h j = omega arith
 set-bytes (a ∷ s) zero b y h zero = h
@@ -204,19 +187,6 @@ unfolding withWords
 withWords-bytes s start [] y = y
 withWords-bytes s start (v ∷ vs) y = withWords-bytes (withWord s start v) (start + 1) vs (withWord-bytes s start v y)
 
--- a byte before or after them stays
-pub withWords-before : (s : List ℕ) (start : ℕ) (vs : List ℕ) (j : ℕ) → j < 4 * start → getD (withWords s start vs) j 0 ≡ getD s j 0
-unfolding withWords
-withWords-before s start [] j h = refl
-withWords-before s start (v ∷ vs) j h =
-    withWords-before (withWord s start v) (start + 1) vs j (omega arith) ∙ withWord-other s start v j (omega arith)
-
-pub withWords-after : (s : List ℕ) (start : ℕ) (vs : List ℕ) (j : ℕ) → 4 * (start + length vs) ≤ j → getD (withWords s start vs) j 0 ≡ getD s j 0
-unfolding withWords
-withWords-after s start [] j h = refl
-withWords-after s start (v ∷ vs) j h =
-    withWords-after (withWord s start v) (start + 1) vs j (omega arith) ∙ withWord-other s start v j (omega arith)
-
 -- the entries after the stores, element by element
 words-sets : (s : List ℕ) (start : ℕ) (vs : List ℕ) → Words vs → wordsOf (withWords s start vs) ≡ sets (wordsOf s) start vs
 unfolding withWords
@@ -230,23 +200,6 @@ pub words-withWords : (s : List ℕ) (start : ℕ) (vs : List ℕ) → Words vs 
 unfolding overwrite
 words-withWords s start vs y h = words-sets s start vs y ∙ sets-eq vs (wordsOf s) start h ∙ append-assoc (take start (wordsOf s)) vs _
 
--- an entry before, among and after them
-pub word-before : (s : List ℕ) (start : ℕ) (vs : List ℕ) (i : ℕ) → i < start → getD (wordsOf (withWords s start vs)) i 0 ≡ getD (wordsOf s) i 0
-unfolding withWords
-word-before s start [] i h = refl
-word-before s start (v ∷ vs) i h = word-before (withWord s start v) (start + 1) vs i (omega arith) ∙ word-other s start v i (omega arith)
-
-pub word-written : (s : List ℕ) (start : ℕ) (vs : List ℕ) (k : ℕ) → Words vs → k < length vs → start + k < length (wordsOf s)
-    → getD (wordsOf (withWords s start vs)) (start + k) 0 ≡ getD vs k 0
-unfolding withWords
-word-written s start [] k y h l = absurd (omega arith)
-word-written s start (v ∷ vs) zero y h l =
-    let e : start + 0 ≡ start = omega arith in
-    rw e (word-before (withWord s start v) (start + 1) vs start (omega arith) ∙ word-same s start v (y 0) (omega arith))
-word-written s start (v ∷ vs) (suc k) y h l =
-    let e : start + suc k ≡ start + 1 + k = omega arith in
-    rw e (word-written (withWord s start v) (start + 1) vs k (λ i. y (suc i)) (omega arith) (omega (arith, withWord-entries s start v)))
-
 -- ---- reading and writing
 
 -- WHAT IS WRITTEN IS READ BACK
@@ -257,21 +210,7 @@ read-written s start vs y h =
     rw (words-withWords s start vs y h, drop-at (take start (wordsOf s)) _ start (length-take-le start (wordsOf s) (omega arith)))
     (take-append-seam vs _)
 
--- a store behind a part leaves it
-set-behind : (l : List ℕ) (k v i n : ℕ) → i + n ≤ k → take n (drop i (set l k v)) ≡ take n (drop i l)
-set-behind l k v i n h =
-    let e : k ≡ i + (k - i) = omega arith in
-    ap (λ (m : ℕ). take n (drop i (set l m v))) e ∙ ap (take n) (drop-set-add i l (k - i) v) ∙ take-set-le n (drop i l) (k - i) v (omega arith)
-
--- a part before or after what is written is read as it was
-pub read-before : (s : List ℕ) (start : ℕ) (vs : List ℕ) (i n : ℕ) → i + n ≤ start
-    → take n (drop i (wordsOf (withWords s start vs))) ≡ take n (drop i (wordsOf s))
-unfolding withWords
-read-before s start [] i n h = refl
-read-before s start (v ∷ vs) i n h =
-    read-before (withWord s start v) (start + 1) vs i n (omega arith)
-    ∙ rw (words-stored s start v) (set-behind (wordsOf s) start (v % 4294967296) i n h)
-
+-- a part behind what is written is read as it was
 pub read-after : (s : List ℕ) (start : ℕ) (vs : List ℕ) (i : ℕ) → start + length vs ≤ i → drop i (wordsOf (withWords s start vs)) ≡ drop i (wordsOf s)
 unfolding withWords
 read-after s start [] i h = refl
@@ -290,23 +229,30 @@ written-read s start (suc n) y = by-cases (decLt start (length (wordsOf s))) (in
     outside : (start < length (wordsOf s) → ⊥) → withWords s start (take (suc n) (drop start (wordsOf s))) ≡ s
     outside h = rw (drop-of-length-le (wordsOf s) {i = start} (omega arith)) (withWords-none s start)
 
+-- one entry stored among n is the n as they were, with it, written back
+pub row-stored : (s : List ℕ) (start n i v : ℕ) → Bytes s → start + n ≤ length (wordsOf s) → i < n
+    → withWords s (start + i) (v ∷ []) ≡ withWords s start (set (take n (drop start (wordsOf s))) i v)
+unfolding withWords
+row-stored s start zero i v y h l = absurd (omega arith)
+row-stored s start (suc n) zero v y h l =
+    let t = withWord s start v in
+    let e : start + 0 ≡ start = omega arith in
+    let same : drop (suc start) (wordsOf s) ≡ drop (suc start) (wordsOf t) = sym (read-after s start (v ∷ []) (suc start) (omega arith)) in
+    rw (e, drop-cons (wordsOf s) start 0 (omega arith), same, add-one) (sym (written-read t (suc start) n (withWord-bytes s start v y)))
+row-stored s start (suc n) (suc i) v y h l =
+    let e : start + suc i ≡ start + 1 + i = omega arith in
+    let there : start < length (wordsOf s) = omega arith in
+    ap (λ (k : ℕ). withWords s k (v ∷ [])) e
+    ∙ row-stored s (start + 1) n i v y (omega arith) (omega arith)
+    ∙ ap (λ (u : List ℕ). withWords u (start + 1) (set (take n (drop (start + 1) (wordsOf s))) i v)) (sym (withWord-same s start y there))
+    ∙ rw (drop-cons (wordsOf s) start 0 there, withWords-cons s start, add-one)
+
 -- ---- the bytes of numbers
 
 pub bytesOf-length : (vs : List ℕ) → length (bytesOf vs) ≡ 4 * length vs
 unfolding bytesOf
 bytesOf-length [] = refl
 bytesOf-length (v ∷ vs) = omega (arith, bytesOf-length vs)
-
--- the bytes of the entries, where none are spare
-pub bytesOf-words : (s : List ℕ) → Bytes s → length s % 4 ≡ 0 → bytesOf (wordsOf s) ≡ s
-unfolding bytesOf wordsOf
-bytesOf-words [] y h = refl
-bytesOf-words (a ∷ []) y h = absurd (omega arith)
-bytesOf-words (a ∷ (b ∷ [])) y h = absurd (omega arith)
-bytesOf-words (a ∷ (b ∷ (c ∷ []))) y h = absurd (omega arith)
-bytesOf-words (a ∷ (b ∷ (c ∷ (d ∷ s)))) y h =
-    let e = split a b c d (y 0) (y 1) (y 2) (y 3) in
-    rw (e .0, e .1, e .2, e .3, bytesOf-words s (λ j. y (suc (suc (suc (suc j))))) (omega arith))
 
 -- an entry is four bytes in a row
 withWord-overwrite : (s : List ℕ) (i v : ℕ) → i < length (wordsOf s) → withWord s i v ≡ overwrite s (4 * i) (bytesOf (v ∷ []))

@@ -1,6 +1,6 @@
 // Lists of 32-bit numbers in lent byte strings: four bytes an entry, lowest byte first, no padding. Spare bytes at the end are ignored and kept.
 ghost use mathlib.Core.Path.{_≡_};
-ghost use Prim.Native.Nat.{_+_, _≤_, _<_};
+ghost use Prim.Native.Nat.{_+_, _*_, _≤_, _<_};
 ghost use lib.ListN.{length, getD, take, drop};
 ghost use Rattle.words.specs.Words.{wordsOf, withWord, withWords};
 
@@ -56,8 +56,8 @@ fn read_words(list: &[u8], start: usize, out: &mut [u32])
 }
 
 // Writes the numbers of a as the entries from start on.
-fn write_words(list: &mut [u8], start: usize, a: &[u32])
-    requires { ⌜ start + length (now a) ≤ length (wordsOf (now list)) ⌝ }
+pub fn write_words(list: &mut [u8], start: usize, a: &[u32])
+    requires { ⌜ 4 * (start + length (now a)) ≤ length (now list) ⌝ }
     ensures { λ _. ⌜ now (list .exit) ≡ withWords (now (list .entry)) start (now (a .entry)) ⌝ }
 {
     let mut i = 0;
@@ -90,16 +90,16 @@ pub fn read_256(list: &[u8], start: usize) -> [u32; 256]
 
 // Writes the 64 numbers of a as the entries from start on.
 pub fn write_64(list: &mut [u8], start: usize, a: &[u32; 64])
-    requires { ⌜ start + 64 ≤ length (wordsOf (now list)) ⌝ }
-    ensures { λ _. ⌜ now (list .exit) ≡ withWords (now (list .entry)) start (now (a .entry)) ⌝ }
+    requires { ⌜ 4 * (start + 64) ≤ length (now list) ⌝ }
+    ensures { λ _. ⌜ (now (list .exit) ≡ withWords (now (list .entry)) start (now (a .entry))) × (length (now (a .entry)) ≡ 64) ⌝ }
 {
     write_words(list, start, a);
 }
 
 // Writes the 256 numbers of a as the entries from start on.
 pub fn write_256(list: &mut [u8], start: usize, a: &[u32; 256])
-    requires { ⌜ start + 256 ≤ length (wordsOf (now list)) ⌝ }
-    ensures { λ _. ⌜ now (list .exit) ≡ withWords (now (list .entry)) start (now (a .entry)) ⌝ }
+    requires { ⌜ 4 * (start + 256) ≤ length (now list) ⌝ }
+    ensures { λ _. ⌜ (now (list .exit) ≡ withWords (now (list .entry)) start (now (a .entry))) × (length (now (a .entry)) ≡ 256) ⌝ }
 {
     write_words(list, start, a);
 }

@@ -1,6 +1,4 @@
-use Rattle.desk_strings.specs.Calls.{openAnswer, openString}
-use Rattle.desk_strings.specs.Laws.{enough}
-use Rattle.desk_strings.proofs.Ways.{open-written, open-refused, open-unwritten}
+use Rattle.desk_strings.proofs.Opens.{open-written, open-refused, open-unwritten}
 use borrow.Author.Needs.{needs}
 use Rattle.desk_strings.proofs.open.Statement.{statement}
 use Rattle.desk_strings.proofs.open.Tie as tie
@@ -8,49 +6,50 @@ use Rattle.desk_strings.proofs.open.Tie as tie
 open-plan-requires : tie.Need-open-plan-requires
 open-plan-requires c κs = search needs
 
-write-back-requires : tie.Need-write-back-requires
-write-back-requires c κs = enough (c .before .before .before .before .before .before .before .args .desk .now) (c .before .if1 .taken)
+write-desk-requires : tie.Need-write-desk-requires
+write-desk-requires c κs = search needs
+
+verdict-answer-requires : tie.Need-verdict-answer-requires
+verdict-answer-requires c κs = search needs
 
 same-length : tie.Need-same-length
 same-length c = search needs
 
 returns : tie.Need-returns
-unfolding openAnswer openString
 returns c =
-    let D = c .before .before .before .before .before .before .before .before .before .before .args .desk .now in
-    let o = c .before .before .before .before .before .open-plan in
-    let w = c .before .before .write-back .ensures in
-    open-written D (c .before .before .before .before .if1 .taken) (o .result) _ (o .ensures) _ _ (w .0) (w .1)
+    let w = c .before .before .before in
+    let t = w .before .before in
+    let o = t .before .before .open-plan in
+    open-written _ _ _ _ (o .result) (o .ensures) _ (t .if1 .taken) (c .verdict-answer .ensures) _ (w .write-desk .ensures)
 
-verdict-answer-requires : tie.Need-verdict-answer-requires
-verdict-answer-requires c κs = search needs
+verdict-answer-requires-2 : tie.Need-verdict-answer-requires-2
+verdict-answer-requires-2 c κs = search needs
 
 returns-2 : tie.Need-returns-2
-unfolding openAnswer openString
 returns-2 c =
-    let D = c .before .before .before .before .before .before .before .before .before .before .args .desk .now in
-    let o = c .before .before .before .before .before .open-plan in
-    open-refused D (c .before .before .before .before .if1 .left) (o .result) _ (o .ensures) _ (c .verdict-answer .ensures) (c .before .if2 .taken)
+    let e = c .before .before .before in
+    let o = e .before .before .open-plan in
+    open-refused _ _ _ _ (o .result) (o .ensures) _ (e .if1 .left) (c .before .if2 .taken) (c .verdict-answer2 .ensures)
 
-refused-requires : tie.Need-refused-requires
-refused-requires c κs = search needs
+verdict-answer-requires-3 : tie.Need-verdict-answer-requires-3
+verdict-answer-requires-3 c κs = search needs
 
 returns-3 : tie.Need-returns-3
-unfolding openAnswer openString
 returns-3 c =
-    let D = c .before .before .before .before .before .before .before .before .before .before .args .desk .now in
-    let o = c .before .before .before .before .before .open-plan in
-    open-unwritten D (c .before .before .before .before .if1 .left) (o .result) _ (o .ensures) _ (c .refused .ensures) (c .before .if2 .left)
+    let e = c .before .before .before in
+    let o = e .before .before .open-plan in
+    open-unwritten _ _ _ _ (o .result) (o .ensures) _ (e .if1 .left) (c .before .if2 .left) (c .verdict-answer3 .ensures)
 
 pub open-spec : {M : Type 1} → statement M
 open-spec =
     tie.close
     (tie.spec
     open-plan-requires
-    write-back-requires
+    write-desk-requires
+    verdict-answer-requires
     same-length
     returns
-    verdict-answer-requires
+    verdict-answer-requires-2
     returns-2
-    refused-requires
+    verdict-answer-requires-3
     returns-3)

@@ -1,52 +1,54 @@
-use mathlib.Core.Path.{ap, _∙_}
-use mathlib.Core.List.{List}
-use Prim.Native.Nat.{ℕ, _+_}
 use native.Mathlib.Omega.{arith}
-use Rattle.words.specs.Words.{withWord}
-use Rattle.words.specs.Laws.{bytes-fit, words-length}
-use Rattle.layout.specs.Slot.{slot-stored}
+use Rattle.layout.specs.Parts.{slot-written}
 use borrow.Author.Needs.{needs}
 use Rattle.layout.proofs.put_slot.Statement.{statement}
 use Rattle.layout.proofs.put_slot.Tie as tie
 
-add-put-word : tie.Need-add-put-word
-add-put-word c = search needs
+add-write-words : tie.Need-add-write-words
+add-write-words c = search needs
 
-put-word-requires : tie.Need-put-word-requires
-put-word-requires c κs = search needs
+slice-aggregate-write-words : tie.Need-slice-aggregate-write-words
+slice-aggregate-write-words c = search needs
 
-add-put-word-2 : tie.Need-add-put-word-2
-add-put-word-2 c = search needs
+write-words-requires : tie.Need-write-words-requires
+write-words-requires c κs = search needs
 
-put-word-requires-2 : tie.Need-put-word-requires-2
-put-word-requires-2 c κs = omega (arith, words-length (c .before .before .before .put-word .last .0), words-length (c .before .before .before .before .before .before .args .list .now))
+add-write-words-2 : tie.Need-add-write-words-2
+add-write-words-2 c = search needs
 
-add-put-word-3 : tie.Need-add-put-word-3
-add-put-word-3 c = search needs
+slice-aggregate-write-words-2 : tie.Need-slice-aggregate-write-words-2
+slice-aggregate-write-words-2 c = search needs
 
-put-word-requires-3 : tie.Need-put-word-requires-3
-put-word-requires-3 c κs = omega (arith, words-length (c .before .before .before .put-word2 .last .0), words-length (c .before .before .before .before .before .before .before .before .before .before .args .list .now))
+write-words-requires-2 : tie.Need-write-words-requires-2
+write-words-requires-2 c κs = search needs
+
+add-write-words-3 : tie.Need-add-write-words-3
+add-write-words-3 c = search needs
+
+slice-aggregate-write-words-3 : tie.Need-slice-aggregate-write-words-3
+slice-aggregate-write-words-3 c = search needs
+
+write-words-requires-3 : tie.Need-write-words-requires-3
+write-words-requires-3 c κs = search needs
 
 same-length : tie.Need-same-length
 same-length c = search needs
 
 returns : tie.Need-returns
-returns c =
-    let k = c .before .before .before .before .before .before .before .before .before .before .before .before in
-    let a = k .before .args in
-    c .before .before .put-word3 .ensures
-    ∙ ap (λ (t : List ℕ). withWord t (651 + a .i) 0) (c .before .before .before .before .before .before .put-word2 .ensures ∙ ap (λ (t : List ℕ). withWord t (395 + a .i) (a .next)) (c .before .before .before .before .before .before .before .before .before .before .put-word .ensures))
-    ∙ slot-stored (a .list .now) (a .i) (a .kind) (a .next) (bytes-fit (a .list .now) (k .slice-known .given)) (k .before .pre .1) (k .before .pre .0) (omega arith) (omega arith)
+returns c = slot-written _ _ _ _ _ (search needs) (omega arith) (omega arith) cc
 
 pub put-slot-spec : {M : Type 1} → statement M
 put-slot-spec =
     tie.close
     (tie.spec
-    add-put-word
-    put-word-requires
-    add-put-word-2
-    put-word-requires-2
-    add-put-word-3
-    put-word-requires-3
+    add-write-words
+    slice-aggregate-write-words
+    write-words-requires
+    add-write-words-2
+    slice-aggregate-write-words-2
+    write-words-requires-2
+    add-write-words-3
+    slice-aggregate-write-words-3
+    write-words-requires-3
     same-length
     returns)

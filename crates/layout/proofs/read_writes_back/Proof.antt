@@ -1,4 +1,4 @@
-use Rattle.layout.specs.Laws.{plan-kept, desk-kept}
+use Rattle.layout.specs.RoundTrip.{plan-kept, desk-kept}
 use Rattle.layout.proofs.read_writes_back.Statement.{statement}
 use Rattle.layout.proofs.read_writes_back.Tie as tie
 

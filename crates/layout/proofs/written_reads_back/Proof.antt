@@ -1,4 +1,4 @@
-use Rattle.layout.specs.Laws.{plan-written, desk-written}
+use Rattle.layout.specs.RoundTrip.{plan-written, desk-written}
 use Rattle.layout.proofs.written_reads_back.Statement.{statement}
 use Rattle.layout.proofs.written_reads_back.Tie as tie
 

@@ -1,0 +1,43 @@
+-- What a join, a leave and a begin write alone of a desk string: a slot, the phase and the kinds. All else stays.
+-- Assumes nothing.
+use Prim.Native.Nat.{ℕ, _≤_, _<_}
+use mathlib.Core.Path.{_≡_, _∙_}
+use mathlib.Core.List.{List, [], _∷_, _++_}
+use native.Mathlib.Omega.{arith}
+use mir.Syntax.{w8}
+use mir.Val.{Fits}
+use lib.ListN.{length, getD, take, drop}
+use Rattle.numbers.specs.Limits.{maxStreams}
+use Rattle.words.specs.Words.{wordsOf, withWords}
+use Rattle.words.specs.Laws.{bytes-fit, words-length}
+use Rattle.desk.specs.declared.Desk.{Desk}
+use Rattle.desk.specs.Records.{withSlot}
+use Rattle.layout.specs.Fields.{Field, Values, _&_, wordCount, stored}
+use Rattle.layout.specs.FieldLaws.{fields-stored, part-written, columnStored, column-written}
+use Rattle.layout.specs.Layout.{planFields, planWordCount, slotFields, deskWords, deskIn, deskSize}
+
+-- ---- a slot: its kind, its next block and nothing held
+
+-- the fields before the kinds
+abbrev pub untilKinds : List Field
+untilKinds = planFields ++ take 1 slotFields
+
+pub slot-written : (s t : List ℕ) (i k x : ℕ) → ((j : ℕ) → Fits w8 (getD s j 0)) → deskSize ≤ length s → i < maxStreams
+    → t ≡ columnStored (k ∷ (x ∷ (0 ∷ []))) maxStreams i (wordCount untilKinds) s → t ≡ withWords s 0 (deskWords (withSlot (deskIn (wordsOf s)) i k x))
+unfolding deskWords deskIn withSlot
+slot-written s t i k x y h l e = e ∙ column-written untilKinds (drop 4 slotFields) (k ∷ (x ∷ (0 ∷ []))) maxStreams i s (bytes-fit s y) l (omega (arith, words-length s))
+
+-- ---- the phase and the kinds
+
+-- a desk with another phase and other kinds
+abbrev pub withKinds : Desk → ℕ → List ℕ → Desk
+withKinds d x ks = record { plan = d .plan; phase = x; kinds = ks; next = d .next; held = d .held }
+
+abbrev pub kindFields : List Field
+kindFields = take 2 slotFields
+
+pub kinds-written : (s t : List ℕ) (x : ℕ) (ks : List ℕ) → ((j : ℕ) → Fits w8 (getD s j 0)) → deskSize ≤ length s → length ks ≡ maxStreams
+    → t ≡ stored kindFields planWordCount s [] (x & ks & tt) → t ≡ withWords s 0 (deskWords (withKinds (deskIn (wordsOf s)) x ks))
+unfolding deskWords deskIn
+kinds-written s t x ks y h l e =
+    e ∙ fields-stored kindFields planWordCount s [] (x & ks & tt) (omega arith) ∙ part-written planFields kindFields (drop 2 slotFields) s (bytes-fit s y) (omega (arith, words-length s)) (x & ks & tt) (omega arith)

@@ -1,0 +1,29 @@
+use Rattle.plan_strings.proofs.Ways.{card-refused, card-accepted}
+use borrow.Author.Needs.{needs}
+use Rattle.plan_strings.proofs.unwritten.Statement.{statement}
+use Rattle.plan_strings.proofs.unwritten.Tie as tie
+
+read-card-requires : tie.Need-read-card-requires
+read-card-requires c κs = search needs
+
+verdict-answer-requires : tie.Need-verdict-answer-requires
+verdict-answer-requires c κs = search needs
+
+returns : tie.Need-returns
+returns c = let r = c .before .before .before .before .read-card in card-refused (r .result) _ (r .ensures) _ (c .before .if1 .taken) (c .verdict-answer .ensures)
+
+verdict-answer-requires-2 : tie.Need-verdict-answer-requires-2
+verdict-answer-requires-2 c κs = search needs
+
+returns-2 : tie.Need-returns-2
+returns-2 c = let r = c .before .before .before .before .read-card in card-accepted (r .result) _ (r .ensures) _ (c .before .if1 .left) (c .verdict-answer2 .ensures)
+
+pub unwritten-spec : {M : Type 1} → statement M
+unwritten-spec =
+    tie.close
+    (tie.spec
+    read-card-requires
+    verdict-answer-requires
+    returns
+    verdict-answer-requires-2
+    returns-2)
