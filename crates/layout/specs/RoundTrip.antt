@@ -17,7 +17,7 @@ use Rattle.plan.specs.Plan.{blankPlan}
 use Rattle.desk.specs.declared.Desk.{Desk}
 use Rattle.desk.specs.Desk.{zeros, freshDesk, blankDesk}
 use Rattle.layout.specs.Fields.{Field, Values, unpacked, wordCount, packed, Sized, Same, stored}
-use Rattle.layout.specs.FieldLaws.{unpacked-sized, packed-length, unpacked-packed, same-values, fields-stored, fields-kept, packed-joined}
+use Rattle.layout.specs.FieldLaws.{unpacked-sized, packed-length, unpacked-packed, same-values, fields-stored, fields-kept, packed-joined, AllFit, joined-fit}
 use Rattle.layout.specs.Layout.{figureFields, figureValues, figuresOf, plannedFields, plannedValues, planWith, planFields, planValues, planOfValues, planWords, planIn, planWordCount, planSize, slotFields, slotValues, deskWith, deskFields, deskValues, deskOfValues, deskWords, deskIn, deskWordCount, deskSize, zeroBytes}
 
 -- ---- sizes
@@ -47,6 +47,12 @@ plan-sized ws h = let z = unpacked-sized planFields 0 ws h in omega arith
 pub desk-sized : (ws : List ℕ) → deskWordCount ≤ length ws → DeskSized (deskIn ws)
 unfolding deskIn
 desk-sized ws h = let z = unpacked-sized deskFields 0 ws h in omega arith
+
+-- ---- numbers of 32 bits
+
+pub desk-fit : (d : Desk) → Words (planWords (d .plan)) → AllFit slotFields (slotValues d) → Words (deskWords d)
+unfolding planWords deskWords
+desk-fit d x y = joined-fit planFields slotFields (planValues (d .plan)) (slotValues d) x y
 
 -- ---- field by field, as code reads and writes them
 

@@ -3,12 +3,14 @@
 use Prim.Native.Nat.{ℕ, zero, suc, _≤_, _<_}
 use mathlib.Core.Path.{_≡_, refl, sym, ap, _∙_, subst}
 use mathlib.Core.Bool.{Bool, true, false}
-use mathlib.Core.List.{List, [], _∷_, _++_, map}
+use mathlib.Core.List.{List, [], _∷_, map}
 use mathlib.Core.Logic.{by-cases}
 use native.Mathlib.Omega.{arith}
 use native.Mathlib.Decide.{ℕ-discrete}
-use lib.ListN.{length, length-map, replicate, length-replicate}
+use lib.ListN.{length, length-map, length-replicate}
 use borrow.Author.Tests.{eq-eqb, ne-eqb, ltb-true, eqb-true}
+use Rattle.numbers.specs.Limits.{maxStreams, noNumber}
+use Rattle.numbers.specs.Refusals.{notSound}
 use Rattle.laws.specs.Each.{Each, each-replicate}
 use Rattle.words.specs.Words.{Words, wordsOf, withWords}
 use Rattle.words.specs.Laws.{words-length}
@@ -34,9 +36,10 @@ use Rattle.desk.specs.Promise.{order-orderly, supply-named}
 use Rattle.trace.specs.Opening.{checked-lawful, fair-of}
 use Rattle.layout.specs.declared.FilmdiskAnswer.{FilmdiskAnswer}
 use Rattle.layout.specs.Answers.{verdictAnswer}
-use Rattle.layout.specs.Fields.{words-each, words-number, words-array}
-use Rattle.layout.specs.Layout.{planWords, deskWords, planIn, deskIn}
-use Rattle.layout.specs.Laws.{PlanSized, plan-sized, DeskSized, desk-written}
+use Rattle.layout.specs.Fields.{_&_}
+use Rattle.layout.specs.FieldLaws.{words-each}
+use Rattle.layout.specs.Layout.{planWords, deskWords, planIn, deskIn, planSize, deskSize}
+use Rattle.layout.specs.RoundTrip.{PlanSized, plan-sized, DeskSized, desk-fit, desk-written}
 use Rattle.layout.specs.Legal.{legal-words}
 use Rattle.desk_strings.specs.Laws.{enough, said-sized, said-wide, right-answer, right-string}
 use Rattle.desk_strings.specs.Calls.{refusedBy, openedFrom, openAnswer, openString, said, answerBy, stringBy, joinAnswer, joinString, leaveAnswer, leaveString, endAnswer, endString, roomIn, begunAnswer, beginAnswer, beginString}
@@ -52,53 +55,51 @@ module _ (p : Plan) (ps ls : List ℕ) (w : Wide (p .figures)) (i : isPlan p ps 
   plan-fits : Words (planWords p)
   plan-fits = subst (λ (q : Plan). Words (planWords q)) (sym (checked p ps ls i .plan)) (legal-words (p .figures) legal)
 
-  buffer-fits : p .buffer < 4294967296
+  buffer-fits : p .buffer < noNumber
   unfolding planOf
   buffer-fits = omega (arith, ap (λ (q : Plan). q .buffer) (checked p ps ls i .plan), buffer-small (p .figures) legal, legal .bytes)
 
   -- a good slot
-  next-fits : (L : ℕ) (s : Slot ℕ) → Good (supplyOf p) L s → s .next < 4294967296
+  next-fits : (L : ℕ) (s : Slot ℕ) → Good (supplyOf p) L s → s .next < noNumber
   unfolding supplyOf
   next-fits L s g = by-kind (s .kind) refl
     where
-      block : (1 ≤ s .kind) → s .kind ≤ 3 → s .next < 4294967296
+      block : (1 ≤ s .kind) → s .kind ≤ 3 → s .next < noNumber
       block m n = omega (arith, ltb-true (s .next) (p .figures .blocks) (g .named m n), legal .blocks)
 
-      by-kind : (k : ℕ) → s .kind ≡ k → s .next < 4294967296
+      by-kind : (k : ℕ) → s .kind ≡ k → s .next < noNumber
       by-kind zero e = omega (arith, g .zeros e .0)
       by-kind (suc k) e = by-cases (ℕ-discrete k 3)
           (λ z. omega (arith, eqb-true (s .next) (p .figures .blocks) (g .past (omega arith)), legal .blocks))
           (λ z. block (omega arith) (omega (arith, g .kinds)))
 
   module _ (L : ℕ) where
-    kinds-fit : (ss : List (Slot ℕ)) → Each (Good (supplyOf p) L) ss → Each (λ v. v < 4294967296) (map (λ x. x .kind) ss)
+    kinds-fit : (ss : List (Slot ℕ)) → Each (Good (supplyOf p) L) ss → Each (λ v. v < noNumber) (map (λ x. x .kind) ss)
     kinds-fit [] h = tt
     kinds-fit (s ∷ ss) h = (omega (arith, h .0 .kinds), kinds-fit ss (h .1))
 
-    nexts-fit : (ss : List (Slot ℕ)) → Each (Good (supplyOf p) L) ss → Each (λ v. v < 4294967296) (map (λ x. x .next) ss)
+    nexts-fit : (ss : List (Slot ℕ)) → Each (Good (supplyOf p) L) ss → Each (λ v. v < noNumber) (map (λ x. x .next) ss)
     nexts-fit [] h = tt
     nexts-fit (s ∷ ss) h = (next-fits L s (h .0), nexts-fit ss (h .1))
 
-    helds-fit : (ss : List (Slot ℕ)) → Each (Good (supplyOf p) L) ss → Each (λ v. v < 4294967296) (map (λ x. x .buffered) ss)
+    helds-fit : (ss : List (Slot ℕ)) → Each (Good (supplyOf p) L) ss → Each (λ v. v < noNumber) (map (λ x. x .buffered) ss)
     unfolding supplyOf
     helds-fit [] h = tt
     helds-fit (s ∷ ss) h = (omega (arith, h .0 .fits, buffer-fits), helds-fit ss (h .1))
 
   -- the record of a sound scheduler
   pub sound-fits : (s : Scheduler ℕ Queue) → Sound (supplyOf p) (orderOf p) s → Words (deskWords (deskOf p s))
-  unfolding deskWords deskOf
-  sound-fits s h =
-      let ks : List ℕ = map (λ x. x .kind) (s .slots) in
-      let ns : List ℕ = map (λ x. x .next) (s .slots) in
-      let hs : List ℕ = map (λ x. x .buffered) (s .slots) in
-      words-array (planWords p) (s .phase ∷ (ks ++ (ns ++ hs))) plan-fits
-      (words-number (s .phase) (ks ++ (ns ++ hs)) (omega (arith, h .phase))
-      (words-array ks (ns ++ hs) (words-each ks (kinds-fit _ (s .slots) (h .slots)))
-      (words-array ns hs (words-each ns (nexts-fit _ (s .slots) (h .slots))) (words-each hs (helds-fit _ (s .slots) (h .slots))))))
+  unfolding deskOf
+  sound-fits s h = desk-fit (deskOf p s) plan-fits
+      (omega (arith, h .phase)
+      & words-each (map (λ x. x .kind) (s .slots)) (kinds-fit _ (s .slots) (h .slots))
+      & words-each (map (λ x. x .next) (s .slots)) (nexts-fit _ (s .slots) (h .slots))
+      & words-each (map (λ x. x .buffered) (s .slots)) (helds-fit _ (s .slots) (h .slots))
+      & tt)
 
 -- ---- sizes
 
-desk-of-sized : (p : Plan) (s : Scheduler ℕ Queue) → PlanSized p → length (s .slots) ≡ 256 → DeskSized (deskOf p s)
+desk-of-sized : (p : Plan) (s : Scheduler ℕ Queue) → PlanSized p → length (s .slots) ≡ maxStreams → DeskSized (deskOf p s)
 unfolding deskOf
 desk-of-sized p s z l = record {
   plan = z;
@@ -112,16 +113,16 @@ desk-of-sized p s z l = record {
 module _ (D ps ls : List ℕ) where
   -- the answer a has the number that the rules give, and accepts: the desk string has the right length, and so do the rules
   accepted-right : (room : ℕ) (call : Call ℕ) (a : FilmdiskAnswer) → a .number ≡ answerOf (said D) ps ls room call .number → answerBy D a .number ≡ 0
-      → (length D ≡ 3628) × (answerOf (said D) ps ls room call .number ≡ 0)
+      → (length D ≡ deskSize) × (answerOf (said D) ps ls room call .number ≡ 0)
   unfolding answerBy refusedBy verdictAnswer
-  accepted-right room call a e n = by-cases (ℕ-discrete (length D) 3628)
+  accepted-right room call a e n = by-cases (ℕ-discrete (length D) deskSize)
       (λ l. (l, sym e ∙ sym (ap (λ (x : FilmdiskAnswer). x .number) (right-answer D l a)) ∙ n))
-      (λ o. wrong (rw (ne-eqb (length D) 3628 o) at n))
+      (λ o. wrong (rw (ne-eqb (length D) deskSize o) at n))
     where
-      wrong : _≡_ {A = ℕ} 14 0 → (length D ≡ 3628) × (answerOf (said D) ps ls room call .number ≡ 0)
+      wrong : _≡_ {A = ℕ} notSound 0 → (length D ≡ deskSize) × (answerOf (said D) ps ls room call .number ≡ 0)
       wrong z = absurd (omega arith)
 
-  module _ (room : ℕ) (call : Call ℕ) (right : length D ≡ 3628) (zeroed : answerOf (said D) ps ls room call .number ≡ 0) where
+  module _ (room : ℕ) (call : Call ℕ) (right : length D ≡ deskSize) (zeroed : answerOf (said D) ps ls room call .number ≡ 0) where
     abbrev d : Desk
     d = said D
 
@@ -149,11 +150,11 @@ module _ (D ps ls : List ℕ) where
         (K.accepted-stays-sound (supplyOf p) (checked-lawful p ps ls wide fair) (supply-named p) (orderOf p) (order-orderly p) (viewOf d)
         (record { call = call; fair = isPlan p ps ls; room = room }) zeroed)
 
-    slots-long : length (viewOf d .slots) ≡ 256
+    slots-long : length (viewOf d .slots) ≡ maxStreams
     unfolding viewOf
     slots-long = length-slots (supplyOf p) (d .kinds) (d .next) (d .held) ∙ said-wide D right .kinds
 
-    stays-long : length (answerOf d ps ls room call .scheduler .slots) ≡ 256
+    stays-long : length (answerOf d ps ls room call .scheduler .slots) ≡ maxStreams
     unfolding answerOf C.refusals
     stays-long =
         ap (λ (x : C.Answer ℕ Queue). length (x .scheduler .slots)) (answer-accepted (supplyOf p) (orderOf p) (rulesOf p) (viewOf d) _ judged)
@@ -186,38 +187,37 @@ module _ (D ps ls : List ℕ) where
 
 fresh-sized : (p : Plan) → PlanSized p → DeskSized (freshDesk p)
 unfolding freshDesk zeros
-fresh-sized p z = let l = length-replicate {A = ℕ} 256 0 in record { plan = z; kinds = l; next = l; held = l }
+fresh-sized p z = let l = length-replicate {A = ℕ} maxStreams 0 in record { plan = z; kinds = l; next = l; held = l }
 
 fresh-fits : (p : Plan) → Words (planWords p) → Words (deskWords (freshDesk p))
-unfolding freshDesk deskWords zeros
+unfolding freshDesk zeros
 fresh-fits p y =
-    let xs : List ℕ = replicate 256 0 in
-    let z : Words xs = words-each xs (each-replicate (λ (v : ℕ). v < 4294967296) 256 0 (omega arith)) in
-    words-array (planWords p) (0 ∷ (xs ++ (xs ++ xs))) y (words-number 0 (xs ++ (xs ++ xs)) (omega arith) (words-array xs (xs ++ xs) z (words-array xs xs z z)))
+    let z : Words zeros = words-each zeros (each-replicate (λ (v : ℕ). v < noNumber) maxStreams 0 (omega arith)) in
+    desk-fit (freshDesk p) y (omega arith & z & z & z & tt)
 
-pub opened-wide : (P : List ℕ) → length P ≡ 552 → Wide (planIn (wordsOf P) .figures)
+pub opened-wide : (P : List ℕ) → length P ≡ planSize → Wide (planIn (wordsOf P) .figures)
 opened-wide P l = let z = plan-sized (wordsOf P) (omega (arith, words-length P, l)) in (z .positions, z .times)
 
 module _ (P ps ls : List ℕ) where
   -- it has a plan string of the right length, and is the plan of its figures
   pub opened-plan : openedFrom P ps ls .verdict .number ≡ 0
-      → (length P ≡ 552) × (isPlan (planIn (wordsOf P)) ps ls ≡ true) × (openedFrom P ps ls .desk ≡ freshDesk (planIn (wordsOf P)))
+      → (length P ≡ planSize) × (isPlan (planIn (wordsOf P)) ps ls ≡ true) × (openedFrom P ps ls .desk ≡ freshDesk (planIn (wordsOf P)))
   unfolding openedFrom openDesk
-  opened-plan n = by-cases (ℕ-discrete (length P) 552)
-      (λ l. rw (eq-eqb (length P) 552 l) (go (isPlan (planIn (wordsOf P)) ps ls) l (rw (eq-eqb (length P) 552 l) at n)))
-      (λ o. wrong (rw (ne-eqb (length P) 552 o) at n))
+  opened-plan n = by-cases (ℕ-discrete (length P) planSize)
+      (λ l. rw (eq-eqb (length P) planSize l) (go (isPlan (planIn (wordsOf P)) ps ls) l (rw (eq-eqb (length P) planSize l) at n)))
+      (λ o. wrong (rw (ne-eqb (length P) planSize o) at n))
     where
-      go : (t : Bool) → length P ≡ 552 → openBy t (planIn (wordsOf P)) .verdict .number ≡ 0
-          → (length P ≡ 552) × (t ≡ true) × (openBy t (planIn (wordsOf P)) .desk ≡ freshDesk (planIn (wordsOf P)))
+      go : (t : Bool) → length P ≡ planSize → openBy t (planIn (wordsOf P)) .verdict .number ≡ 0
+          → (length P ≡ planSize) × (t ≡ true) × (openBy t (planIn (wordsOf P)) .desk ≡ freshDesk (planIn (wordsOf P)))
       go true l e = (l, refl, refl)
       go false l e = absurd (omega arith)
 
-      wrong : _≡_ {A = ℕ} 14 0 → (length P ≡ 552) × (isPlan (planIn (wordsOf P)) ps ls ≡ true) × (openedFrom P ps ls .desk ≡ freshDesk (planIn (wordsOf P)))
+      wrong : _≡_ {A = ℕ} notSound 0 → (length P ≡ planSize) × (isPlan (planIn (wordsOf P)) ps ls ≡ true) × (openedFrom P ps ls .desk ≡ freshDesk (planIn (wordsOf P)))
       wrong z = absurd (omega arith)
 
   -- only a desk string of the right length is opened
-  pub opened-right : (D : List ℕ) → openAnswer P ps ls D .number ≡ 0 → (length D ≡ 3628) × (openedFrom P ps ls .verdict .number ≡ 0)
-  opened-right D n = by-cases (ℕ-discrete (length D) 3628) (λ l. (l, sym (open-number P ps ls D l) ∙ n)) (λ o. absurd (open-other P ps ls D o .1 n))
+  pub opened-right : (D : List ℕ) → openAnswer P ps ls D .number ≡ 0 → (length D ≡ deskSize) × (openedFrom P ps ls .verdict .number ≡ 0)
+  opened-right D n = by-cases (ℕ-discrete (length D) deskSize) (λ l. (l, sym (open-number P ps ls D l) ∙ n)) (λ o. absurd (open-other P ps ls D o .1 n))
 
   pub open-back : (D : List ℕ) → openAnswer P ps ls D .number ≡ 0 → said (openString P ps ls D) ≡ freshDesk (planIn (wordsOf P))
   unfolding said

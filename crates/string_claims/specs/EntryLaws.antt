@@ -1,14 +1,14 @@
 -- The fetch entries that a C caller reads are those of the rules.
 -- Assumes nothing.
 use Prim.Native.Nat.{ℕ, zero, suc, _+_, _*_, _≤_, _<_}
-use mathlib.Core.Path.{_≡_, refl, sym, ap, ap₂, _∙_, subst}
+use mathlib.Core.Path.{_≡_, refl, sym, ap, _∙_, subst}
 use mathlib.Core.Logic.{⊎-elim, by-cases}
 use mathlib.Core.List.{List, [], _∷_, _++_}
 use native.Mathlib.Omega.{arith}
 use native.Mathlib.Decide.{decLt, ℕ-discrete}
 use borrow.Author.Tests.{eq-eqb, ltb-true}
 use lib.ListN.{length, getD, drop}
-use lib.Seq.{getD-drop}
+use Rattle.numbers.specs.Limits.{maxStreams, noNumber}
 use Rattle.laws.specs.Each.{Each, each-at, each-by}
 use Rattle.words.specs.Words.{Words, wordsOf, withWords}
 use Rattle.laws.specs.Overwrite.{overwrite-front}
@@ -26,9 +26,11 @@ use Rattle.desk.specs.declared.Desk.{Desk}
 use Rattle.desk.specs.Desk.{supplyOf, orderOf, Queue, deskOf, answerOf, fetchesOf, beginDesk, entriesOf, entryWords, fetchListAfter}
 use Rattle.desk.specs.Entries.{entriesIn, entries-in}
 use Rattle.trace.specs.Answers.{blankEntry, NeedsBlock}
-use Rattle.trace.specs.FetchLaws.{begin-fetched, kind-at, next-at}
+use Rattle.trace.specs.FetchLaws.{begin-fetched}
+use Rattle.trace.specs.SlotLaws.{kind-at, next-at}
 use Rattle.scheduler.specs.Count.{begin-few}
 use Rattle.layout.specs.declared.FilmdiskAnswer.{FilmdiskAnswer}
+use Rattle.layout.specs.Layout.{deskSize}
 use Rattle.desk_strings.specs.Laws.{said-wide, right-answer}
 use Rattle.desk_strings.specs.Calls.{said, roomIn, begunAnswer, beginAnswer, fetchString}
 use Rattle.string_claims.specs.Back.{wide, fair, stays-sound}
@@ -43,7 +45,7 @@ entry-length (e ∷ es) = omega (arith, entry-length es)
 
 -- an entry of three numbers of 32 bits
 abbrev Fits : Entry → Type 0
-Fits e = (e .position < 4294967296) × (e .slot < 4294967296) × (e .block < 4294967296)
+Fits e = (e .position < noNumber) × (e .slot < noNumber) × (e .block < noNumber)
 
 entry-words : (es : List Entry) → Each Fits es → Words (entryWords es)
 unfolding entryWords
@@ -67,7 +69,7 @@ read-entries es F f l =
 
 -- ---- the entries of an accepted begin
 
-module _ (D ps ls F : List ℕ) (l : length D ≡ 3628) where
+module _ (D ps ls F : List ℕ) (l : length D ≡ deskSize) where
   abbrev d : Desk
   d = said D
 
@@ -99,7 +101,7 @@ module _ (D ps ls F : List ℕ) (l : length D ≡ 3628) where
           omega (arith, next-at p s i, ltb-true (x .next) (p .figures .blocks) (good .named (omega arith) (omega arith))),
         )
 
-    streams-small : p .streams ≤ 256
+    streams-small : p .streams ≤ maxStreams
     unfolding planOf
     streams-small =
         omega (arith, streams-few (p .figures) legal, ap (λ (q : Plan). q .streams) (checked p ps ls (fair D ps ls (roomIn F) begin l z) .plan))
@@ -133,4 +135,4 @@ module _ (D ps ls F : List ℕ) (l : length D ≡ 3628) where
   unfolding beginAnswer beginDesk begunAnswer fetchesOf fetchString fetchListAfter
   begin-reads =
       let a = right-answer D l (begunAnswer (beginDesk d ps ls (roomIn F))) in
-      rw (eq-eqb (length D) 3628 l) (ap (λ (x : FilmdiskAnswer). entriesRead (x .count) (wordsOf (withWords F 0 (entryWords es)))) a ∙ entries-read ∙ sym (entries-in es))
+      rw (eq-eqb (length D) deskSize l) (ap (λ (x : FilmdiskAnswer). entriesRead (x .count) (wordsOf (withWords F 0 (entryWords es)))) a ∙ entries-read ∙ sym (entries-in es))

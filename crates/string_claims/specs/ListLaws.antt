@@ -9,6 +9,7 @@ use lib.ListN.{length}
 use Rattle.words.specs.Words.{Bytes, wordsOf}
 use Rattle.words.specs.Laws.{withWords-length, withWords-bytes}
 use Rattle.plan.specs.declared.Plan.{Plan}
+use Rattle.plan.specs.Answer.{isPlan}
 use Rattle.safety.specs.Scheduler.{Entry, Call, join, leave, begin, end}
 use Rattle.safety.specs.Ledger.{openedLedger, recorded}
 use Rattle.safety.specs.Calls.{isAccepted}
@@ -20,7 +21,7 @@ use Rattle.trace.specs.SafeLists.{list-safe, seenAs, safe-as}
 use Rattle.trace.specs.Opening.{checked-lawful}
 use Rattle.layout.specs.declared.FilmdiskAnswer.{FilmdiskAnswer}
 use Rattle.layout.specs.Answers.{verdictAnswer}
-use Rattle.layout.specs.Layout.{planIn, deskWords}
+use Rattle.layout.specs.Layout.{planIn, deskWords, deskSize}
 use Rattle.desk_strings.specs.Laws.{said-wide, right-answer, right-string}
 use Rattle.desk_strings.specs.Calls.{openAnswer, openString, openedFrom, said, answerBy, stringBy, joinAnswer, joinString, leaveAnswer, leaveString, endAnswer, endString, roomIn, begunAnswer, beginAnswer, beginString}
 use Rattle.admission.specs.Refused.{refused-desk}
@@ -46,7 +47,7 @@ move-same (leaveSlot slot) = refl
 move-same (beginSweep F) = refl
 move-same (endSweep draws) = refl
 
-module _ (D : List ℕ) (y : Bytes D) (l : length D ≡ 3628) where
+module _ (D : List ℕ) (y : Bytes D) (l : length D ≡ deskSize) where
   module _ (ps ls : List ℕ) (room : ℕ) (call : Call ℕ) where
     abbrev left : Desk
     left = deskOf (said D .plan) (answerOf (said D) ps ls room call .scheduler)
@@ -65,7 +66,7 @@ module _ (D : List ℕ) (y : Bytes D) (l : length D ≡ 3628) where
     entries : es ≡ b .entries
     -- it stays a string of bytes of the same length
     bytes : Bytes S
-    long : length S ≡ 3628
+    long : length S ≡ deskSize
 
   same-by : (d : Desk) (a : FilmdiskAnswer) (es : List Entry) (b : Answered) → said (stringBy D d) ≡ b .desk → a .number ≡ b .number → a .bound ≡ b .bound
       → es ≡ b .entries → SameCall (stringBy D d) (answerBy D a) es b
@@ -93,7 +94,7 @@ record InStep (v : Strings) (u : World) : Type 0 where
   desk : said (v .desk) ≡ u .desk
   book : v .book ≡ u .book
   bytes : Bytes (v .desk)
-  long : length (v .desk) ≡ 3628
+  long : length (v .desk) ≡ deskSize
 
 module _ (B : ℕ) where
   turn-in-step : (v : Strings) (u : World) (x : StringCall) → InStep v u → InStep (stringTurn B v x) (turn B u (lentOf x))
@@ -146,8 +147,7 @@ module _ (P ps ls D : List ℕ) (y : Bytes D) (n : openAnswer P ps ls D .number 
     number = λ xs x. number xs x t;
     bound = λ xs x. bound xs x t;
     move = λ x. move-same (x .request) t;
-    positions = λ x. x .positions;
-    leads = λ x. x .leads;
+    fair = λ x. isPlan plan (x .positions) (x .leads);
   }
     where
       number : (xs : List StringCall) (x : StringCall) → onString P first .number xs x ≡ onRecord plan .number (map lentOf xs) (lentOf x)
@@ -156,7 +156,7 @@ module _ (P ps ls D : List ℕ) (y : Bytes D) (n : openAnswer P ps ls D .number 
       bound : (xs : List StringCall) (x : StringCall) → onString P first .bound xs x ≡ onRecord plan .bound (map lentOf xs) (lentOf x)
       bound xs x = same-call _ (in-step xs .bytes) (in-step xs .long) x (x .request) .bound ∙ ap (λ (d : Desk). called d (lentOf x) .bound) (in-step xs .desk)
 
-  pub strings-safe : (xs : List StringCall) → (length (stringsAfter P first xs .desk) ≡ 3628) × Safe plan (onString P first) xs
+  pub strings-safe : (xs : List StringCall) → (length (stringsAfter P first xs .desk) ≡ deskSize) × Safe plan (onString P first) xs
   strings-safe xs =
       let t = opened-plan P ps ls (opened-right P ps ls D n .1) in
       let lawful = checked-lawful plan ps ls (opened-wide P (t .0)) (t .1) in

@@ -3,6 +3,7 @@ use Prim.Native.Nat.{ℕ, zero, suc}
 use mathlib.Core.List.{List, [], _∷_}
 use lib.ListN.{getD, drop}
 use Rattle.words.specs.Words.{wordsOf}
+use Rattle.plan.specs.Answer.{isPlan}
 use Rattle.safety.specs.Scheduler.{Entry, Call, join, leave, begin, end}
 use Rattle.safety.specs.Ledger.{Line, openedLedger, recorded}
 use Rattle.safety.specs.Calls.{isAccepted}
@@ -91,6 +92,5 @@ module _ (P D : List ℕ) where
     number = λ xs x. answerIn (stringsAfter xs .desk) x (x .request) .number;
     bound = λ xs x. answerIn (stringsAfter xs .desk) x (x .request) .bound;
     move = λ x. moveIn (x .request);
-    positions = λ x. x .positions;
-    leads = λ x. x .leads;
+    fair = λ x. isPlan (planIn (wordsOf P)) (x .positions) (x .leads);
   }

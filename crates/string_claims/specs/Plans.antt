@@ -10,6 +10,7 @@ use native.Mathlib.Decide.{ℕ-discrete}
 use lib.ListN.{length}
 use lib.Dec.{eqb}
 use borrow.Author.Tests.{eq-eqb, ne-eqb}
+use Rattle.numbers.specs.Refusals.{tooShort}
 use Rattle.words.specs.Words.{Bytes, wordsOf, withWords}
 use Rattle.words.specs.Laws.{words-length, withWords-length}
 use Rattle.card.specs.declared.CardRead.{CardRead}
@@ -18,8 +19,8 @@ use Rattle.plan.specs.declared.Plan.{Plan}
 use Rattle.plan.specs.Plan.{planOf, blankPlan, positionsOf, leadsOf}
 use Rattle.plan.specs.Answer.{refusal, answer, filled}
 use Rattle.plan.specs.Ways.{card-legal}
-use Rattle.layout.specs.Layout.{planWords, planIn, zeroBytes}
-use Rattle.layout.specs.Laws.{plan-written, plan-zero}
+use Rattle.layout.specs.Layout.{planWords, planIn, zeroBytes, planSize, deskSize}
+use Rattle.layout.specs.RoundTrip.{plan-written, plan-zero}
 use Rattle.layout.specs.Legal.{legal-sized, legal-words}
 use Rattle.layout.specs.Answers.{verdictAnswer}
 use Rattle.trace.specs.PlannedLaws.{accepted-told, plan-opens}
@@ -56,34 +57,34 @@ module _ (s p ps ls : List ℕ) where
       (refused-kept r ps (positionsOf (r .figures)) j k h .0, refused-kept r ls (leadsOf (r .figures)) j k h .0)
 
   -- after 13, and where it has another length, the plan string is as it was
-  pub plan-kept : numberOf s p ps ls ≡ 13 → planString s p ps ls ≡ p
+  pub plan-kept : numberOf s p ps ls ≡ tooShort → planString s p ps ls ≡ p
   unfolding planAnswer verdictAnswer planString planFilled
-  plan-kept h = rw (eq-eqb (plannedOf (readCard s) p ps ls .verdict .number) 13 h) (go (eqb (length p) 552))
+  plan-kept h = rw (eq-eqb (plannedOf (readCard s) p ps ls .verdict .number) tooShort h) (go (eqb (length p) planSize))
     where
       go : (t : Bool) → cond (t && false) (withWords p 0 (planWords (plannedOf (readCard s) p ps ls .plan))) p ≡ p
       go true = refl
       go false = refl
 
-  pub other-kept : (length p ≡ 552 → ⊥) → planString s p ps ls ≡ p
+  pub other-kept : (length p ≡ planSize → ⊥) → planString s p ps ls ≡ p
   unfolding planString planFilled
-  other-kept n = rw (ne-eqb (length p) 552 n)
+  other-kept n = rw (ne-eqb (length p) planSize n)
 
-  module _ (l : length p ≡ 552) (n : numberOf s p ps ls ≡ 13 → ⊥) where
+  module _ (l : length p ≡ planSize) (n : numberOf s p ps ls ≡ tooShort → ⊥) where
     written : planString s p ps ls ≡ withWords p 0 (planWords (plannedOf (readCard s) p ps ls .plan))
     unfolding planAnswer verdictAnswer planString planFilled
-    written = rw (eq-eqb (length p) 552 l, ne-eqb (plannedOf (readCard s) p ps ls .verdict .number) 13 n)
+    written = rw (eq-eqb (length p) planSize l, ne-eqb (plannedOf (readCard s) p ps ls .verdict .number) tooShort n)
 
     -- after 1 to 12 it is all zero
-    pub plan-cleared : (numberOf s p ps ls ≡ 0 → ⊥) → planString s p ps ls ≡ zeroBytes 552
+    pub plan-cleared : (numberOf s p ps ls ≡ 0 → ⊥) → planString s p ps ls ≡ zeroBytes planSize
     unfolding planAnswer verdictAnswer plannedOf
     plan-cleared h =
         written ∙ ap (λ (q : Plan). withWords p 0 (planWords q)) (refused-kept (readCard s) ps ps (readCard s .verdict .number) (planFaultOf (readCard s) p ps ls) h .1) ∙ plan-zero p l
 
-  right-length : planFaultOf (readCard s) p ps ls ≡ 0 → length p ≡ 552
+  right-length : planFaultOf (readCard s) p ps ls ≡ 0 → length p ≡ planSize
   unfolding planFaultOf
-  right-length e = by-cases (ℕ-discrete (length p) 552) (λ l. l) (λ n. wrong (rw (ne-eqb (length p) 552 n) at e))
+  right-length e = by-cases (ℕ-discrete (length p) planSize) (λ l. l) (λ n. wrong (rw (ne-eqb (length p) planSize n) at e))
     where
-      wrong : _≡_ {A = ℕ} 13 0 → length p ≡ 552
+      wrong : _≡_ {A = ℕ} tooShort 0 → length p ≡ planSize
       wrong e = absurd (omega arith)
 
   -- an accepted call leaves the plan of the card's figures
@@ -105,11 +106,11 @@ module _ (s p ps ls : List ℕ) where
         let r = readCard s in
         let (j, k, q) = accepted-told r (r .verdict .number) (planFaultOf r p ps ls) h in
         let l = right-length k in
-        let long : length (planString s p ps ls) ≡ 552 = ap length (written l (λ e. omega arith)) ∙ withWords-length p 0 _ ∙ l in
-        let o = plan-opens (r .figures) (card-legal s y r refl j) ps ls (rw (eq-eqb (length p) 552 l) at k) in
-        rw (eq-eqb (length (planString s p ps ls)) 552 long, plan-told y h, j, k) (o .0)
+        let long : length (planString s p ps ls) ≡ planSize = ap length (written l (λ e. omega arith)) ∙ withWords-length p 0 _ ∙ l in
+        let o = plan-opens (r .figures) (card-legal s y r refl j) ps ls (rw (eq-eqb (length p) planSize l) at k) in
+        rw (eq-eqb (length (planString s p ps ls)) planSize long, plan-told y h, j, k) (o .0)
 
-    pub strings-open : (D : List ℕ) → length D ≡ 3628
+    pub strings-open : (D : List ℕ) → length D ≡ deskSize
         → (let P = planString s p ps ls in let qs = positionsString s p ps ls in let ms = leadsString s p ps ls in
         (openAnswer P qs ms D .number ≡ 0) × (said (openString P qs ms D) ≡ freshDesk (planOf (readCard s .figures))))
     strings-open D l =

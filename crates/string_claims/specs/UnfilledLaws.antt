@@ -9,6 +9,7 @@ use lib.ListN.{length, getD, drop, length-append, length-drop}
 use lib.Seq.{getD-append-add, getD-drop}
 use lib.Dec.{leb, eqb}
 use borrow.Author.Tests.{leb-true}
+use Rattle.numbers.specs.Refusals.{notSound, tooShort}
 use Rattle.words.specs.Words.{withWords}
 use Rattle.words.specs.Laws.{withWords-length, withWords-after}
 use Rattle.card.specs.declared.Figures.{Figures}
@@ -21,6 +22,7 @@ use Rattle.plan.specs.Rows.{row-length}
 use Rattle.plan.specs.Answer.{faultAfter, filled, positionsAfter, leadsAfter}
 use Rattle.desk.specs.Desk.{fetchesOf, beginDesk, entriesOf, entryWords, fetchListAfter}
 use Rattle.layout.specs.Answers.{verdictAnswer}
+use Rattle.layout.specs.Layout.{deskSize}
 use Rattle.plan_strings.specs.Calls.{planFaultOf, positionsString, leadsString}
 use Rattle.desk_strings.specs.Calls.{refusedBy, said, answerBy, roomIn, begunAnswer, beginAnswer, fetchString}
 use Rattle.string_claims.specs.EntryLaws.{entry-length}
@@ -58,10 +60,10 @@ strings-past s p ps ls =
 
 pub fetches-past : (D ps ls F : List ℕ) → SameFrom (12 * beginAnswer D ps ls F .count) F (fetchString D ps ls F)
 unfolding beginAnswer answerBy refusedBy verdictAnswer begunAnswer beginDesk fetchesOf fetchString fetchListAfter
-fetches-past D ps ls F = go (eqb (length D) 3628)
+fetches-past D ps ls F = go (eqb (length D) deskSize)
   where
     go : (t : Bool)
-        → SameFrom (12 * cond t (begunAnswer (beginDesk (said D) ps ls (roomIn F))) (refusedBy 14) .count) F
+        → SameFrom (12 * cond t (begunAnswer (beginDesk (said D) ps ls (roomIn F))) (refusedBy notSound) .count) F
         (cond t (fetchListAfter (said D) ps ls (roomIn F) F) F)
     go true =
         let es = entriesOf (said D) ps ls (roomIn F) in
@@ -74,7 +76,7 @@ card-room : (f : Figures) (n : ℕ) → writeFault f n ≡ 0 → length (cardOf 
 unfolding writeFault first
 card-room f n e = go (recordFault f) (leb (length (cardOf f)) n) refl e
   where
-    go : (k : ℕ) (t : Bool) → leb (length (cardOf f)) n ≡ t → first k (cond t 0 13) ≡ 0 → length (cardOf f) ≤ n
+    go : (k : ℕ) (t : Bool) → leb (length (cardOf f)) n ≡ t → first k (cond t 0 tooShort) ≡ 0 → length (cardOf f) ≤ n
     go zero true q e = leb-true (length (cardOf f)) n q
     go zero false q e = absurd (omega arith)
     go (suc k) t q e = absurd (omega arith)

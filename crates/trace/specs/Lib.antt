@@ -6,3 +6,4 @@ pub mod Opening
 pub mod PlannedLaws
 pub mod Safe
 pub mod SafeLists
+pub mod SlotLaws

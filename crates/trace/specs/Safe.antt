@@ -2,7 +2,7 @@
 use Prim.Native.Nat.{ℕ, _+_, _*_, _/_, _≤_, _<_}
 use mathlib.Core.Path.{_≡_}
 use mathlib.Core.Logic.{_↔_, _≢_}
-use mathlib.Core.Bool.{true, cond}
+use mathlib.Core.Bool.{Bool, true, cond}
 use mathlib.Core.List.{List, [], _∷_, _++_}
 use lib.ListN.{getD}
 use Rattle.numbers.specs.Limits.{maxStreams}
@@ -28,10 +28,9 @@ pub record Seen (X : Type 0) : Type 0 where
   -- the number and the bound that one more call is answered
   pub number : List X → X → ℕ
   pub bound : List X → X → ℕ
-  -- a call's move, and the two lists that are lent to it
+  -- a call's move, and whether the lists that are lent to it are the plan's
   pub move : X → Call ℕ
-  pub positions : X → List ℕ
-  pub leads : X → List ℕ
+  pub fair : X → Bool
 
 -- from the opening of a plan, the calls on its record
 module _ (p : Plan) where
@@ -45,8 +44,7 @@ module _ (p : Plan) where
     number = λ xs x. called (worldAfter xs .desk) x .number;
     bound = λ xs x. called (worldAfter xs .desk) x .bound;
     move = λ x. moveOf (x .request);
-    positions = λ x. x .positions;
-    leads = λ x. x .leads;
+    fair = λ x. isPlan p (x .positions) (x .leads);
   }
 
 module _ {X : Type 0} (p : Plan) (v : Seen X) where
@@ -77,4 +75,4 @@ module _ {X : Type 0} (p : Plan) (v : Seen X) where
     -- B6: the record stays the plan's, and sound: a call with the plan's own lists is never answered 14
     pub same-plan : v .desk xs .plan ≡ p
     pub stays-sound : sound (supplyOf p) (orderOf p) (viewOf (v .desk xs)) ≡ true
-    pub never-unsound : (x : X) → isPlan p (v .positions x) (v .leads x) ≡ true → v .number xs x ≢ notSound
+    pub never-unsound : (x : X) → v .fair x ≡ true → v .number xs x ≢ notSound

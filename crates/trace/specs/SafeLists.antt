@@ -1,22 +1,19 @@
 -- Every list is safe: the desk of a list is the rules' scheduler of the same list, call by call.
 -- Assumes nothing.
-use Prim.Native.Nat.{ℕ, zero, suc, _+_, _*_, _/_, _≤_, _<_}
+use Prim.Native.Nat.{ℕ, zero, suc, _+_}
 use mathlib.Core.Path.{_≡_, refl, sym, ap, _∙_, subst}
-use mathlib.Core.Bool.{true, cond}
-use mathlib.Core.List.{List, [], _∷_, _++_, map, map-append}
+use mathlib.Core.Bool.{cond}
+use mathlib.Core.List.{List, [], _∷_, map, map-append}
 use native.Mathlib.Omega.{arith}
-use lib.ListN.{getD, length-map}
-use Rattle.words.specs.Words.{wordsOf}
+use lib.ListN.{getD}
 use Rattle.plan.specs.declared.Plan.{Plan}
 use Rattle.plan.specs.Answer.{isPlan}
-use Rattle.safety.specs.Supply.{Supply, Lawful}
-use Rattle.safety.specs.Scheduler.{Slot, join, leave, begin, end, at}
-use Rattle.safety.specs.Order.{Scheduler, Order, bySlot}
+use Rattle.safety.specs.Supply.{Lawful}
+use Rattle.safety.specs.Order.{Scheduler, bySlot}
 use Rattle.safety.specs.Order as A
 use Rattle.safety.specs.Sound.{sound}
 use Rattle.safety.specs.Kinds.{kindAfter}
-use Rattle.safety.specs.Arrays.{SameLength, slotOf, slotsOf, slot-at, slots-free}
-use Rattle.safety.specs.Ledger.{Line, lineAt, recorded}
+use Rattle.safety.specs.Ledger.{lineAt, recorded}
 use Rattle.safety.specs.Calls as C
 use Rattle.safety.specs.Calls.{Given, isAccepted}
 use Rattle.safety.specs.Claim as K
@@ -26,240 +23,8 @@ use Rattle.desk.specs.Entries.{entries-in}
 use Rattle.desk.specs.View.{view-of-desk}
 use Rattle.desk.specs.Promise.{supply-named}
 use Rattle.trace.specs.List.{Request, joins, leaves, begins, ends, Lent, moveOf, answerTo, called, World, turn, after, opened}
-use Rattle.trace.specs.Safe.{Seen, worldAfter, onRecord, kindAt, heldAt, lineOf, Safe}
-
--- ---- the same list for the rules
-
-module _ (p : Plan) where
-  abbrev supply : Supply ℕ
-  supply = supplyOf p
-
-  -- a call as the rules are given it
-  abbrev pub roomOf : Request → ℕ
-  roomOf (joins slot block) = 0
-  roomOf (leaves slot) = 0
-  roomOf (begins room) = room
-  roomOf (ends draws) = 0
-
-  abbrev pub givenOf : Lent → Given ℕ
-  givenOf x = record { call = moveOf (x .request); fair = isPlan p (x .positions) (x .leads); room = roomOf (x .request) }
-
-  unfoldable pub givensOf : List Lent → List (Given ℕ)
-  givensOf [] = []
-  givensOf (x ∷ xs) = givenOf x ∷ givensOf xs
-
-  -- the rules' answer
-  abbrev ruled : Scheduler ℕ Queue → Given ℕ → C.Answer ℕ Queue
-  ruled s x = C.answer supply (orderOf p) (rulesOf p) s x
-
-  -- only a begin answers entries or a bound
-  quiet : (s : Scheduler ℕ Queue) (x : Given ℕ) → C.accepted supply (orderOf p) s (x .call) .entries ≡ [] → C.accepted supply (orderOf p) s (x .call) .bound ≡ 0
-      → (ruled s x .entries ≡ []) × (ruled s x .bound ≡ 0)
-  unfolding C.answer
-  quiet s x e b = go (rulesOf p .verdict s x .number)
-    where
-      go : (k : ℕ) → (let a = C.answerBy supply (orderOf p) (rulesOf p) k (rulesOf p .verdict s x .place) s x in (a .entries ≡ []) × (a .bound ≡ 0))
-      go zero = unfold C.refusals in (e, b)
-      go (suc k) = (refl, refl)
-
-  -- what a call on a record answers is what the rules answer to its view
-  record RuledBy (d : Desk) (x : Lent) (r : Request) (g : Given ℕ) : Type 0 where
-    number : answerTo d x r .number ≡ ruled (viewOf d) g .number
-    desk : answerTo d x r .desk ≡ deskOf p (ruled (viewOf d) g .scheduler)
-    entries : answerTo d x r .entries ≡ ruled (viewOf d) g .entries
-    bound : answerTo d x r .bound ≡ ruled (viewOf d) g .bound
-
-  abbrev Ruled : Desk → Lent → Type 0
-  Ruled d x = RuledBy d x (x .request) (givenOf x)
-
-own-rules : (d : Desk) (x : Lent) → Ruled (d .plan) d x
-unfolding answerTo joinDesk leaveDesk beginDesk endDesk answered answerOf C.accepted
-own-rules d x = go (x .request)
-  where
-    go : (r : Request) → RuledBy (d .plan) d x r (record { call = moveOf r; fair = isPlan (d .plan) (x .positions) (x .leads); room = roomOf (d .plan) r })
-    go (joins slot block) =
-        let q = quiet (d .plan) (viewOf d) (record { call = join slot block; fair = isPlan (d .plan) (x .positions) (x .leads); room = 0 }) refl refl in
-        record { number = refl; desk = refl; entries = sym (q .0); bound = sym (q .1) }
-    go (leaves slot) =
-        let q = quiet (d .plan) (viewOf d) (record { call = leave slot; fair = isPlan (d .plan) (x .positions) (x .leads); room = 0 }) refl refl in
-        record { number = refl; desk = refl; entries = sym (q .0); bound = sym (q .1) }
-    go (begins room) = record { number = refl; desk = refl; entries = entries-in _; bound = refl }
-    go (ends draws) =
-        let q = quiet (d .plan) (viewOf d) (record { call = end (wordsOf draws); fair = isPlan (d .plan) (x .positions) (x .leads); room = 0 }) refl refl in
-        record { number = refl; desk = refl; entries = sym (q .0); bound = sym (q .1) }
-
-by-rules : (p : Plan) (d : Desk) (x : Lent) → d .plan ≡ p → Ruled p d x
-by-rules p d x e = subst (λ (q : Plan). Ruled q d x) e (own-rules d x)
-
--- what a call leaves, as the rules say it
-pub called-ruled : (d : Desk) (x : Lent)
-    → (called d x .number ≡ C.answer (supplyOf (d .plan)) (orderOf (d .plan)) (rulesOf (d .plan)) (viewOf d) (givenOf (d .plan) x) .number)
-    × (viewOf (called d x .desk) ≡ C.answer (supplyOf (d .plan)) (orderOf (d .plan)) (rulesOf (d .plan)) (viewOf d) (givenOf (d .plan) x) .scheduler)
-called-ruled d x = let r = own-rules d x in (r .number, ap viewOf (r .desk) ∙ view-of-desk (d .plan) _)
-
--- ---- call by call
-
--- the desk and the book are the rules' scheduler and ledger
-record Same (p : Plan) (v : World) (u : C.State ℕ Queue) : Type 0 where
-  plan : v .desk .plan ≡ p
-  view : viewOf (v .desk) ≡ u .scheduler
-  book : v .book ≡ u .ledger
-  wide : SameLength (supplyOf p) (v .desk .kinds) (v .desk .next) (v .desk .held)
-
-module _ (p : Plan) where
-  abbrev rules : C.Rules ℕ Queue (Given ℕ)
-  rules = rulesOf p
-
-  abbrev B : ℕ
-  B = p .figures .bytes
-
-  desk-plan : (s : Scheduler ℕ Queue) → deskOf p s .plan ≡ p
-  unfolding deskOf
-  desk-plan s = refl
-
-  desk-wide : (s : Scheduler ℕ Queue) → SameLength (supplyOf p) (deskOf p s .kinds) (deskOf p s .next) (deskOf p s .held)
-  unfolding deskOf
-  desk-wide s = record {
-    nexts = length-map (s .slots) (λ x. x .next) ∙ sym (length-map (s .slots) (λ x. x .kind));
-    helds = length-map (s .slots) (λ x. x .buffered) ∙ sym (length-map (s .slots) (λ x. x .kind));
-  }
-
-  turn-same : (v : World) (u : C.State ℕ Queue) (x : Lent) → Same p v u → Same p (turn B v x) (C.turn (supplyOf p) (orderOf p) rules u (givenOf p x))
-  unfolding turn C.turn C.refusals supplyOf
-  turn-same v u x s =
-      let r = by-rules p (v .desk) x (s .plan) in
-      let g : Given ℕ = givenOf p x in
-      let a : C.Answer ℕ Queue = ruled p (viewOf (v .desk)) g in
-      let l = s .book in
-      let k : called (v .desk) x .number ≡ ruled p (u .scheduler) g .number = r .number ∙ ap (λ (w : Scheduler ℕ Queue). ruled p w g .number) (s .view) in
-      let e : called (v .desk) x .entries ≡ ruled p (u .scheduler) g .entries = r .entries ∙ ap (λ (w : Scheduler ℕ Queue). ruled p w g .entries) (s .view) in
-      record {
-        plan = ap (λ (d : Desk). d .plan) (r .desk) ∙ desk-plan (a .scheduler);
-        view = ap viewOf (r .desk) ∙ view-of-desk p (a .scheduler) ∙ ap (λ (w : Scheduler ℕ Queue). ruled p w g .scheduler) (s .view);
-        book = λ t. recorded (p .figures .bytes) (l t) (moveOf (x .request)) (isAccepted (k t)) (e t);
-        wide = subst (λ (d : Desk). SameLength (supplyOf p) (d .kinds) (d .next) (d .held)) (sym (r .desk)) (desk-wide (a .scheduler));
-      }
-
-  abbrev State : Type 0
-  State = C.State ℕ Queue
-
-  abbrev afterRules : State → List Lent → State
-  afterRules u xs = C.after (supplyOf p) (orderOf p) rules u (givensOf p xs)
-
-  after-same : (xs : List Lent) (v : World) (u : State) → Same p v u → Same p (after B v xs) (afterRules u xs)
-  unfolding after C.after givensOf
-  after-same [] v u s = s
-  after-same (x ∷ xs) v u s = after-same xs (turn B v x) _ (turn-same v u x s)
-
-  -- the opening
-  fresh-same : Same p (opened (freshDesk p)) (C.opening (supplyOf p) (orderOf p))
-  unfolding freshDesk viewOf C.opening A.opened bySlot supplyOf zeros
-  fresh-same = record {
-    plan = refl;
-    view = λ t. record { phase = 0; slots = slots-free (supplyOf p) 256 t; queue = tt };
-    book = refl;
-    wide = record { nexts = refl; helds = refl };
-  }
-
--- ---- its proof
-
-module _ (p : Plan) where
-  givens-last : (ys : List Lent) (x : Lent) → givensOf p (ys ++ (x ∷ [])) ≡ givensOf p ys ++ (givenOf p x ∷ [])
-  unfolding givensOf
-  givens-last [] x = refl
-  givens-last (y ∷ ys) x = ap (λ (gs : List (Given ℕ)). givenOf p y ∷ gs) (givens-last ys x)
-
-  -- a slot of the rules is the entries of the three arrays
-  slot-same : (v : World) (u : C.State ℕ Queue) → Same p v u → (i : ℕ)
-      → at (supplyOf p) (u .scheduler .slots) i ≡ slotOf (supplyOf p) (getD (v .desk .kinds) i 0) (getD (v .desk .next) i 0) (getD (v .desk .held) i 0)
-  unfolding viewOf
-  slot-same v u s i =
-      let e : slotsOf (supplyOf p) (v .desk .kinds) (v .desk .next) (v .desk .held) ≡ u .scheduler .slots =
-      ap (λ (q : Plan). slotsOf (supplyOf q) (v .desk .kinds) (v .desk .next) (v .desk .held)) (sym (s .plan)) ∙ ap (λ (w : Scheduler ℕ Queue). w .slots) (s .view) in
-      ap (λ (ss : List (Slot ℕ)). at (supplyOf p) ss i) (sym e)
-      ∙ slot-at (supplyOf p) (v .desk .kinds) (v .desk .next) (v .desk .held) (s .wide) i
-      ∙ none i
-    where
-      none : (i : ℕ) → slotOf (supplyOf p) (getD (v .desk .kinds) i 0) (getD (v .desk .next) i (supplyOf p .none)) (getD (v .desk .held) i 0)
-          ≡ slotOf (supplyOf p) (getD (v .desk .kinds) i 0) (getD (v .desk .next) i 0) (getD (v .desk .held) i 0)
-      none i = unfold supplyOf in refl
-
-  module _ (ok : Lawful (supplyOf p)) where
-    abbrev o : Order ℕ Queue
-    o = orderOf p
-
-    same : (xs : List Lent) → Same p (worldAfter p xs) (K.stateAfter (supplyOf p) o (givensOf p xs))
-    same xs = after-same p xs (opened (freshDesk p)) (C.opening (supplyOf p) o) (fresh-same p)
-
-    safe : (xs : List Lent) → K.Safe (supplyOf p) o (kindAfter (supplyOf p)) (givensOf p xs)
-    safe xs = K.every-list-safe (supplyOf p) ok (supply-named p) (givensOf p xs)
-
-    kind-same : (xs : List Lent) (i : ℕ) → K.slotAfter (supplyOf p) o (givensOf p xs) i .kind ≡ kindAt p (onRecord p) xs i
-    kind-same xs i = ap (λ (s : Slot ℕ). s .kind) (slot-same (worldAfter p xs) _ (same xs) i)
-
-    held-same : (xs : List Lent) (i : ℕ) → K.slotAfter (supplyOf p) o (givensOf p xs) i .buffered ≡ heldAt p (onRecord p) xs i
-    held-same xs i = ap (λ (s : Slot ℕ). s .buffered) (slot-same (worldAfter p xs) _ (same xs) i)
-
-    line-same : (xs : List Lent) (i : ℕ) → K.lineAfter (supplyOf p) o (givensOf p xs) i ≡ lineOf p (onRecord p) xs i
-    line-same xs i = ap (λ (ls : List Line). lineAt ls i) (sym (same xs .book))
-
-    number-same : (xs : List Lent) (x : Lent) → onRecord p .number xs x ≡ K.answerAfter (supplyOf p) o (givensOf p xs) (givenOf p x) .number
-    number-same xs x =
-        by-rules p (worldAfter p xs .desk) x (same xs .plan) .number ∙ ap (λ (w : Scheduler ℕ Queue). ruled p w (givenOf p x) .number) (same xs .view)
-
-    bound-same : (xs : List Lent) (x : Lent) → onRecord p .bound xs x ≡ K.answerAfter (supplyOf p) o (givensOf p xs) (givenOf p x) .bound
-    bound-same xs x =
-        by-rules p (worldAfter p xs .desk) x (same xs .plan) .bound ∙ ap (λ (w : Scheduler ℕ Queue). ruled p w (givenOf p x) .bound) (same xs .view)
-
-    last : (xs ys : List Lent) (x : Lent) → xs ≡ ys ++ (x ∷ []) → givensOf p xs ≡ givensOf p ys ++ (givenOf p x ∷ [])
-    last xs ys x e = ap (givensOf p) e ∙ givens-last ys x
-
-    account : (xs : List Lent) (i : ℕ) → lineOf p (onRecord p) xs i .isOpen ≡ true → heldAt p (onRecord p) xs i + lineOf p (onRecord p) xs i .consumed ≡ lineOf p (onRecord p) xs i .fetched * p .figures .bytes
-    unfolding supplyOf
-    account xs i e =
-        let l = line-same xs i in
-        let h = held-same xs i in
-        (λ t. sym h t + sym l t .consumed)
-        ∙ safe xs .accounted i (ap (λ (x : Line). x .isOpen) l ∙ e)
-        ∙ (λ t. l t .fetched * p .figures .bytes)
-
-    hold : (xs : List Lent) (i : ℕ) → heldAt p (onRecord p) xs i ≤ p .buffer
-    unfolding supplyOf
-    hold xs i = subst (λ (h : ℕ). h ≤ p .buffer) (held-same xs i) (safe xs .fits i)
-
-    start : (xs ys : List Lent) (x : Lent) → xs ≡ ys ++ (x ∷ []) → moveOf (x .request) ≡ begin → onRecord p .number ys x ≡ 0
-        → (i : ℕ) → kindAt p (onRecord p) xs i ≡ 3 → p .figures .rate * onRecord p .bound ys x / 1000000 ≤ heldAt p (onRecord p) xs i
-    unfolding supplyOf
-    start xs ys x e b n i k =
-        let f = safe xs .starts-full (givensOf p ys) (givenOf p x) (last xs ys x e) b (sym (number-same ys x) ∙ n) i (kind-same xs i ∙ k) in
-        subst (λ (h : ℕ). p .figures .rate * onRecord p .bound ys x / 1000000 ≤ h) (held-same xs i)
-        (subst (λ (m : ℕ). p .figures .rate * m / 1000000 ≤ K.slotAfter (supplyOf p) o (givensOf p xs) i .buffered) (sym (bound-same ys x)) f)
-
-    kinds : (xs ys : List Lent) (x : Lent) → xs ≡ ys ++ (x ∷ []) → (i : ℕ) → i < 256
-        → kindAt p (onRecord p) xs i ≡ cond (isAccepted (onRecord p .number ys x)) (kindAfter (supplyOf p) (viewOf (worldAfter p ys .desk)) (moveOf (x .request)) i) (kindAt p (onRecord p) ys i)
-    kinds xs ys x e i u =
-        let n = number-same ys x in
-        let v = same ys .view in
-        let k = kind-same ys i in
-        sym (kind-same xs i)
-        ∙ safe xs .ruled (givensOf p ys) (givenOf p x) (last xs ys x e) i u
-        ∙ (λ t. cond (isAccepted (sym n t)) (kindAfter (supplyOf p) (sym v t) (moveOf (x .request)) i) (k t))
-
-    -- DEMAND 3: every list is safe
-    pub list-safe : (xs : List Lent) → Safe p (onRecord p) xs
-    list-safe xs = record {
-      occupied-open = λ i u. (
-        λ k. ap (λ (l : Line). l .isOpen) (sym (line-same xs i)) ∙ safe xs .occupied-open i .0 (omega (arith, kind-same xs i)),
-        λ e. omega (arith, kind-same xs i, safe xs .occupied-open i .1 (ap (λ (l : Line). l .isOpen) (line-same xs i) ∙ e)),
-      );
-      accounted = λ i u e. account xs i e;
-      fits = λ i u. hold xs i;
-      starts-full = λ ys x e b n i u k. start xs ys x e b n i k;
-      ruled-kinds = λ ys x e i u. kinds xs ys x e i u;
-      same-plan = same xs .plan;
-      stays-sound = ap (sound (supplyOf p) o) (same xs .view) ∙ safe xs .stays-sound;
-      never-unsound = λ x f n. safe xs .never-unsound (givenOf p x) f (sym (number-same xs x) ∙ n);
-    }
+use Rattle.trace.specs.Safe.{Seen, worldAfter, onRecord, Safe}
+use Rattle.trace.specs.SlotLaws.{kind-at, held-at}
 
 -- ---- calls of another type, seen as these
 
@@ -271,8 +36,7 @@ module _ {X Y : Type 0} (g : X → Y) (v : Seen Y) where
     number = λ xs x. v .number (map g xs) (g x);
     bound = λ xs x. v .bound (map g xs) (g x);
     move = λ x. v .move (g x);
-    positions = λ x. v .positions (g x);
-    leads = λ x. v .leads (g x);
+    fair = λ x. v .fair (g x);
   }
 
   pub safe-as : (p : Plan) (xs : List X) → Safe p v (map g xs) → Safe p seenAs xs
@@ -286,3 +50,150 @@ module _ {X Y : Type 0} (g : X → Y) (v : Seen Y) where
     stays-sound = s .stays-sound;
     never-unsound = λ x. s .never-unsound (g x);
   }
+
+-- ---- a call as the rules are given it
+
+module _ (p : Plan) where
+  abbrev roomOf : Request → ℕ
+  roomOf (joins slot block) = 0
+  roomOf (leaves slot) = 0
+  roomOf (begins room) = room
+  roomOf (ends draws) = 0
+
+  abbrev asGiven : Lent → Request → Given ℕ
+  asGiven x r = record { call = moveOf r; fair = isPlan p (x .positions) (x .leads); room = roomOf r }
+
+  abbrev pub givenOf : Lent → Given ℕ
+  givenOf x = asGiven x (x .request)
+
+  -- the rules' answer
+  abbrev ruled : Scheduler ℕ Queue → Given ℕ → C.Answer ℕ Queue
+  ruled s g = C.answer (supplyOf p) (orderOf p) (rulesOf p) s g
+
+  -- only a begin answers entries or a bound
+  quiet : (s : Scheduler ℕ Queue) (g : Given ℕ) → C.accepted (supplyOf p) (orderOf p) s (g .call) .entries ≡ []
+      → C.accepted (supplyOf p) (orderOf p) s (g .call) .bound ≡ 0 → (ruled s g .entries ≡ []) × (ruled s g .bound ≡ 0)
+  unfolding C.answer
+  quiet s g e b = go (rulesOf p .verdict s g .number)
+    where
+      go : (k : ℕ) → (let a = C.answerBy (supplyOf p) (orderOf p) (rulesOf p) k (rulesOf p .verdict s g .place) s g in (a .entries ≡ []) × (a .bound ≡ 0))
+      go zero = unfold C.refusals in (e, b)
+      go (suc k) = (refl, refl)
+
+  -- a call on a record answers what the rules answer to the scheduler s
+  record RuledBy (s : Scheduler ℕ Queue) (d : Desk) (x : Lent) (r : Request) : Type 0 where
+    number : answerTo d x r .number ≡ ruled s (asGiven x r) .number
+    desk : answerTo d x r .desk ≡ deskOf p (ruled s (asGiven x r) .scheduler)
+    entries : answerTo d x r .entries ≡ ruled s (asGiven x r) .entries
+    bound : answerTo d x r .bound ≡ ruled s (asGiven x r) .bound
+
+-- that of its view
+own-rules : (d : Desk) (x : Lent) (r : Request) → RuledBy (d .plan) (viewOf d) d x r
+unfolding answerTo joinDesk leaveDesk beginDesk endDesk answered answerOf C.accepted
+own-rules d x (joins slot block) =
+    let q = quiet (d .plan) (viewOf d) (asGiven (d .plan) x (joins slot block)) refl refl in
+    record { number = refl; desk = refl; entries = sym (q .0); bound = sym (q .1) }
+own-rules d x (leaves slot) =
+    let q = quiet (d .plan) (viewOf d) (asGiven (d .plan) x (leaves slot)) refl refl in
+    record { number = refl; desk = refl; entries = sym (q .0); bound = sym (q .1) }
+own-rules d x (begins room) = record { number = refl; desk = refl; entries = entries-in _; bound = refl }
+own-rules d x (ends draws) =
+    let q = quiet (d .plan) (viewOf d) (asGiven (d .plan) x (ends draws)) refl refl in
+    record { number = refl; desk = refl; entries = sym (q .0); bound = sym (q .1) }
+
+-- what a call leaves, as the rules say it
+pub called-ruled : (d : Desk) (x : Lent)
+    → (called d x .number ≡ C.answer (supplyOf (d .plan)) (orderOf (d .plan)) (rulesOf (d .plan)) (viewOf d) (givenOf (d .plan) x) .number)
+    × (viewOf (called d x .desk) ≡ C.answer (supplyOf (d .plan)) (orderOf (d .plan)) (rulesOf (d .plan)) (viewOf d) (givenOf (d .plan) x) .scheduler)
+called-ruled d x = let r = own-rules d x (x .request) in (r .number, ap viewOf (r .desk) ∙ view-of-desk (d .plan) _)
+
+-- ---- the same list for the rules
+
+module _ (p : Plan) where
+  abbrev State : Type 0
+  State = C.State ℕ Queue
+
+  -- a list of what the rules are given, as a caller would see it
+  abbrev onRules : Seen (Given ℕ)
+  onRules = record {
+    desk = λ gs. deskOf p (K.stateAfter (supplyOf p) (orderOf p) gs .scheduler);
+    book = λ gs. K.stateAfter (supplyOf p) (orderOf p) gs .ledger;
+    number = λ gs g. K.answerAfter (supplyOf p) (orderOf p) gs g .number;
+    bound = λ gs g. K.answerAfter (supplyOf p) (orderOf p) gs g .bound;
+    move = λ g. g .call;
+    fair = λ g. g .fair;
+  }
+
+  -- the record of a scheduler is answered as the scheduler
+  on-desk : (s : Scheduler ℕ Queue) (x : Lent) → RuledBy p s (deskOf p s) x (x .request)
+  on-desk s x = subst (λ (w : Scheduler ℕ Queue). RuledBy p w (deskOf p s) x (x .request)) (view-of-desk p s) (unfold deskOf in own-rules (deskOf p s) x (x .request))
+
+  -- the desk and the book are the rules' scheduler and ledger
+  record Same (v : World) (u : State) : Type 0 where
+    desk : v .desk ≡ deskOf p (u .scheduler)
+    book : v .book ≡ u .ledger
+
+  called-same : (d : Desk) (s : Scheduler ℕ Queue) (x : Lent) → d ≡ deskOf p s → RuledBy p s d x (x .request)
+  called-same d s x e = subst (λ (c : Desk). RuledBy p s c x (x .request)) (sym e) (on-desk s x)
+
+  turn-same : (v : World) (u : State) (x : Lent) → Same v u → Same (turn (p .figures .bytes) v x) (C.turn (supplyOf p) (orderOf p) (rulesOf p) u (givenOf p x))
+  unfolding turn C.turn C.refusals supplyOf
+  turn-same v u x s =
+      let r = called-same (v .desk) (u .scheduler) x (s .desk) in
+      let number = r .number in
+      let entries = r .entries in
+      let book = s .book in
+      record { desk = r .desk; book = λ t. recorded (p .figures .bytes) (book t) (moveOf (x .request)) (isAccepted (number t)) (entries t) }
+
+  after-same : (xs : List Lent) (v : World) (u : State) → Same v u
+      → Same (after (p .figures .bytes) v xs) (C.after (supplyOf p) (orderOf p) (rulesOf p) u (map (givenOf p) xs))
+  unfolding after C.after
+  after-same [] v u s = s
+  after-same (x ∷ xs) v u s = after-same xs (turn (p .figures .bytes) v x) _ (turn-same v u x s)
+
+  same : (xs : List Lent) → Same (worldAfter p xs) (K.stateAfter (supplyOf p) (orderOf p) (map (givenOf p) xs))
+  unfolding freshDesk deskOf C.opening A.opened bySlot supplyOf zeros
+  same xs = after-same xs (opened (freshDesk p)) (C.opening (supplyOf p) (orderOf p)) (record { desk = refl; book = refl })
+
+  seen-same : onRecord p ≡ seenAs (givenOf p) onRules
+  seen-same = λ t. record {
+    desk = λ xs. same xs .desk t;
+    book = λ xs. same xs .book t;
+    number = λ xs x. called-same (worldAfter p xs .desk) _ x (same xs .desk) .number t;
+    bound = λ xs x. called-same (worldAfter p xs .desk) _ x (same xs .desk) .bound t;
+    move = λ x. moveOf (x .request);
+    fair = λ x. isPlan p (x .positions) (x .leads);
+  }
+
+  -- ---- every list is safe
+
+  module _ (ok : Lawful (supplyOf p)) where
+    rules-safe : (gs : List (Given ℕ)) → Safe p onRules gs
+    unfolding supplyOf
+    rules-safe gs =
+        let s = K.every-list-safe (supplyOf p) ok (supply-named p) gs in
+        let d = K.stateAfter (supplyOf p) (orderOf p) gs .scheduler in
+        record {
+          occupied-open = λ i u. (λ k. s .occupied-open i .0 (omega (arith, kind-at p d i)), λ e. omega (arith, kind-at p d i, s .occupied-open i .1 e));
+          accounted = λ i u e. ap (λ (h : ℕ). h + lineAt (onRules .book gs) i .consumed) (held-at p d i) ∙ s .accounted i e;
+          fits = λ i u. omega (arith, held-at p d i, s .fits i);
+          starts-full = λ ys x e m n i u k. omega (arith, held-at p d i, s .starts-full ys x e m n i (sym (kind-at p d i) ∙ k));
+          ruled-kinds = λ ys x e i u. kind-at p d i ∙ s .ruled ys x e i u ∙ before ys x i;
+          same-plan = unfold deskOf in refl;
+          stays-sound = ap (sound (supplyOf p) (orderOf p)) (view-of-desk p d) ∙ s .stays-sound;
+          never-unsound = s .never-unsound;
+        }
+      where
+        -- the desk before the last call is the scheduler's too
+        before : (ys : List (Given ℕ)) (x : Given ℕ) (i : ℕ)
+            → cond (isAccepted (onRules .number ys x)) (kindAfter (supplyOf p) (K.stateAfter (supplyOf p) (orderOf p) ys .scheduler) (x .call) i) (K.slotAfter (supplyOf p) (orderOf p) ys i .kind)
+            ≡ cond (isAccepted (onRules .number ys x)) (kindAfter (supplyOf p) (viewOf (onRules .desk ys)) (x .call) i) (getD (onRules .desk ys .kinds) i 0)
+        before ys x i =
+            let d = K.stateAfter (supplyOf p) (orderOf p) ys .scheduler in
+            let view = sym (view-of-desk p d) in
+            let kind = sym (kind-at p d i) in
+            λ t. cond (isAccepted (onRules .number ys x)) (kindAfter (supplyOf p) (view t) (x .call) i) (kind t)
+
+    -- DEMAND 3
+    pub list-safe : (xs : List Lent) → Safe p (onRecord p) xs
+    list-safe xs = subst (λ (v : Seen Lent). Safe p v xs) (sym seen-same) (safe-as (givenOf p) onRules p xs (rules-safe (map (givenOf p) xs)))
