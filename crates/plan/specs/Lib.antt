@@ -2,6 +2,7 @@ pub mod Answer
 pub mod Check
 pub mod Disk
 pub mod Greatest
+pub mod GreatestLaws
 pub mod Legal
 pub mod Plan
 pub mod Promise

@@ -3,12 +3,14 @@
 use Prim.Native.Nat.{ℕ, zero, suc, _≤_, _<_}
 use mathlib.Core.Path.{_≡_, refl, sym, ap, _∙_, subst}
 use mathlib.Core.Bool.{Bool, true, false}
-use mathlib.Core.List.{List, [], _∷_, _++_, map}
+use mathlib.Core.List.{List, [], _∷_, map}
 use mathlib.Core.Logic.{by-cases}
 use native.Mathlib.Omega.{arith}
 use native.Mathlib.Decide.{ℕ-discrete}
-use lib.ListN.{length, length-map, replicate, length-replicate}
+use lib.ListN.{length, length-map, length-replicate}
 use borrow.Author.Tests.{eq-eqb, ne-eqb, ltb-true, eqb-true}
+use Rattle.numbers.specs.Limits.{maxStreams, noNumber}
+use Rattle.numbers.specs.Refusals.{notSound}
 use Rattle.laws.specs.Each.{Each, each-replicate}
 use Rattle.words.specs.Words.{Words, wordsOf, withWords}
 use Rattle.words.specs.Laws.{words-length}
@@ -36,7 +38,7 @@ use Rattle.layout.specs.declared.FilmdiskAnswer.{FilmdiskAnswer}
 use Rattle.layout.specs.Answers.{verdictAnswer}
 use Rattle.layout.specs.Fields.{_&_}
 use Rattle.layout.specs.FieldLaws.{words-each}
-use Rattle.layout.specs.Layout.{planWords, deskWords, planIn, deskIn}
+use Rattle.layout.specs.Layout.{planWords, deskWords, planIn, deskIn, planSize, deskSize}
 use Rattle.layout.specs.RoundTrip.{PlanSized, plan-sized, DeskSized, desk-fit, desk-written}
 use Rattle.layout.specs.Legal.{legal-words}
 use Rattle.desk_strings.specs.Laws.{enough, said-sized, said-wide, right-answer, right-string}
@@ -53,34 +55,34 @@ module _ (p : Plan) (ps ls : List ℕ) (w : Wide (p .figures)) (i : isPlan p ps 
   plan-fits : Words (planWords p)
   plan-fits = subst (λ (q : Plan). Words (planWords q)) (sym (checked p ps ls i .plan)) (legal-words (p .figures) legal)
 
-  buffer-fits : p .buffer < 4294967296
+  buffer-fits : p .buffer < noNumber
   unfolding planOf
   buffer-fits = omega (arith, ap (λ (q : Plan). q .buffer) (checked p ps ls i .plan), buffer-small (p .figures) legal, legal .bytes)
 
   -- a good slot
-  next-fits : (L : ℕ) (s : Slot ℕ) → Good (supplyOf p) L s → s .next < 4294967296
+  next-fits : (L : ℕ) (s : Slot ℕ) → Good (supplyOf p) L s → s .next < noNumber
   unfolding supplyOf
   next-fits L s g = by-kind (s .kind) refl
     where
-      block : (1 ≤ s .kind) → s .kind ≤ 3 → s .next < 4294967296
+      block : (1 ≤ s .kind) → s .kind ≤ 3 → s .next < noNumber
       block m n = omega (arith, ltb-true (s .next) (p .figures .blocks) (g .named m n), legal .blocks)
 
-      by-kind : (k : ℕ) → s .kind ≡ k → s .next < 4294967296
+      by-kind : (k : ℕ) → s .kind ≡ k → s .next < noNumber
       by-kind zero e = omega (arith, g .zeros e .0)
       by-kind (suc k) e = by-cases (ℕ-discrete k 3)
           (λ z. omega (arith, eqb-true (s .next) (p .figures .blocks) (g .past (omega arith)), legal .blocks))
           (λ z. block (omega arith) (omega (arith, g .kinds)))
 
   module _ (L : ℕ) where
-    kinds-fit : (ss : List (Slot ℕ)) → Each (Good (supplyOf p) L) ss → Each (λ v. v < 4294967296) (map (λ x. x .kind) ss)
+    kinds-fit : (ss : List (Slot ℕ)) → Each (Good (supplyOf p) L) ss → Each (λ v. v < noNumber) (map (λ x. x .kind) ss)
     kinds-fit [] h = tt
     kinds-fit (s ∷ ss) h = (omega (arith, h .0 .kinds), kinds-fit ss (h .1))
 
-    nexts-fit : (ss : List (Slot ℕ)) → Each (Good (supplyOf p) L) ss → Each (λ v. v < 4294967296) (map (λ x. x .next) ss)
+    nexts-fit : (ss : List (Slot ℕ)) → Each (Good (supplyOf p) L) ss → Each (λ v. v < noNumber) (map (λ x. x .next) ss)
     nexts-fit [] h = tt
     nexts-fit (s ∷ ss) h = (next-fits L s (h .0), nexts-fit ss (h .1))
 
-    helds-fit : (ss : List (Slot ℕ)) → Each (Good (supplyOf p) L) ss → Each (λ v. v < 4294967296) (map (λ x. x .buffered) ss)
+    helds-fit : (ss : List (Slot ℕ)) → Each (Good (supplyOf p) L) ss → Each (λ v. v < noNumber) (map (λ x. x .buffered) ss)
     unfolding supplyOf
     helds-fit [] h = tt
     helds-fit (s ∷ ss) h = (omega (arith, h .0 .fits, buffer-fits), helds-fit ss (h .1))
@@ -97,7 +99,7 @@ module _ (p : Plan) (ps ls : List ℕ) (w : Wide (p .figures)) (i : isPlan p ps 
 
 -- ---- sizes
 
-desk-of-sized : (p : Plan) (s : Scheduler ℕ Queue) → PlanSized p → length (s .slots) ≡ 256 → DeskSized (deskOf p s)
+desk-of-sized : (p : Plan) (s : Scheduler ℕ Queue) → PlanSized p → length (s .slots) ≡ maxStreams → DeskSized (deskOf p s)
 unfolding deskOf
 desk-of-sized p s z l = record {
   plan = z;
@@ -109,32 +111,32 @@ desk-of-sized p s z l = record {
 -- ---- an accepted call
 
 module _ (D ps ls : List ℕ) where
-  module _ (room : ℕ) (call : Call ℕ) (a : FilmdiskAnswer) (e : a .number ≡ answerOf (said D) ps ls room call .number) (n : answerBy D a .number ≡ 0) where
+  -- the answer a has the number that the rules give, and accepts: the desk string has the right length, and so do the rules
+  accepted-right : (room : ℕ) (call : Call ℕ) (a : FilmdiskAnswer) → a .number ≡ answerOf (said D) ps ls room call .number → answerBy D a .number ≡ 0
+      → (length D ≡ deskSize) × (answerOf (said D) ps ls room call .number ≡ 0)
+  unfolding answerBy refusedBy verdictAnswer
+  accepted-right room call a e n = by-cases (ℕ-discrete (length D) deskSize)
+      (λ l. (l, sym e ∙ sym (ap (λ (x : FilmdiskAnswer). x .number) (right-answer D l a)) ∙ n))
+      (λ o. wrong (rw (ne-eqb (length D) deskSize o) at n))
+    where
+      wrong : _≡_ {A = ℕ} notSound 0 → (length D ≡ deskSize) × (answerOf (said D) ps ls room call .number ≡ 0)
+      wrong z = absurd (omega arith)
+
+  module _ (room : ℕ) (call : Call ℕ) (right : length D ≡ deskSize) (zeroed : answerOf (said D) ps ls room call .number ≡ 0) where
     abbrev d : Desk
     d = said D
 
     abbrev p : Plan
     p = said D .plan
 
-    -- only a desk of the right length is accepted
-    right : length D ≡ 3628
-    unfolding answerBy refusedBy verdictAnswer
-    right = by-cases (ℕ-discrete (length D) 3628) (λ l. l) (λ o. wrong (rw (ne-eqb (length D) 3628 o) at n))
-      where
-        wrong : _≡_ {A = ℕ} 14 0 → length D ≡ 3628
-        wrong z = absurd (omega arith)
-
-    zeroed : answerOf d ps ls room call .number ≡ 0
-    zeroed = sym e ∙ sym (ap (λ (x : FilmdiskAnswer). x .number) (right-answer D right a)) ∙ n
-
-    wide : Wide (p .figures)
+    pub wide : Wide (p .figures)
     wide = let s = said-sized D right in (s .plan .positions, s .plan .times)
 
     judged : rulesOf p .verdict (viewOf d) (record { call = call; fair = isPlan p ps ls; room = room }) .number ≡ 0
     unfolding answerOf
     judged = verdict-zero (supplyOf p) (orderOf p) (rulesOf p) (viewOf d) _ zeroed
 
-    fair : isPlan p ps ls ≡ true
+    pub fair : isPlan p ps ls ≡ true
     fair = fair-of p (viewOf d) (record { call = call; fair = isPlan p ps ls; room = room }) judged
 
     was-sound : Sound (supplyOf p) (orderOf p) (viewOf d)
@@ -142,17 +144,17 @@ module _ (D ps ls : List ℕ) where
     was-sound = sound-says (supplyOf p) (supply-named p) (orderOf p) (viewOf d)
         (accepted-was-sound (supplyOf p) (supply-named p) (orderOf p) (viewOf d) (isPlan p ps ls) room call judged)
 
-    stays-sound : Sound (supplyOf p) (orderOf p) (answerOf d ps ls room call .scheduler)
+    pub stays-sound : Sound (supplyOf p) (orderOf p) (answerOf d ps ls room call .scheduler)
     unfolding answerOf
     stays-sound = sound-says (supplyOf p) (supply-named p) (orderOf p) _
         (K.accepted-stays-sound (supplyOf p) (checked-lawful p ps ls wide fair) (supply-named p) (orderOf p) (order-orderly p) (viewOf d)
         (record { call = call; fair = isPlan p ps ls; room = room }) zeroed)
 
-    slots-long : length (viewOf d .slots) ≡ 256
+    slots-long : length (viewOf d .slots) ≡ maxStreams
     unfolding viewOf
     slots-long = length-slots (supplyOf p) (d .kinds) (d .next) (d .held) ∙ said-wide D right .kinds
 
-    stays-long : length (answerOf d ps ls room call .scheduler .slots) ≡ 256
+    stays-long : length (answerOf d ps ls room call .scheduler .slots) ≡ maxStreams
     unfolding answerOf C.refusals
     stays-long =
         ap (λ (x : C.Answer ℕ Queue). length (x .scheduler .slots)) (answer-accepted (supplyOf p) (orderOf p) (rulesOf p) (viewOf d) _ judged)
@@ -167,55 +169,55 @@ module _ (D ps ls : List ℕ) where
 
   pub join-back : (slot block : ℕ) → joinAnswer D ps ls slot block .number ≡ 0 → said (joinString D ps ls slot block) ≡ joinDesk (said D) ps ls slot block .desk
   unfolding joinAnswer joinString joinDesk answered verdictAnswer
-  join-back slot block n = call-back 0 (join slot block) _ refl n
+  join-back slot block n = let (l, z) = accepted-right 0 (join slot block) _ refl n in call-back 0 (join slot block) l z
 
   pub leave-back : (slot : ℕ) → leaveAnswer D ps ls slot .number ≡ 0 → said (leaveString D ps ls slot) ≡ leaveDesk (said D) ps ls slot .desk
   unfolding leaveAnswer leaveString leaveDesk answered verdictAnswer
-  leave-back slot n = call-back 0 (leave slot) _ refl n
+  leave-back slot n = let (l, z) = accepted-right 0 (leave slot) _ refl n in call-back 0 (leave slot) l z
 
   pub end-back : (draws : List ℕ) → endAnswer D ps ls draws .number ≡ 0 → said (endString D ps ls draws) ≡ endDesk (said D) ps ls draws .desk
   unfolding endAnswer endString endDesk answered verdictAnswer
-  end-back draws n = call-back 0 (end (wordsOf draws)) _ refl n
+  end-back draws n = let (l, z) = accepted-right 0 (end (wordsOf draws)) _ refl n in call-back 0 (end (wordsOf draws)) l z
 
   pub begin-back : (F : List ℕ) → beginAnswer D ps ls F .number ≡ 0 → said (beginString D ps ls F) ≡ beginDesk (said D) ps ls (roomIn F) .desk
   unfolding beginAnswer beginString beginDesk begunAnswer
-  begin-back F n = call-back (roomIn F) begin _ refl n
+  begin-back F n = let (l, z) = accepted-right (roomIn F) begin _ refl n in call-back (roomIn F) begin l z
 
 -- ---- an accepted opening
 
 fresh-sized : (p : Plan) → PlanSized p → DeskSized (freshDesk p)
 unfolding freshDesk zeros
-fresh-sized p z = let l = length-replicate {A = ℕ} 256 0 in record { plan = z; kinds = l; next = l; held = l }
+fresh-sized p z = let l = length-replicate {A = ℕ} maxStreams 0 in record { plan = z; kinds = l; next = l; held = l }
 
 fresh-fits : (p : Plan) → Words (planWords p) → Words (deskWords (freshDesk p))
 unfolding freshDesk zeros
 fresh-fits p y =
-    let z : Words zeros = words-each zeros (each-replicate (λ (v : ℕ). v < 4294967296) 256 0 (omega arith)) in
+    let z : Words zeros = words-each zeros (each-replicate (λ (v : ℕ). v < noNumber) maxStreams 0 (omega arith)) in
     desk-fit (freshDesk p) y (omega arith & z & z & z & tt)
 
-pub opened-wide : (P : List ℕ) → length P ≡ 552 → Wide (planIn (wordsOf P) .figures)
+pub opened-wide : (P : List ℕ) → length P ≡ planSize → Wide (planIn (wordsOf P) .figures)
 opened-wide P l = let z = plan-sized (wordsOf P) (omega (arith, words-length P, l)) in (z .positions, z .times)
 
 module _ (P ps ls : List ℕ) where
   -- it has a plan string of the right length, and is the plan of its figures
   pub opened-plan : openedFrom P ps ls .verdict .number ≡ 0
-      → (length P ≡ 552) × (isPlan (planIn (wordsOf P)) ps ls ≡ true) × (openedFrom P ps ls .desk ≡ freshDesk (planIn (wordsOf P)))
+      → (length P ≡ planSize) × (isPlan (planIn (wordsOf P)) ps ls ≡ true) × (openedFrom P ps ls .desk ≡ freshDesk (planIn (wordsOf P)))
   unfolding openedFrom openDesk
-  opened-plan n = by-cases (ℕ-discrete (length P) 552)
-      (λ l. rw (eq-eqb (length P) 552 l) (go (isPlan (planIn (wordsOf P)) ps ls) l (rw (eq-eqb (length P) 552 l) at n)))
-      (λ o. wrong (rw (ne-eqb (length P) 552 o) at n))
+  opened-plan n = by-cases (ℕ-discrete (length P) planSize)
+      (λ l. rw (eq-eqb (length P) planSize l) (go (isPlan (planIn (wordsOf P)) ps ls) l (rw (eq-eqb (length P) planSize l) at n)))
+      (λ o. wrong (rw (ne-eqb (length P) planSize o) at n))
     where
-      go : (t : Bool) → length P ≡ 552 → openBy t (planIn (wordsOf P)) .verdict .number ≡ 0
-          → (length P ≡ 552) × (t ≡ true) × (openBy t (planIn (wordsOf P)) .desk ≡ freshDesk (planIn (wordsOf P)))
+      go : (t : Bool) → length P ≡ planSize → openBy t (planIn (wordsOf P)) .verdict .number ≡ 0
+          → (length P ≡ planSize) × (t ≡ true) × (openBy t (planIn (wordsOf P)) .desk ≡ freshDesk (planIn (wordsOf P)))
       go true l e = (l, refl, refl)
       go false l e = absurd (omega arith)
 
-      wrong : _≡_ {A = ℕ} 14 0 → (length P ≡ 552) × (isPlan (planIn (wordsOf P)) ps ls ≡ true) × (openedFrom P ps ls .desk ≡ freshDesk (planIn (wordsOf P)))
+      wrong : _≡_ {A = ℕ} notSound 0 → (length P ≡ planSize) × (isPlan (planIn (wordsOf P)) ps ls ≡ true) × (openedFrom P ps ls .desk ≡ freshDesk (planIn (wordsOf P)))
       wrong z = absurd (omega arith)
 
   -- only a desk string of the right length is opened
-  pub opened-right : (D : List ℕ) → openAnswer P ps ls D .number ≡ 0 → (length D ≡ 3628) × (openedFrom P ps ls .verdict .number ≡ 0)
-  opened-right D n = by-cases (ℕ-discrete (length D) 3628) (λ l. (l, sym (open-number P ps ls D l) ∙ n)) (λ o. absurd (open-other P ps ls D o .1 n))
+  pub opened-right : (D : List ℕ) → openAnswer P ps ls D .number ≡ 0 → (length D ≡ deskSize) × (openedFrom P ps ls .verdict .number ≡ 0)
+  opened-right D n = by-cases (ℕ-discrete (length D) deskSize) (λ l. (l, sym (open-number P ps ls D l) ∙ n)) (λ o. absurd (open-other P ps ls D o .1 n))
 
   pub open-back : (D : List ℕ) → openAnswer P ps ls D .number ≡ 0 → said (openString P ps ls D) ≡ freshDesk (planIn (wordsOf P))
   unfolding said

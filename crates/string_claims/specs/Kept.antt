@@ -10,6 +10,7 @@ use native.Mathlib.Decide.{ℕ-discrete}
 use lib.ListN.{length}
 use lib.Dec.{eqb}
 use borrow.Author.Tests.{eq-eqb, ne-eqb}
+use Rattle.numbers.specs.Refusals.{notSound, tooShort}
 use Rattle.words.specs.Words.{Bytes, wordsOf, withWords}
 use Rattle.card.specs.declared.Verdict.{Verdict}
 use Rattle.plan.specs.declared.Plan.{Plan}
@@ -21,7 +22,7 @@ use Rattle.desk.specs.Desk.{deskOf, verdict, blankDesk, openBy, openDesk, answe
 use Rattle.admission.specs.Refused.{refused-same, refused-desk}
 use Rattle.layout.specs.declared.FilmdiskAnswer.{FilmdiskAnswer}
 use Rattle.layout.specs.Answers.{verdictAnswer}
-use Rattle.layout.specs.Layout.{deskWords, planIn, zeroBytes}
+use Rattle.layout.specs.Layout.{deskWords, planIn, zeroBytes, planSize, deskSize}
 use Rattle.layout.specs.RoundTrip.{desk-kept, desk-zero}
 use Rattle.desk_strings.specs.Laws.{enough, said-wide, right-answer, right-string, other-string}
 use Rattle.desk_strings.specs.Calls.{openedFrom, openVerdict, openAnswer, openString, said, answerBy, stringBy, joinAnswer, joinString, leaveAnswer, leaveString, endAnswer, endString, roomIn, begunAnswer, beginAnswer, beginString, fetchString}
@@ -30,45 +31,47 @@ use Rattle.desk_strings.specs.Calls.{openedFrom, openVerdict, openAnswer, openS
 
 module _ (D : List ℕ) where
   -- the desk that was read, written back
-  same-string : Bytes D → (d : Desk) → (length D ≡ 3628 → d ≡ said D) → stringBy D d ≡ D
+  same-string : Bytes D → (d : Desk) → (length D ≡ deskSize → d ≡ said D) → stringBy D d ≡ D
   unfolding said
-  same-string y d e = by-cases (ℕ-discrete (length D) 3628)
+  same-string y d e = by-cases (ℕ-discrete (length D) deskSize)
       (λ l. right-string D l d ∙ ap (λ (x : Desk). withWords D 0 (deskWords x)) (e l) ∙ desk-kept D y (enough D l))
       (λ n. other-string D n d)
 
   module _ (ps ls : List ℕ) where
-    -- any call whose answer a has the number that the rules give
-    module _ (room : ℕ) (call : Call ℕ) (a : FilmdiskAnswer) (e : a .number ≡ answerOf (said D) ps ls room call .number) (n : answerBy D a .number ≡ 0 → ⊥) where
-      refused-number : length D ≡ 3628 → answerOf (said D) ps ls room call .number ≡ 0 → ⊥
-      refused-number l z = n (ap (λ (x : FilmdiskAnswer). x .number) (right-answer D l a) ∙ e ∙ z)
+    module _ (room : ℕ) (call : Call ℕ) where
+      pub call-kept : Bytes D → (length D ≡ deskSize → answerOf (said D) ps ls room call .number ≡ 0 → ⊥)
+          → stringBy D (deskOf (said D .plan) (answerOf (said D) ps ls room call .scheduler)) ≡ D
+      call-kept y n = same-string y _ (λ l. refused-desk (said D) ps ls room call (said-wide D l) (n l))
 
-      pub call-kept : Bytes D → stringBy D (deskOf (said D .plan) (answerOf (said D) ps ls room call .scheduler)) ≡ D
-      call-kept y = same-string y _ (λ l. refused-desk (said D) ps ls room call (said-wide D l) (refused-number l))
+      -- the answer a has the number that the rules give, and refuses
+      refused-number : (a : FilmdiskAnswer) → a .number ≡ answerOf (said D) ps ls room call .number → (answerBy D a .number ≡ 0 → ⊥)
+          → length D ≡ deskSize → answerOf (said D) ps ls room call .number ≡ 0 → ⊥
+      refused-number a e n l z = n (ap (λ (x : FilmdiskAnswer). x .number) (right-answer D l a) ∙ e ∙ z)
 
     pub join-kept : (slot block : ℕ) → Bytes D → (joinAnswer D ps ls slot block .number ≡ 0 → ⊥) → joinString D ps ls slot block ≡ D
     unfolding joinAnswer joinString joinDesk answered verdictAnswer
-    join-kept slot block y n = call-kept 0 (join slot block) _ refl n y
+    join-kept slot block y n = call-kept 0 (join slot block) y (refused-number 0 (join slot block) _ refl n)
 
     pub leave-kept : (slot : ℕ) → Bytes D → (leaveAnswer D ps ls slot .number ≡ 0 → ⊥) → leaveString D ps ls slot ≡ D
     unfolding leaveAnswer leaveString leaveDesk answered verdictAnswer
-    leave-kept slot y n = call-kept 0 (leave slot) _ refl n y
+    leave-kept slot y n = call-kept 0 (leave slot) y (refused-number 0 (leave slot) _ refl n)
 
     pub end-kept : (draws : List ℕ) → Bytes D → (endAnswer D ps ls draws .number ≡ 0 → ⊥) → endString D ps ls draws ≡ D
     unfolding endAnswer endString endDesk answered verdictAnswer
-    end-kept draws y n = call-kept 0 (end (wordsOf draws)) _ refl n y
+    end-kept draws y n = call-kept 0 (end (wordsOf draws)) y (refused-number 0 (end (wordsOf draws)) _ refl n)
 
     pub begin-kept : (F : List ℕ) → Bytes D → (beginAnswer D ps ls F .number ≡ 0 → ⊥) → beginString D ps ls F ≡ D
     unfolding beginAnswer beginString beginDesk begunAnswer
-    begin-kept F y n = call-kept (roomIn F) begin _ refl n y
+    begin-kept F y n = call-kept (roomIn F) begin y (refused-number (roomIn F) begin _ refl n)
 
     -- and a begin leaves the fetch list
     pub fetches-kept : (F : List ℕ) → (beginAnswer D ps ls F .number ≡ 0 → ⊥) → fetchString D ps ls F ≡ F
     unfolding fetchString fetchListAfter entryWords withWords beginAnswer beginDesk begunAnswer
-    fetches-kept F n = by-cases (ℕ-discrete (length D) 3628)
-        (λ l. rw (eq-eqb (length D) 3628 l)
+    fetches-kept F n = by-cases (ℕ-discrete (length D) deskSize)
+        (λ l. rw (eq-eqb (length D) deskSize l)
         (ap (λ (es : List Entry). withWords F 0 (entryWords es))
         (refused-same (said D) ps ls (roomIn F) begin (refused-number (roomIn F) begin (begunAnswer (beginDesk (said D) ps ls (roomIn F))) refl n l) .1)))
-        (λ o. rw (ne-eqb (length D) 3628 o))
+        (λ o. rw (ne-eqb (length D) deskSize o))
 
 -- ---- an opening
 
@@ -78,37 +81,37 @@ opening p s t = cond s (openBy t p) (openBy false p)
 
 module _ (P ps ls : List ℕ) where
   -- one that is refused answers a desk that is all zero
-  pub refused-blank : (openedFrom P ps ls .verdict .number ≡ 0 → ⊥) → (openedFrom P ps ls .desk ≡ blankDesk) × (openedFrom P ps ls .verdict .number ≡ 14)
+  pub refused-blank : (openedFrom P ps ls .verdict .number ≡ 0 → ⊥) → (openedFrom P ps ls .desk ≡ blankDesk) × (openedFrom P ps ls .verdict .number ≡ notSound)
   unfolding openedFrom openDesk
-  refused-blank n = go (eqb (length P) 552) (isPlan (planIn (wordsOf P)) ps ls) n
+  refused-blank n = go (eqb (length P) planSize) (isPlan (planIn (wordsOf P)) ps ls) n
     where
       go : (s t : Bool) → (opening (planIn (wordsOf P)) s t .verdict .number ≡ 0 → ⊥)
-          → (opening (planIn (wordsOf P)) s t .desk ≡ blankDesk) × (opening (planIn (wordsOf P)) s t .verdict .number ≡ 14)
+          → (opening (planIn (wordsOf P)) s t .desk ≡ blankDesk) × (opening (planIn (wordsOf P)) s t .verdict .number ≡ notSound)
       go true true n = absurd (n refl)
       go true false n = (refl, refl)
       go false t n = (refl, refl)
 
   module _ (D : List ℕ) where
-    pub open-number : length D ≡ 3628 → openAnswer P ps ls D .number ≡ openedFrom P ps ls .verdict .number
+    pub open-number : length D ≡ deskSize → openAnswer P ps ls D .number ≡ openedFrom P ps ls .verdict .number
     unfolding openAnswer verdictAnswer
-    open-number l = rw (eq-eqb (length D) 3628 l)
+    open-number l = rw (eq-eqb (length D) deskSize l)
 
-    pub open-right : length D ≡ 3628 → openString P ps ls D ≡ withWords D 0 (deskWords (openedFrom P ps ls .desk))
+    pub open-right : length D ≡ deskSize → openString P ps ls D ≡ withWords D 0 (deskWords (openedFrom P ps ls .desk))
     unfolding openString
-    open-right l = rw (eq-eqb (length D) 3628 l)
+    open-right l = rw (eq-eqb (length D) deskSize l)
 
     -- refused, zeros where the desk string has the right length
-    pub open-cleared : length D ≡ 3628 → (openAnswer P ps ls D .number ≡ 0 → ⊥) → openString P ps ls D ≡ zeroBytes 3628
+    pub open-cleared : length D ≡ deskSize → (openAnswer P ps ls D .number ≡ 0 → ⊥) → openString P ps ls D ≡ zeroBytes deskSize
     open-cleared l n =
         open-right l ∙ ap (λ (x : Desk). withWords D 0 (deskWords x)) (refused-blank (λ z. n (open-number l ∙ z)) .0) ∙ desk-zero D l
 
     -- a string of another length is never written, and never accepted
-    pub open-other : (length D ≡ 3628 → ⊥) → (openString P ps ls D ≡ D) × (openAnswer P ps ls D .number ≡ 0 → ⊥)
+    pub open-other : (length D ≡ deskSize → ⊥) → (openString P ps ls D ≡ D) × (openAnswer P ps ls D .number ≡ 0 → ⊥)
     unfolding openString openAnswer verdictAnswer openVerdict
-    open-other o = rw (ne-eqb (length D) 3628 o) (refl, never (openedFrom P ps ls .verdict))
+    open-other o = rw (ne-eqb (length D) deskSize o) (refl, never (openedFrom P ps ls .verdict))
       where
-        never : (v : Verdict) → cond (eqb (v .number) 0) (verdict 13 0) v .number ≡ 0 → ⊥
+        never : (v : Verdict) → cond (eqb (v .number) 0) (verdict tooShort 0) v .number ≡ 0 → ⊥
         never v e = by-cases (ℕ-discrete (v .number) 0) (λ z. thirteen (rw (eq-eqb (v .number) 0 z) at e)) (λ n. n (rw (ne-eqb (v .number) 0 n) at e))
           where
-            thirteen : _≡_ {A = ℕ} 13 0 → ⊥
+            thirteen : _≡_ {A = ℕ} tooShort 0 → ⊥
             thirteen z = omega arith

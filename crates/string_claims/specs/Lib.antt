@@ -1,4 +1,8 @@
 pub mod Back
+pub mod EntryLaws
 pub mod Kept
+pub mod ListLaws
 pub mod Lists
 pub mod Plans
+pub mod Unfilled
+pub mod UnfilledLaws

@@ -1,28 +1,20 @@
--- A list of calls on one desk string, from an accepted opening: the string says the desk of demand 3's list (crate trace).
--- Assumes nothing.
-use Prim.Native.Nat.{ℕ}
-use mathlib.Core.Path.{_≡_, refl, sym, ap, _∙_}
-use mathlib.Core.List.{List, [], _∷_, map}
-use mathlib.Core.Logic.{by-cases}
-use native.Mathlib.Decide.{ℕ-discrete}
-use lib.ListN.{length}
-use Rattle.words.specs.Words.{Bytes, wordsOf}
-use Rattle.words.specs.Laws.{withWords-length, withWords-bytes}
-use Rattle.safety.specs.Scheduler.{Call, join, leave, begin, end}
-use Rattle.desk.specs.declared.Desk.{Desk}
-use Rattle.desk.specs.Desk.{deskOf, freshDesk, answerOf, answered, joinDesk, leaveDesk, endDesk, beginDesk}
-use Rattle.trace.specs.List.{Request, joins, leaves, begins, ends, Lent, World, answerTo, called, turn, after, opened}
-use Rattle.trace.specs.Safe.{Safe, worldAfter, list-safe}
-use Rattle.trace.specs.Opening.{checked-lawful}
+-- A list of C calls on one desk string, with the book beside it: all is read off the strings and the answers.
+use Prim.Native.Nat.{ℕ, zero, suc}
+use mathlib.Core.List.{List, [], _∷_}
+use lib.ListN.{getD, drop}
+use Rattle.words.specs.Words.{wordsOf}
+use Rattle.plan.specs.Answer.{isPlan}
+use Rattle.safety.specs.Scheduler.{Entry, Call, join, leave, begin, end}
+use Rattle.safety.specs.Ledger.{Line, openedLedger, recorded}
+use Rattle.safety.specs.Calls.{isAccepted}
+use Rattle.trace.specs.Safe.{Seen}
 use Rattle.layout.specs.declared.FilmdiskAnswer.{FilmdiskAnswer}
-use Rattle.layout.specs.Layout.{planIn, deskWords}
-use Rattle.desk_strings.specs.Laws.{said-wide, right-answer, right-string}
-use Rattle.desk_strings.specs.Calls.{openAnswer, openString, openedFrom, said, stringBy, joinString, leaveString, endString, roomIn, beginString}
-use Rattle.admission.specs.Refused.{refused-desk}
-use Rattle.string_claims.specs.Kept.{call-kept, open-right}
-use Rattle.string_claims.specs.Back.{call-back, opened-right, opened-plan, opened-wide, open-back}
+use Rattle.layout.specs.Layout.{planIn}
+use Rattle.desk_strings.specs.Calls.{said, joinAnswer, joinString, leaveAnswer, leaveString, endAnswer, endString, beginAnswer, beginString, fetchString}
 
--- a call of the playout process on its desk string, with all strings that it lends
+-- ---- a call
+
+-- what the playout process asks of its desk string
 pub data StringRequest : Type 0 where
   joinSlot : ℕ → ℕ → StringRequest
   leaveSlot : ℕ → StringRequest
@@ -31,95 +23,74 @@ pub data StringRequest : Type 0 where
   -- with the draw string
   endSweep : List ℕ → StringRequest
 
+-- with the two lists that it lends
 pub record StringCall : Type 0 where
   pub request : StringRequest
   pub positions : List ℕ
   pub leads : List ℕ
 
--- the same call on the record
-abbrev pub requestOf : StringRequest → Request
-requestOf (joinSlot slot block) = joins slot block
-requestOf (leaveSlot slot) = leaves slot
-requestOf (beginSweep F) = begins (roomIn F)
-requestOf (endSweep draws) = ends draws
+-- the move that the book is told of: the draws are the words of their string
+abbrev pub moveIn : StringRequest → Call ℕ
+moveIn (joinSlot slot block) = join slot block
+moveIn (leaveSlot slot) = leave slot
+moveIn (beginSweep F) = begin
+moveIn (endSweep draws) = end (wordsOf draws)
 
-abbrev pub lentOf : StringCall → Lent
-lentOf x = record { request = requestOf (x .request); positions = x .positions; leads = x .leads }
+-- whole entries of three words, position, slot and block: the first k of a list of words
+unfoldable pub entriesRead : ℕ → List ℕ → List Entry
+entriesRead zero ws = []
+entriesRead (suc k) ws = record { position = getD ws 0 0; slot = getD ws 1 0; block = getD ws 2 0 } ∷ entriesRead k (drop 3 ws)
 
--- the desk string after a call, and after a list: each call gets the string that the last one left
-abbrev pub stringTo : List ℕ → StringCall → StringRequest → List ℕ
-stringTo D x (joinSlot slot block) = joinString D (x .positions) (x .leads) slot block
-stringTo D x (leaveSlot slot) = leaveString D (x .positions) (x .leads) slot
-stringTo D x (beginSweep F) = beginString D (x .positions) (x .leads) F
-stringTo D x (endSweep draws) = endString D (x .positions) (x .leads) draws
+-- the answer of a call, the desk string after it, and the entries of the fetch string after it, as many as the answer counts
+module _ (D : List ℕ) (x : StringCall) where
+  abbrev pub answerIn : StringRequest → FilmdiskAnswer
+  answerIn (joinSlot slot block) = joinAnswer D (x .positions) (x .leads) slot block
+  answerIn (leaveSlot slot) = leaveAnswer D (x .positions) (x .leads) slot
+  answerIn (beginSweep F) = beginAnswer D (x .positions) (x .leads) F
+  answerIn (endSweep draws) = endAnswer D (x .positions) (x .leads) draws
 
-unfoldable pub stringsAfter : List ℕ → List StringCall → List ℕ
-stringsAfter D [] = D
-stringsAfter D (x ∷ xs) = stringsAfter (stringTo D x (x .request)) xs
+  abbrev pub stringIn : StringRequest → List ℕ
+  stringIn (joinSlot slot block) = joinString D (x .positions) (x .leads) slot block
+  stringIn (leaveSlot slot) = leaveString D (x .positions) (x .leads) slot
+  stringIn (beginSweep F) = beginString D (x .positions) (x .leads) F
+  stringIn (endSweep draws) = endString D (x .positions) (x .leads) draws
 
--- ---- one call
-
-module _ (D : List ℕ) (y : Bytes D) (l : length D ≡ 3628) where
-  module _ (ps ls : List ℕ) (room : ℕ) (call : Call ℕ) where
-    abbrev numbered : FilmdiskAnswer
-    numbered = record { number = answerOf (said D) ps ls room call .number; place = 0; count = 0; bound = 0 }
-
-    abbrev left : Desk
-    left = deskOf (said D .plan) (answerOf (said D) ps ls room call .scheduler)
-
-    -- accepted or refused, the string says the desk that the call answered
-    says : said (stringBy D left) ≡ left
-    says = by-cases (ℕ-discrete (answerOf (said D) ps ls room call .number) 0)
-        (λ z. call-back D ps ls room call numbered refl (ap (λ (a : FilmdiskAnswer). a .number) (right-answer D l numbered) ∙ z))
-        (λ n. ap said (call-kept D ps ls room call numbered refl (λ z. n (sym (ap (λ (a : FilmdiskAnswer). a .number) (right-answer D l numbered)) ∙ z)) y)
-        ∙ sym (refused-desk (said D) ps ls room call (said-wide D l) n))
-
-  call-says : (x : StringCall) (r : StringRequest) → said (stringTo D x r) ≡ answerTo (said D) (lentOf x) (requestOf r) .desk
-  unfolding joinString leaveString beginString endString answerTo joinDesk leaveDesk beginDesk endDesk answered
-  call-says x (joinSlot slot block) = says (x .positions) (x .leads) 0 (join slot block)
-  call-says x (leaveSlot slot) = says (x .positions) (x .leads) 0 (leave slot)
-  call-says x (beginSweep F) = says (x .positions) (x .leads) (roomIn F) begin
-  call-says x (endSweep draws) = says (x .positions) (x .leads) 0 (end (wordsOf draws))
-
-  -- it stays a string of bytes of the same length
-  written-length : (d : Desk) → length (stringBy D d) ≡ 3628
-  written-length d = ap length (right-string D l d) ∙ withWords-length D 0 (deskWords d) ∙ l
-
-  written-bytes : (d : Desk) → Bytes (stringBy D d)
-  written-bytes d = rw (right-string D l d) (withWords-bytes D 0 (deskWords d) y)
-
-  call-length : (x : StringCall) (r : StringRequest) → length (stringTo D x r) ≡ 3628
-  unfolding joinString leaveString beginString endString
-  call-length x (joinSlot slot block) = written-length _
-  call-length x (leaveSlot slot) = written-length _
-  call-length x (beginSweep F) = written-length _
-  call-length x (endSweep draws) = written-length _
-
-  call-bytes : (x : StringCall) (r : StringRequest) → Bytes (stringTo D x r)
-  unfolding joinString leaveString beginString endString
-  call-bytes x (joinSlot slot block) = written-bytes _
-  call-bytes x (leaveSlot slot) = written-bytes _
-  call-bytes x (beginSweep F) = written-bytes _
-  call-bytes x (endSweep draws) = written-bytes _
+  abbrev pub entriesIn : StringRequest → List Entry
+  entriesIn (joinSlot slot block) = []
+  entriesIn (leaveSlot slot) = []
+  entriesIn (beginSweep F) = entriesRead (beginAnswer D (x .positions) (x .leads) F .count) (wordsOf (fetchString D (x .positions) (x .leads) F))
+  entriesIn (endSweep draws) = []
 
 -- ---- a list
 
-list-says : (B : ℕ) (xs : List StringCall) (D : List ℕ) (v : World) → Bytes D → length D ≡ 3628 → said D ≡ v .desk → said (stringsAfter D xs) ≡ after B v (map lentOf xs) .desk
-unfolding stringsAfter after turn
-list-says B [] D v y l e = e
-list-says B (x ∷ xs) D v y l e =
-    list-says B xs (stringTo D x (x .request)) (turn B v (lentOf x)) (call-bytes D y l x (x .request)) (call-length D y l x (x .request))
-    (call-says D y l x (x .request) ∙ ap (λ (d : Desk). called d (lentOf x) .desk) e)
+-- the desk string and the book beside it
+pub record Strings : Type 0 where
+  pub desk : List ℕ
+  pub book : List Line
 
--- FROM AN ACCEPTED OPENING: the desk string says the desk of the list, and every list is safe
-pub strings-safe : (P ps ls D : List ℕ) (xs : List StringCall) → Bytes D → openAnswer P ps ls D .number ≡ 0
-    → (said (stringsAfter (openString P ps ls D) xs) ≡ worldAfter (planIn (wordsOf P)) (map lentOf xs) .desk) × Safe (planIn (wordsOf P)) (map lentOf xs)
-strings-safe P ps ls D xs y n =
-    let l = opened-right P ps ls D n in
-    let t = opened-plan P ps ls (opened-right P ps ls D n .1) in (
-      list-says (planIn (wordsOf P) .figures .bytes) xs (openString P ps ls D) (opened (freshDesk (planIn (wordsOf P))))
-          (rw (open-right P ps ls D (l .0)) (withWords-bytes D 0 (deskWords (openedFrom P ps ls .desk)) y))
-          (ap length (open-right P ps ls D (l .0)) ∙ withWords-length D 0 (deskWords (openedFrom P ps ls .desk)) ∙ l .0)
-          (open-back P ps ls D n),
-      list-safe (planIn (wordsOf P)) (checked-lawful (planIn (wordsOf P)) ps ls (opened-wide P (t .0)) (t .1)) (map lentOf xs),
-    )
+-- each call gets the string that the last one left
+module _ (B : ℕ) where
+  unfoldable pub stringTurn : Strings → StringCall → Strings
+  stringTurn v x = record {
+    desk = stringIn (v .desk) x (x .request);
+    book = recorded B (v .book) (moveIn (x .request)) (isAccepted (answerIn (v .desk) x (x .request) .number)) (entriesIn (v .desk) x (x .request));
+  }
+
+  unfoldable pub stringsFrom : Strings → List StringCall → Strings
+  stringsFrom v [] = v
+  stringsFrom v (x ∷ xs) = stringsFrom (stringTurn v x) xs
+
+-- from an opening with the plan string P that left the desk string D; B is that of the plan string
+module _ (P D : List ℕ) where
+  abbrev pub stringsAfter : List StringCall → Strings
+  stringsAfter xs = stringsFrom (planIn (wordsOf P) .figures .bytes) (record { desk = D; book = openedLedger }) xs
+
+  abbrev pub onString : Seen StringCall
+  onString = record {
+    desk = λ xs. said (stringsAfter xs .desk);
+    book = λ xs. stringsAfter xs .book;
+    number = λ xs x. answerIn (stringsAfter xs .desk) x (x .request) .number;
+    bound = λ xs x. answerIn (stringsAfter xs .desk) x (x .request) .bound;
+    move = λ x. moveIn (x .request);
+    fair = λ x. isPlan (planIn (wordsOf P)) (x .positions) (x .leads);
+  }

@@ -10,19 +10,24 @@ use native.Mathlib.Decide.{ℕ-discrete}
 use lib.ListN.{length}
 use lib.Dec.{eqb}
 use borrow.Author.Tests.{eq-eqb, ne-eqb}
+use Rattle.numbers.specs.Refusals.{tooShort}
 use Rattle.words.specs.Words.{Bytes, wordsOf, withWords}
-use Rattle.words.specs.Laws.{words-length}
+use Rattle.words.specs.Laws.{words-length, withWords-length}
 use Rattle.card.specs.declared.CardRead.{CardRead}
 use Rattle.card.specs.Read.{readCard}
-use Rattle.round_trip.specs.Legality.{fault-legal}
-use Rattle.round_trip.specs.RoundTrip.{read-card}
 use Rattle.plan.specs.declared.Plan.{Plan}
 use Rattle.plan.specs.Plan.{planOf, blankPlan, positionsOf, leadsOf}
 use Rattle.plan.specs.Answer.{refusal, answer, filled}
-use Rattle.layout.specs.Layout.{planWords, planIn, zeroBytes}
+use Rattle.plan.specs.Ways.{card-legal}
+use Rattle.layout.specs.Layout.{planWords, planIn, zeroBytes, planSize, deskSize}
 use Rattle.layout.specs.RoundTrip.{plan-written, plan-zero}
 use Rattle.layout.specs.Legal.{legal-sized, legal-words}
 use Rattle.layout.specs.Answers.{verdictAnswer}
+use Rattle.trace.specs.PlannedLaws.{accepted-told, plan-opens}
+use Rattle.desk.specs.Desk.{freshDesk}
+use Rattle.desk_strings.specs.Calls.{openedFrom, openAnswer, openString, said}
+use Rattle.string_claims.specs.Kept.{open-number}
+use Rattle.string_claims.specs.Back.{open-back}
 use Rattle.plan_strings.specs.Calls.{planFaultOf, plannedOf, planFilled, planAnswer, planString, positionsString, leadsString}
 
 -- ---- the planner's answer, by its two numbers
@@ -34,13 +39,6 @@ module _ (r : CardRead) (s vs : List ℕ) where
   refused-kept zero zero h = absurd (h refl)
   refused-kept zero (suc k) h = (refl, refl)
   refused-kept (suc j) k h = (refl, refl)
-
--- an accepted answer has the plan of the figures
-accepted-told : (r : CardRead) (j k : ℕ) → answer j k r .verdict .number ≡ 0 → (j ≡ 0) × (k ≡ 0) × (answer j k r .plan ≡ planOf (r .figures))
-unfolding refusal
-accepted-told r zero zero h = (refl, refl, refl)
-accepted-told r zero (suc k) h = absurd (omega arith)
-accepted-told r (suc j) k h = absurd (omega arith)
 
 -- ---- the strings after the call
 
@@ -59,34 +57,34 @@ module _ (s p ps ls : List ℕ) where
       (refused-kept r ps (positionsOf (r .figures)) j k h .0, refused-kept r ls (leadsOf (r .figures)) j k h .0)
 
   -- after 13, and where it has another length, the plan string is as it was
-  pub plan-kept : numberOf s p ps ls ≡ 13 → planString s p ps ls ≡ p
+  pub plan-kept : numberOf s p ps ls ≡ tooShort → planString s p ps ls ≡ p
   unfolding planAnswer verdictAnswer planString planFilled
-  plan-kept h = rw (eq-eqb (plannedOf (readCard s) p ps ls .verdict .number) 13 h) (go (eqb (length p) 552))
+  plan-kept h = rw (eq-eqb (plannedOf (readCard s) p ps ls .verdict .number) tooShort h) (go (eqb (length p) planSize))
     where
       go : (t : Bool) → cond (t && false) (withWords p 0 (planWords (plannedOf (readCard s) p ps ls .plan))) p ≡ p
       go true = refl
       go false = refl
 
-  pub other-kept : (length p ≡ 552 → ⊥) → planString s p ps ls ≡ p
+  pub other-kept : (length p ≡ planSize → ⊥) → planString s p ps ls ≡ p
   unfolding planString planFilled
-  other-kept n = rw (ne-eqb (length p) 552 n)
+  other-kept n = rw (ne-eqb (length p) planSize n)
 
-  module _ (l : length p ≡ 552) (n : numberOf s p ps ls ≡ 13 → ⊥) where
+  module _ (l : length p ≡ planSize) (n : numberOf s p ps ls ≡ tooShort → ⊥) where
     written : planString s p ps ls ≡ withWords p 0 (planWords (plannedOf (readCard s) p ps ls .plan))
     unfolding planAnswer verdictAnswer planString planFilled
-    written = rw (eq-eqb (length p) 552 l, ne-eqb (plannedOf (readCard s) p ps ls .verdict .number) 13 n)
+    written = rw (eq-eqb (length p) planSize l, ne-eqb (plannedOf (readCard s) p ps ls .verdict .number) tooShort n)
 
     -- after 1 to 12 it is all zero
-    pub plan-cleared : (numberOf s p ps ls ≡ 0 → ⊥) → planString s p ps ls ≡ zeroBytes 552
+    pub plan-cleared : (numberOf s p ps ls ≡ 0 → ⊥) → planString s p ps ls ≡ zeroBytes planSize
     unfolding planAnswer verdictAnswer plannedOf
     plan-cleared h =
         written ∙ ap (λ (q : Plan). withWords p 0 (planWords q)) (refused-kept (readCard s) ps ps (readCard s .verdict .number) (planFaultOf (readCard s) p ps ls) h .1) ∙ plan-zero p l
 
-  right-length : planFaultOf (readCard s) p ps ls ≡ 0 → length p ≡ 552
+  right-length : planFaultOf (readCard s) p ps ls ≡ 0 → length p ≡ planSize
   unfolding planFaultOf
-  right-length e = by-cases (ℕ-discrete (length p) 552) (λ l. l) (λ n. wrong (rw (ne-eqb (length p) 552 n) at e))
+  right-length e = by-cases (ℕ-discrete (length p) planSize) (λ l. l) (λ n. wrong (rw (ne-eqb (length p) planSize n) at e))
     where
-      wrong : _≡_ {A = ℕ} 13 0 → length p ≡ 552
+      wrong : _≡_ {A = ℕ} tooShort 0 → length p ≡ planSize
       wrong e = absurd (omega arith)
 
   -- an accepted call leaves the plan of the card's figures
@@ -96,7 +94,28 @@ module _ (s p ps ls : List ℕ) where
       let r = readCard s in
       let told = accepted-told r (r .verdict .number) (planFaultOf r p ps ls) h in
       let l = right-length (told .1) in
-      let card = read-card s y (told .0) in
-      let ok = fault-legal (r .figures) (card .wide) (card .clear) in
+      let ok = card-legal s y r refl (told .0) in
       ap (λ (t : List ℕ). planIn (wordsOf t)) (written l (λ e. omega arith) ∙ ap (λ (q : Plan). withWords p 0 (planWords q)) (told .2))
       ∙ plan-written p (planOf (r .figures)) (legal-sized (r .figures) ok) (legal-words (r .figures) ok) (omega (arith, words-length p))
+
+  -- AND CAN BE OPENED: the strings that an accepted call leaves, with any desk string of the right length
+  module _ (y : Bytes s) (h : numberOf s p ps ls ≡ 0) where
+    planned-opened : openedFrom (planString s p ps ls) (positionsString s p ps ls) (leadsString s p ps ls) .verdict .number ≡ 0
+    unfolding planAnswer verdictAnswer plannedOf positionsString leadsString planFaultOf openedFrom
+    planned-opened =
+        let r = readCard s in
+        let (j, k, q) = accepted-told r (r .verdict .number) (planFaultOf r p ps ls) h in
+        let l = right-length k in
+        let long : length (planString s p ps ls) ≡ planSize = ap length (written l (λ e. omega arith)) ∙ withWords-length p 0 _ ∙ l in
+        let o = plan-opens (r .figures) (card-legal s y r refl j) ps ls (rw (eq-eqb (length p) planSize l) at k) in
+        rw (eq-eqb (length (planString s p ps ls)) planSize long, plan-told y h, j, k) (o .0)
+
+    pub strings-open : (D : List ℕ) → length D ≡ deskSize
+        → (let P = planString s p ps ls in let qs = positionsString s p ps ls in let ms = leadsString s p ps ls in
+        (openAnswer P qs ms D .number ≡ 0) × (said (openString P qs ms D) ≡ freshDesk (planOf (readCard s .figures))))
+    strings-open D l =
+        let P = planString s p ps ls in
+        let qs = positionsString s p ps ls in
+        let ms = leadsString s p ps ls in
+        let n = open-number P qs ms D l ∙ planned-opened in
+        (n, open-back P qs ms D n ∙ ap freshDesk (plan-told y h))

@@ -1,17 +1,22 @@
 // What the calls leave in their byte strings, as claims about the definitions that their contracts name.
 ghost use mathlib.Core.Path.{_≡_};
-ghost use Prim.Native.Nat.{ℕ};
-ghost use mathlib.Core.List.{List, map};
+ghost use Prim.Native.Nat.{ℕ, _*_};
+ghost use mathlib.Core.List.{List};
 ghost use lib.ListN.{length};
 ghost use Rattle.words.specs.Words.{Bytes, wordsOf};
+ghost use Rattle.card.specs.declared.Figures.{Figures};
+ghost use Rattle.card.specs.declared.CardRead.{CardRead};
+ghost use Rattle.card.specs.Card.{writtenCard, bufferAfter};
 ghost use Rattle.card.specs.Read.{readCard};
 ghost use Rattle.plan.specs.Plan.{planOf};
+ghost use Rattle.plan.specs.Answer.{positionsAfter, leadsAfter};
 ghost use Rattle.desk.specs.Desk.{freshDesk, joinDesk, leaveDesk, endDesk, beginDesk};
-ghost use Rattle.trace.specs.Safe.{Safe, worldAfter};
-ghost use Rattle.layout.specs.Layout.{planIn, zeroBytes};
+ghost use Rattle.trace.specs.Safe.{Safe};
+ghost use Rattle.layout.specs.Layout.{planIn, planSize, deskSize, zeroBytes};
 ghost use Rattle.plan_strings.specs.Calls.{planAnswer, planString, positionsString, leadsString};
 ghost use Rattle.desk_strings.specs.Calls.{openAnswer, openString, said, joinAnswer, joinString, leaveAnswer, leaveString, endAnswer, endString, roomIn, beginAnswer, beginString, fetchString};
-ghost use Rattle.string_claims.specs.Lists.{StringCall, lentOf, stringsAfter};
+ghost use Rattle.string_claims.specs.Lists.{StringCall, stringsAfter, onString};
+ghost use Rattle.string_claims.specs.Unfilled.{SameFrom};
 
 // A refused join, leave, begin or end leaves every string as it was: desk (D), fetch list (F). The lists are only read.
 pub fn refused_call_keeps_strings()
@@ -23,8 +28,8 @@ pub fn refused_call_keeps_strings()
 
 // A refused opening leaves zeros in a desk string of the right length; one of another length is refused and never written.
 pub fn refused_opening_clears()
-    ensures cleared { λ _. ⌜ ((P ps ls D : List ℕ) → length D ≡ 3628 → (openAnswer P ps ls D .number ≡ 0 → ⊥) → openString P ps ls D ≡ zeroBytes 3628) ⌝ }
-    ensures other { λ _. ⌜ ((P ps ls D : List ℕ) → (length D ≡ 3628 → ⊥) → (openString P ps ls D ≡ D) × (openAnswer P ps ls D .number ≡ 0 → ⊥)) ⌝ }
+    ensures cleared { λ _. ⌜ ((P ps ls D : List ℕ) → length D ≡ deskSize → (openAnswer P ps ls D .number ≡ 0 → ⊥) → openString P ps ls D ≡ zeroBytes deskSize) ⌝ }
+    ensures other { λ _. ⌜ ((P ps ls D : List ℕ) → (length D ≡ deskSize → ⊥) → (openString P ps ls D ≡ D) × (openAnswer P ps ls D .number ≡ 0 → ⊥)) ⌝ }
 {}
 
 // After an accepted call the desk string says the desk that the call answered.
@@ -36,19 +41,37 @@ pub fn accepted_desk_reads_back()
     ensures ends { λ _. ⌜ ((D ps ls draws : List ℕ) → endAnswer D ps ls draws .number ≡ 0 → said (endString D ps ls draws) ≡ endDesk (said D) ps ls draws .desk) ⌝ }
 {}
 
-// Demand 3 for the strings: from an accepted opening every list of calls on one desk string, refused calls included, leaves what the list
-// of crate trace leaves in the record, and that list is safe.
+// Demand 3 for C: from an accepted opening with the plan string P, every list of calls on one desk string, refused calls included, keeps the
+// string's length and is safe as crate trace says it. Desk, book, numbers and bounds are what the strings and these very answers say.
 pub fn every_list_of_strings_safe()
-    ensures { λ _. ⌜ ((P ps ls D : List ℕ) (xs : List StringCall) → Bytes D → openAnswer P ps ls D .number ≡ 0
-        → (said (stringsAfter (openString P ps ls D) xs) ≡ worldAfter (planIn (wordsOf P)) (map lentOf xs) .desk) × Safe (planIn (wordsOf P)) (map lentOf xs)) ⌝ }
+    ensures { λ _. ⌜ ((P ps ls D : List ℕ) → Bytes D → openAnswer P ps ls D .number ≡ 0 → (xs : List StringCall)
+        → (length (stringsAfter P (openString P ps ls D) xs .desk) ≡ deskSize) × Safe (planIn (wordsOf P)) (onString P (openString P ps ls D)) xs) ⌝ }
 {}
 
 // What the plan call leaves in the plan string and the lists: accepted, the plan of the card's figures; after 1 to 12 zeros; after 13, and where it has
 // another length, what it held. A refused call leaves both lists.
 pub fn plan_call_leaves()
     ensures accepted { λ _. ⌜ ((s p ps ls : List ℕ) → Bytes s → planAnswer s p ps ls .number ≡ 0 → planIn (wordsOf (planString s p ps ls)) ≡ planOf (readCard s .figures)) ⌝ }
-    ensures cleared { λ _. ⌜ ((s p ps ls : List ℕ) → length p ≡ 552 → (planAnswer s p ps ls .number ≡ 13 → ⊥) → (planAnswer s p ps ls .number ≡ 0 → ⊥) → planString s p ps ls ≡ zeroBytes 552) ⌝ }
+    ensures cleared { λ _. ⌜ ((s p ps ls : List ℕ) → length p ≡ planSize → (planAnswer s p ps ls .number ≡ 13 → ⊥) → (planAnswer s p ps ls .number ≡ 0 → ⊥) → planString s p ps ls ≡ zeroBytes planSize) ⌝ }
     ensures kept { λ _. ⌜ ((s p ps ls : List ℕ) → planAnswer s p ps ls .number ≡ 13 → planString s p ps ls ≡ p) ⌝ }
-    ensures other { λ _. ⌜ ((s p ps ls : List ℕ) → (length p ≡ 552 → ⊥) → planString s p ps ls ≡ p) ⌝ }
+    ensures other { λ _. ⌜ ((s p ps ls : List ℕ) → (length p ≡ planSize → ⊥) → planString s p ps ls ≡ p) ⌝ }
     ensures lists { λ _. ⌜ ((s p ps ls : List ℕ) → (planAnswer s p ps ls .number ≡ 0 → ⊥) → (positionsString s p ps ls ≡ ps) × (leadsString s p ps ls ≡ ls)) ⌝ }
+{}
+
+// What the plan call leaves can be opened, into any desk string of the right length: the desk is that of the card's plan, all slots free.
+pub fn planned_strings_open()
+    ensures { λ _. ⌜ ((s p ps ls : List ℕ) → Bytes s → planAnswer s p ps ls .number ≡ 0 → (D : List ℕ) → length D ≡ deskSize
+        → (openAnswer (planString s p ps ls) (positionsString s p ps ls) (leadsString s p ps ls) D .number ≡ 0)
+        × (said (openString (planString s p ps ls) (positionsString s p ps ls) (leadsString s p ps ls) D) ≡ freshDesk (planOf (readCard s .figures)))) ⌝ }
+{}
+
+// Bytes that an answer does not fill keep their contents, spare ones too: of both lists past N entries, of the fetch list past the counted
+// entries of 12 bytes, of the buffer past the written card. Each keeps its length.
+pub fn unfilled_entries_stay()
+    ensures planner { λ _. ⌜ ((r : CardRead) (ps ls : List ℕ)
+        → SameFrom (4 * r .figures .blocks) ps (positionsAfter r ps ls) × SameFrom (4 * r .figures .blocks) ls (leadsAfter r ps ls)) ⌝ }
+    ensures plans { λ _. ⌜ ((s p ps ls : List ℕ)
+        → SameFrom (4 * readCard s .figures .blocks) ps (positionsString s p ps ls) × SameFrom (4 * readCard s .figures .blocks) ls (leadsString s p ps ls)) ⌝ }
+    ensures begins { λ _. ⌜ ((D ps ls F : List ℕ) → SameFrom (12 * beginAnswer D ps ls F .count) F (fetchString D ps ls F)) ⌝ }
+    ensures writer { λ _. ⌜ ((f : Figures) (out : List ℕ) → SameFrom (writtenCard f out .length) out (bufferAfter f out)) ⌝ }
 {}

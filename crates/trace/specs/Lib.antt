@@ -1,6 +1,9 @@
-pub mod Draws
-pub mod Fetches
+pub mod Answers
+pub mod DrawLaws
+pub mod FetchLaws
 pub mod List
 pub mod Opening
-pub mod Planned
+pub mod PlannedLaws
 pub mod Safe
+pub mod SafeLists
+pub mod SlotLaws

@@ -62,8 +62,8 @@ pub record World : Type 0 where
   pub desk : Desk
   pub book : List Line
 
--- B is the opening's. Each call gets the desk that the last one left; the book is fed the call, whether it was accepted, and the entries
--- that it answered, and reads nothing of the desk
+-- B1: each call gets the desk that the last one left. B2: the book is fed the call, whether it was accepted, and the entries that it
+-- answered; B is the opening's, and nothing is read of the desk
 module _ (B : ℕ) where
   unfoldable pub turn : World → Lent → World
   turn v x =
@@ -74,6 +74,6 @@ module _ (B : ℕ) where
   after v [] = v
   after v (x ∷ xs) = after (turn v x) xs
 
--- from an opening: `at the opening all are closed, 0 and unmarked`
+-- from an opening, with every line closed
 abbrev pub opened : Desk → World
 opened d = record { desk = d; book = openedLedger }

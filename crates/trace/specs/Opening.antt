@@ -22,7 +22,8 @@ use Rattle.desk.specs.declared.Desk.{Desk}
 use Rattle.desk.specs.Desk.{supplyOf, rulesOf, orderOf, Queue, viewOf, openBy, openDesk, freshDesk}
 use Rattle.desk.specs.Promise.{order-orderly, supply-named, plan-lawful}
 use Rattle.trace.specs.List.{Lent, called}
-use Rattle.trace.specs.Safe.{Safe, list-safe, givenOf, called-ruled}
+use Rattle.trace.specs.Safe.{Safe, onRecord}
+use Rattle.trace.specs.SafeLists.{list-safe, givenOf, called-ruled}
 
 -- a record that passes the check has a lawful supply
 pub checked-lawful : (p : Plan) (ps ls : List ℕ) → Wide (p .figures) → isPlan p ps ls ≡ true → Lawful (supplyOf p)
@@ -32,11 +33,11 @@ checked-lawful p ps ls w e =
 
 -- EVERY LIST FROM AN ACCEPTED OPENING
 pub opening-safe : (p : Plan) (ps ls : List ℕ) → Wide (p .figures) → openDesk p ps ls .verdict .number ≡ 0
-    → (openDesk p ps ls .desk ≡ freshDesk p) × ((xs : List Lent) → Safe p xs)
+    → (openDesk p ps ls .desk ≡ freshDesk p) × ((xs : List Lent) → Safe p (onRecord p) xs)
 unfolding openDesk
 opening-safe p ps ls w e = go (isPlan p ps ls) refl e
   where
-    go : (t : Bool) → isPlan p ps ls ≡ t → openBy t p .verdict .number ≡ 0 → (openBy t p .desk ≡ freshDesk p) × ((xs : List Lent) → Safe p xs)
+    go : (t : Bool) → isPlan p ps ls ≡ t → openBy t p .verdict .number ≡ 0 → (openBy t p .desk ≡ freshDesk p) × ((xs : List Lent) → Safe p (onRecord p) xs)
     go true q e = (refl, list-safe p (checked-lawful p ps ls w q))
     go false q e = absurd (omega arith)
 

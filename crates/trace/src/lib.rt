@@ -16,17 +16,15 @@ ghost use Rattle.desk.specs.declared.Desk.{Desk};
 ghost use Rattle.desk.specs.Desk.{supplyOf, orderOf, viewOf, freshDesk, openDesk, beginDesk, endDesk};
 ghost use Rattle.desk.specs.Entries.{entriesIn};
 ghost use Rattle.desk.specs.View.{Wide as WideDesk};
-ghost use Rattle.trace.specs.Draws.{drawAt, mayDraw, LowestAbove};
-ghost use Rattle.trace.specs.Fetches.{Fetched};
+ghost use Rattle.trace.specs.Answers.{Opens, Fetched, drawAt, mayDraw, LowestAbove};
 ghost use Rattle.trace.specs.List.{Lent, called};
-ghost use Rattle.trace.specs.Planned.{Opens};
-ghost use Rattle.trace.specs.Safe.{Safe};
+ghost use Rattle.trace.specs.Safe.{Safe, onRecord};
 
 // From an accepted opening every list of joins, leaves, begins and ends is safe, refused calls included. (Wide: the record has 64 zone
 // entries, as a value of its type has.)
 pub fn every_list_safe()
     ensures { λ _. ⌜ ((p : Plan) (positions leads : List ℕ) → Wide (p .figures) → openDesk p positions leads .verdict .number ≡ 0
-        → (openDesk p positions leads .desk ≡ freshDesk p) × ((xs : List Lent) → Safe p xs)) ⌝ }
+        → (openDesk p positions leads .desk ≡ freshDesk p) × ((xs : List Lent) → Safe p (onRecord p) xs)) ⌝ }
 {}
 
 // An accepted call on any record, not only on one that a list reached, leaves a sound record.

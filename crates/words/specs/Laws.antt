@@ -187,6 +187,23 @@ unfolding withWords
 withWords-bytes s start [] y = y
 withWords-bytes s start (v ∷ vs) y = withWords-bytes (withWord s start v) (start + 1) vs (withWord-bytes s start v y)
 
+-- a byte of another entry, or a spare one, stays
+withWord-other : (s : List ℕ) (i v j : ℕ) → j / 4 ≢ i → getD (withWord s i v) j 0 ≡ getD s j 0
+unfolding withWord
+withWord-other s i v j n =
+    let p : j ≢ 4 * i = omega arith in
+    let q : j ≢ 4 * i + 1 = omega arith in
+    let r : j ≢ 4 * i + 2 = omega arith in
+    let t : j ≢ 4 * i + 3 = omega arith in
+    simp getD-set-other
+
+-- a byte after the entries stays
+pub withWords-after : (s : List ℕ) (start : ℕ) (vs : List ℕ) (j : ℕ) → 4 * (start + length vs) ≤ j → getD (withWords s start vs) j 0 ≡ getD s j 0
+unfolding withWords
+withWords-after s start [] j h = refl
+withWords-after s start (v ∷ vs) j h =
+    withWords-after (withWord s start v) (start + 1) vs j (omega arith) ∙ withWord-other s start v j (omega arith)
+
 -- the entries after the stores, element by element
 words-sets : (s : List ℕ) (start : ℕ) (vs : List ℕ) → Words vs → wordsOf (withWords s start vs) ≡ sets (wordsOf s) start vs
 unfolding withWords

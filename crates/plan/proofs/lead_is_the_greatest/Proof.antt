@@ -1,4 +1,4 @@
-use Rattle.plan.specs.Greatest.{lead-greatest, greatest-lead}
+use Rattle.plan.specs.GreatestLaws.{lead-greatest, greatest-lead}
 use Rattle.plan.proofs.lead_is_the_greatest.Statement.{statement}
 use Rattle.plan.proofs.lead_is_the_greatest.Tie as tie
 

@@ -1,4 +1,4 @@
-use Rattle.plan.specs.Greatest.{streams-most, most-streams, none-fits, one-fails}
+use Rattle.plan.specs.GreatestLaws.{streams-most, most-streams, none-fits, one-fails}
 use Rattle.plan.proofs.streams_are_the_most.Statement.{statement}
 use Rattle.plan.proofs.streams_are_the_most.Tie as tie
 

@@ -1,4 +1,4 @@
-use Rattle.trace.specs.Fetches.{begin-fetched}
+use Rattle.trace.specs.FetchLaws.{begin-fetched}
 use Rattle.trace.proofs.fetches_are_whole.Statement.{statement}
 use Rattle.trace.proofs.fetches_are_whole.Tie as tie
 

@@ -1,4 +1,4 @@
-use Rattle.trace.specs.Planned.{card-opens, record-opens}
+use Rattle.trace.specs.PlannedLaws.{card-opens, record-opens}
 use Rattle.trace.proofs.planned_film_opens.Statement.{statement}
 use Rattle.trace.proofs.planned_film_opens.Tie as tie
 

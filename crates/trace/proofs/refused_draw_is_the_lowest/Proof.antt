@@ -1,4 +1,4 @@
-use Rattle.trace.specs.Draws.{limit-lowest, held-lowest}
+use Rattle.trace.specs.DrawLaws.{limit-lowest, held-lowest}
 use Rattle.trace.proofs.refused_draw_is_the_lowest.Statement.{statement}
 use Rattle.trace.proofs.refused_draw_is_the_lowest.Tie as tie
 

@@ -1,4 +1,4 @@
--- What the planner leaves can be opened: its plan and its lists pass the check, and the desk is that plan's with all slots free.
+-- What the planner leaves can be opened: its plan and its lists pass the check.
 -- Assumes nothing.
 use Prim.Native.Nat.{ℕ, zero, suc, _≤_, _<_}
 use mathlib.Core.Path.{_≡_, refl}
@@ -14,16 +14,12 @@ use Rattle.card.specs.declared.CardRead.{CardRead}
 use Rattle.card.specs.Card.{Legal, judgeRecord}
 use Rattle.card.specs.Read.{readCard}
 use Rattle.round_trip.specs.Legality.{Wide, fault-legal}
-use Rattle.plan.specs.declared.Plan.{Plan}
 use Rattle.plan.specs.Plan.{streamsOf, planOf, positionsOf, leadsOf}
 use Rattle.plan.specs.Answer.{planFault, faultAfter, refusal, answer, planned, positionsAfter, leadsAfter, judged}
 use Rattle.plan.specs.Check.{plan-passes}
 use Rattle.plan.specs.Ways.{card-legal}
-use Rattle.desk.specs.Desk.{freshDesk, openDesk}
-
--- a plan and two lists are opened, and all slots are free
-abbrev pub Opens : Plan → List ℕ → List ℕ → Type 0
-Opens p ps ls = (openDesk p ps ls .verdict .number ≡ 0) × (openDesk p ps ls .desk ≡ freshDesk p)
+use Rattle.desk.specs.Desk.{openDesk}
+use Rattle.trace.specs.Answers.{Opens}
 
 -- the planner's answer, by its two numbers: accepted, it has the plan of the figures
 pub accepted-told : (r : CardRead) (j k : ℕ) → answer j k r .verdict .number ≡ 0 → (j ≡ 0) × (k ≡ 0) × (answer j k r .plan ≡ planOf (r .figures))

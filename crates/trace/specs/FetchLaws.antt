@@ -1,4 +1,4 @@
--- The fetches of a begin in document 01's words: one block for each filling or playing slot with room, by rising position, then slot.
+-- An accepted begin fetches for each slot that needs a block and for no other, in order.
 -- Assumes nothing.
 use Prim.Native.Nat.{ℕ, zero, suc, _+_, _-_, _≤_, _<_}
 use mathlib.Core.Path.{_≡_, refl, sym, ap, _∙_, subst}
@@ -7,7 +7,7 @@ use mathlib.Core.Bool.{Bool, true, false, cond, _||_}
 use mathlib.Core.List.{List, [], _∷_, _++_}
 use native.Mathlib.Omega.{arith}
 use native.Mathlib.Decide.{ℕ-discrete}
-use lib.ListN.{length, getD, List·getD-map}
+use lib.ListN.{length, getD}
 use lib.Dec.{eqb}
 use borrow.Author.Tests.{leb-true, le-leb, eqb-true, eq-eqb}
 use Rattle.laws.specs.Bools.{bit, and-left, and-right, and-both, or-cases, clash}
@@ -16,7 +16,7 @@ use Rattle.numbers.specs.Slots.{filling, playing}
 use Rattle.plan.specs.declared.Plan.{Plan}
 use Rattle.plan.specs.Plan.{placeOf}
 use Rattle.safety.specs.Supply.{Supply}
-use Rattle.safety.specs.Scheduler.{Slot, Entry, begin, freeSlot, at, entriesAt, reads, isFetched, entriesFrom, entries}
+use Rattle.safety.specs.Scheduler.{Slot, Entry, begin, at, entriesAt, reads, isFetched, entriesFrom, entries}
 use Rattle.safety.specs.Order.{Scheduler}
 use Rattle.safety.specs.Sorting.{before-says, rising-at, sameEntry, occurrences, sorted-keeps, entries-rise, entryOf}
 use Rattle.safety.specs.Calls as C
@@ -24,31 +24,8 @@ use Rattle.safety.specs.Lists.{verdict-zero, answer-accepted}
 use Rattle.desk.specs.declared.Desk.{Desk}
 use Rattle.desk.specs.Desk.{supplyOf, orderOf, rulesOf, Queue, viewOf, deskOf, answerOf, beginDesk}
 use Rattle.desk.specs.Entries.{entriesIn, entries-in}
-
--- ---- what is claimed
-
--- slot i is filling or playing, and its held + B is at most the buffer
-abbrev pub NeedsBlock : Desk → ℕ → Type 0
-NeedsBlock d i =
-    ((getD (d .kinds) i 0 ≡ filling) ⊎ (getD (d .kinds) i 0 ≡ playing)) × (getD (d .held) i 0 + d .plan .figures .bytes ≤ d .plan .buffer)
-
-abbrev blankEntry : Entry
-blankEntry = record { position = 0; slot = 0; block = 0 }
-
-abbrev pub entryAt : List Entry → ℕ → Entry
-entryAt es k = getD es k blankEntry
-
--- d is the desk that a begin left, es are the entries that it answered
-pub record Fetched (d : Desk) (es : List Entry) : Type 0 where
-  -- each such slot has an entry
-  pub each : (i : ℕ) → NeedsBlock d i → (k : ℕ) × (k < length es) × (entryAt es k .slot ≡ i)
-  -- no other has: an entry names such a slot, its next block and where that is laid
-  pub only : (k : ℕ) → k < length es
-      → NeedsBlock d (entryAt es k .slot) × (entryAt es k .block ≡ getD (d .next) (entryAt es k .slot) 0)
-      × (entryAt es k .position ≡ placeOf (d .plan .figures) (entryAt es k .block))
-  -- by rising position, then slot; so no slot has two
-  pub order : (j k : ℕ) → j < k → k < length es
-      → (entryAt es j .position < entryAt es k .position) ⊎ ((entryAt es j .position ≡ entryAt es k .position) × (entryAt es j .slot < entryAt es k .slot))
+use Rattle.trace.specs.SlotLaws.{kind-at, held-at, next-at}
+use Rattle.trace.specs.Answers.{NeedsBlock, blankEntry, entryAt, Fetched}
 
 -- ---- entries by how often they occur
 
@@ -212,28 +189,16 @@ module _ {A : Type 0} (p : Supply A) (alone : (a : A) → p .others a ≡ []) wh
 -- ---- a begin
 
 module _ (q : Plan) (s : Scheduler ℕ Queue) where
-  kind-at : (i : ℕ) → getD (deskOf q s .kinds) i 0 ≡ at (supplyOf q) (s .slots) i .kind
-  unfolding deskOf
-  kind-at i = List·getD-map (λ x. x .kind) (s .slots) i (freeSlot (supplyOf q))
-
-  held-at : (i : ℕ) → getD (deskOf q s .held) i 0 ≡ at (supplyOf q) (s .slots) i .buffered
-  unfolding deskOf
-  held-at i = List·getD-map (λ x. x .buffered) (s .slots) i (freeSlot (supplyOf q))
-
-  next-at : (i : ℕ) → getD (deskOf q s .next) i 0 ≡ at (supplyOf q) (s .slots) i .next
-  unfolding deskOf supplyOf
-  next-at i = List·getD-map (λ x. x .next) (s .slots) i (freeSlot (supplyOf q))
-
   needs-fetched : (i : ℕ) → NeedsBlock (deskOf q s) i → isFetched (supplyOf q) (at (supplyOf q) (s .slots) i) ≡ true
   unfolding isFetched reads deskOf supplyOf
   needs-fetched i (k, h) =
       let x = at (supplyOf q) (s .slots) i in
-      and-both (kind k) (le-leb (x .buffered + q .figures .bytes) (q .buffer) (omega (arith, held-at i)))
+      and-both (kind k) (le-leb (x .buffered + q .figures .bytes) (q .buffer) (omega (arith, held-at q s i)))
     where
       kind : (getD (deskOf q s .kinds) i 0 ≡ filling) ⊎ (getD (deskOf q s .kinds) i 0 ≡ playing)
           → (eqb (at (supplyOf q) (s .slots) i .kind) filling || eqb (at (supplyOf q) (s .slots) i .kind) playing) ≡ true
-      kind (inl e) = rw (sym (kind-at i) ∙ e)
-      kind (inr e) = rw (sym (kind-at i) ∙ e)
+      kind (inl e) = rw (sym (kind-at q s i) ∙ e)
+      kind (inr e) = rw (sym (kind-at q s i) ∙ e)
 
   fetched-needs : (i : ℕ) → isFetched (supplyOf q) (at (supplyOf q) (s .slots) i) ≡ true → NeedsBlock (deskOf q s) i
   unfolding isFetched reads deskOf supplyOf
@@ -241,13 +206,13 @@ module _ (q : Plan) (s : Scheduler ℕ Queue) where
       let x = at (supplyOf q) (s .slots) i in
       let r : Bool = eqb (x .kind) filling || eqb (x .kind) playing in (
         kind (or-cases (eqb (x .kind) filling) _ (and-left r _ e)),
-        omega (arith, held-at i, leb-true (x .buffered + q .figures .bytes) (q .buffer) (and-right r _ e)),
+        omega (arith, held-at q s i, leb-true (x .buffered + q .figures .bytes) (q .buffer) (and-right r _ e)),
       )
     where
       kind : (eqb (at (supplyOf q) (s .slots) i .kind) filling ≡ true) ⊎ (eqb (at (supplyOf q) (s .slots) i .kind) playing ≡ true)
           → (getD (deskOf q s .kinds) i 0 ≡ filling) ⊎ (getD (deskOf q s .kinds) i 0 ≡ playing)
-      kind (inl t) = inl (kind-at i ∙ eqb-true (at (supplyOf q) (s .slots) i .kind) filling t)
-      kind (inr t) = inr (kind-at i ∙ eqb-true (at (supplyOf q) (s .slots) i .kind) playing t)
+      kind (inl t) = inl (kind-at q s i ∙ eqb-true (at (supplyOf q) (s .slots) i .kind) filling t)
+      kind (inr t) = inr (kind-at q s i ∙ eqb-true (at (supplyOf q) (s .slots) i .kind) playing t)
 
   slots-fetched : Fetched (deskOf q s) (entries (supplyOf q) (s .slots))
   unfolding supplyOf deskOf
@@ -255,7 +220,7 @@ module _ (q : Plan) (s : Scheduler ℕ Queue) where
     each = λ i h. let (k, l, e) = each-entry (supplyOf q) (λ a. refl) (s .slots) i (needs-fetched i h) in (k, l, ap (λ (x : Entry). x .slot) e);
     only = λ k l. let (i, f, e) = only-entry (supplyOf q) (λ a. refl) (s .slots) k l in
         subst (λ (x : Entry). NeedsBlock (deskOf q s) (x .slot) × (x .block ≡ getD (deskOf q s .next) (x .slot) 0) × (x .position ≡ placeOf (q .figures) (x .block)))
-        (sym e) (fetched-needs i f, sym (next-at i), refl);
+        (sym e) (fetched-needs i f, sym (next-at q s i), refl);
     order = entry-order (supplyOf q) (λ a. refl) (s .slots);
   }
 

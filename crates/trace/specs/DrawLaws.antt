@@ -1,6 +1,6 @@
--- The place of 20 and of 21 in document 01's words: the lowest slot whose draw is above what it may draw, or above what it holds.
+-- The place of 20 and of 21 is the lowest slot whose draw is above what it may draw, or above what it holds.
 -- Assumes nothing.
-use Prim.Native.Nat.{ℕ, zero, suc, _≤_, _<_}
+use Prim.Native.Nat.{ℕ, zero, suc, _<_}
 use mathlib.Core.Path.{_≡_, refl, sym, ap, _∙_}
 use mathlib.Core.Logic.{_≢_}
 use mathlib.Core.Bool.{Bool, true, false, _&&_}
@@ -10,11 +10,10 @@ use lib.ListN.{getD}
 use lib.Dec.{leb}
 use borrow.Author.Tests.{leb-true, leb-false}
 use Rattle.laws.specs.Places.{Lowest}
-use Rattle.numbers.specs.Limits.{maxStreams}
 use Rattle.numbers.specs.Refusals.{drawAboveLimit, drawAboveHeld}
 use Rattle.words.specs.Words.{wordsOf}
 use Rattle.plan.specs.Answer.{isPlan}
-use Rattle.safety.specs.Scheduler.{Slot, end, freeSlot, at, mostDrawn, drawLimit}
+use Rattle.safety.specs.Scheduler.{Slot, end, freeSlot, at, mostDrawn}
 use Rattle.safety.specs.Sound.{sound}
 use Rattle.safety.specs.Refusals.{Verdict, unless, drawAllowed, drawHeld, judged, verdict}
 use Rattle.safety.specs.Verdicts.{excess-lowest, overdrawn-lowest}
@@ -24,20 +23,7 @@ use Rattle.desk.specs.Desk.{supplyOf, orderOf, rulesOf, slotsIn, viewOf, answer
 use Rattle.desk.specs.View.{Wide}
 use Rattle.desk.specs.Slots.{length-in, held-in}
 use Rattle.desk.specs.Promise.{supply-named}
-
--- the draw of slot i in a lent byte string
-abbrev pub drawAt : List ℕ → ℕ → ℕ
-drawAt draws i = getD (wordsOf draws) i 0
-
--- what slot i may draw: c × bound / 1,000,000 rounded down where it plays or is a tail, else 0
-abbrev pub mayDraw : Desk → ℕ → ℕ
-mayDraw d i = let p = supplyOf (d .plan) in drawLimit p (mostDrawn p (slotsIn d)) (at p (slotsIn d) i)
-
--- i is the lowest slot whose draw is above the limit
-pub record LowestAbove (limit draw : ℕ → ℕ) (i : ℕ) : Type 0 where
-  pub inside : i < maxStreams
-  pub above : limit i < draw i
-  pub below : (j : ℕ) → j < i → draw j ≤ limit j
+use Rattle.trace.specs.Answers.{drawAt, mayDraw, LowestAbove}
 
 -- one that is not 14 is of the rows after it
 past-sound : (t : Bool) (r : Verdict) (k : ℕ) → k ≢ 14 → unless t 14 0 r .number ≡ k → unless t 14 0 r ≡ r
