@@ -20,10 +20,10 @@ use Rattle.safety.specs.Lists.{answer-accepted, answer-refused}
 use Rattle.safety.specs.Rows.{refuse, join-phase, join-slot, join-occupied, join-fault, join-accepted, leave-phase, leave-slot, leave-free, leave-accepted}
 use Rattle.desk.specs.declared.Desk.{Desk}
 use Rattle.desk.specs.declared.Answer.{Answer}
-use Rattle.desk.specs.Desk.{supplyOf, slotsIn, viewOf, deskOf, freshDesk, blankDesk, verdict, openDesk, answerOf, answered, joinDesk, leaveDesk}
+use Rattle.desk.specs.Desk.{supplyOf, rulesOf, orderOf, slotsIn, viewOf, deskOf, freshDesk, blankDesk, verdict, openDesk, answerOf, answered, joinDesk, leaveDesk}
 use Rattle.desk.specs.View.{Wide, same-length, desk-of-view}
 use Rattle.desk.specs.Slots.{kind-in}
-use Rattle.records.specs.Records.{answers, withSlot}
+use Rattle.desk.specs.Records.{answers, withSlot}
 use Rattle.soundness.specs.Facts.{soundDesk}
 use Rattle.admission.specs.Refused.{refused-desk}
 
@@ -41,14 +41,14 @@ open-done p ps ls e = rw e
 
 module _ (d : Desk) (w : Wide d) (ps ls : List ℕ) where
   abbrev judges : Call ℕ → refusals.Verdict
-  judges c = refusals.verdict (supplyOf (d .plan)) (bySlot (supplyOf (d .plan))) (viewOf d) (isPlan (d .plan) ps ls) 0 c
+  judges c = refusals.verdict (supplyOf (d .plan)) (orderOf (d .plan)) (viewOf d) (isPlan (d .plan) ps ls) 0 c
 
   -- a refused call answers the desk it was given
   refused-is : (c : Call ℕ) (k i : ℕ) → 0 < k → judges c ≡ refuse k i → answered d (answerOf d ps ls 0 c) ≡ answers d k i
   unfolding answered answerOf calls.refusals
   refused-is c k i h e =
       let p = supplyOf (d .plan) in
-      ap (answered d) (answer-refused p (bySlot p) (calls.refusals p (bySlot p)) (viewOf d) (record { call = c; fair = isPlan (d .plan) ps ls; room = 0 }) k i h e)
+      ap (answered d) (answer-refused p (orderOf (d .plan)) (rulesOf (d .plan)) (viewOf d) (record { call = c; fair = isPlan (d .plan) ps ls; room = 0 }) k i h e)
       ∙ λ t. record { verdict = verdict k i; desk = desk-of-view d w t }
 
   -- the record with a slot set, and its view
@@ -117,7 +117,7 @@ module _ (d : Desk) (w : Wide d) (ps ls : List ℕ) where
           let p = supplyOf (d .plan) in
           let f : p .fault block ≡ 0 = ap (λ (t : Bool). cond t 0 18) (lt-ltb block (d .plan .figures .blocks) b) in
           let v : judges (join slot block) ≡ refusals.accept = sound-row (join slot block) s ∙ join-accepted p (viewOf d) 0 slot block h l (kind-in d w slot ∙ k) f in
-          sym (ap (answered d) (answer-accepted p (bySlot p) (calls.refusals p (bySlot p)) (viewOf d) (record { call = join slot block; fair = isPlan (d .plan) ps ls; room = 0 }) (ap (λ (u : refusals.Verdict). u .number) v))
+          sym (ap (answered d) (answer-accepted p (orderOf (d .plan)) (rulesOf (d .plan)) (viewOf d) (record { call = join slot block; fair = isPlan (d .plan) ps ls; room = 0 }) (ap (λ (u : refusals.Verdict). u .number) v))
           ∙ λ t. record { verdict = verdict 0 0; desk = set-slots slot 1 block h t })
 
     -- a join that is refused, and one that is not
@@ -172,7 +172,7 @@ module _ (d : Desk) (w : Wide d) (ps ls : List ℕ) where
       leave-done h l k =
           let p = supplyOf (d .plan) in
           let v : judges (leave slot) ≡ refusals.accept = sound-row (leave slot) s ∙ leave-accepted p (viewOf d) 0 slot h l (λ e. k (sym (kind-in d w slot) ∙ e)) in
-          sym (ap (answered d) (answer-accepted p (bySlot p) (calls.refusals p (bySlot p)) (viewOf d) (record { call = leave slot; fair = isPlan (d .plan) ps ls; room = 0 }) (ap (λ (u : refusals.Verdict). u .number) v))
+          sym (ap (answered d) (answer-accepted p (orderOf (d .plan)) (rulesOf (d .plan)) (viewOf d) (record { call = leave slot; fair = isPlan (d .plan) ps ls; room = 0 }) (ap (λ (u : refusals.Verdict). u .number) v))
           ∙ λ t. record { verdict = verdict 0 0; desk = set-slots slot 0 0 h t })
 
     -- a leave that is refused, and one that is not

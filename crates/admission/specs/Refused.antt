@@ -6,12 +6,11 @@ use mathlib.Core.List.{List, []}
 use native.Mathlib.Omega.{arith}
 use Rattle.plan.specs.Answer.{isPlan}
 use Rattle.safety.specs.Scheduler.{Call}
-use Rattle.safety.specs.Order.{bySlot}
 use Rattle.safety.specs.Calls as C
 use Rattle.safety.specs.Calls.{State}
 use Rattle.safety.specs.Lists.{refused-changes-nothing}
 use Rattle.desk.specs.declared.Desk.{Desk}
-use Rattle.desk.specs.Desk.{supplyOf, viewOf, deskOf, answerOf}
+use Rattle.desk.specs.Desk.{supplyOf, rulesOf, orderOf, Queue, viewOf, deskOf, answerOf}
 use Rattle.desk.specs.View.{Wide, desk-of-view}
 
 above-zero : (k : ℕ) → (k ≡ 0 → ⊥) → 0 < k
@@ -24,9 +23,9 @@ module _ (d : Desk) (ps ls : List ℕ) (room : ℕ) (call : Call ℕ) where
   refused-same n =
       let s = supplyOf (d .plan) in
       let r =
-      refused-changes-nothing s (bySlot s) (C.refusals s (bySlot s)) (record { scheduler = viewOf d; ledger = [] })
+      refused-changes-nothing s (orderOf (d .plan)) (rulesOf (d .plan)) (record { scheduler = viewOf d; ledger = [] })
       (record { call = call; fair = isPlan (d .plan) ps ls; room = room }) (above-zero _ n) in
-      (ap (λ (v : State ℕ (Unit {0})). v .scheduler) (r .0), r .1)
+      (ap (λ (v : State ℕ Queue). v .scheduler) (r .0), r .1)
 
   pub refused-desk : Wide d → (answerOf d ps ls room call .number ≡ 0 → ⊥) → deskOf (d .plan) (answerOf d ps ls room call .scheduler) ≡ d
   refused-desk w n = ap (deskOf (d .plan)) (refused-same n .0) ∙ desk-of-view d w

@@ -2,11 +2,11 @@
 use card::Verdict;
 use desk::Answer;
 use desk::Desk;
+use desk::answer_with;
+use desk::blank_desk;
+use desk::fresh_desk;
+use desk::with_slot;
 use plan::Plan;
-use records::answer;
-use records::blank_desk;
-use records::fresh_desk;
-use records::with_slot;
 use soundness::is_sound;
 ghost use mathlib.Core.Path.{_≡_};
 ghost use Rattle.desk.specs.Desk.{verdict, openDesk, joinDesk, leaveDesk};
@@ -16,9 +16,9 @@ pub fn open(plan: Plan, positions: &[u8], leads: &[u8]) -> Answer
     ensures { λ r. ⌜ r ≡ openDesk plan (now (positions .entry)) (now (leads .entry)) ⌝ }
 {
     if !planner::is_plan(plan, positions, leads) {
-        return answer(blank_desk(), 14, 0);
+        return answer_with(blank_desk(), 14, 0);
     }
-    answer(fresh_desk(plan), 0, 0)
+    answer_with(fresh_desk(plan), 0, 0)
 }
 
 // Document 01's number and place.
@@ -73,7 +73,7 @@ pub fn join(desk: Desk, positions: &[u8], leads: &[u8], slot: u32, block: u32) -
             desk: desk,
         };
     }
-    answer(with_slot(desk, slot as usize, 1, block), 0, 0)
+    answer_with(with_slot(desk, slot as usize, 1, block), 0, 0)
 }
 
 // The refusal of a leave, 14 to 17, or 0.
@@ -115,5 +115,5 @@ pub fn leave(desk: Desk, positions: &[u8], leads: &[u8], slot: u32) -> Answer
             desk: desk,
         };
     }
-    answer(with_slot(desk, slot as usize, 0, 0), 0, 0)
+    answer_with(with_slot(desk, slot as usize, 0, 0), 0, 0)
 }

@@ -81,7 +81,7 @@ pub record Cases : Type 0 where
   pub desk : Story
 
 pub cases : Cases
-unfolding groupsFrom groups continuing joined judged numberIn numberAt first below above outside thenAbove faultOf onFault onNumber fieldAt blankZones blankFigures refusedCard thenField cardEnd filmFrom zonesFrom readCard filmNumbers zoneNumbers numbersOf bytesOf cardOf entries film totalPositions sumBy greatestOf greatest wordsOf place worstTime timeAt run span lead once overhead load streams bufferOf laidFilm slowest margin worst2Of streamsOf marginOf filmOf leadOf bufferSize planOf blankPlan row positionsOf leadsOf planFault refusal planned
+unfolding groupsFrom groups continuing joined judged numberIn numberAt first below above outside thenAbove faultOf onFault onNumber fieldAt blankZones blankFigures refusedCard thenField cardEnd filmFrom zonesFrom readCard filmNumbers zoneNumbers numbersOf bytesOf cardOf entries film totalPositions sumBy greatestOf greatest wordsOf place worstTime timeAt run span lead overhead load streams bufferOf slowest margin worst2Of streamsOf marginOf bufferSize planOf blankPlan row positionsOf leadsOf planFault refusal planned
 cases = record {
   number-300 = refl;
   number-22270 = refl;

@@ -8,41 +8,48 @@ use lib.Dec.{ltb, eqb}
 use Rattle.card.specs.declared.Verdict.{Verdict}
 use Rattle.words.specs.Words.{wordsOf, withWords}
 use Rattle.plan.specs.declared.Plan.{Plan}
-use Rattle.plan.specs.Plan.{placeOf, timeOf, leadOf, overOf, blankPlan}
+use Rattle.plan.specs.Plan.{worst2Of, overOf, filmOf, blankPlan}
 use Rattle.plan.specs.Answer.{isPlan}
 use Rattle.safety.specs.Supply.{Supply}
 use Rattle.safety.specs.Scheduler.{Slot, Entry, Call, join, leave, begin, end}
-use Rattle.safety.specs.Order.{Scheduler, bySlot}
+use Rattle.safety.specs.Order.{Scheduler, Order, bySlot}
 use Rattle.safety.specs.Calls as C
 use Rattle.safety.specs.Arrays.{slotsOf}
+use Rattle.desk.specs.Supply.{Rates, supplied}
 use Rattle.desk.specs.declared.Desk.{Desk}
 use Rattle.desk.specs.declared.Answer.{Answer}
 use Rattle.desk.specs.declared.Fetches.{Fetches}
 use Rattle.desk.specs.declared.Begun.{Begun}
 
--- what a plan record tells the desk of its film. Start block 0 is ordinary; a join at N or above is 18
-unfoldable pub supplyOf : Plan → Supply ℕ
-supplyOf p = record {
-  none = 0;
-  isNone = λ b. eqb b 0;
-  isBlock = λ b. ltb b (p .figures .blocks);
-  fault = λ b. cond (ltb b (p .figures .blocks)) 0 18;
-  isEnd = λ b. eqb b (p .figures .blocks);
-  next = suc;
-  number = λ b. b;
-  position = placeOf (p .figures);
-  others = λ b. [];
-  time = timeOf (p .figures);
-  lead = leadOf (p .figures);
-  overhead = overOf (p .figures);
-  visits = 1;
+-- the rates of a plan record: those of its figures, and the streams, margin and buffer that it says
+abbrev pub ratesOf : Plan → Rates
+ratesOf p = record {
   B = p .figures .bytes;
   c = p .figures .rate;
+  overhead = overOf (p .figures);
+  visits = 1;
   n = p .streams;
-  pairTime = p .worst2;
   margin = p .margin;
   buffer = p .buffer;
 }
+
+-- what a plan record tells the desk: its figures' film as it is laid, with these rates
+unfoldable pub supplyOf : Plan → Supply ℕ
+supplyOf p = supplied (filmOf (p .figures)) (worst2Of (p .figures)) (ratesOf p)
+
+-- ---- the order of granting, and the rules
+
+-- what the desk keeps beside its slots for the order of granting: nothing
+abbrev pub Queue : Type 0
+Queue = Unit {0}
+
+-- `in slot order`
+abbrev pub orderOf : Plan → Order ℕ Queue
+orderOf p = bySlot (supplyOf p)
+
+-- the table of refusals
+abbrev pub rulesOf : Plan → C.Rules ℕ Queue (C.Given ℕ)
+rulesOf p = C.refusals (supplyOf p) (orderOf p)
 
 -- ---- the record as the rules see it
 
@@ -50,11 +57,11 @@ supplyOf p = record {
 abbrev pub slotsIn : Desk → List (Slot ℕ)
 slotsIn d = slotsOf (supplyOf (d .plan)) (d .kinds) (d .next) (d .held)
 
-unfoldable pub viewOf : Desk → Scheduler ℕ (Unit {0})
+unfoldable pub viewOf : Desk → Scheduler ℕ Queue
 viewOf d = record { phase = d .phase; slots = slotsIn d; queue = tt }
 
 -- the record of a plan with the phase and the slots that the rules give
-unfoldable pub deskOf : Plan → Scheduler ℕ (Unit {0}) → Desk
+unfoldable pub deskOf : Plan → Scheduler ℕ Queue → Desk
 deskOf p s = record {
   plan = p;
   phase = s .phase;
@@ -91,12 +98,12 @@ openDesk p ps ls = openBy (isPlan p ps ls) p
 -- ---- join, leave, begin, end
 
 -- the rules' answer to a call with two lent lists, and room for so many fetch entries
-unfoldable pub answerOf : Desk → List ℕ → List ℕ → ℕ → Call ℕ → C.Answer ℕ (Unit {0})
+unfoldable pub answerOf : Desk → List ℕ → List ℕ → ℕ → Call ℕ → C.Answer ℕ Queue
 answerOf d ps ls room call =
     let s = supplyOf (d .plan) in
-    C.answer s (bySlot s) (C.refusals s (bySlot s)) (viewOf d) (record { call = call; fair = isPlan (d .plan) ps ls; room = room })
+    C.answer s (orderOf (d .plan)) (rulesOf (d .plan)) (viewOf d) (record { call = call; fair = isPlan (d .plan) ps ls; room = room })
 
-unfoldable pub answered : Desk → C.Answer ℕ (Unit {0}) → Answer
+unfoldable pub answered : Desk → C.Answer ℕ Queue → Answer
 answered d a = record { verdict = verdict (a .number) (a .place); desk = deskOf (d .plan) (a .scheduler) }
 
 unfoldable pub joinDesk : Desk → List ℕ → List ℕ → ℕ → ℕ → Answer

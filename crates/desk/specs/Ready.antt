@@ -10,11 +10,10 @@ use Rattle.plan.specs.Plan.{placeOf, timeOf, leadOf, streamsOf, planOf}
 use Rattle.plan.specs.Legal.{streams-few, buffer-small}
 use Rattle.plan.specs.Promise.{buffer-formula}
 use Rattle.safety.specs.Supply.{Lawful}
-use Rattle.safety.specs.Order.{bySlot}
 use Rattle.safety.specs.Sound.{Sound}
 use Rattle.desk.specs.declared.Desk.{Desk}
 use Rattle.desk.specs.declared.Gathered.{Gathered}
-use Rattle.desk.specs.Desk.{supplyOf, viewOf}
+use Rattle.desk.specs.Desk.{supplyOf, orderOf, viewOf}
 use Rattle.desk.specs.Promise.{plan-lawful}
 
 -- the record is the plan of its figures, and its slots are sound
@@ -22,7 +21,7 @@ pub record Ready (d : Desk) : Type 0 where
   pub legal : Legal (d .plan .figures)
   pub some : 0 < streamsOf (d .plan .figures)
   pub planned : d .plan ≡ planOf (d .plan .figures)
-  pub sound : Sound (supplyOf (d .plan)) (bySlot (supplyOf (d .plan))) (viewOf d)
+  pub sound : Sound (supplyOf (d .plan)) (orderOf (d .plan)) (viewOf d)
 
 pub ready-lawful : (d : Desk) → Ready d → Lawful (supplyOf (d .plan))
 ready-lawful d r = rw (r .planned) (plan-lawful (d .plan .figures) (r .legal) (r .some))

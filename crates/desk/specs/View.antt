@@ -7,7 +7,7 @@ use Rattle.plan.specs.declared.Plan.{Plan}
 use Rattle.safety.specs.Order.{Scheduler}
 use Rattle.safety.specs.Arrays.{SameLength, slots-back, kinds-of-slots, nexts-of-slots, helds-of-slots}
 use Rattle.desk.specs.declared.Desk.{Desk}
-use Rattle.desk.specs.Desk.{supplyOf, viewOf, deskOf}
+use Rattle.desk.specs.Desk.{supplyOf, Queue, viewOf, deskOf}
 
 -- a record's three arrays have 256 entries
 pub record Wide (d : Desk) : Type 0 where
@@ -33,6 +33,6 @@ desk-of-view d w =
     }
 
 -- the next call sees what this one left
-pub view-of-desk : (p : Plan) (s : Scheduler ℕ (Unit {0})) → viewOf (deskOf p s) ≡ s
+pub view-of-desk : (p : Plan) (s : Scheduler ℕ Queue) → viewOf (deskOf p s) ≡ s
 unfolding deskOf viewOf
 view-of-desk p s = λ i. record { phase = s .phase; slots = slots-back (supplyOf p) (s .slots) i; queue = s .queue }

@@ -11,10 +11,10 @@ use Rattle.round_trip.specs.Legality as legality
 use Rattle.desk.specs.declared.Answer.{Answer}
 use Rattle.desk.specs.declared.Begun.{Begun}
 use Rattle.desk.specs.Desk.{beginDesk, fetchesOf, entriesOf, fetchListAfter, endDesk}
-use Rattle.records.specs.Records.{notBegun}
+use Rattle.desk.specs.Records.{notBegun}
 use Rattle.sweep.specs.declared.Swept.{Swept}
 use Rattle.sweep.specs.Steps.{sweptOf, begunOf}
-use Rattle.fetch_bytes.specs.Lists.{rows, rows-of}
+use Rattle.layout.specs.Entries.{rows, rows-of}
 use Rattle.scheduler.specs.Count.{begin-few}
 use Rattle.scheduler.specs.Ways.{begin-refused, begin-swept, HasEnded, end-turned-down, end-accepted}
 use Rattle.layout.specs.declared.FilmdiskAnswer.{FilmdiskAnswer}

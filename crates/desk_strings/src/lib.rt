@@ -3,7 +3,8 @@ use admission::judge_join;
 use admission::judge_leave;
 use card::Verdict;
 use desk::Answer;
-use fetch_bytes::write_entries;
+use desk::answer_with;
+use desk::blank_desk;
 use layout::DESK_BYTES;
 use layout::FilmdiskAnswer;
 use layout::PLAN_BYTES;
@@ -13,8 +14,7 @@ use layout::read_desk;
 use layout::read_plan;
 use layout::verdict_answer;
 use layout::write_desk;
-use records::answer;
-use records::blank_desk;
+use layout::write_entries;
 use scheduler::judge_begin;
 use scheduler::judge_end;
 use sweep::end_sweep;
@@ -50,7 +50,7 @@ fn open_plan(plan: &[u8], positions: &[u8], leads: &[u8]) -> Answer
     ensures { λ r. ⌜ r ≡ openedFrom (now (plan .entry)) (now (positions .entry)) (now (leads .entry)) ⌝ }
 {
     if plan.len() != PLAN_BYTES {
-        return answer(blank_desk(), 14, 0);
+        return answer_with(blank_desk(), 14, 0);
     }
     admission::open(read_plan(plan), positions, leads)
 }

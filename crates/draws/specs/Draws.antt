@@ -6,7 +6,8 @@ use mathlib.Core.List.{List}
 use lib.ListN.{length, getD}
 use lib.Dec.{eqb}
 use Rattle.card.specs.declared.Verdict.{Verdict}
-use Rattle.safety.specs.Scheduler.{playing, draining, end}
+use Rattle.numbers.specs.Slots.{playing, draining}
+use Rattle.safety.specs.Scheduler.{end}
 use Rattle.safety.specs.Refusals.{judged}
 use Rattle.desk.specs.declared.Desk.{Desk}
 use Rattle.desk.specs.Desk.{supplyOf, viewOf, verdict}

@@ -6,16 +6,15 @@ use mathlib.Core.List.{List}
 use Rattle.plan.specs.declared.Plan.{Plan}
 use Rattle.safety.specs.Scheduler as S
 use Rattle.safety.specs.Scheduler.{end}
-use Rattle.safety.specs.Order.{bySlot}
 use Rattle.safety.specs.Calls.{Allowed}
 use Rattle.safety.specs.Arrays.{slotOf}
 use Rattle.desk.specs.declared.Desk.{Desk}
-use Rattle.desk.specs.Desk.{supplyOf, viewOf}
+use Rattle.desk.specs.Desk.{supplyOf, orderOf, viewOf}
 use Rattle.ends.specs.declared.Slot.{Slot}
 
 -- draws that nothing turns down
 abbrev pub Drawn : Desk → List ℕ → Type 0
-Drawn d draws = let s = supplyOf (d .plan) in Allowed s (bySlot s) (viewOf d) (end draws)
+Drawn d draws = let s = supplyOf (d .plan) in Allowed s (orderOf (d .plan)) (viewOf d) (end draws)
 
 -- as the rules see it
 abbrev pub slotIn : Plan → Slot → S.Slot ℕ

@@ -1,6 +1,6 @@
 // What is gathered of the lent lists and the zones for the slots of a desk.
 use desk::Gathered;
-use records::zeros;
+use desk::zeros;
 use words::word_at;
 use zones::time_at;
 ghost use Prim.Native.Nat.{_≤_};

@@ -14,7 +14,8 @@ use borrow.Author.Tests.{eqb-true, eq-eqb}
 use Rattle.laws.specs.Bools.{and-left, and-right}
 use Rattle.laws.specs.Map.{store-next}
 use Rattle.safety.specs.Supply.{Supply}
-use Rattle.safety.specs.Scheduler.{Slot, waiting, freeSlot, at, leads, lowWater, startedSlot, started, playersHold, fillingSlot, tries}
+use Rattle.numbers.specs.Slots.{waiting}
+use Rattle.safety.specs.Scheduler.{Slot, freeSlot, at, leads, lowWater, startedSlot, started, playersHold, fillingSlot, tries}
 use Rattle.safety.specs.Arrays.{slotOf, slotsOf, SameLength, length-slots, slot-at, slots-set-kind}
 use Rattle.safety.specs.Turns.{startedTo, startedTo-none, startedTo-rest, least-holds}
 use Rattle.safety.specs.Turns.{tries-none, tries-past, tries-other, tries-waits, tries-granted, tries-rest}

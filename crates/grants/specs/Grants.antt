@@ -5,7 +5,8 @@ use mathlib.Core.Path.{_≡_}
 use mathlib.Core.List.{List}
 use lib.ListN.{length, getD}
 use Rattle.safety.specs.Supply.{Supply}
-use Rattle.safety.specs.Scheduler.{waiting, leads}
+use Rattle.numbers.specs.Slots.{waiting}
+use Rattle.safety.specs.Scheduler.{leads}
 use Rattle.safety.specs.Arrays.{slotsOf, SameLength}
 use Rattle.safety.specs.Sound.{FreeFrom}
 use Rattle.safety.specs.Turns.{leastHeld}

@@ -10,7 +10,7 @@ use Rattle.laws.specs.Overwrite.{overwrite-front}
 use Rattle.words.specs.Words.{Bytes, wordsOf, withWord, withWords, bytesOf}
 use Rattle.words.specs.Laws.{withWord-entries, withWord-bytes, words-withWord, withWords-overwrite, bytesOf-length}
 use Rattle.desk.specs.declared.Desk.{Desk}
-use Rattle.records.specs.Records.{withSlot}
+use Rattle.desk.specs.Records.{withSlot}
 use Rattle.layout.specs.Layout.{planIn, deskWords, deskIn}
 use Rattle.layout.specs.Laws.{plan-sized, plan-back, plan-taken, desk-sized, desk-length, desk-kept}
 

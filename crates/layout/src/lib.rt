@@ -1,4 +1,5 @@
-// What C and the library exchange: plans and desks in lent byte strings, as 32-bit words, lowest byte first, without padding; and the answer.
+// What C and the library exchange: plans, desks and fetch entries in lent byte strings, as 32-bit words, lowest byte first, without
+// padding; and the answer.
 mod offsets; // the word at which each field starts
 
 use card::Figures;
@@ -12,15 +13,16 @@ use words::word_at;
 use words::write_64;
 use words::write_256;
 ghost use mathlib.Core.Path.{_≡_};
-ghost use Prim.Native.Nat.{ℕ, _≤_, _<_};
+ghost use Prim.Native.Nat.{ℕ, _*_, _≤_, _<_};
 ghost use mathlib.Core.List.{List, [], _∷_};
 ghost use lib.ListN.{length};
 ghost use Rattle.words.specs.Words.{Bytes, Words, wordsOf, withWords};
 ghost use Rattle.plan.specs.declared.Plan.{Plan};
 ghost use Rattle.desk.specs.declared.Desk.{Desk};
-ghost use Rattle.records.specs.Records.{withSlot};
+ghost use Rattle.desk.specs.Records.{withSlot};
 ghost use Rattle.layout.specs.Layout.{planWords, planIn, deskWords, deskIn};
 ghost use Rattle.layout.specs.Kinds.{withKinds};
+ghost use Rattle.layout.specs.Entries.{rows, listOf};
 ghost use Rattle.layout.specs.Laws.{PlanSized, DeskSized};
 ghost use Rattle.layout.specs.Answers.{verdictAnswer};
 
@@ -162,6 +164,26 @@ pub fn put_kinds(list: &mut [u8], phase: u32, kinds: &[u32; 256])
 {
     put_word(list, offsets::PHASE, phase);
     write_256(list, offsets::KINDS, kinds);
+}
+
+// Writes the first `count` entries into a lent byte string; what stands past them stays.
+pub fn write_entries<'a>(
+    positions: &'a [u32; 256],
+    slots: &'a [u32; 256],
+    blocks: &'a [u32; 256],
+    count: usize,
+    out: &mut [u8],
+)
+    requires { ⌜ (count ≤ 256) × (3 * count ≤ length (wordsOf (now out))) ⌝ }
+    ensures { λ _. ⌜ now (out .exit) ≡ withWords (now (out .entry)) 0 (rows 0 count (listOf count (now (positions .entry)) (now (slots .entry)) (now (blocks .entry)))) ⌝ }
+{
+    let mut i: usize = 0;
+    while i < count {
+        put_word(out, 3 * i, positions[i]);
+        put_word(out, 3 * i + 1, slots[i]);
+        put_word(out, 3 * i + 2, blocks[i]);
+        i += 1;
+    }
 }
 
 // What is written is read back.

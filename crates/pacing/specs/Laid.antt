@@ -6,6 +6,8 @@ use mathlib.Core.Logic.{by-cases}
 use native.Mathlib.Omega.{arith}
 use native.Mathlib.Decide.{decLt}
 use Rattle.laws.specs.Greatest.{greatestOf, greatestOf-above, greatestOf-least, greatestOf-reached}
+use Rattle.numbers.specs.Units.{parts}
+use Rattle.numbers.specs.Limits.{maxStreams}
 use Rattle.placement.specs.Placement.{place, Laying, Falling, worstTime}
 use Rattle.placement.specs.Best.{placement-best}
 use Rattle.placement.specs.Quick.{slowest-quick}
@@ -15,7 +17,7 @@ use Rattle.pacing.specs.Streams.{load, streams, streams-best}
 
 module _ (τ l : ℕ → ℕ) (N : ℕ) where
   -- the film of N blocks laid by l, τ being the time of a position: block b lies at l b, and time(b) is τ (l b)
-  unfoldable pub laidFilm : Film ℕ
+  abbrev pub laidFilm : Film ℕ
   laidFilm = once N (λ b. τ (l b)) l
 
   -- the greatest time(b)
@@ -38,12 +40,10 @@ module _ (τ l : ℕ → ℕ) (N : ℕ) where
 
   -- so the film is paced by them
   pub laid-paced : Paced laidFilm (worstTime τ l N) slowest
-  unfolding laidFilm
   laid-paced = once-paced N (λ b. τ (l b)) l (worstTime τ l N) slowest pair-within time-within
 
   -- and its leads are
   pub laid-lead : (b : ℕ) → b < N → lead laidFilm (worstTime τ l N) b ≡ 2 * τ (l b) - worstTime τ l N
-  unfolding laidFilm
   laid-lead b u = once-lead N (λ b. τ (l b)) l (worstTime τ l N) slowest laid-paced b u
 
   -- twice the greatest time is at least the worst time: the margin's subtraction is exact
@@ -76,6 +76,6 @@ margin-quick P N np some τ falls = rw (slowest-quick P N np τ falls some)
 
 -- of any laying 'with [its worst time] in place of worst2 no number above n in the range of streams meets the formula of streams'
 pub no-laying-feeds-more : (P N : ℕ) → N ≤ P → (τ : ℕ → ℕ) → Falling P τ → (l : ℕ → ℕ) → Laying P N l
-    → (c : ℕ) (over : ℕ → ℕ) (B n : ℕ) → streams c (worstTime τ (place P N) N) over B < n → n ≤ 256 → 2000000 * B < load c (worstTime τ l N) over n
+    → (c : ℕ) (over : ℕ → ℕ) (B n : ℕ) → streams c (worstTime τ (place P N) N) over B < n → n ≤ maxStreams → parts * B < load c (worstTime τ l N) over n
 no-laying-feeds-more P N np τ falls l lay c over B n m u =
     streams-best c (worstTime τ (place P N) N) over B (worstTime τ l N) n (placement-best P N np τ falls l lay) m u

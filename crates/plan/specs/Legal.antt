@@ -81,7 +81,7 @@ module _ (f : Figures) (ok : Legal f) where
 
   -- a lead from the time of its block alone
   pub lead-is : (b : ℕ) → b < f .blocks → leadOf f b ≡ 2 * timeOf f b - worst2Of f
-  unfolding leadOf filmOf worst2Of
+  unfolding worst2Of
   lead-is b u = laid-lead (timeOn f) (placeOf f) (f .blocks) b u
 
   pub time-less : (b : ℕ) → b < f .blocks → timeOf f b < worst2Of f

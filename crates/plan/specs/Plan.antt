@@ -45,11 +45,11 @@ unfoldable pub marginOf : Figures → ℕ
 marginOf f = margin (timeOn f) (placeOf f) (f .blocks)
 
 -- the film as it is laid
-unfoldable pub filmOf : Figures → Film ℕ
+abbrev pub filmOf : Figures → Film ℕ
 filmOf f = laidFilm (timeOn f) (placeOf f) (f .blocks)
 
 -- lead(b): 'the greatest sum of 2 × time − worst2 over a run of blocks starting at b, the empty run (0) included'
-unfoldable pub leadOf : Figures → ℕ → ℕ
+abbrev pub leadOf : Figures → ℕ → ℕ
 leadOf f = lead (filmOf f) (worst2Of f)
 
 -- buffer: '3 × B plus c × n × margin / 2,000,000 rounded up, in bytes'

@@ -2,17 +2,19 @@
 -- Assumes nothing.
 use Prim.Native.Nat.{ℕ, suc, _+_, _*_, _-_, _/_, _≤_, _<_}
 use mathlib.Core.Path.{_≡_, refl}
-use mathlib.Core.Logic.{by-cases}
+use mathlib.Core.Bool.{Bool, true, false, cond}
 use native.Mathlib.Omega.{arith}
-use native.Mathlib.Decide.{decLt}
+use lib.Dec.{eqb}
+use borrow.Author.Tests.{eqb-true, lt-ltb}
 use Rattle.card.specs.declared.Figures.{Figures}
 use Rattle.card.specs.Card.{Legal, totalPositions}
 use Rattle.placement.specs.Placement.{Laying, worstTime}
 use Rattle.placement.specs.Best.{placement-best}
 use Rattle.pacing.specs.Film.{Paced, lead}
+use Rattle.pacing.specs.Lead.{lead-law}
 use Rattle.pacing.specs.Once.{once-end}
 use Rattle.pacing.specs.Streams.{overhead-rises, load, bufferOf}
-use Rattle.pacing.specs.Laid.{laidFilm, margin, laid-paced, time-within, pair-within, no-laying-feeds-more}
+use Rattle.pacing.specs.Laid.{margin, laid-paced, time-within, no-laying-feeds-more}
 use Rattle.plan.specs.Plan.{timeOn, placeOf, timeOf, worst2Of, overOf, streamsOf, slowestOf, marginOf, filmOf, leadOf, bufferSize}
 use Rattle.plan.specs.Legal.{legal-falling, legal-laying, place-below, time-positive, time-small, worst2-small, margin-less, lead-is, lead-small, streams-few, streams-fit, buffer-small}
 
@@ -31,16 +33,11 @@ module _ (f : Figures) where
   margin-of = refl
 
   pub film-paced : Paced (filmOf f) (worst2Of f) (slowestOf f)
-  unfolding filmOf worst2Of slowestOf
+  unfolding worst2Of slowestOf
   film-paced = laid-paced (timeOn f) (placeOf f) (f .blocks)
 
   pub lead-last : leadOf f (f .blocks) ≡ 0
-  unfolding leadOf filmOf laidFilm
   lead-last = once-end (f .blocks) (timeOf f) (placeOf f) (worst2Of f)
-
-  pub pair-small : (b : ℕ) → suc b < f .blocks → timeOf f b + timeOf f (suc b) ≤ worst2Of f
-  unfolding worst2Of
-  pair-small b u = pair-within (timeOn f) (placeOf f) (f .blocks) b u
 
   pub time-slowest : (b : ℕ) → b < f .blocks → timeOf f b ≤ slowestOf f
   unfolding slowestOf
@@ -49,15 +46,15 @@ module _ (f : Figures) where
 pub lead-laws : (f : Figures) → Legal f → LeadLaws f
 lead-laws f ok = record {
   paced = film-paced f;
-  pays = λ b u. by-cases (decLt (suc b) (f .blocks))
-      (λ h. omega (arith, lead-is f ok b u, lead-is f ok (suc b) h, pair-small f b h))
-      (λ h. omega (arith, lead-is f ok b u, end b (omega arith)));
+  pays = λ b u. pay b (eqb (suc b) (f .blocks)) refl (lead-law (filmOf f) (worst2Of f) (slowestOf f) (film-paced f) b (lt-ltb b (f .blocks) u));
   within = λ b u. omega (arith, lead-is f ok b u, margin-of f, time-slowest f b u);
   last = lead-last f;
 }
   where
-    end : (b : ℕ) → suc b ≡ f .blocks → leadOf f (suc b) ≡ 0
-    end b e = rw e (lead-last f)
+    pay : (b : ℕ) (t : Bool) → eqb (suc b) (f .blocks) ≡ t → 2 * timeOf f b + cond t 0 (leadOf f (suc b)) ≤ leadOf f b + worst2Of f
+        → 2 * timeOf f b + leadOf f (suc b) ≤ leadOf f b + worst2Of f
+    pay b true e h = rw (eqb-true (suc b) (f .blocks) e, lead-last f) h
+    pay b false e h = h
 
 -- ---- the promise
 

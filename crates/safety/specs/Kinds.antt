@@ -14,7 +14,8 @@ use lib.Dec.{eqb}
 use borrow.Author.Tests.{eqb-true, eq-eqb, ne-eqb}
 use Rattle.laws.specs.Bools.{and-left}
 use Rattle.safety.specs.Supply.{Supply}
-use Rattle.safety.specs.Scheduler.{Slot, Call, join, leave, begin, end, free, waiting, filling, playing, draining, freeSlot, waitingSlot, fillingSlot, at}
+use Rattle.numbers.specs.Slots.{free, waiting, filling, playing, draining}
+use Rattle.safety.specs.Scheduler.{Slot, Call, join, leave, begin, end, freeSlot, waitingSlot, fillingSlot, at}
 use Rattle.safety.specs.Scheduler.{leads, lowWater, holds, joined, left, startBy, startedSlot, started, playersHold, grantable, tries, begun, isFetched}
 use Rattle.safety.specs.Scheduler.{sweptBy, releaseBy, released, endedSlot}
 use Rattle.safety.specs.Order.{Scheduler, bySlot}

@@ -13,7 +13,6 @@ use Rattle.words.specs.Words.{wordsOf}
 use Rattle.plan.specs.Answer.{isPlan}
 use Rattle.laws.specs.Places.{allFrom, lowestFrom}
 use Rattle.safety.specs.Scheduler.{Call, mostDrawn, begin, end}
-use Rattle.safety.specs.Order.{bySlot}
 use Rattle.safety.specs.Refusals as refusals
 use Rattle.safety.specs.Calls as calls
 use Rattle.safety.specs.Lists.{answer-accepted, answer-refused}
@@ -21,10 +20,10 @@ use Rattle.safety.specs.Verdicts.{refusals-strict}
 use Rattle.safety.specs.Rows.{refuse, begin-phase, begin-short, begin-accepted, end-phase}
 use Rattle.desk.specs.declared.Desk.{Desk}
 use Rattle.desk.specs.declared.Answer.{Answer}
-use Rattle.desk.specs.Desk.{supplyOf, viewOf, deskOf, verdict, fetchesOf, answerOf, answered, beginDesk, endDesk}
+use Rattle.desk.specs.Desk.{supplyOf, rulesOf, orderOf, viewOf, deskOf, verdict, fetchesOf, answerOf, answered, beginDesk, endDesk}
 use Rattle.desk.specs.View.{Wide, desk-of-view}
 use Rattle.desk.specs.Promise.{supply-named}
-use Rattle.records.specs.Records.{answers, notBegun}
+use Rattle.desk.specs.Records.{answers, notBegun}
 use Rattle.soundness.specs.Facts.{soundDesk}
 use Rattle.draws.specs.Draws.{judgedDraws}
 use Rattle.ends.specs.Ends.{Drawn}
@@ -32,7 +31,7 @@ use Rattle.sweep.specs.Steps.{begunDesk, endedDesk}
 
 module _ (d : Desk) (w : Wide d) (ps ls : List ℕ) where
   abbrev judges : ℕ → Call ℕ → refusals.Verdict
-  judges room c = refusals.verdict (supplyOf (d .plan)) (bySlot (supplyOf (d .plan))) (viewOf d) (isPlan (d .plan) ps ls) room c
+  judges room c = refusals.verdict (supplyOf (d .plan)) (orderOf (d .plan)) (viewOf d) (isPlan (d .plan) ps ls) room c
 
   unsound-row : (room : ℕ) (c : Call ℕ) → soundDesk d ps ls ≡ false → judges room c ≡ refuse 14 0
   unfolding refusals.verdict
@@ -44,17 +43,17 @@ module _ (d : Desk) (w : Wide d) (ps ls : List ℕ) where
 
   -- the rules' answer to a refused and to an accepted call
   refused-answer : (room : ℕ) (c : Call ℕ) (k i : ℕ) → 0 < k → judges room c ≡ refuse k i
-      → answerOf d ps ls room c ≡ calls.refused (supplyOf (d .plan)) (bySlot (supplyOf (d .plan))) (viewOf d) k i
+      → answerOf d ps ls room c ≡ calls.refused (supplyOf (d .plan)) (orderOf (d .plan)) (viewOf d) k i
   unfolding answerOf calls.refusals
   refused-answer room c k i h e =
       let p = supplyOf (d .plan) in
-      answer-refused p (bySlot p) (calls.refusals p (bySlot p)) (viewOf d) (record { call = c; fair = isPlan (d .plan) ps ls; room = room }) k i h e
+      answer-refused p (orderOf (d .plan)) (rulesOf (d .plan)) (viewOf d) (record { call = c; fair = isPlan (d .plan) ps ls; room = room }) k i h e
 
-  accepted-answer : (room : ℕ) (c : Call ℕ) → judges room c .number ≡ 0 → answerOf d ps ls room c ≡ calls.accepted (supplyOf (d .plan)) (bySlot (supplyOf (d .plan))) (viewOf d) c
+  accepted-answer : (room : ℕ) (c : Call ℕ) → judges room c .number ≡ 0 → answerOf d ps ls room c ≡ calls.accepted (supplyOf (d .plan)) (orderOf (d .plan)) (viewOf d) c
   unfolding answerOf calls.refusals
   accepted-answer room c e =
       let p = supplyOf (d .plan) in
-      answer-accepted p (bySlot p) (calls.refusals p (bySlot p)) (viewOf d) (record { call = c; fair = isPlan (d .plan) ps ls; room = room }) e
+      answer-accepted p (orderOf (d .plan)) (rulesOf (d .plan)) (viewOf d) (record { call = c; fair = isPlan (d .plan) ps ls; room = room }) e
 
   -- ---- begin
 
@@ -129,7 +128,7 @@ module _ (d : Desk) (w : Wide d) (ps ls : List ℕ) where
       unfolding calls.refusals
       end-drawn e =
           let p = supplyOf (d .plan) in
-          refusals-strict p (supply-named (d .plan)) (bySlot p) .strict (viewOf d) (record { call = end (wordsOf draws); fair = isPlan (d .plan) ps ls; room = 0 }) (clear e)
+          refusals-strict p (supply-named (d .plan)) (orderOf (d .plan)) .strict (viewOf d) (record { call = end (wordsOf draws); fair = isPlan (d .plan) ps ls; room = 0 }) (clear e)
 
       pub end-ended : judgedDraws d (wordsOf draws) .number ≡ 0 → answers (endedDesk d (wordsOf draws)) 0 0 ≡ endDesk d ps ls draws
       unfolding endDesk answered endedDesk calls.accepted

@@ -12,15 +12,15 @@ use Rattle.safety.specs.Scheduler.{Slot, begun, entries, fetchCount}
 use Rattle.safety.specs.Order.{bySlot}
 use Rattle.safety.specs.Calls.{accepted}
 use Rattle.safety.specs.Safety.{kept-free, fetches-le}
-use Rattle.safety.specs.BySlot.{bySlot-orderly}
 use Rattle.safety.specs.Sorting.{entries-length}
 use Rattle.desk.specs.declared.Desk.{Desk}
 use Rattle.desk.specs.declared.Begun.{Begun}
+use Rattle.desk.specs.Promise.{order-orderly}
 use Rattle.desk.specs.Desk.{supplyOf, viewOf, fetchesOf, beginDesk}
 use Rattle.desk.specs.View.{Wide}
 use Rattle.desk.specs.Ready as D
 use Rattle.desk.specs.Ready.{Ready, ready-lawful}
-use Rattle.records.specs.Records.{notBegun}
+use Rattle.desk.specs.Records.{notBegun}
 use Rattle.sweep.specs.Steps.{begunDesk}
 use Rattle.scheduler.specs.Ways.{NotBegun, HasBegun, begin-ways}
 
@@ -40,7 +40,7 @@ unfolding begunDesk fetchesOf accepted bySlot
 begun-few d r =
     let s = supplyOf (d .plan) in
     let ts : List (Slot ℕ) = begun s (viewOf d .slots) in
-    let b = bySlot-orderly s .began tt (viewOf d .slots) (r .sound .slots) in
+    let b = order-orderly (d .plan) .began tt (viewOf d .slots) (r .sound .slots) in
     let free = kept-free s (s .n) (viewOf d .slots) ts (b .kept) (r .sound .unused) in
     omega (arith, one-each (d .plan) ts, fetches-le s (ready-lawful d r) (s .n) ts free, streams-are (d .plan))
 

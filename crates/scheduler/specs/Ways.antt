@@ -15,7 +15,7 @@ use Rattle.desk.specs.declared.Begun.{Begun}
 use Rattle.desk.specs.Desk.{beginDesk, endDesk}
 use Rattle.desk.specs.View.{Wide}
 use Rattle.desk.specs.Ready.{Ready}
-use Rattle.records.specs.Records.{answers, notBegun}
+use Rattle.desk.specs.Records.{answers, notBegun}
 use Rattle.soundness.specs.Facts.{soundDesk}
 use Rattle.soundness.specs.Ready.{sound-ready}
 use Rattle.draws.specs.Draws.{judgedDraws}

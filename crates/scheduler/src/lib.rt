@@ -3,12 +3,12 @@ use card::Verdict;
 use desk::Answer;
 use desk::Begun;
 use desk::Desk;
+use desk::answer_with;
+use desk::not_begun;
 use draws::judge_draws;
-use fetch_bytes::write_entries;
 use floor::sum_leads;
 use gather::gather;
-use records::answer;
-use records::not_begun;
+use layout::write_entries;
 use soundness::is_sound;
 use sweep::Swept;
 use sweep::begin_sweep;
@@ -145,5 +145,5 @@ pub fn end(desk: Desk, positions: &[u8], leads: &[u8], draws: &[u8]) -> Answer
             desk: desk,
         };
     }
-    answer(end_sweep(desk, draws), 0, 0)
+    answer_with(end_sweep(desk, draws), 0, 0)
 }

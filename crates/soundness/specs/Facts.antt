@@ -7,14 +7,13 @@ use mathlib.Core.List.{List}
 use lib.ListN.{getD}
 use Rattle.plan.specs.declared.Plan.{Plan}
 use Rattle.plan.specs.Answer.{isPlan}
-use Rattle.safety.specs.Order.{bySlot}
 use Rattle.safety.specs.Sound.{sound}
 use Rattle.desk.specs.declared.Desk.{Desk}
-use Rattle.desk.specs.Desk.{supplyOf, viewOf}
+use Rattle.desk.specs.Desk.{supplyOf, orderOf, viewOf}
 
 -- the phase and the slots are sound
 abbrev pub slotsSound : Desk → Bool
-slotsSound d = sound (supplyOf (d .plan)) (bySlot (supplyOf (d .plan))) (viewOf d)
+slotsSound d = sound (supplyOf (d .plan)) (orderOf (d .plan)) (viewOf d)
 
 -- the record of a plan, a phase and the kinds, next blocks and held bytes of its slots
 abbrev pub recordOf : Plan → ℕ → List ℕ → List ℕ → List ℕ → Desk

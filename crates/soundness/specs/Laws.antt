@@ -17,7 +17,7 @@ use Rattle.safety.specs.Arrays.{slotOf}
 use Rattle.safety.specs.Sound.{Good, Sound, sound-of-good}
 use Rattle.safety.specs.Turns.{sound-yes, sound-no, sound-at}
 use Rattle.desk.specs.declared.Desk.{Desk}
-use Rattle.desk.specs.Desk.{supplyOf, slotsIn, viewOf}
+use Rattle.desk.specs.Desk.{supplyOf, orderOf, slotsIn, viewOf}
 use Rattle.desk.specs.View.{Wide}
 use Rattle.desk.specs.Promise.{supply-named}
 use Rattle.desk.specs.Slots.{length-in, slot-in, kind-in}
@@ -61,14 +61,14 @@ module _ (d : Desk) (w : Wide d) where
   mark = lowWater (supplyOf (d .plan)) (leadSum d)
 
   abbrev IsSound : Type 0
-  IsSound = Sound (supplyOf (d .plan)) (bySlot (supplyOf (d .plan))) (viewOf d)
+  IsSound = Sound (supplyOf (d .plan)) (orderOf (d .plan)) (viewOf d)
 
   pub good-at : IsSound → (i : ℕ)
       → Good (supplyOf (d .plan)) (leadSum d) (slotOf (supplyOf (d .plan)) (getD (d .kinds) i 0) (getD (d .next) i 0) (getD (d .held) i 0))
   unfolding viewOf
   good-at h i =
       subst (Good (supplyOf (d .plan)) (leadSum d)) (slot-in d w i)
-      (sound-at (supplyOf (d .plan)) (supply-named (d .plan)) (bySlot (supplyOf (d .plan))) (viewOf d) h i)
+      (sound-at (supplyOf (d .plan)) (supply-named (d .plan)) (orderOf (d .plan)) (viewOf d) h i)
 
   -- what soundness says of the arrays
   pub sound-tidy : IsSound → AllTidy d
@@ -106,7 +106,7 @@ module _ (d : Desk) (w : Wide d) where
   unfolding viewOf bySlot supplyOf
   facts-sound e t h =
       let p = supplyOf (d .plan) in
-      sound-yes p (supply-named (d .plan)) (bySlot p) (viewOf d) e
+      sound-yes p (supply-named (d .plan)) (orderOf (d .plan)) (viewOf d) e
       (λ j l. let u : j < 256 = omega (arith, length-in d w) in
       sound-of-good p (supply-named (d .plan)) _ _ (subst (Good p (leads p (slotsIn d))) (sym (slot-in d w j)) (tidy-good (d .plan) _ _ _ _ (t .slots j u) (all-hold t h j u))))
       (λ j n l. kind-in d w j ∙ t .unused j (omega (arith, length-in d w)) n)
@@ -114,10 +114,10 @@ module _ (d : Desk) (w : Wide d) where
 
   -- the ways of the test
   pub unsound-phase : 1 < d .phase → false ≡ slotsSound d
-  unsound-phase l = sym (sound-no (supplyOf (d .plan)) (supply-named (d .plan)) (bySlot (supplyOf (d .plan))) (viewOf d) (λ h. omega (arith, sound-phase h)))
+  unsound-phase l = sym (sound-no (supplyOf (d .plan)) (supply-named (d .plan)) (orderOf (d .plan)) (viewOf d) (λ h. omega (arith, sound-phase h)))
 
   pub unsound-slots : (AllTidy d → ⊥) → false ≡ slotsSound d
-  unsound-slots n = sym (sound-no (supplyOf (d .plan)) (supply-named (d .plan)) (bySlot (supplyOf (d .plan))) (viewOf d) (λ h. n (sound-tidy h)))
+  unsound-slots n = sym (sound-no (supplyOf (d .plan)) (supply-named (d .plan)) (orderOf (d .plan)) (viewOf d) (λ h. n (sound-tidy h)))
 
   -- m is the mark as the code computes it, L the sum of the leads
   pub sound-told : (r : Bool) (m L : ℕ) → L ≡ leadSum d → m ≡ 2000000 * d .plan .figures .bytes + d .plan .figures .rate * L
@@ -127,4 +127,4 @@ module _ (d : Desk) (w : Wide d) where
     where
       go : (r : Bool) → Tells r (PlayersHold (d .plan .streams) (d .kinds) (d .held) mark) → r ≡ slotsSound d
       go true h = sym (facts-sound e t (h .yes refl))
-      go false h = sym (sound-no (supplyOf (d .plan)) (supply-named (d .plan)) (bySlot (supplyOf (d .plan))) (viewOf d) (λ s. h .no refl (sound-players s)))
+      go false h = sym (sound-no (supplyOf (d .plan)) (supply-named (d .plan)) (orderOf (d .plan)) (viewOf d) (λ s. h .no refl (sound-players s)))

@@ -13,10 +13,9 @@ use Rattle.plan.specs.Plan.{streamsOf, planOf}
 use Rattle.plan.specs.Answer.{isPlan}
 use Rattle.plan.specs.Check.{checked, checked-legal}
 use Rattle.plan.specs.Legal.{lead-small, streams-few}
-use Rattle.safety.specs.Order.{bySlot}
 use Rattle.safety.specs.Sound.{sound-says}
 use Rattle.desk.specs.declared.Desk.{Desk}
-use Rattle.desk.specs.Desk.{supplyOf, viewOf}
+use Rattle.desk.specs.Desk.{supplyOf, orderOf, viewOf}
 use Rattle.desk.specs.View.{Wide}
 use Rattle.desk.specs.Promise.{supply-named}
 use Rattle.desk.specs.Ready.{Ready}
@@ -51,7 +50,7 @@ sound-ready d ps ls w e =
       legal = checked-legal p ps ls w i;
       some = h .fed;
       planned = h .plan;
-      sound = sound-says (supplyOf p) (supply-named p) (bySlot (supplyOf p)) (viewOf d) (and-right (isPlan p ps ls) _ e);
+      sound = sound-says (supplyOf p) (supply-named p) (orderOf p) (viewOf d) (and-right (isPlan p ps ls) _ e);
     }
 
 -- and the leads of its first n slots are all its leads

@@ -20,8 +20,7 @@ use Rattle.plan.specs.Answer.{isPlan}
 use Rattle.plan.specs.Check.{checked, checked-legal}
 use Rattle.plan.specs.Legal.{buffer-small}
 use Rattle.safety.specs.Scheduler.{Slot, Call, join, leave, begin, end}
-use Rattle.safety.specs.Order.{Scheduler, bySlot}
-use Rattle.safety.specs.BySlot.{bySlot-orderly}
+use Rattle.safety.specs.Order.{Scheduler}
 use Rattle.safety.specs.Sound.{Good, Sound, sound-says}
 use Rattle.safety.specs.Arrays.{length-slots}
 use Rattle.safety.specs.Calls as C
@@ -30,8 +29,8 @@ use Rattle.safety.specs.Verdicts.{accepted-was-sound}
 use Rattle.safety.specs.Safety.{accepted-length}
 use Rattle.safety.specs.Claim as K
 use Rattle.desk.specs.declared.Desk.{Desk}
-use Rattle.desk.specs.Desk.{supplyOf, viewOf, deskOf, zeros, freshDesk, openBy, openDesk, answerOf, answered, joinDesk, leaveDesk, endDesk, beginDesk}
-use Rattle.desk.specs.Promise.{supply-named}
+use Rattle.desk.specs.Desk.{supplyOf, rulesOf, orderOf, Queue, viewOf, deskOf, zeros, freshDesk, openBy, openDesk, answerOf, answered, joinDesk, leaveDesk, endDesk, beginDesk}
+use Rattle.desk.specs.Promise.{order-orderly, supply-named}
 use Rattle.trace.specs.Opening.{checked-lawful, fair-of}
 use Rattle.layout.specs.declared.FilmdiskAnswer.{FilmdiskAnswer}
 use Rattle.layout.specs.Answers.{verdictAnswer}
@@ -86,7 +85,7 @@ module _ (p : Plan) (ps ls : List ℕ) (w : Wide (p .figures)) (i : isPlan p ps 
     helds-fit (s ∷ ss) h = (omega (arith, h .0 .fits, buffer-fits), helds-fit ss (h .1))
 
   -- the record of a sound scheduler
-  pub sound-fits : (s : Scheduler ℕ (Unit {0})) → Sound (supplyOf p) (bySlot (supplyOf p)) s → Words (deskWords (deskOf p s))
+  pub sound-fits : (s : Scheduler ℕ Queue) → Sound (supplyOf p) (orderOf p) s → Words (deskWords (deskOf p s))
   unfolding deskWords deskOf
   sound-fits s h =
       let ks : List ℕ = map (λ x. x .kind) (s .slots) in
@@ -99,7 +98,7 @@ module _ (p : Plan) (ps ls : List ℕ) (w : Wide (p .figures)) (i : isPlan p ps 
 
 -- ---- sizes
 
-desk-of-sized : (p : Plan) (s : Scheduler ℕ (Unit {0})) → PlanSized p → length (s .slots) ≡ 256 → DeskSized (deskOf p s)
+desk-of-sized : (p : Plan) (s : Scheduler ℕ Queue) → PlanSized p → length (s .slots) ≡ 256 → DeskSized (deskOf p s)
 unfolding deskOf
 desk-of-sized p s z l = record {
   plan = z;
@@ -132,22 +131,22 @@ module _ (D ps ls : List ℕ) where
     wide : Wide (p .figures)
     wide = let s = said-sized D right in (s .plan .positions, s .plan .times)
 
-    judged : C.refusals (supplyOf p) (bySlot (supplyOf p)) .verdict (viewOf d) (record { call = call; fair = isPlan p ps ls; room = room }) .number ≡ 0
+    judged : rulesOf p .verdict (viewOf d) (record { call = call; fair = isPlan p ps ls; room = room }) .number ≡ 0
     unfolding answerOf
-    judged = verdict-zero (supplyOf p) (bySlot (supplyOf p)) (C.refusals (supplyOf p) (bySlot (supplyOf p))) (viewOf d) _ zeroed
+    judged = verdict-zero (supplyOf p) (orderOf p) (rulesOf p) (viewOf d) _ zeroed
 
     fair : isPlan p ps ls ≡ true
     fair = fair-of p (viewOf d) (record { call = call; fair = isPlan p ps ls; room = room }) judged
 
-    was-sound : Sound (supplyOf p) (bySlot (supplyOf p)) (viewOf d)
+    was-sound : Sound (supplyOf p) (orderOf p) (viewOf d)
     unfolding C.refusals
-    was-sound = sound-says (supplyOf p) (supply-named p) (bySlot (supplyOf p)) (viewOf d)
-        (accepted-was-sound (supplyOf p) (supply-named p) (bySlot (supplyOf p)) (viewOf d) (isPlan p ps ls) room call judged)
+    was-sound = sound-says (supplyOf p) (supply-named p) (orderOf p) (viewOf d)
+        (accepted-was-sound (supplyOf p) (supply-named p) (orderOf p) (viewOf d) (isPlan p ps ls) room call judged)
 
-    stays-sound : Sound (supplyOf p) (bySlot (supplyOf p)) (answerOf d ps ls room call .scheduler)
+    stays-sound : Sound (supplyOf p) (orderOf p) (answerOf d ps ls room call .scheduler)
     unfolding answerOf
-    stays-sound = sound-says (supplyOf p) (supply-named p) (bySlot (supplyOf p)) _
-        (K.accepted-stays-sound (supplyOf p) (checked-lawful p ps ls wide fair) (supply-named p) (bySlot (supplyOf p)) (bySlot-orderly (supplyOf p)) (viewOf d)
+    stays-sound = sound-says (supplyOf p) (supply-named p) (orderOf p) _
+        (K.accepted-stays-sound (supplyOf p) (checked-lawful p ps ls wide fair) (supply-named p) (orderOf p) (order-orderly p) (viewOf d)
         (record { call = call; fair = isPlan p ps ls; room = room }) zeroed)
 
     slots-long : length (viewOf d .slots) ≡ 256
@@ -157,8 +156,8 @@ module _ (D ps ls : List ℕ) where
     stays-long : length (answerOf d ps ls room call .scheduler .slots) ≡ 256
     unfolding answerOf C.refusals
     stays-long =
-        ap (λ (x : C.Answer ℕ (Unit {0})). length (x .scheduler .slots)) (answer-accepted (supplyOf p) (bySlot (supplyOf p)) (C.refusals (supplyOf p) (bySlot (supplyOf p))) (viewOf d) _ judged)
-        ∙ accepted-length (supplyOf p) (checked-lawful p ps ls wide fair) (bySlot (supplyOf p)) (bySlot-orderly (supplyOf p)) (viewOf d) call was-sound
+        ap (λ (x : C.Answer ℕ Queue). length (x .scheduler .slots)) (answer-accepted (supplyOf p) (orderOf p) (rulesOf p) (viewOf d) _ judged)
+        ∙ accepted-length (supplyOf p) (checked-lawful p ps ls wide fair) (orderOf p) (order-orderly p) (viewOf d) call was-sound
         ∙ slots-long
 
     pub call-back : said (stringBy D (deskOf p (answerOf d ps ls room call .scheduler))) ≡ deskOf p (answerOf d ps ls room call .scheduler)

@@ -14,7 +14,7 @@ use Rattle.desk.specs.declared.Desk.{Desk}
 use Rattle.desk.specs.Desk.{supplyOf, slotsIn, viewOf, deskOf}
 use Rattle.desk.specs.View.{Wide, same-length}
 use Rattle.desk.specs.Ready.{Ready}
-use Rattle.records.specs.Records.{notBegun}
+use Rattle.desk.specs.Records.{notBegun}
 use Rattle.sweep.specs.Steps.{begunDesk, sweptOf, notSwept, begunOf}
 
 pub not-swept : (d : Desk) (k : ℕ) → notSwept (d .kinds) k ≡ sweptOf (notBegun d k)

@@ -10,8 +10,7 @@ use Rattle.plan.specs.declared.Plan.{Plan}
 use Rattle.plan.specs.Answer.{isPlan}
 use Rattle.plan.specs.Check.{checked, checked-legal}
 use Rattle.safety.specs.Supply.{Lawful}
-use Rattle.safety.specs.Order.{Scheduler, bySlot}
-use Rattle.safety.specs.BySlot.{bySlot-orderly}
+use Rattle.safety.specs.Order.{Scheduler}
 use Rattle.safety.specs.Sound.{sound}
 use Rattle.safety.specs.Refusals.{Verdict, verdict}
 use Rattle.safety.specs.Rows.{row-unfair}
@@ -20,8 +19,8 @@ use Rattle.safety.specs.Calls as C
 use Rattle.safety.specs.Lists.{verdict-zero}
 use Rattle.safety.specs.Claim as K
 use Rattle.desk.specs.declared.Desk.{Desk}
-use Rattle.desk.specs.Desk.{supplyOf, viewOf, openBy, openDesk, freshDesk}
-use Rattle.desk.specs.Promise.{supply-named, plan-lawful}
+use Rattle.desk.specs.Desk.{supplyOf, rulesOf, orderOf, Queue, viewOf, openBy, openDesk, freshDesk}
+use Rattle.desk.specs.Promise.{order-orderly, supply-named, plan-lawful}
 use Rattle.trace.specs.List.{Lent, called}
 use Rattle.trace.specs.Safe.{Safe, list-safe, givenOf, called-ruled}
 
@@ -42,22 +41,22 @@ opening-safe p ps ls w e = go (isPlan p ps ls) refl e
     go false q e = absurd (omega arith)
 
 -- a call is accepted only with the plan's own lists
-pub fair-of : (p : Plan) (s : Scheduler ℕ (Unit {0})) (g : Given ℕ) → C.refusals (supplyOf p) (bySlot (supplyOf p)) .verdict s g .number ≡ 0 → g .fair ≡ true
+pub fair-of : (p : Plan) (s : Scheduler ℕ Queue) (g : Given ℕ) → rulesOf p .verdict s g .number ≡ 0 → g .fair ≡ true
 unfolding C.refusals
 fair-of p s g e = go (g .fair) e
   where
-    go : (t : Bool) → verdict (supplyOf p) (bySlot (supplyOf p)) s t (g .room) (g .call) .number ≡ 0 → t ≡ true
+    go : (t : Bool) → verdict (supplyOf p) (orderOf p) s t (g .room) (g .call) .number ≡ 0 → t ≡ true
     go true e = refl
-    go false e = absurd (omega (arith, ap (λ (v : Verdict). v .number) (row-unfair (supplyOf p) (bySlot (supplyOf p)) s (g .room) (g .call))))
+    go false e = absurd (omega (arith, ap (λ (v : Verdict). v .number) (row-unfair (supplyOf p) (orderOf p) s (g .room) (g .call))))
 
 -- ANY RECORD: an accepted call leaves a sound one
 pub accepted-sound : (d : Desk) (x : Lent) → Wide (d .plan .figures) → called d x .number ≡ 0
-    → sound (supplyOf (d .plan)) (bySlot (supplyOf (d .plan))) (viewOf (called d x .desk)) ≡ true
+    → sound (supplyOf (d .plan)) (orderOf (d .plan)) (viewOf (called d x .desk)) ≡ true
 accepted-sound d x w e =
     let p = supplyOf (d .plan) in
     let g : Given ℕ = givenOf (d .plan) x in
     let r = called-ruled d x in
     let n = sym (r .0) ∙ e in
-    let f = fair-of (d .plan) (viewOf d) g (verdict-zero p (bySlot p) (C.refusals p (bySlot p)) (viewOf d) g n) in
-    ap (sound p (bySlot p)) (r .1)
-    ∙ K.accepted-stays-sound p (checked-lawful (d .plan) (x .positions) (x .leads) w f) (supply-named (d .plan)) (bySlot p) (bySlot-orderly p) (viewOf d) g n
+    let f = fair-of (d .plan) (viewOf d) g (verdict-zero p (orderOf (d .plan)) (rulesOf (d .plan)) (viewOf d) g n) in
+    ap (sound p (orderOf (d .plan))) (r .1)
+    ∙ K.accepted-stays-sound p (checked-lawful (d .plan) (x .positions) (x .leads) w f) (supply-named (d .plan)) (orderOf (d .plan)) (order-orderly (d .plan)) (viewOf d) g n

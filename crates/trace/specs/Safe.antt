@@ -22,7 +22,7 @@ use Rattle.safety.specs.Calls as C
 use Rattle.safety.specs.Calls.{Given, isAccepted}
 use Rattle.safety.specs.Claim as K
 use Rattle.desk.specs.declared.Desk.{Desk}
-use Rattle.desk.specs.Desk.{supplyOf, viewOf, deskOf, answerOf, answered, joinDesk, leaveDesk, beginDesk, endDesk, zeros, freshDesk}
+use Rattle.desk.specs.Desk.{supplyOf, rulesOf, orderOf, Queue, viewOf, deskOf, answerOf, answered, joinDesk, leaveDesk, beginDesk, endDesk, zeros, freshDesk}
 use Rattle.desk.specs.Entries.{entries-in}
 use Rattle.desk.specs.View.{view-of-desk}
 use Rattle.desk.specs.Promise.{supply-named}
@@ -49,16 +49,16 @@ module _ (p : Plan) where
   givensOf (x ∷ xs) = givenOf x ∷ givensOf xs
 
   -- the rules' answer
-  abbrev ruled : Scheduler ℕ (Unit {0}) → Given ℕ → C.Answer ℕ (Unit {0})
-  ruled s x = C.answer supply (bySlot supply) (C.refusals supply (bySlot supply)) s x
+  abbrev ruled : Scheduler ℕ Queue → Given ℕ → C.Answer ℕ Queue
+  ruled s x = C.answer supply (orderOf p) (rulesOf p) s x
 
   -- only a begin answers entries or a bound
-  quiet : (s : Scheduler ℕ (Unit {0})) (x : Given ℕ) → C.accepted supply (bySlot supply) s (x .call) .entries ≡ [] → C.accepted supply (bySlot supply) s (x .call) .bound ≡ 0
+  quiet : (s : Scheduler ℕ Queue) (x : Given ℕ) → C.accepted supply (orderOf p) s (x .call) .entries ≡ [] → C.accepted supply (orderOf p) s (x .call) .bound ≡ 0
       → (ruled s x .entries ≡ []) × (ruled s x .bound ≡ 0)
   unfolding C.answer
-  quiet s x e b = go (C.refusals supply (bySlot supply) .verdict s x .number)
+  quiet s x e b = go (rulesOf p .verdict s x .number)
     where
-      go : (k : ℕ) → (let a = C.answerBy supply (bySlot supply) (C.refusals supply (bySlot supply)) k (C.refusals supply (bySlot supply) .verdict s x .place) s x in (a .entries ≡ []) × (a .bound ≡ 0))
+      go : (k : ℕ) → (let a = C.answerBy supply (orderOf p) (rulesOf p) k (rulesOf p .verdict s x .place) s x in (a .entries ≡ []) × (a .bound ≡ 0))
       go zero = unfold C.refusals in (e, b)
       go (suc k) = (refl, refl)
 
@@ -93,68 +93,66 @@ by-rules p d x e = subst (λ (q : Plan). Ruled q d x) e (own-rules d x)
 
 -- what a call leaves, as the rules say it
 pub called-ruled : (d : Desk) (x : Lent)
-    → (called d x .number ≡ C.answer (supplyOf (d .plan)) (bySlot (supplyOf (d .plan))) (C.refusals (supplyOf (d .plan)) (bySlot (supplyOf (d .plan)))) (viewOf d) (givenOf (d .plan) x) .number)
-    × (viewOf (called d x .desk) ≡ C.answer (supplyOf (d .plan)) (bySlot (supplyOf (d .plan))) (C.refusals (supplyOf (d .plan)) (bySlot (supplyOf (d .plan)))) (viewOf d) (givenOf (d .plan) x) .scheduler)
+    → (called d x .number ≡ C.answer (supplyOf (d .plan)) (orderOf (d .plan)) (rulesOf (d .plan)) (viewOf d) (givenOf (d .plan) x) .number)
+    × (viewOf (called d x .desk) ≡ C.answer (supplyOf (d .plan)) (orderOf (d .plan)) (rulesOf (d .plan)) (viewOf d) (givenOf (d .plan) x) .scheduler)
 called-ruled d x = let r = own-rules d x in (r .number, ap viewOf (r .desk) ∙ view-of-desk (d .plan) _)
 
 -- ---- call by call
 
 -- the desk and the book are the rules' scheduler and ledger
-record Same (p : Plan) (v : World) (u : C.State ℕ (Unit {0})) : Type 0 where
+record Same (p : Plan) (v : World) (u : C.State ℕ Queue) : Type 0 where
   plan : v .desk .plan ≡ p
   view : viewOf (v .desk) ≡ u .scheduler
   book : v .book ≡ u .ledger
   wide : SameLength (supplyOf p) (v .desk .kinds) (v .desk .next) (v .desk .held)
 
 module _ (p : Plan) where
-  abbrev rules : C.Rules ℕ (Unit {0}) (Given ℕ)
-  rules = C.refusals (supplyOf p) (bySlot (supplyOf p))
+  abbrev rules : C.Rules ℕ Queue (Given ℕ)
+  rules = rulesOf p
 
-  desk-plan : (s : Scheduler ℕ (Unit {0})) → deskOf p s .plan ≡ p
+  abbrev B : ℕ
+  B = p .figures .bytes
+
+  desk-plan : (s : Scheduler ℕ Queue) → deskOf p s .plan ≡ p
   unfolding deskOf
   desk-plan s = refl
 
-  desk-wide : (s : Scheduler ℕ (Unit {0})) → SameLength (supplyOf p) (deskOf p s .kinds) (deskOf p s .next) (deskOf p s .held)
+  desk-wide : (s : Scheduler ℕ Queue) → SameLength (supplyOf p) (deskOf p s .kinds) (deskOf p s .next) (deskOf p s .held)
   unfolding deskOf
   desk-wide s = record {
     nexts = length-map (s .slots) (λ x. x .next) ∙ sym (length-map (s .slots) (λ x. x .kind));
     helds = length-map (s .slots) (λ x. x .buffered) ∙ sym (length-map (s .slots) (λ x. x .kind));
   }
 
-  bytes-of : (q : Plan) → q ≡ p → q .figures .bytes ≡ supplyOf p .B
-  unfolding supplyOf
-  bytes-of q e = ap (λ (x : Plan). x .figures .bytes) e
-
-  turn-same : (v : World) (u : C.State ℕ (Unit {0})) (x : Lent) → Same p v u → Same p (turn v x) (C.turn (supplyOf p) (bySlot (supplyOf p)) rules u (givenOf p x))
-  unfolding turn C.turn C.refusals
+  turn-same : (v : World) (u : C.State ℕ Queue) (x : Lent) → Same p v u → Same p (turn B v x) (C.turn (supplyOf p) (orderOf p) rules u (givenOf p x))
+  unfolding turn C.turn C.refusals supplyOf
   turn-same v u x s =
       let r = by-rules p (v .desk) x (s .plan) in
       let g : Given ℕ = givenOf p x in
-      let a : C.Answer ℕ (Unit {0}) = ruled p (viewOf (v .desk)) g in
-      let b = bytes-of (v .desk .plan) (s .plan) in
+      let a : C.Answer ℕ Queue = ruled p (viewOf (v .desk)) g in
       let l = s .book in
-      let k : called (v .desk) x .number ≡ ruled p (u .scheduler) g .number = r .number ∙ ap (λ (w : Scheduler ℕ (Unit {0})). ruled p w g .number) (s .view) in
-      let e : called (v .desk) x .entries ≡ ruled p (u .scheduler) g .entries = r .entries ∙ ap (λ (w : Scheduler ℕ (Unit {0})). ruled p w g .entries) (s .view) in
+      let k : called (v .desk) x .number ≡ ruled p (u .scheduler) g .number = r .number ∙ ap (λ (w : Scheduler ℕ Queue). ruled p w g .number) (s .view) in
+      let e : called (v .desk) x .entries ≡ ruled p (u .scheduler) g .entries = r .entries ∙ ap (λ (w : Scheduler ℕ Queue). ruled p w g .entries) (s .view) in
       record {
         plan = ap (λ (d : Desk). d .plan) (r .desk) ∙ desk-plan (a .scheduler);
-        view = ap viewOf (r .desk) ∙ view-of-desk p (a .scheduler) ∙ ap (λ (w : Scheduler ℕ (Unit {0})). ruled p w g .scheduler) (s .view);
-        book = λ t. recorded (b t) (l t) (moveOf (x .request)) (isAccepted (k t)) (e t);
+        view = ap viewOf (r .desk) ∙ view-of-desk p (a .scheduler) ∙ ap (λ (w : Scheduler ℕ Queue). ruled p w g .scheduler) (s .view);
+        book = λ t. recorded (p .figures .bytes) (l t) (moveOf (x .request)) (isAccepted (k t)) (e t);
         wide = subst (λ (d : Desk). SameLength (supplyOf p) (d .kinds) (d .next) (d .held)) (sym (r .desk)) (desk-wide (a .scheduler));
       }
 
   abbrev State : Type 0
-  State = C.State ℕ (Unit {0})
+  State = C.State ℕ Queue
 
   abbrev afterRules : State → List Lent → State
-  afterRules u xs = C.after (supplyOf p) (bySlot (supplyOf p)) rules u (givensOf p xs)
+  afterRules u xs = C.after (supplyOf p) (orderOf p) rules u (givensOf p xs)
 
-  after-same : (xs : List Lent) (v : World) (u : State) → Same p v u → Same p (after v xs) (afterRules u xs)
+  after-same : (xs : List Lent) (v : World) (u : State) → Same p v u → Same p (after B v xs) (afterRules u xs)
   unfolding after C.after givensOf
   after-same [] v u s = s
-  after-same (x ∷ xs) v u s = after-same xs (turn v x) _ (turn-same v u x s)
+  after-same (x ∷ xs) v u s = after-same xs (turn B v x) _ (turn-same v u x s)
 
   -- the opening
-  fresh-same : Same p (opened (freshDesk p)) (C.opening (supplyOf p) (bySlot (supplyOf p)))
+  fresh-same : Same p (opened (freshDesk p)) (C.opening (supplyOf p) (orderOf p))
   unfolding freshDesk viewOf C.opening A.opened bySlot supplyOf zeros
   fresh-same = record {
     plan = refl;
@@ -175,7 +173,7 @@ IsBegin (ends draws) = ⊥
 module _ (p : Plan) where
   -- the desk and the book after a list from the opening
   abbrev pub worldAfter : List Lent → World
-  worldAfter xs = after (opened (freshDesk p)) xs
+  worldAfter xs = after (p .figures .bytes) (opened (freshDesk p)) xs
 
   abbrev pub kindAt : List Lent → ℕ → ℕ
   kindAt xs i = getD (worldAfter xs .desk .kinds) i 0
@@ -207,7 +205,7 @@ module _ (p : Plan) where
         → kindAt xs i ≡ cond (isAccepted (answerAfter ys x .number)) (kindAfter (supplyOf p) (viewOf (worldAfter ys .desk)) (moveOf (x .request)) i) (kindAt ys i)
     -- the record stays the plan's, and sound: a call with the plan's own lists is never answered 14
     pub same-plan : worldAfter xs .desk .plan ≡ p
-    pub stays-sound : sound (supplyOf p) (bySlot (supplyOf p)) (viewOf (worldAfter xs .desk)) ≡ true
+    pub stays-sound : sound (supplyOf p) (orderOf p) (viewOf (worldAfter xs .desk)) ≡ true
     pub never-unsound : (x : Lent) → isPlan p (x .positions) (x .leads) ≡ true → answerAfter xs x .number ≢ 14
 
 -- ---- its proof
@@ -225,12 +223,12 @@ module _ (p : Plan) where
   givens-last (y ∷ ys) x = ap (λ (gs : List (Given ℕ)). givenOf p y ∷ gs) (givens-last ys x)
 
   -- a slot of the rules is the entries of the three arrays
-  slot-same : (v : World) (u : C.State ℕ (Unit {0})) → Same p v u → (i : ℕ)
+  slot-same : (v : World) (u : C.State ℕ Queue) → Same p v u → (i : ℕ)
       → at (supplyOf p) (u .scheduler .slots) i ≡ slotOf (supplyOf p) (getD (v .desk .kinds) i 0) (getD (v .desk .next) i 0) (getD (v .desk .held) i 0)
   unfolding viewOf
   slot-same v u s i =
       let e : slotsOf (supplyOf p) (v .desk .kinds) (v .desk .next) (v .desk .held) ≡ u .scheduler .slots =
-      ap (λ (q : Plan). slotsOf (supplyOf q) (v .desk .kinds) (v .desk .next) (v .desk .held)) (sym (s .plan)) ∙ ap (λ (w : Scheduler ℕ (Unit {0})). w .slots) (s .view) in
+      ap (λ (q : Plan). slotsOf (supplyOf q) (v .desk .kinds) (v .desk .next) (v .desk .held)) (sym (s .plan)) ∙ ap (λ (w : Scheduler ℕ Queue). w .slots) (s .view) in
       ap (λ (ss : List (Slot ℕ)). at (supplyOf p) ss i) (sym e)
       ∙ slot-at (supplyOf p) (v .desk .kinds) (v .desk .next) (v .desk .held) (s .wide) i
       ∙ none i
@@ -240,8 +238,8 @@ module _ (p : Plan) where
       none i = unfold supplyOf in refl
 
   module _ (ok : Lawful (supplyOf p)) where
-    abbrev o : Order ℕ (Unit {0})
-    o = bySlot (supplyOf p)
+    abbrev o : Order ℕ Queue
+    o = orderOf p
 
     same : (xs : List Lent) → Same p (worldAfter p xs) (K.stateAfter (supplyOf p) o (givensOf p xs))
     same xs = after-same p xs (opened (freshDesk p)) (C.opening (supplyOf p) o) (fresh-same p)
@@ -260,11 +258,11 @@ module _ (p : Plan) where
 
     number-same : (xs : List Lent) (x : Lent) → answerAfter p xs x .number ≡ K.answerAfter (supplyOf p) o (givensOf p xs) (givenOf p x) .number
     number-same xs x =
-        by-rules p (worldAfter p xs .desk) x (same xs .plan) .number ∙ ap (λ (w : Scheduler ℕ (Unit {0})). ruled p w (givenOf p x) .number) (same xs .view)
+        by-rules p (worldAfter p xs .desk) x (same xs .plan) .number ∙ ap (λ (w : Scheduler ℕ Queue). ruled p w (givenOf p x) .number) (same xs .view)
 
     bound-same : (xs : List Lent) (x : Lent) → answerAfter p xs x .bound ≡ K.answerAfter (supplyOf p) o (givensOf p xs) (givenOf p x) .bound
     bound-same xs x =
-        by-rules p (worldAfter p xs .desk) x (same xs .plan) .bound ∙ ap (λ (w : Scheduler ℕ (Unit {0})). ruled p w (givenOf p x) .bound) (same xs .view)
+        by-rules p (worldAfter p xs .desk) x (same xs .plan) .bound ∙ ap (λ (w : Scheduler ℕ Queue). ruled p w (givenOf p x) .bound) (same xs .view)
 
     last : (xs ys : List Lent) (x : Lent) → xs ≡ ys ++ (x ∷ []) → givensOf p xs ≡ givensOf p ys ++ (givenOf p x ∷ [])
     last xs ys x e = ap (givensOf p) e ∙ givens-last ys x

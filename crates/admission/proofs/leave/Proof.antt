@@ -6,7 +6,7 @@ use Rattle.card.specs.declared.Verdict.{Verdict}
 use Rattle.desk.specs.declared.Desk.{Desk}
 use Rattle.desk.specs.View.{Wide}
 use Rattle.soundness.specs.Ready.{plan-streams, sound-plan}
-use Rattle.records.specs.Records.{answers}
+use Rattle.desk.specs.Records.{answers}
 use Rattle.admission.specs.Answers.{leave-refused, leave-made}
 use Rattle.admission.proofs.leave.Statement.{statement}
 use Rattle.admission.proofs.leave.Tie as tie
@@ -33,14 +33,14 @@ with-slot-requires c κs =
     let m = leave-made (s .args .desk) (wide s) _ _ _ (sym (ap (λ (v : Verdict). v .number) (c .before .before .judge-leave .ensures)) ∙ c .if1 .left) in
     omega (arith, m .1, plan-streams _ _ _ (slim s) (sound-plan _ _ _ (m .0)))
 
-answer-requires : tie.Need-answer-requires
-answer-requires c κs = search needs
+answer-with-requires : tie.Need-answer-with-requires
+answer-with-requires c κs = search needs
 
 returns-2 : tie.Need-returns-2
 returns-2 c =
     let s = c .before .before .before .before .before .before .before in
     let m = leave-made (s .args .desk) (wide s) _ _ _ (sym (ap (λ (v : Verdict). v .number) (c .before .before .before .before .judge-leave .ensures)) ∙ c .before .before .if1 .left) in
-    c .answer .ensures ∙ ap (λ (d : Desk). answers d 0 0) (c .before .with-slot .ensures) ∙ m .2
+    c .answer-with .ensures ∙ ap (λ (d : Desk). answers d 0 0) (c .before .with-slot .ensures) ∙ m .2
 
 pub leave-spec : {M : Type 1} → statement M
-leave-spec = tie.close (tie.spec judge-leave-requires returns with-slot-requires answer-requires returns-2)
+leave-spec = tie.close (tie.spec judge-leave-requires returns with-slot-requires answer-with-requires returns-2)

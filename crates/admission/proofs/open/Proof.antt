@@ -2,7 +2,7 @@ use mathlib.Core.Path.{sym, ap, _∙_}
 use borrow.Author.Needs.{needs}
 use borrow.Author.Tests.{not-true, not-false}
 use Rattle.desk.specs.declared.Desk.{Desk}
-use Rattle.records.specs.Records.{answers}
+use Rattle.desk.specs.Records.{answers}
 use Rattle.admission.specs.Answers.{open-unfit, open-done}
 use Rattle.admission.proofs.open.Statement.{statement}
 use Rattle.admission.proofs.open.Tie as tie
@@ -13,24 +13,24 @@ is-plan-requires c κs = search needs
 blank-desk-requires : tie.Need-blank-desk-requires
 blank-desk-requires c κs = search needs
 
-answer-requires : tie.Need-answer-requires
-answer-requires c κs = search needs
+answer-with-requires : tie.Need-answer-with-requires
+answer-with-requires c κs = search needs
 
 returns : tie.Need-returns
 returns c =
     let e = c .before .before in
-    c .answer .ensures ∙ ap (λ (d : Desk). answers d 14 0) (c .before .blank-desk .ensures) ∙ open-unfit _ _ _ (sym (e .before .is-plan .ensures) ∙ not-true _ (e .if1 .taken))
+    c .answer-with .ensures ∙ ap (λ (d : Desk). answers d 14 0) (c .before .blank-desk .ensures) ∙ open-unfit _ _ _ (sym (e .before .is-plan .ensures) ∙ not-true _ (e .if1 .taken))
 
 fresh-desk-requires : tie.Need-fresh-desk-requires
 fresh-desk-requires c κs = search needs
 
-answer-requires-2 : tie.Need-answer-requires-2
-answer-requires-2 c κs = search needs
+answer-with-requires-2 : tie.Need-answer-with-requires-2
+answer-with-requires-2 c κs = search needs
 
 returns-2 : tie.Need-returns-2
 returns-2 c =
     let e = c .before .before in
-    c .answer2 .ensures ∙ ap (λ (d : Desk). answers d 0 0) (c .before .fresh-desk .ensures) ∙ open-done _ _ _ (sym (e .before .is-plan .ensures) ∙ not-false _ (e .if1 .left))
+    c .answer-with2 .ensures ∙ ap (λ (d : Desk). answers d 0 0) (c .before .fresh-desk .ensures) ∙ open-done _ _ _ (sym (e .before .is-plan .ensures) ∙ not-false _ (e .if1 .left))
 
 pub open-spec : {M : Type 1} → statement M
 open-spec =
@@ -38,8 +38,8 @@ open-spec =
     (tie.spec
     is-plan-requires
     blank-desk-requires
-    answer-requires
+    answer-with-requires
     returns
     fresh-desk-requires
-    answer-requires-2
+    answer-with-requires-2
     returns-2)

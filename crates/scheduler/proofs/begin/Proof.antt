@@ -2,7 +2,7 @@ use mathlib.Core.Path.{_≡_, sym, ap, _∙_}
 use Rattle.round_trip.specs.Legality as legality
 use Rattle.desk.specs.Desk.{beginDesk}
 use Rattle.desk.specs.View.{Wide}
-use Rattle.records.specs.Records.{notBegun}
+use Rattle.desk.specs.Records.{notBegun}
 use Rattle.sweep.specs.declared.Swept.{Swept}
 use Rattle.sweep.specs.Steps.{sweptOf, begunOf}
 use Rattle.scheduler.specs.Ways.{begin-refused, begin-swept}

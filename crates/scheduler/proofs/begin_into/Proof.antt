@@ -9,7 +9,7 @@ use Rattle.desk.specs.declared.Begun.{Begun}
 use Rattle.desk.specs.Desk.{beginDesk, entriesOf, fetchListAfter}
 use Rattle.desk.specs.View.{Wide}
 use Rattle.scheduler.specs.Count.{begin-few}
-use Rattle.fetch_bytes.specs.Lists.{rows, rows-of}
+use Rattle.layout.specs.Entries.{rows, rows-of}
 use borrow.Author.Needs.{needs}
 use Rattle.scheduler.proofs.begin_into.Statement.{statement}
 use Rattle.scheduler.proofs.begin_into.Tie as tie

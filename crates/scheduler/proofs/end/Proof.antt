@@ -3,7 +3,7 @@ use Rattle.card.specs.declared.Verdict.{Verdict}
 use Rattle.round_trip.specs.Legality as legality
 use Rattle.desk.specs.declared.Desk.{Desk}
 use Rattle.desk.specs.View.{Wide}
-use Rattle.records.specs.Records.{answers}
+use Rattle.desk.specs.Records.{answers}
 use Rattle.scheduler.specs.Ways.{HasEnded, end-turned-down, end-accepted}
 use borrow.Author.Needs.{needs}
 use Rattle.scheduler.proofs.end.Statement.{statement}
@@ -36,12 +36,12 @@ returns c =
 end-sweep-requires : tie.Need-end-sweep-requires
 end-sweep-requires c κs = (ended c .ready, ended c .drawn)
 
-answer-requires : tie.Need-answer-requires
-answer-requires c κs = search needs
+answer-with-requires : tie.Need-answer-with-requires
+answer-with-requires c κs = search needs
 
 returns-2 : tie.Need-returns-2
-returns-2 c = c .answer .ensures ∙ ap (λ (d : Desk). answers d 0 0) (c .before .end-sweep .ensures) ∙ ended (c .before .before) .answer
+returns-2 c = c .answer-with .ensures ∙ ap (λ (d : Desk). answers d 0 0) (c .before .end-sweep .ensures) ∙ ended (c .before .before) .answer
 
 pub end-spec : {M : Type 1} → statement M
 end-spec =
-    tie.close (tie.spec judge-end-requires returns end-sweep-requires answer-requires returns-2)
+    tie.close (tie.spec judge-end-requires returns end-sweep-requires answer-with-requires returns-2)

@@ -1,0 +1,48 @@
+-- The limits of document 01's table of ranges, and of the desk.
+use Prim.Native.Nat.{ℕ}
+
+-- the kind of a card
+abbrev pub cardKind : ℕ
+cardKind = 1
+
+-- any number of a card
+abbrev pub maxNumber : ℕ
+maxNumber = 4294967295
+
+-- the least that is none
+abbrev pub noNumber : ℕ
+noNumber = 4294967296
+
+abbrev pub maxZones : ℕ
+maxZones = 64
+
+-- P, the positions of all zones
+abbrev pub maxPositions : ℕ
+maxPositions = 1048576
+
+-- the time of a zone, in microseconds
+abbrev pub maxTime : ℕ
+maxTime = 4000000
+
+-- N, the blocks of a film
+abbrev pub minBlocks : ℕ
+minBlocks = 2
+
+abbrev pub maxBlocks : ℕ
+maxBlocks = 16384
+
+-- B, the bytes of a block
+abbrev pub maxBytes : ℕ
+maxBytes = 4194304
+
+-- c, the top rate in bytes a second
+abbrev pub maxRate : ℕ
+maxRate = 10000000
+
+-- hop and return, each
+abbrev pub maxMove : ℕ
+maxMove = 1000000
+
+-- n, and the slots of a desk
+abbrev pub maxStreams : ℕ
+maxStreams = 256

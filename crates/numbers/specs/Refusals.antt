@@ -1,0 +1,86 @@
+-- Document 01's refusal numbers.
+use Prim.Native.Nat.{ℕ}
+
+-- card ends too early
+abbrev pub cardEnds : ℕ
+cardEnds = 1
+
+-- number not shortest, over five bytes, or above 4,294,967,295
+abbrev pub numberForm : ℕ
+numberForm = 2
+
+-- kind not 1
+abbrev pub wrongKind : ℕ
+wrongKind = 3
+
+-- zones out of range, or a record's unused zones not zero
+abbrev pub wrongZones : ℕ
+wrongZones = 4
+
+-- zone without positions, or total so far too great
+abbrev pub wrongPositions : ℕ
+wrongPositions = 5
+
+-- zone time out of range
+abbrev pub wrongTime : ℕ
+wrongTime = 6
+
+-- zone time above the one before
+abbrev pub risingTime : ℕ
+risingTime = 7
+
+-- N out of range
+abbrev pub wrongBlocks : ℕ
+wrongBlocks = 8
+
+-- N above P
+abbrev pub blocksAbovePositions : ℕ
+blocksAbovePositions = 9
+
+-- B, c, hop or return out of range
+abbrev pub wrongMeasure : ℕ
+wrongMeasure = 10
+
+-- bytes left over
+abbrev pub cardGoesOn : ℕ
+cardGoesOn = 11
+
+-- not even one stream fits
+abbrev pub noStream : ℕ
+noStream = 12
+
+-- lent list or card buffer too short
+abbrev pub tooShort : ℕ
+tooShort = 13
+
+-- record not sound
+abbrev pub notSound : ℕ
+notSound = 14
+
+-- wrong phase
+abbrev pub wrongPhase : ℕ
+wrongPhase = 15
+
+-- slot n or above
+abbrev pub noSuchSlot : ℕ
+noSuchSlot = 16
+
+-- join on an occupied, leave on a free slot
+abbrev pub slotState : ℕ
+slotState = 17
+
+-- start block N or above
+abbrev pub noSuchBlock : ℕ
+noSuchBlock = 18
+
+-- draw list not n long
+abbrev pub drawCount : ℕ
+drawCount = 19
+
+-- draw above what the slot may draw
+abbrev pub drawAboveLimit : ℕ
+drawAboveLimit = 20
+
+-- draw above held
+abbrev pub drawAboveHeld : ℕ
+drawAboveHeld = 21

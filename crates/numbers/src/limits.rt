@@ -1,0 +1,34 @@
+// The greatest and least figures of a card, and of a desk.
+// The kind of a card.
+pub const CARD_KIND: u32 = 1;
+
+// Any number of a card.
+pub const MAX_NUMBER: u32 = 4294967295;
+
+// The least that is none.
+pub const NO_NUMBER: u64 = 4294967296;
+
+pub const MAX_ZONES: u32 = 64;
+
+// P, the positions of all zones.
+pub const MAX_POSITIONS: u32 = 1048576;
+
+// The time of a zone, in microseconds.
+pub const MAX_TIME: u32 = 4000000;
+
+// N, the blocks of a film.
+pub const MIN_BLOCKS: u32 = 2;
+
+pub const MAX_BLOCKS: u32 = 16384;
+
+// B, the bytes of a block.
+pub const MAX_BYTES: u32 = 4194304;
+
+// c, the top rate in bytes a second.
+pub const MAX_RATE: u32 = 10000000;
+
+// Hop and return, each, in microseconds.
+pub const MAX_MOVE: u32 = 1000000;
+
+// n, and the slots of a desk.
+pub const MAX_STREAMS: u32 = 256;

@@ -1,9 +1,0 @@
-use mathlib.Core.Path.{refl}
-use Rattle.records.proofs.answer.Statement.{statement}
-use Rattle.records.proofs.answer.Tie as tie
-
-returns : tie.Need-returns
-returns c = refl
-
-pub answer-spec : {M : Type 1} → statement M
-answer-spec = tie.close (tie.spec returns)
