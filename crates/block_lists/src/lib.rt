@@ -81,7 +81,8 @@ pub fn write_leads<'a>(
     }
 }
 
-fn both(a: bool, b: bool) -> bool
+// Both are true.
+pub fn both(a: bool, b: bool) -> bool
     ensures { λ r. ⌜ r ≡ (a && b) ⌝ }
 {
     if a {

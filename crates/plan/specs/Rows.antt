@@ -56,13 +56,7 @@ begins-long g b (suc n) (w ∷ ws) e = omega (arith, begins-long g (suc b) n ws 
 pub begins-short : (g : ℕ → ℕ) (b n : ℕ) (ws : List ℕ) → length ws < n → begins (row g b n) ws ≡ false
 begins-short g b n ws h = is-false (begins (row g b n) ws) (λ e. omega (arith, begins-long g b n ws e))
 
--- the entries that it begins with
-pub begins-take : (vs ws : List ℕ) → begins vs ws ≡ true → take (length vs) ws ≡ vs
-unfolding begins
-begins-take [] ws e = refl
-begins-take (v ∷ vs) [] e = clash e refl
-begins-take (v ∷ vs) (w ∷ ws) e = ap₂ (λ (x : ℕ) (y : List ℕ). x ∷ y) (eqb-true w v (and-left (eqb w v) _ e)) (begins-take vs ws (and-right (eqb w v) _ e))
-
+-- a list whose first entries they are
 pub take-begins : (vs ws : List ℕ) → take (length vs) ws ≡ vs → begins vs ws ≡ true
 unfolding begins
 take-begins [] ws e = refl
