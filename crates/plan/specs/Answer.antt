@@ -61,14 +61,20 @@ begins (v ∷ vs) [] = false
 begins (v ∷ vs) (w ∷ ws) = eqb w v && begins vs ws
 
 -- two plans have the same streams, buffer, worst2 and margin
-unfoldable pub sameNumbers : Plan → Plan → Bool
+abbrev pub sameNumbers : Plan → Plan → Bool
 sameNumbers p q = eqb (p .streams) (q .streams) && (eqb (p .buffer) (q .buffer) && (eqb (p .worst2) (q .worst2) && eqb (p .margin) (q .margin)))
 
--- 'it is the plan of its figures, both lists begin with its N entries': the figures are legal and feed a stream
+-- the figures are legal and feed a stream, and the record has their numbers
+unfoldable pub hasNumbers : Plan → Bool
+hasNumbers p = eqb (recordFault (p .figures)) 0 && (ltb 0 (streamsOf (p .figures)) && sameNumbers p (planOf (p .figures)))
+
+-- a list begins with the film's positions, one with its leads
+unfoldable pub hasPositions : Plan → List ℕ → Bool
+hasPositions p ps = begins (positionsOf (p .figures)) (wordsOf ps)
+
+unfoldable pub hasLeads : Plan → List ℕ → Bool
+hasLeads p ls = begins (leadsOf (p .figures)) (wordsOf ls)
+
+-- 'it is the plan of its figures, both lists begin with its N entries'
 unfoldable pub isPlan : Plan → List ℕ → List ℕ → Bool
-isPlan p ps ls =
-    eqb (recordFault (p .figures)) 0
-    && (ltb 0 (streamsOf (p .figures))
-    && (sameNumbers p (planOf (p .figures))
-    && (begins (positionsOf (p .figures)) (wordsOf ps)
-    && begins (leadsOf (p .figures)) (wordsOf ls))))
+isPlan p ps ls = hasNumbers p && (hasPositions p ps && hasLeads p ls)

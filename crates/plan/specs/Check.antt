@@ -16,25 +16,27 @@ use Rattle.words.specs.Laws.{read-written}
 use Rattle.card.specs.declared.Figures.{Figures}
 use Rattle.plan.specs.declared.Plan.{Plan}
 use Rattle.plan.specs.Plan.{placeOf, leadOf, streamsOf, bufferSize, worst2Of, marginOf, planOf, row, positionsOf, leadsOf}
-use Rattle.plan.specs.Answer.{begins, sameNumbers, isPlan}
+use Rattle.plan.specs.Answer.{begins, sameNumbers, hasNumbers, hasPositions, hasLeads, isPlan}
 use Rattle.plan.specs.Legal.{place-below, lead-small}
-use Rattle.plan.specs.Rows.{row-length, begins-at, begins-long, begins-take, take-begins}
+use Rattle.plan.specs.Rows.{row-length, begins-at, begins-long, take-begins}
 
--- a passed check
+-- a plan has the numbers of its figures, which are legal and feed a stream
+pub record Numbered (p : Plan) : Type 0 where
+  pub legal : Legal (p .figures)
+  pub fed : 0 < streamsOf (p .figures)
+  pub plan : p ≡ planOf (p .figures)
+
+-- a passed check: the same, and both lists begin with the film's N entries
 pub record Checked (p : Plan) (ps ls : List ℕ) : Type 0 where
   pub clear : recordFault (p .figures) ≡ 0
   pub fed : 0 < streamsOf (p .figures)
-  -- the record is the plan of its figures
   pub plan : p ≡ planOf (p .figures)
-  -- both lists begin with its N entries
-  pub positions : take (p .figures .blocks) (wordsOf ps) ≡ positionsOf (p .figures)
-  pub leads : take (p .figures .blocks) (wordsOf ls) ≡ leadsOf (p .figures)
   pub long : (p .figures .blocks ≤ length (wordsOf ps)) × (p .figures .blocks ≤ length (wordsOf ls))
   pub place-at : (b : ℕ) → b < p .figures .blocks → getD (wordsOf ps) b 0 ≡ placeOf (p .figures) b
   pub lead-at : (b : ℕ) → b < p .figures .blocks → getD (wordsOf ls) b 0 ≡ leadOf (p .figures) b
 
 same-plan : (p : Plan) (f : Figures) → p .figures ≡ f → sameNumbers p (planOf f) ≡ true → p ≡ planOf f
-unfolding sameNumbers planOf
+unfolding planOf
 same-plan p f d e =
     let e₁ = and-right (eqb (p .streams) (streamsOf f)) _ e in
     let e₂ = and-right (eqb (p .buffer) (bufferSize f)) _ e₁ in
@@ -44,28 +46,34 @@ same-plan p f d e =
     let m = eqb-true (p .margin) (marginOf f) (and-right (eqb (p .worst2) (worst2Of f)) _ e₂) in
     λ i. record { figures = d i; streams = s i; buffer = b i; worst2 = w i; margin = m i }
 
--- the first n entries, where a list begins with a row of them
-row-take : (g : ℕ → ℕ) (n : ℕ) (ws : List ℕ) → begins (row g 0 n) ws ≡ true → take n ws ≡ row g 0 n
-row-take g n ws e = rw (row-length g 0 n) at (begins-take (row g 0 n) ws e)
+numbers-say : (p : Plan) → hasNumbers p ≡ true → (recordFault (p .figures) ≡ 0) × (0 < streamsOf (p .figures)) × (p ≡ planOf (p .figures))
+unfolding hasNumbers
+numbers-say p e =
+    let f = p .figures in
+    let e₁ = and-right (eqb (recordFault f) 0) _ e in (
+      eqb-true (recordFault f) 0 (and-left (eqb (recordFault f) 0) _ e),
+      ltb-true 0 (streamsOf f) (and-left (ltb 0 (streamsOf f)) _ e₁),
+      same-plan p f refl (and-right (ltb 0 (streamsOf f)) _ e₁),
+    )
+
+pub numbered : (p : Plan) → Wide (p .figures) → hasNumbers p ≡ true → Numbered p
+numbered p w e = let n = numbers-say p e in record { legal = fault-legal (p .figures) w (n .0); fed = n .1; plan = n .2 }
 
 row-here : (g : ℕ → ℕ) (n : ℕ) (ws : List ℕ) → begins (row g 0 n) ws ≡ true → (b : ℕ) → b < n → getD ws b 0 ≡ g b
 row-here g n ws e b u = let z : 0 + b ≡ b = omega arith in begins-at g 0 n ws e b u ∙ ap g z
 
 pub checked : (p : Plan) (ps ls : List ℕ) → isPlan p ps ls ≡ true → Checked p ps ls
-unfolding isPlan positionsOf leadsOf
+unfolding isPlan hasPositions hasLeads positionsOf leadsOf
 checked p ps ls e =
     let f = p .figures in
-    let e₁ = and-right (eqb (recordFault f) 0) _ e in
-    let e₂ = and-right (ltb 0 (streamsOf f)) _ e₁ in
-    let e₃ = and-right (sameNumbers p (planOf f)) _ e₂ in
-    let b = and-left (begins (positionsOf f) (wordsOf ps)) _ e₃ in
-    let d = and-right (begins (positionsOf f) (wordsOf ps)) _ e₃ in
+    let n = numbers-say p (and-left (hasNumbers p) _ e) in
+    let e₁ = and-right (hasNumbers p) _ e in
+    let b = and-left (hasPositions p ps) _ e₁ in
+    let d = and-right (hasPositions p ps) _ e₁ in
     record {
-      clear = eqb-true (recordFault f) 0 (and-left (eqb (recordFault f) 0) _ e);
-      fed = ltb-true 0 (streamsOf f) (and-left (ltb 0 (streamsOf f)) _ e₁);
-      plan = same-plan p f refl (and-left (sameNumbers p (planOf f)) _ e₂);
-      positions = row-take (placeOf f) (f .blocks) (wordsOf ps) b;
-      leads = row-take (leadOf f) (f .blocks) (wordsOf ls) d;
+      clear = n .0;
+      fed = n .1;
+      plan = n .2;
       long = (begins-long (placeOf f) 0 (f .blocks) (wordsOf ps) b, begins-long (leadOf f) 0 (f .blocks) (wordsOf ls) d);
       place-at = row-here (placeOf f) (f .blocks) (wordsOf ps) b;
       lead-at = row-here (leadOf f) (f .blocks) (wordsOf ls) d;
@@ -78,7 +86,6 @@ checked-legal p ps ls w e = fault-legal (p .figures) w (checked p ps ls e .clear
 -- ---- the planner's own answers
 
 same-numbers-self : (p : Plan) → sameNumbers p p ≡ true
-unfolding sameNumbers
 same-numbers-self p =
     and-both (eq-eqb (p .streams) (p .streams) refl)
     (and-both (eq-eqb (p .buffer) (p .buffer) refl) (and-both (eq-eqb (p .worst2) (p .worst2) refl) (eq-eqb (p .margin) (p .margin) refl)))
@@ -96,11 +103,10 @@ written-begins g n s w h = take-begins (row g 0 n) _ (read-written s 0 (row g 0 
 -- THE PLAN OF LEGAL FIGURES PASSES, with the lists that the planner leaves
 pub plan-passes : (f : Figures) → Legal f → 0 < streamsOf f → (ps ls : List ℕ) → f .blocks ≤ length (wordsOf ps) → f .blocks ≤ length (wordsOf ls)
     → isPlan (planOf f) (withWords ps 0 (positionsOf f)) (withWords ls 0 (leadsOf f)) ≡ true
-unfolding isPlan planOf positionsOf leadsOf
+unfolding isPlan hasNumbers hasPositions hasLeads planOf positionsOf leadsOf
 plan-passes f ok fed ps ls lp ll =
-    and-both (eq-eqb (recordFault f) 0 (legal-fault f ok))
-    (and-both (lt-ltb 0 (streamsOf f) fed)
-    (and-both (same-numbers-self (planOf f))
+    and-both
+    (and-both (eq-eqb (recordFault f) 0 (legal-fault f ok)) (and-both (lt-ltb 0 (streamsOf f) fed) (same-numbers-self (planOf f))))
     (and-both
     (written-begins (placeOf f) (f .blocks) ps (row-words (placeOf f) 0 (f .blocks) (λ b u. omega (arith, place-below f ok b (omega arith), ok .total))) lp)
-    (written-begins (leadOf f) (f .blocks) ls (row-words (leadOf f) 0 (f .blocks) (λ b u. omega (arith, lead-small f ok b (omega arith)))) ll))))
+    (written-begins (leadOf f) (f .blocks) ls (row-words (leadOf f) 0 (f .blocks) (λ b u. omega (arith, lead-small f ok b (omega arith)))) ll))

@@ -1,8 +1,8 @@
 -- Rows of entries, and lists that begin with them.
 -- Assumes nothing.
 use Prim.Native.Nat.{ℕ, zero, suc, _+_, _≤_, _<_}
-use mathlib.Core.Path.{_≡_, refl, ap, ap₂, _∙_}
-use mathlib.Core.Bool.{true, false}
+use mathlib.Core.Path.{_≡_, refl, sym, ap, ap₂, _∙_}
+use mathlib.Core.Bool.{true, false, _&&_, and-assoc}
 use mathlib.Core.List.{List, [], _∷_, _++_}
 use native.Mathlib.Omega.{arith}
 use lib.ListN.{length, getD, take, drop}
@@ -17,25 +17,26 @@ unfolding row
 row-length g b zero = refl
 row-length g b (suc n) = ap suc (row-length g (suc b) n)
 
-pub row-more : (g : ℕ → ℕ) (b n : ℕ) → row g b (suc n) ≡ row g b n ++ (g (b + n) ∷ [])
+-- one row after another
+pub row-append : (g : ℕ → ℕ) (b m n : ℕ) → row g b (m + n) ≡ row g b m ++ row g (b + m) n
 unfolding row
-row-more g b zero = let e : b + 0 ≡ b = omega arith in rw e
-row-more g b (suc n) = let e : suc b + n ≡ b + suc n = omega arith in ap (λ (t : List ℕ). g b ∷ t) (row-more g (suc b) n ∙ ap (λ (k : ℕ). row g (suc b) n ++ (g k ∷ [])) e)
+row-append g b zero n = let e : 0 + n ≡ n = omega arith in let d : b + 0 ≡ b = omega arith in rw (e, d)
+row-append g b (suc m) n =
+    let e : suc m + n ≡ suc (m + n) = omega arith in
+    let d : suc b + m ≡ b + suc m = omega arith in
+    rw (e, ← d) (ap (λ (t : List ℕ). g b ∷ t) (row-append g (suc b) m n))
 
 pub row-same : (g h : ℕ → ℕ) (b n : ℕ) → ((k : ℕ) → b ≤ k → k < b + n → g k ≡ h k) → row g b n ≡ row h b n
 unfolding row
 row-same g h b zero e = refl
 row-same g h b (suc n) e = rw (e b (omega arith) (omega arith), row-same g h (suc b) n (λ k l u. e k (omega arith) (omega arith)))
 
--- a list that has each entry begins with them
-pub begins-yes : (g : ℕ → ℕ) (b n : ℕ) (ws : List ℕ) → n ≤ length ws → ((k : ℕ) → k < n → getD ws k 0 ≡ g (b + k)) → begins (row g b n) ws ≡ true
-unfolding begins row
-begins-yes g b zero ws l h = refl
-begins-yes g b (suc n) [] l h = absurd (omega arith)
-begins-yes g b (suc n) (w ∷ ws) l h =
-    let z : b + 0 ≡ b = omega arith in
-    and-both (eq-eqb w (g b) (h 0 (omega arith) ∙ ap g z))
-    (begins-yes g (suc b) n ws (omega arith) (λ k u. let e : b + suc k ≡ suc b + k = omega arith in h (suc k) (omega arith) ∙ ap g e))
+-- a list begins with two pieces where it begins with the one and the rest of it with the other
+pub begins-append : (us vs ws : List ℕ) → begins (us ++ vs) ws ≡ (begins us ws && begins vs (drop (length us) ws))
+unfolding begins
+begins-append [] vs ws = refl
+begins-append (u ∷ us) vs [] = refl
+begins-append (u ∷ us) vs (w ∷ ws) = rw (begins-append us vs ws) (sym (and-assoc (eqb w u) (begins us ws) (begins vs (drop (length us) ws))))
 
 -- one that begins with them has each
 pub begins-at : (g : ℕ → ℕ) (b n : ℕ) (ws : List ℕ) → begins (row g b n) ws ≡ true → (k : ℕ) → k < n → getD ws k 0 ≡ g (b + k)
@@ -55,13 +56,7 @@ begins-long g b (suc n) (w ∷ ws) e = omega (arith, begins-long g (suc b) n ws 
 pub begins-short : (g : ℕ → ℕ) (b n : ℕ) (ws : List ℕ) → length ws < n → begins (row g b n) ws ≡ false
 begins-short g b n ws h = is-false (begins (row g b n) ws) (λ e. omega (arith, begins-long g b n ws e))
 
--- the entries that it begins with
-pub begins-take : (vs ws : List ℕ) → begins vs ws ≡ true → take (length vs) ws ≡ vs
-unfolding begins
-begins-take [] ws e = refl
-begins-take (v ∷ vs) [] e = clash e refl
-begins-take (v ∷ vs) (w ∷ ws) e = ap₂ (λ (x : ℕ) (y : List ℕ). x ∷ y) (eqb-true w v (and-left (eqb w v) _ e)) (begins-take vs ws (and-right (eqb w v) _ e))
-
+-- a list whose first entries they are
 pub take-begins : (vs ws : List ℕ) → take (length vs) ws ≡ vs → begins vs ws ≡ true
 unfolding begins
 take-begins [] ws e = refl

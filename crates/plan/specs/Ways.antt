@@ -2,11 +2,11 @@
 -- Assumes nothing.
 use Prim.Native.Nat.{ℕ, zero, suc, _-_, _≤_, _<_}
 use mathlib.Core.Path.{_≡_, refl, sym, ap, ap₂, _∙_, subst}
-use mathlib.Core.Bool.{Bool, true, false, _&&_}
+use mathlib.Core.Bool.{false, _&&_}
 use mathlib.Core.List.{List}
 use native.Mathlib.Omega.{arith}
 use lib.ListN.{length}
-use lib.Dec.{eqb}
+use lib.Dec.{ltb}
 use borrow.Author.Tests.{lt-ltb, le-ltb, eq-eqb, ne-eqb}
 use Rattle.card.specs.declared.Figures.{Figures}
 use Rattle.card.specs.declared.CardRead.{CardRead}
@@ -15,15 +15,15 @@ use Rattle.card.specs.Card.{Legal, totalPositions, recordFault, judgeRecord}
 use Rattle.card.specs.Read.{readCard}
 use Rattle.round_trip.specs.Legality.{fault-legal}
 use Rattle.round_trip.specs.RoundTrip.{read-card}
-use Rattle.placement.specs.Placement.{place}
+use Rattle.placement.specs.Placement.{place, worstTime}
 use Rattle.words.specs.Words.{Bytes, wordsOf, withWords}
 use Rattle.plan.specs.declared.Plan.{Plan}
 use Rattle.plan.specs.declared.Planned.{Planned}
-use Rattle.plan.specs.Plan.{placeOf, worst2Of, streamsOf, leadOf, planOf, row, positionsOf, leadsOf}
+use Rattle.plan.specs.Plan.{timeOn, worst2Of, streamsOf, leadOf, planOf, row, positionsOf, leadsOf}
 use Rattle.plan.specs.Disk.{Film, leadAt}
 use Rattle.plan.specs.Legal.{total-is, legal-disk, lead-is}
-use Rattle.plan.specs.Answer.{planFault, faultAfter, refusal, answer, filled, planned, positionsAfter, leadsAfter, judged, begins, sameNumbers, isPlan}
-use Rattle.plan.specs.Rows.{row-same, begins-short}
+use Rattle.plan.specs.Answer.{planFault, faultAfter, refusal, answer, filled, planned, positionsAfter, leadsAfter, judged, sameNumbers, hasNumbers}
+use Rattle.plan.specs.Rows.{row-same}
 
 module _ (r : CardRead) (ps ls : List ℕ) where
   -- the answer and the later contents of both lists
@@ -88,6 +88,10 @@ module _ (f : Figures) (ok : Legal f) (t : ℕ) (e : t ≡ totalPositions f) whe
     room = omega (arith, ok .room);
   }
 
+  pub worst2-is : worstTime (timeOn f) (place t (f .blocks)) (f .blocks) ≡ worst2Of f
+  unfolding worst2Of
+  worst2-is = ap (λ (n : ℕ). worstTime (timeOn f) (place n (f .blocks)) (f .blocks)) e
+
   pub positions-are : row (place t (f .blocks)) 0 (f .blocks) ≡ positionsOf f
   unfolding positionsOf
   positions-are = ap (λ (n : ℕ). row (place n (f .blocks)) 0 (f .blocks)) e
@@ -116,55 +120,14 @@ module _ (f : Figures) (v : Verdict) (e : v ≡ judgeRecord f) where
   unfolding judged
   judged-is = λ i. record { verdict = e i; figures = f }
 
--- ---- is this the plan of its figures
+-- ---- has a plan the numbers of its figures
 
-module _ (p q : Plan) where
-  pub other-streams : (p .streams ≡ q .streams → ⊥) → false ≡ sameNumbers p q
-  unfolding sameNumbers
-  other-streams n = rw (ne-eqb (p .streams) (q .streams) n)
-
-  pub other-buffer : p .streams ≡ q .streams → (p .buffer ≡ q .buffer → ⊥) → false ≡ sameNumbers p q
-  unfolding sameNumbers
-  other-buffer s n = rw (eq-eqb (p .streams) (q .streams) s, ne-eqb (p .buffer) (q .buffer) n)
-
-  pub other-worst2 : p .streams ≡ q .streams → p .buffer ≡ q .buffer → (p .worst2 ≡ q .worst2 → ⊥) → false ≡ sameNumbers p q
-  unfolding sameNumbers
-  other-worst2 s b n = rw (eq-eqb (p .streams) (q .streams) s, eq-eqb (p .buffer) (q .buffer) b, ne-eqb (p .worst2) (q .worst2) n)
-
-  pub same-margin : p .streams ≡ q .streams → p .buffer ≡ q .buffer → p .worst2 ≡ q .worst2 → eqb (p .margin) (q .margin) ≡ sameNumbers p q
-  unfolding sameNumbers
-  same-margin s b w = rw (eq-eqb (p .streams) (q .streams) s, eq-eqb (p .buffer) (q .buffer) b, eq-eqb (p .worst2) (q .worst2) w)
-
-module _ (p : Plan) (ps ls : List ℕ) where
-  abbrev pub bothBegin : Bool
-  bothBegin = begins (positionsOf (p .figures)) (wordsOf ps) && begins (leadsOf (p .figures)) (wordsOf ls)
-
-  pub not-legal : (recordFault (p .figures) ≡ 0 → ⊥) → false ≡ isPlan p ps ls
-  unfolding isPlan
+module _ (p : Plan) where
+  pub not-legal : (recordFault (p .figures) ≡ 0 → ⊥) → false ≡ hasNumbers p
+  unfolding hasNumbers
   not-legal n = rw (ne-eqb (recordFault (p .figures)) 0 n)
 
-  pub not-fed : recordFault (p .figures) ≡ 0 → streamsOf (p .figures) ≡ 0 → false ≡ isPlan p ps ls
-  unfolding isPlan
-  not-fed e s = rw (eq-eqb (recordFault (p .figures)) 0 e, le-ltb 0 (streamsOf (p .figures)) (omega arith))
-
-  module _ (e : recordFault (p .figures) ≡ 0) (s : streamsOf (p .figures) ≡ 0 → ⊥) where
-    pub not-same : sameNumbers p (planOf (p .figures)) ≡ false → false ≡ isPlan p ps ls
-    unfolding isPlan
-    not-same n = rw (eq-eqb (recordFault (p .figures)) 0 e, lt-ltb 0 (streamsOf (p .figures)) (omega arith), n)
-
-    -- the lists decide
-    pub lists-decide : sameNumbers p (planOf (p .figures)) ≡ true → bothBegin ≡ isPlan p ps ls
-    unfolding isPlan
-    lists-decide n = rw (eq-eqb (recordFault (p .figures)) 0 e, lt-ltb 0 (streamsOf (p .figures)) (omega arith), n)
-
-  pub few-positions : length (wordsOf ps) < p .figures .blocks → false ≡ bothBegin
-  unfolding positionsOf
-  few-positions h = rw (begins-short (placeOf (p .figures)) 0 (p .figures .blocks) (wordsOf ps) h)
-
-  pub few-leads : length (wordsOf ls) < p .figures .blocks → false ≡ bothBegin
-  unfolding leadsOf
-  few-leads h = rw (begins-short (leadOf (p .figures)) 0 (p .figures .blocks) (wordsOf ls) h) (go (begins (positionsOf (p .figures)) (wordsOf ps)))
-    where
-      go : (t : Bool) → false ≡ (t && false)
-      go true = refl
-      go false = refl
+  -- the plan of legal figures decides
+  pub numbers-decide : recordFault (p .figures) ≡ 0 → (ltb 0 (streamsOf (p .figures)) && sameNumbers p (planOf (p .figures))) ≡ hasNumbers p
+  unfolding hasNumbers
+  numbers-decide e = rw (eq-eqb (recordFault (p .figures)) 0 e)

@@ -1,29 +1,33 @@
 // The plan of legal figures.
+use block_lists::both;
 use card::Figures;
 use plan::Plan;
 use streams::buffer_size;
 use streams::count_streams;
+use zones::sum_positions;
 use zones::time_at;
-use zones::worst_pair;
+use zones::worst_time;
 ghost use mathlib.Core.Path.{_≡_};
 ghost use Rattle.card.specs.Card.{Legal, totalPositions};
 ghost use Rattle.plan.specs.Plan.{planOf};
 ghost use Rattle.plan.specs.Answer.{sameNumbers};
+
+// P of legal figures.
+pub fn total_of(figures: Figures) -> u32
+    requires { ⌜ Legal figures ⌝ }
+    ensures { λ r. ⌜ r ≡ totalPositions figures ⌝ }
+{
+    sum_positions(&figures.positions, figures.zones)
+}
 
 // The plan of legal figures, `total` being P. The film's innermost position is its slowest.
 pub fn plan_of(figures: Figures, total: u32) -> Plan
     requires { ⌜ (Legal figures) × (total ≡ totalPositions figures) ⌝ }
     ensures { λ r. ⌜ r ≡ planOf figures ⌝ }
 {
-    let first = total - figures.blocks;
-    let worst2 = worst_pair(
-        &figures.positions,
-        &figures.times,
-        first,
-        total - 1,
-        figures.blocks / 2,
-    );
-    let margin = 2 * time_at(&figures.positions, &figures.times, first) - worst2;
+    let worst2 = worst_time(&figures.positions, &figures.times, total, figures.blocks);
+    let slowest = time_at(&figures.positions, &figures.times, total - figures.blocks);
+    let margin = 2 * slowest - worst2;
     let streams = count_streams(
         figures.rate,
         worst2,
@@ -45,14 +49,9 @@ pub fn plan_of(figures: Figures, total: u32) -> Plan
 pub fn same_numbers(plan: Plan, own: Plan) -> bool
     ensures { λ r. ⌜ r ≡ sameNumbers plan own ⌝ }
 {
-    if plan.streams != own.streams {
-        return false;
-    }
-    if plan.buffer != own.buffer {
-        return false;
-    }
-    if plan.worst2 != own.worst2 {
-        return false;
-    }
-    plan.margin == own.margin
+    let times = both(plan.worst2 == own.worst2, plan.margin == own.margin);
+    both(
+        plan.streams == own.streams,
+        both(plan.buffer == own.buffer, times),
+    )
 }

@@ -5,15 +5,18 @@ mod figures; // the answer to figures that were read or judged
 use crate::figures::plan_figures;
 use crate::film::plan_of;
 use crate::film::same_numbers;
-use block_lists::same_lists;
+use crate::film::total_of;
+use block_lists::both;
+use block_lists::same_leads;
+use block_lists::same_positions;
 use card::CardRead;
 use card::Figures;
 use plan::Plan;
 use plan::Planned;
-use zones::sum_positions;
 ghost use mathlib.Core.Path.{_≡_};
 ghost use Rattle.card.specs.Read.{readCard};
-ghost use Rattle.plan.specs.Answer.{planned, positionsAfter, leadsAfter, judged, isPlan};
+ghost use Rattle.plan.specs.Answer.{planned, positionsAfter, leadsAfter, judged, hasNumbers, hasPositions, hasLeads, isPlan};
+ghost use Rattle.plan.specs.Check.{Numbered};
 
 // Plans a card: 1 to 11 as the reader gives them, then 13, then 12. A refusal leaves both lists.
 pub fn plan_card(card: &[u8], positions: &mut [u8], leads: &mut [u8]) -> Planned
@@ -38,36 +41,48 @@ pub fn plan_record(figures: Figures, positions: &mut [u8], leads: &mut [u8]) -> 
     plan_figures(read, positions, leads)
 }
 
-// Is this record the plan of its figures, and do both lists begin with its N entries?
-pub fn is_plan(plan: Plan, positions: &[u8], leads: &[u8]) -> bool
-    ensures { λ r. ⌜ r ≡ isPlan plan (now (positions .entry)) (now (leads .entry)) ⌝ }
+// Has this record the numbers of its figures, and are these legal and feed a stream?
+pub fn has_numbers(plan: Plan) -> bool
+    ensures { λ r. ⌜ r ≡ hasNumbers plan ⌝ }
 {
     let verdict = card::judge_figures(plan.figures);
     if verdict.number != 0 {
         return false;
     }
-    let total = sum_positions(&plan.figures.positions, plan.figures.zones);
-    let own = plan_of(plan.figures, total);
-    if own.streams == 0 {
-        return false;
-    }
-    if !same_numbers(plan, own) {
-        return false;
-    }
-    let blocks = plan.figures.blocks as usize;
-    if words::entries(positions) < blocks {
-        return false;
-    }
-    if words::entries(leads) < blocks {
-        return false;
-    }
-    same_lists(
+    let own = plan_of(plan.figures, total_of(plan.figures));
+    both(0 < own.streams, same_numbers(plan, own))
+}
+
+// Does the list begin with the film's N positions?
+pub fn has_positions(plan: Plan, positions: &[u8]) -> bool
+    requires { ⌜ Numbered plan ⌝ }
+    ensures { λ r. ⌜ r ≡ hasPositions plan (now (positions .entry)) ⌝ }
+{
+    same_positions(total_of(plan.figures), plan.figures.blocks, positions)
+}
+
+// Does the list begin with the film's N leads?
+pub fn has_leads(plan: Plan, leads: &[u8]) -> bool
+    requires { ⌜ Numbered plan ⌝ }
+    ensures { λ r. ⌜ r ≡ hasLeads plan (now (leads .entry)) ⌝ }
+{
+    let total = total_of(plan.figures);
+    same_leads(
         &plan.figures.positions,
         &plan.figures.times,
         total,
         plan.figures.blocks,
-        own.worst2,
-        positions,
+        plan.worst2,
         leads,
     )
+}
+
+// Is this record the plan of its figures, and do both lists begin with its N entries?
+pub fn is_plan(plan: Plan, positions: &[u8], leads: &[u8]) -> bool
+    ensures { λ r. ⌜ r ≡ isPlan plan (now (positions .entry)) (now (leads .entry)) ⌝ }
+{
+    if !has_numbers(plan) {
+        return false;
+    }
+    both(has_positions(plan, positions), has_leads(plan, leads))
 }

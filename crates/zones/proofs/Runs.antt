@@ -1,6 +1,6 @@
 -- A run of blocks that lie in the same two zones, and the greatest time over it.
 -- Assumes nothing.
-use Prim.Native.Nat.{ℕ, zero, suc, _+_, _*_, _-_, _/_, _%_, _≤_, _<_, max}
+use Prim.Native.Nat.{ℕ, zero, suc, _+_, _*_, _-_, _/_, _%_, _≤_, _<_, min, max}
 use mathlib.Core.Path.{_≡_, refl, sym, ap, _∙_}
 use mathlib.Core.Logic.{by-cases}
 use mathlib.Core.Bool.{Bool, true, false, cond}
@@ -18,6 +18,10 @@ use Rattle.zones.specs.declared.Zone.{Zone}
 use Rattle.zones.specs.declared.Walk.{Walk}
 use Rattle.zones.specs.Walk.{Holds, Position, RunEnd, sideOf, Runs}
 use Rattle.zones.proofs.Cursors.{time-held}
+
+-- a run has both blocks that it was made for
+run-ahead : {P N : ℕ} {low high : Zone} {t : ℕ} (b : ℕ) → RunEnd P N low high t → b + 2 + 2 * P ≤ 2 * low .end + 2 * N → b + 2 + 2 * high .first ≤ 2 * P + 1 → min (b + 2) N ≤ t
+run-ahead {P} {N} b e x y = e .most (min (b + 2) N) (omega arith) (omega arith) (omega arith)
 
 module _ (ps ts : List ℕ) (P N b : ℕ) (film : Film ps ts P N) (u : b < N) (low high : Zone) (p q t : ℕ)
     (even : Position P N (b + b % 2) p) (odd : Position P N (b + 1 - b % 2) q) (inner : Holds ps low p) (outer : Holds ps high q) (e : RunEnd P N low high t) where
@@ -45,8 +49,7 @@ module _ (ps ts : List ℕ) (P N b : ℕ) (film : Film ps ts P N) (u : b < N) (l
       let d = high-at in
       record {
         cursors = record { low = inner .zone; high = outer .zone };
-        some = e .most (suc b) u (omega arith) (omega arith);
-        pair = λ v. e .most (suc (suc b)) v (omega arith) (omega arith);
+        ahead = run-ahead b e (omega arith) (omega arith);
         within = e .within;
         times = time-of;
         even = film .disk .quick (low .index);
@@ -77,8 +80,8 @@ greatest-run g b (suc n) v w u e h =
     (λ l. let d : b ≡ n = omega arith in omega (arith, rw d at e, h n (omega arith) (omega arith)))
 
 -- all pairs within a run take the same time
-pub worst-run : (ps ts : List ℕ) (P N b w : ℕ) (r : Walk) → Runs ps ts P N b r → suc b < N → w ≡ greatestOf (pairOf ps ts P N) b
+pub worst-run : {ps ts : List ℕ} {P N b w : ℕ} {r : Walk} → Runs ps ts P N b r → suc b < N → w ≡ greatestOf (pairOf ps ts P N) b
     → max w (r .even + r .odd) ≡ greatestOf (pairOf ps ts P N) (r .until - 1)
-worst-run ps ts P N b w r h u e =
-    greatest-run (pairOf ps ts P N) b (r .until - 1) (r .even + r .odd) w (omega (arith, h .pair u)) e
+worst-run {ps} {ts} {P} {N} {b} {w} {r} h u e =
+    greatest-run (pairOf ps ts P N) b (r .until - 1) (r .even + r .odd) w (omega arith) e
     (λ k l v. omega (arith, h .times k l (omega arith), h .times (suc k) (omega arith) (omega arith), both-sides (r .even) (r .odd) k))

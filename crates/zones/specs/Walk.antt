@@ -1,5 +1,5 @@
 -- The code's way to the times of a film's blocks: cursors over the zones, and a walk in runs of blocks that lie in the same two zones.
-use Prim.Native.Nat.{ℕ, suc, _+_, _*_, _-_, _%_, _≤_, _<_}
+use Prim.Native.Nat.{ℕ, suc, _+_, _*_, _-_, _%_, _≤_, _<_, min}
 use mathlib.Core.Path.{_≡_}
 use mathlib.Core.Bool.{cond}
 use mathlib.Core.List.{List}
@@ -69,8 +69,7 @@ sideOf even odd b = cond (eqb (b % 2) 0) even odd
 -- a walk at block b of N: a run of blocks from b on, two or more where b is not the last, and their times
 pub record Runs (ps ts : List ℕ) (P N b : ℕ) (w : Walk) : Type 0 where
   pub cursors : Cursors ps w
-  pub some : b < w .until
-  pub pair : suc b < N → suc b < w .until
+  pub ahead : min (b + 2) N ≤ w .until
   pub within : w .until ≤ N
   pub times : (k : ℕ) → b ≤ k → k < w .until → timeAt ps ts (place P N k) ≡ sideOf (w .even) (w .odd) k
   pub even : w .even ≤ 4000000

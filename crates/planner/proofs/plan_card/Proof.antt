@@ -7,19 +7,10 @@ use borrow.Author.Needs.{needs}
 use Rattle.planner.proofs.plan_card.Statement.{statement}
 use Rattle.planner.proofs.plan_card.Tie as tie
 
-read-card-requires : tie.Need-read-card-requires
-read-card-requires c κs = search needs
-
 plan-figures-requires : tie.Need-plan-figures-requires
 plan-figures-requires c κs = let k = c .before .before .before .before .before in
     let s = k .before .args .card .now in
     card-legal s (bytes-fit s (k .shared-slice-known .given)) (c .before .before .read-card .result) (c .before .before .read-card .ensures)
-
-same-length : tie.Need-same-length
-same-length c = search needs
-
-same-length-2 : tie.Need-same-length-2
-same-length-2 c = search needs
 
 returns : tie.Need-returns
 returns c = let p = c .before .before .before .before in
@@ -33,4 +24,4 @@ returns c = let p = c .before .before .before .before in
 
 pub plan-card-spec : {M : Type 1} → statement M
 plan-card-spec =
-    tie.close (tie.spec read-card-requires plan-figures-requires same-length same-length-2 returns)
+    tie.close (tie.spec (λ c κs. search needs) plan-figures-requires (λ c. search needs) (λ c. search needs) returns)

@@ -10,19 +10,10 @@ use Rattle.planner.proofs.plan_record.Tie as tie
 wide : (c : tie.Start) → Wide (c .args .figures)
 wide c = (search needs, search needs)
 
-judge-figures-requires : tie.Need-judge-figures-requires
-judge-figures-requires c κs = search needs
-
 plan-figures-requires : tie.Need-plan-figures-requires
 plan-figures-requires c κs = let s = c .before .before .before .before .before in
     let j = c .before .before .judge-figures in
     λ n. fault-legal (s .args .figures) (wide s) (sym (record-fault (s .args .figures) (j .result) (j .ensures)) ∙ n)
-
-same-length : tie.Need-same-length
-same-length c = search needs
-
-same-length-2 : tie.Need-same-length-2
-same-length-2 c = search needs
 
 returns : tie.Need-returns
 returns c = let p = c .before .before .before .before in
@@ -37,4 +28,4 @@ returns c = let p = c .before .before .before .before in
 pub plan-record-spec : {M : Type 1} → statement M
 plan-record-spec =
     tie.close
-    (tie.spec judge-figures-requires plan-figures-requires same-length same-length-2 returns)
+    (tie.spec (λ c κs. search needs) plan-figures-requires (λ c. search needs) (λ c. search needs) returns)

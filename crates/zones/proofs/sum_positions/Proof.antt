@@ -23,22 +23,10 @@ turn c =
 loop-holds : tie.Need-loop-holds Inv-loop μ-loop
 loop-holds c = let z = total-none (c .args .sizes .now) in omega arith
 
-mul-sum : tie.Need-mul-sum Inv-loop μ-loop
-mul-sum c = omega arith
-
-element-copy-out-sum : tie.Need-element-copy-out-sum Inv-loop μ-loop
-element-copy-out-sum c = omega arith
-
 add-sum : tie.Need-add-sum Inv-loop μ-loop
 add-sum c = let ps = c .before .before .before .args .sizes .now in
     let l = c .before .before .loop in
     omega (arith, turn c, total-take ps (l .i + 1), c .before .before .before .pre .0 .small)
-
-add-i : tie.Need-add-i Inv-loop μ-loop
-add-i c = omega arith
-
-loop-less : tie.Need-loop-less Inv-loop μ-loop
-loop-less c = omega arith
 
 loop-again : tie.Need-loop-again Inv-loop μ-loop
 loop-again c = let l = c .before .before .loop in
@@ -57,10 +45,10 @@ sum-positions-spec =
     Inv-loop
     μ-loop
     loop-holds
-    mul-sum
-    element-copy-out-sum
+    (λ c. omega arith)
+    (λ c. omega arith)
     add-sum
-    add-i
-    loop-less
+    (λ c. omega arith)
+    (λ c. omega arith)
     loop-again
     returns)

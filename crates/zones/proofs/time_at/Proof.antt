@@ -3,18 +3,6 @@ use borrow.Author.Needs.{needs}
 use Rattle.zones.proofs.time_at.Statement.{statement}
 use Rattle.zones.proofs.time_at.Tie as tie
 
-innermost-requires : tie.Need-innermost-requires
-innermost-requires c κs = search needs
-
-zone-above-requires : tie.Need-zone-above-requires
-zone-above-requires c κs = search needs
-
-mul-result : tie.Need-mul-result
-mul-result c = search needs
-
-element-copy-out-result : tie.Need-element-copy-out-result
-element-copy-out-result c = search needs
-
 returns : tie.Need-returns
 returns c = let z = c .before .zone-above in
     let a = c .before .before .before .args in
@@ -23,4 +11,4 @@ returns c = let z = c .before .zone-above in
 pub time-at-spec : {M : Type 1} → statement M
 time-at-spec =
     tie.close
-    (tie.spec innermost-requires zone-above-requires mul-result element-copy-out-result returns)
+    (tie.spec (λ c κs. search needs) (λ c κs. search needs) (λ c. search needs) (λ c. search needs) returns)

@@ -3,42 +3,6 @@ use borrow.Author.Needs.{needs}
 use Rattle.zones.proofs.walk_on.Statement.{statement}
 use Rattle.zones.proofs.walk_on.Tie as tie
 
-add-even : tie.Need-add-even
-add-even c = search needs
-
-add-odd : tie.Need-add-odd
-add-odd c = search needs
-
-sub-odd : tie.Need-sub-odd
-sub-odd c = search needs
-
-position-of-requires : tie.Need-position-of-requires
-position-of-requires c κs = search needs
-
-zone-near-requires : tie.Need-zone-near-requires
-zone-near-requires c κs = search needs
-
-position-of-requires-2 : tie.Need-position-of-requires-2
-position-of-requires-2 c κs = search needs
-
-zone-near-requires-2 : tie.Need-zone-near-requires-2
-zone-near-requires-2 c κs = search needs
-
-mul-t15 : tie.Need-mul-t15
-mul-t15 c = search needs
-
-element-copy-out-t13 : tie.Need-element-copy-out-t13
-element-copy-out-t13 c = search needs
-
-mul-t18 : tie.Need-mul-t18
-mul-t18 c = search needs
-
-element-copy-out-t14 : tie.Need-element-copy-out-t14
-element-copy-out-t14 c = search needs
-
-run-end-requires : tie.Need-run-end-requires
-run-end-requires c κs = search needs
-
 returns : tie.Need-returns
 returns c = let t = c .before in
     let high = t .before .before .zone-near2 in
@@ -53,16 +17,16 @@ pub walk-on-spec : {M : Type 1} → statement M
 walk-on-spec =
     tie.close
     (tie.spec
-    add-even
-    add-odd
-    sub-odd
-    position-of-requires
-    zone-near-requires
-    position-of-requires-2
-    zone-near-requires-2
-    mul-t15
-    element-copy-out-t13
-    mul-t18
-    element-copy-out-t14
-    run-end-requires
+    (λ c. search needs)
+    (λ c. search needs)
+    (λ c. search needs)
+    (λ c κs. search needs)
+    (λ c κs. search needs)
+    (λ c κs. search needs)
+    (λ c κs. search needs)
+    (λ c. search needs)
+    (λ c. search needs)
+    (λ c. search needs)
+    (λ c. search needs)
+    (λ c κs. search needs)
     returns)

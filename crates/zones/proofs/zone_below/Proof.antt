@@ -33,9 +33,6 @@ loop-holds c = record { zone = c .pre .0 .zone; to = c .pre .1 }
 sub-index : tie.Need-sub-index Inv-loop μ-loop
 sub-index c = next c .0
 
-mul-first : tie.Need-mul-first Inv-loop μ-loop
-mul-first c = omega arith
-
 element-copy-out-first : tie.Need-element-copy-out-first Inv-loop μ-loop
 element-copy-out-first c = next c .2 .room
 
@@ -59,7 +56,7 @@ zone-below-spec =
     μ-loop
     loop-holds
     sub-index
-    mul-first
+    (λ c. omega arith)
     element-copy-out-first
     sub-first
     loop-less

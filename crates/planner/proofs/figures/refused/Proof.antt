@@ -3,13 +3,10 @@ use borrow.Author.Needs.{needs}
 use Rattle.planner.proofs.figures.refused.Statement.{statement}
 use Rattle.planner.proofs.figures.refused.Tie as tie
 
-blank-plan-requires : tie.Need-blank-plan-requires
-blank-plan-requires c κs = search needs
-
 returns : tie.Need-returns
 unfolding refusal
 returns c = let a = c .before .args in
     λ i. record { verdict = record { number = a .number; place = a .place }; plan = c .blank-plan .ensures i }
 
 pub refused-spec : {M : Type 1} → statement M
-refused-spec = tie.close (tie.spec blank-plan-requires returns)
+refused-spec = tie.close (tie.spec (λ c κs. search needs) returns)

@@ -1,12 +1,12 @@
-use Prim.Native.Nat.{ℕ, _+_, _-_, _*_, _/_, _≤_}
-use mathlib.Core.Path.{_≡_, refl, sym, ap, ap₂, _∙_}
+use Prim.Native.Nat.{ℕ, _-_, _*_, _≤_}
+use mathlib.Core.Path.{_≡_, refl, ap, ap₂, _∙_}
 use native.Mathlib.Omega.{arith}
-use Rattle.laws.specs.Greatest.{greatestOf}
 use Rattle.card.specs.declared.Figures.{Figures}
 use Rattle.card.specs.Card.{totalPositions}
 use Rattle.pacing.specs.Streams.{streams, bufferOf}
 use Rattle.plan.specs.Plan.{timeOn, overOf, worst2Of, marginOf, streamsOf, bufferSize, planOf}
-use Rattle.plan.specs.Legal.{total-is, legal-zoned, legal-disk, worst2-small, worst2-quick, time-small, margin-is, margin-exact, margin-less, streams-few, buffer-small}
+use Rattle.plan.specs.Legal.{total-is, legal-zoned, worst2-small, time-small, margin-is, margin-exact, margin-less, streams-few, buffer-small}
+use Rattle.plan.specs.Ways.{film-on, worst2-is}
 use borrow.Author.Needs.{needs}
 use Rattle.planner.proofs.film.plan_of.Statement.{statement}
 use Rattle.planner.proofs.film.plan_of.Tie as tie
@@ -21,16 +21,12 @@ record Found (f : Figures) (w t : ℕ) : Type 0 where
   exact : w ≤ 2 * t
   margin : 2 * t - w ≡ marginOf f
 
-found : (c : tie.After-time-at) → Found (start c .args .t1) (c .before .before .before .before .worst-pair .result) (c .time-at .result)
+found : (c : tie.After-time-at) → Found (start c .args .t1) (c .before .before .before .before .worst-time .result) (c .time-at .result)
 found c =
     let s = start c in
     let f = s .args .t1 in
-    let w = c .before .before .before .before .worst-pair .result in
     let ok = s .pre .0 in
-    let pair : w ≡ worst2Of f =
-    c .before .before .before .before .worst-pair .ensures .0
-    ∙ ap (λ (P : ℕ). greatestOf (λ i. timeOn f (P - f .blocks + i) + timeOn f (P - 1 - i)) (f .blocks / 2)) (s .pre .1)
-    ∙ sym (worst2-quick f ok) in
+    let pair : c .before .before .before .before .worst-time .result ≡ worst2Of f = c .before .before .before .before .worst-time .ensures ∙ worst2-is f ok _ (s .pre .1) in
     let time : c .time-at .result ≡ timeOn f (totalPositions f - f .blocks) = c .time-at .ensures ∙ ap (λ (P : ℕ). timeOn f (P - f .blocks)) (s .pre .1) in
     record {
       pair = pair;
@@ -39,7 +35,7 @@ found c =
       margin = omega (arith, margin-is f ok);
     }
 
-streams-are : (c : tie.After-time-at) → (let f = start c .args .t1 in streams (f .rate) (c .before .before .before .before .worst-pair .result) (overOf f) (f .bytes) ≡ streamsOf f)
+streams-are : (c : tie.After-time-at) → (let f = start c .args .t1 in streams (f .rate) (c .before .before .before .before .worst-time .result) (overOf f) (f .bytes) ≡ streamsOf f)
 unfolding streamsOf
 streams-are c = let f = start c .args .t1 in ap (λ (w : ℕ). streams (f .rate) w (overOf f) (f .bytes)) (found c .pair)
 
@@ -47,23 +43,13 @@ buffer-are : (f : Figures) → bufferOf (f .rate) (streamsOf f) (marginOf f) (f 
 unfolding bufferSize
 buffer-are f = refl
 
-sub-first : tie.Need-sub-first
-sub-first c = search needs
-
-sub-worst-pair : tie.Need-sub-worst-pair
-sub-worst-pair c = search needs
-
-worst-pair-requires : tie.Need-worst-pair-requires
-worst-pair-requires c κs = let s = c .before .before .before in
-    let f = s .args .t1 in
-    let e = total-is f (s .pre .0) in
-    (legal-disk f (s .pre .0), omega (arith, s .pre .0 .room, s .pre .0 .blocks, s .pre .1), omega (arith, s .pre .0 .room, s .pre .0 .blocks, s .pre .1), omega (arith, s .pre .0 .room, s .pre .0 .blocks, s .pre .1))
+worst-time-requires : tie.Need-worst-time-requires
+worst-time-requires c κs = let s = c .before .before .before in film-on (s .args .t1) (s .pre .0) _ (s .pre .1)
 
 time-at-requires : tie.Need-time-at-requires
 time-at-requires c κs = let s = c .before .before .before .before .before .before .before in
     let f = s .args .t1 in
-    let e = total-is f (s .pre .0) in
-    (legal-zoned f (s .pre .0), omega (arith, s .pre .0 .room, s .pre .0 .blocks, s .pre .1))
+    (legal-zoned f (s .pre .0), omega (arith, total-is f (s .pre .0), s .pre .0 .room, s .pre .0 .blocks, s .pre .1))
 
 mul-margin : tie.Need-mul-margin
 mul-margin c = omega (arith, found c .time)
@@ -98,9 +84,8 @@ pub plan-of-spec : {M : Type 1} → statement M
 plan-of-spec =
     tie.close
     (tie.spec
-    sub-first
-    sub-worst-pair
-    worst-pair-requires
+    worst-time-requires
+    (λ c. search needs)
     time-at-requires
     mul-margin
     sub-margin

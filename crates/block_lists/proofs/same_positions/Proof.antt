@@ -1,0 +1,52 @@
+use Prim.Native.Nat.{_-_}
+use mathlib.Core.Path.{sym, _∙_}
+use native.Mathlib.Omega.{arith}
+use Rattle.words.specs.Words.{wordsOf}
+use Rattle.placement.specs.Placement.{place}
+use Rattle.plan.specs.Rows.{begins-short}
+use Rattle.block_lists.proofs.Runs.{Compares, compares-start, compares-one, compares-end, has-all}
+use borrow.Author.Needs.{needs}
+use Rattle.block_lists.proofs.same_positions.Statement.{statement}
+use Rattle.block_lists.proofs.same_positions.Tie as tie
+
+abbrev Inv-loop : tie.InvT-loop
+Inv-loop total blocks positions same₀ b₀ same b = Compares (wordsOf positions) (place total blocks) 0 blocks same b
+
+abbrev μ-loop : tie.MeasureT-loop
+μ-loop total blocks positions same₀ b₀ same b = blocks - b
+
+returns : tie.Need-returns Inv-loop μ-loop
+returns c = let a = c .before .before .before .args in
+    sym (begins-short (place (a .total) (a .blocks)) 0 (a .blocks) (wordsOf (a .positions .now)) (omega arith))
+
+loop-holds : tie.Need-loop-holds Inv-loop μ-loop
+loop-holds c = let a = c .before .before .before .args in compares-start (wordsOf (a .positions .now)) (place (a .total) (a .blocks)) 0 (a .blocks) (omega arith)
+
+loop-again : tie.Need-loop-again Inv-loop μ-loop
+loop-again c = let l = c .before .before .before .before in
+    let a = l .before .before .before .before .args in
+    compares-one (l .loop .inv) (omega arith) (omega arith) (c .both .ensures) (c .before .before .word-at .ensures) (c .before .position-of .ensures .is)
+
+returns-2 : tie.Need-returns-2 Inv-loop μ-loop
+returns-2 c = let l = c .before in
+    let a = l .before .before .before .before .args in
+    compares-end (l .loop .inv) (omega arith)
+    ∙ has-all (place (a .total) (a .blocks)) (wordsOf (a .positions .now)) (a .blocks)
+
+pub same-positions-spec : {M : Type 1} → statement M
+same-positions-spec =
+    tie.close
+    (tie.spec
+    Inv-loop
+    μ-loop
+    (λ c κs. search needs)
+    returns
+    loop-holds
+    (λ c. omega arith)
+    (λ c κs. omega arith)
+    (λ c κs. omega arith)
+    (λ c κs. search needs)
+    (λ c. omega arith)
+    (λ c. omega arith)
+    loop-again
+    returns-2)

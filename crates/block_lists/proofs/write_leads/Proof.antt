@@ -1,0 +1,63 @@
+use Prim.Native.Nat.{ℕ, _-_}
+use mathlib.Core.Path.{_∙_}
+use mathlib.Core.List.{List}
+use native.Mathlib.Omega.{arith}
+use Rattle.zones.specs.declared.Walk.{Walk}
+use Rattle.zones.specs.Walk.{sideOf, Cursors}
+use Rattle.plan.specs.Disk.{leadAt}
+use Rattle.block_lists.proofs.Runs.{Writes, writes-start, writes-run, writes-end, written-all, run-leads}
+use borrow.Author.Needs.{needs}
+use Rattle.block_lists.proofs.write_leads.Statement.{statement}
+use Rattle.block_lists.proofs.write_leads.Tie as tie
+
+record Walked (ps ts : List ℕ) (P N w : ℕ) (s ls : List ℕ) (walk : Walk) (b : ℕ) : Type 0 where
+  cursors : Cursors ps walk
+  leads : Writes s (leadAt ps ts P N w) 0 N ls b
+
+abbrev Inv-loop : tie.InvT-loop
+Inv-loop sizes times total blocks worst2 leads₀ walk₀ b₀ leads walk b = Walked sizes times total blocks worst2 leads₀ leads walk b
+
+abbrev μ-loop : tie.MeasureT-loop
+μ-loop sizes times total blocks worst2 leads₀ walk₀ b₀ leads walk b = blocks - b
+
+loop-holds : tie.Need-loop-holds Inv-loop μ-loop
+loop-holds c = let a = c .before .before .args in
+    record { cursors = c .set-out .ensures; leads = writes-start (a .leads .now) (leadAt (a .sizes .now) (a .times .now) (a .total) (a .blocks) (a .worst2)) 0 (a .blocks) (omega arith) }
+
+loop-again : tie.Need-loop-again Inv-loop μ-loop
+loop-again c = let put = c .before .before in
+    let w = put .before .before .before .before in
+    let l = w .before .before in
+    let a = l .before .before .before .args in
+    let r = w .walk-on .ensures in
+    record {
+      cursors = r .cursors;
+      leads = writes-run (l .loop .inv .leads) (omega arith) (r .within) (put .put-run .ensures)
+          (run-leads r (a .worst2) (put .before .before .lead .ensures) (put .before .lead2 .ensures));
+    }
+
+same-length : tie.Need-same-length Inv-loop μ-loop
+same-length c = c .before .loop .inv .leads .kept
+
+returns : tie.Need-returns Inv-loop μ-loop
+returns c = let l = c .before in
+    let a = l .before .before .before .args in
+    let g = leadAt (a .sizes .now) (a .times .now) (a .total) (a .blocks) (a .worst2) in
+    writes-end (l .loop .inv .leads) (omega arith) ∙ written-all (a .leads .now) g (a .blocks)
+
+pub write-leads-spec : {M : Type 1} → statement M
+write-leads-spec =
+    tie.close
+    (tie.spec
+    Inv-loop
+    μ-loop
+    (λ c κs. search needs)
+    loop-holds
+    (λ c κs. search needs)
+    (λ c κs. search needs)
+    (λ c κs. search needs)
+    (λ c κs. search needs)
+    (λ c. omega arith)
+    loop-again
+    same-length
+    returns)
