@@ -4,10 +4,10 @@ use Prim.Native.Nat.{ℕ, zero, suc}
 use mathlib.Core.Path.{_≡_, refl, sym, ap, _∙_}
 use mathlib.Core.List.{List, [], _∷_, map}
 use native.Mathlib.Omega.{arith}
-use lib.ListN.{length, getD, set, drop, replicate}
+use lib.ListN.{length, getD, set, drop}
 use lib.Seq.{set-getD}
 use Rattle.safety.specs.Supply.{Supply}
-use Rattle.safety.specs.Scheduler.{Slot, freeSlot, at}
+use Rattle.safety.specs.Scheduler.{Slot, at}
 
 module _ {A : Type 0} (p : Supply A) where
   abbrev pub slotOf : ℕ → A → ℕ → Slot A
@@ -22,12 +22,6 @@ module _ {A : Type 0} (p : Supply A) where
   unfolding slotsOf
   length-slots [] xs hs = refl
   length-slots (k ∷ ks) xs hs = ap suc (length-slots ks (drop 1 xs) (drop 1 hs))
-
-  -- all free, as a repeat expression makes it
-  pub slots-free : (m : ℕ) → slotsOf (replicate m 0) (replicate m (p .none)) (replicate m 0) ≡ replicate m (freeSlot p)
-  unfolding slotsOf
-  slots-free zero = refl
-  slots-free (suc m) = ap (λ r. freeSlot p ∷ r) (slots-free m)
 
   -- any list of slots comes from three arrays
   pub slots-back : (ss : List (Slot A)) → slotsOf (map (λ s. s .kind) ss) (map (λ s. s .next) ss) (map (λ s. s .buffered) ss) ≡ ss

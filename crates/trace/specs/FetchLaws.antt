@@ -148,19 +148,19 @@ module _ {A : Type 0} (p : Supply A) (alone : (a : A) → p .others a ≡ []) wh
     unfolding entries
     as-listed e = sorted-keeps e (entriesFrom p 0 ss)
 
-    pub each-entry : (i : ℕ) → isFetched p (at p ss i) ≡ true → (k : ℕ) × (k < length (entries p ss)) × (entryAt (entries p ss) k ≡ entryOf p i (at p ss i))
+    each-entry : (i : ℕ) → isFetched p (at p ss i) ≡ true → (k : ℕ) × (k < length (entries p ss)) × (entryAt (entries p ss) k ≡ entryOf p i (at p ss i))
     each-entry i h =
         let e : 0 + i ≡ i = omega arith in
         stands (entryOf p i (at p ss i)) (entries p ss) (omega (arith, as-listed (entryOf p i (at p ss i)), rw e at (own-from 0 ss i h)))
 
-    pub only-entry : (k : ℕ) → k < length (entries p ss)
+    only-entry : (k : ℕ) → k < length (entries p ss)
         → (i : ℕ) × (isFetched p (at p ss i) ≡ true) × (entryAt (entries p ss) k ≡ entryOf p i (at p ss i))
     only-entry k l =
         let e = entryAt (entries p ss) k in
         let (i, f, q) = from-own 0 ss e (omega (arith, as-listed e, occurs (entries p ss) k l)) in
         (i, f, q ∙ ap (λ (j : ℕ). entryOf p j (at p ss i)) (omega arith))
 
-    pub entry-order : (j k : ℕ) → j < k → k < length (entries p ss)
+    entry-order : (j k : ℕ) → j < k → k < length (entries p ss)
         → (let a = entryAt (entries p ss) j in let b = entryAt (entries p ss) k in
         (a .position < b .position) ⊎ ((a .position ≡ b .position) × (a .slot < b .slot)))
     entry-order j k u l =
