@@ -5,12 +5,13 @@ use mathlib.Core.Path.{_≡_, sym, ap, _∙_, subst}
 use mathlib.Core.Logic.{_≢_}
 use mathlib.Core.List.{List}
 use native.Mathlib.Omega.{arith}
-use lib.ListN.{length, getD, set, length-set, length-replicate}
+use lib.ListN.{length, getD, set, length-set}
 use lib.Seq.{getD-set-same, getD-set-other}
 use borrow.Author.Count.{below-more}
 use Rattle.laws.specs.Each.{zero-at}
 use Rattle.desk.specs.declared.Gathered.{Gathered}
 use Rattle.desk.specs.Desk.{zeros}
+use Rattle.desk.specs.Slots.{length-zeros}
 use Rattle.gather.specs.declared.Block.{Block}
 use Rattle.gather.specs.Gather.{Found, blockAt, Collected}
 
@@ -29,11 +30,10 @@ module _ (sizes times ps ks xs : List ℕ) (n : ℕ) where
   pub collecting-none : (g : Gathered) → g .times ≡ zeros → g .positions ≡ zeros → Collecting sizes times ps ks xs n g 0
   unfolding zeros
   collecting-none g a b =
-      let z = length-replicate {A = ℕ} 256 0 in
       record {
         few = omega arith;
-        long = ap length a ∙ z;
-        wide = ap length b ∙ z;
+        long = ap length a ∙ length-zeros;
+        wide = ap length b ∙ length-zeros;
         collected = record {
           found = λ i h. absurd (omega arith);
           rest = λ i h. (ap (λ (v : List ℕ). getD v i 0) a ∙ zero-at 256 i, ap (λ (v : List ℕ). getD v i 0) b ∙ zero-at 256 i);

@@ -5,8 +5,8 @@ use mathlib.Core.Path.{_≡_, refl, sym}
 use mathlib.Core.Bool.{Bool, true, false, _&&_}
 use native.Mathlib.Omega.{arith}
 use lib.Bits.{bitOr, or-add-and, and-le-l, and-le-r}
-use lib.Dec.{ltb, eqb}
-use borrow.Author.Tests.{ltb-true, eqb-true, eqb-false, lt-ltb}
+use lib.Dec.{leb, ltb, eqb}
+use borrow.Author.Tests.{leb-true, ltb-true, eqb-true, eqb-false, lt-ltb, le-leb}
 use Rattle.laws.specs.Bools.{clash}
 use Rattle.soundness.specs.Facts.{Tells, Tidy}
 
@@ -21,6 +21,9 @@ tells-equal a b f g = record { yes = λ e. f (eqb-true a b e); no = λ e p. eqb-
 
 pub tells-below : {P : Type 0} (a b : ℕ) → (a < b → P) → (P → a < b) → Tells (ltb a b) P
 tells-below a b f g = record { yes = λ e. f (ltb-true a b e); no = λ e p. clash (lt-ltb a b (g p)) e }
+
+pub tells-within : {P : Type 0} (a b : ℕ) → (a ≤ b → P) → (P → a ≤ b) → Tells (leb a b) P
+tells-within a b f g = record { yes = λ e. f (leb-true a b e); no = λ e p. clash (le-leb a b (g p)) e }
 
 -- a slot that is all zero is tidy
 pub zero-tidy : {N buffer k x h : ℕ} → k ≡ 0 → x ≡ 0 → h ≡ 0 → Tidy N buffer k x h

@@ -1,11 +1,12 @@
 -- What the test of a record tells, as facts on its numbers.
 -- Assumes nothing.
-use Prim.Native.Nat.{ℕ, _≤_, _<_}
+use Prim.Native.Nat.{ℕ, _*_, _≤_, _<_}
 use mathlib.Core.Path.{_≡_}
 use mathlib.Core.Bool.{Bool, true, false, _&&_}
 use mathlib.Core.List.{List}
 use lib.ListN.{length, getD}
 use Rattle.numbers.specs.Slots.{free, waiting, playing, draining}
+use Rattle.numbers.specs.Units.{parts}
 use Rattle.card.specs.declared.Figures.{Figures}
 use Rattle.words.specs.Words.{wordsOf}
 use Rattle.plan.specs.declared.Plan.{Plan}
@@ -62,3 +63,7 @@ pub record LeadList (f : Figures) (ls : List ℕ) : Type 0 where
   pub long : f .blocks ≤ length (wordsOf ls)
   pub here : (b : ℕ) → b < f .blocks → getD (wordsOf ls) b 0 ≡ leadOf f b
   pub small : (b : ℕ) → b < f .blocks → leadOf f b ≤ mostLead
+
+-- `each playing slot holds at least the floor` among the first n, x being the floor in two-millionths of a byte
+abbrev pub PlayersHold : ℕ → List ℕ → List ℕ → ℕ → Type 0
+PlayersHold n ks hs x = (i : ℕ) → i < n → getD ks i 0 ≡ playing → x ≤ parts * getD hs i 0

@@ -1,35 +1,31 @@
 -- The facts of a record and the rules' test of it (crate safety): each way that the test in code can take.
 -- Assumes nothing.
 use Prim.Native.Nat.{ℕ, _+_, _*_, _≤_, _<_}
-use mathlib.Core.Path.{_≡_, refl, sym, ap, ap₂, _∙_, subst}
+use mathlib.Core.Path.{_≡_, refl, sym, ap, _∙_, subst}
 use mathlib.Core.Bool.{Bool, true, false}
 use mathlib.Core.List.{List}
 use mathlib.Core.Logic.{by-cases}
 use native.Mathlib.Omega.{arith}
 use native.Mathlib.Decide.{decLe, decLt}
 use lib.ListN.{getD, List·getD-eq-default}
-use lib.Dec.{leb, eqb}
-use borrow.Author.Tests.{ltb-true, eqb-true, lt-ltb, eq-eqb, le-leb}
-use Rattle.laws.specs.Bools.{clash, implies-of}
-use Rattle.laws.specs.Each.{each-at, each-map, all-of-each}
+use borrow.Author.Tests.{ltb-true, eqb-true, lt-ltb, eq-eqb}
 use Rattle.numbers.specs.Slots.{waiting, playing, sweeping}
 use Rattle.numbers.specs.Units.{parts}
 use Rattle.words.specs.Words.{wordsOf}
 use Rattle.plan.specs.declared.Plan.{Plan}
-use Rattle.safety.specs.Scheduler.{freeSlot, leads, lowWater, holds, playersHold}
+use Rattle.safety.specs.Scheduler.{leads, lowWater}
 use Rattle.safety.specs.Order.{bySlot}
 use Rattle.safety.specs.Arrays.{slotOf}
 use Rattle.safety.specs.Sound.{Good, Sound, sound-of-good}
-use Rattle.safety.specs.BySlot.{floored-of-test}
-use Rattle.safety.specs.Turns.{leastHeld, least-holds, sound-yes, sound-no, sound-at}
+use Rattle.safety.specs.Turns.{sound-yes, sound-no, sound-at}
 use Rattle.desk.specs.declared.Desk.{Desk}
 use Rattle.desk.specs.Desk.{supplyOf, orderOf, slotsIn, viewOf}
 use Rattle.desk.specs.View.{Wide, same-length}
 use Rattle.desk.specs.Shown.{Slots, OfNext}
 use Rattle.desk.specs.Promise.{supply-named}
 use Rattle.desk.specs.Slots.{length-in, slot-in, kind-in}
-use Rattle.floor.specs.Floor.{mostLead, ample, leadSum, Listed, Taken, mark-is}
-use Rattle.soundness.specs.Facts.{slotsSound, Tidy, AllTidy, LeadList}
+use Rattle.floor.specs.Floor.{mostLead, leadSum, Listed, Taken, mark-is}
+use Rattle.soundness.specs.Facts.{slotsSound, Tells, Tidy, AllTidy, PlayersHold, LeadList}
 
 -- ---- one slot
 
@@ -114,33 +110,25 @@ module _ (d : Desk) (w : Wide d) where
           (λ b. omega (arith, k .none i l (λ _ c. b c))))
           (λ a. omega (arith, k .none i l (λ c _. a c)))
 
-  -- `each playing slot holds at least the floor`, as the rules test it
-  abbrev players : Bool
-  players = playersHold (supplyOf (d .plan)) mark (slotsIn d)
+  sound-players : IsSound → PlayersHold (d .plan .streams) (d .kinds) (d .held) mark
+  sound-players h i l k = good-at h i .floored k
 
-  sound-players : IsSound → players ≡ true
-  unfolding viewOf playersHold holds
-  sound-players h =
-      all-of-each _ (slotsIn d)
-      (each-map _ _ (slotsIn d)
-      (λ s g. implies-of (eqb (s .kind) playing) _ (λ e. le-leb mark (parts * s .buffered) (g .floored (eqb-true (s .kind) playing e)))) (h .slots))
+  -- slots from n on play in no tidy record
+  all-hold : AllTidy d → {x : ℕ} → PlayersHold (d .plan .streams) (d .kinds) (d .held) x → PlayersHold 256 (d .kinds) (d .held) x
+  all-hold t h i l k = by-cases (decLt i (d .plan .streams)) (λ a. h i a k) (λ a. absurd (omega (arith, t .unused i l (omega arith))))
 
   sound-phase : IsSound → d .phase ≤ sweeping
   unfolding viewOf
   sound-phase h = h .phase
 
   -- and a record of which all this holds is sound
-  facts-sound : d .phase ≤ sweeping → AllTidy d → players ≡ true → slotsSound d ≡ true
+  facts-sound : d .phase ≤ sweeping → AllTidy d → PlayersHold (d .plan .streams) (d .kinds) (d .held) mark → slotsSound d ≡ true
   unfolding viewOf bySlot supplyOf
   facts-sound e t h =
       let p = supplyOf (d .plan) in
-      let f = floored-of-test p (leadSum d) (slotsIn d) h in
-      let floored : (j : ℕ) → getD (d .kinds) j 0 ≡ playing → mark ≤ parts * getD (d .held) j 0 =
-      λ j. rw (slot-in d w j) at (each-at _ (slotsIn d) j (freeSlot p) f (λ z. absurd (omega arith)))
-      in
       sound-yes p (supply-named (d .plan)) (orderOf (d .plan)) (viewOf d) e
       (λ j l. let u : j < 256 = omega (arith, length-in d w) in
-      sound-of-good p (supply-named (d .plan)) _ _ (subst (Good p (leads p (slotsIn d))) (sym (slot-in d w j)) (tidy-good (d .plan) _ _ _ _ (t .slots j u) (floored j))))
+      sound-of-good p (supply-named (d .plan)) _ _ (subst (Good p (leads p (slotsIn d))) (sym (slot-in d w j)) (tidy-good (d .plan) _ _ _ _ (t .slots j u) (all-hold t h j u))))
       (λ j n l. kind-in d w j ∙ t .unused j (omega (arith, length-in d w)) n)
       refl
 
@@ -151,14 +139,12 @@ module _ (d : Desk) (w : Wide d) where
   pub unsound-slots : (AllTidy d → ⊥) → false ≡ slotsSound d
   unsound-slots n = sym (sound-no (supplyOf (d .plan)) (supply-named (d .plan)) (orderOf (d .plan)) (viewOf d) (λ h. n (sound-tidy h)))
 
-  -- m is the mark as the code computes it, L the sum of the leads, and level the least that a playing slot holds
-  pub sound-told : (m level L : ℕ) → L ≡ leadSum d → m ≡ parts * d .plan .figures .bytes + d .plan .figures .rate * L → m ≤ parts * ample
-      → level ≡ parts * leastHeld (supplyOf (d .plan)) ample (slotsIn d) → d .phase ≤ sweeping → AllTidy d → leb m level ≡ slotsSound d
-  sound-told m level L a b c v e t =
-      let p = supplyOf (d .plan) in
-      let q : m ≡ mark = b ∙ sym (mark-is (d .plan) L) ∙ ap (lowWater p) a in
-      ap₂ leb q v ∙ sym (least-holds p ample mark (slotsIn d) (rw q at c)) ∙ go players refl
+  -- m is the mark as the code computes it, L the sum of the leads
+  pub sound-told : (r : Bool) (m L : ℕ) → L ≡ leadSum d → m ≡ parts * d .plan .figures .bytes + d .plan .figures .rate * L
+      → d .phase ≤ sweeping → AllTidy d → Tells r (PlayersHold (d .plan .streams) (d .kinds) (d .held) m) → r ≡ slotsSound d
+  sound-told r m L a b e t h =
+      go r (subst (λ (x : ℕ). Tells r (PlayersHold (d .plan .streams) (d .kinds) (d .held) x)) (b ∙ sym (mark-is (d .plan) L) ∙ ap (lowWater (supplyOf (d .plan))) a) h)
     where
-      go : (r : Bool) → players ≡ r → r ≡ slotsSound d
-      go true h = sym (facts-sound e t h)
-      go false h = sym (sound-no (supplyOf (d .plan)) (supply-named (d .plan)) (orderOf (d .plan)) (viewOf d) (λ s. clash (sound-players s) h))
+      go : (r : Bool) → Tells r (PlayersHold (d .plan .streams) (d .kinds) (d .held) mark) → r ≡ slotsSound d
+      go true h = sym (facts-sound e t (h .yes refl))
+      go false h = sym (sound-no (supplyOf (d .plan)) (supply-named (d .plan)) (orderOf (d .plan)) (viewOf d) (λ s. h .no refl (sound-players s)))

@@ -2,8 +2,8 @@
 mod slots; // the test of the slots
 
 use crate::slots::all_tidy;
+use crate::slots::players_hold;
 use floor::gather_leads;
-use floor::least_level;
 use floor::low_water;
 use floor::sum_leads;
 use numbers::slots::SWEEPING;
@@ -63,7 +63,7 @@ pub fn test_record<'a>(
     let sum = sum_leads(kinds, found, streams);
     let mark = low_water(plan.figures.bytes, plan.figures.rate, sum);
     Tested {
-        sound: mark <= least_level(kinds, held, streams),
+        sound: players_hold(streams, kinds, held, mark),
         sum: sum,
     }
 }

@@ -4,9 +4,14 @@ use numbers::slots::FILLING;
 use numbers::slots::FREE;
 use numbers::slots::PLAYING;
 use numbers::slots::WAITING;
-ghost use Prim.Native.Nat.{_≤_};
+use numbers::units::PARTS;
+use streams::product;
+ghost use mathlib.Core.Path.{_≡_};
+ghost use Prim.Native.Nat.{_*_, _≤_};
 ghost use Rattle.numbers.specs.Limits.{maxStreams};
-ghost use Rattle.soundness.specs.Facts.{Tells, Tidy, RestZero, SlotsTidy};
+ghost use Rattle.numbers.specs.Slots.{playing};
+ghost use Rattle.numbers.specs.Units.{parts};
+ghost use Rattle.soundness.specs.Facts.{Tells, Tidy, RestZero, SlotsTidy, PlayersHold};
 
 // Is a slot sound but for the low-water mark (01: the floor)? `blocks` is N.
 fn is_tidy(blocks: u32, buffer: u32, kind: u32, next: u32, held: u32) -> bool
@@ -77,6 +82,36 @@ pub fn all_tidy<'a>(
     let mut i: usize = 0;
     while i < streams {
         if !is_tidy(blocks, buffer, kinds[i], next[i], held[i]) {
+            return false;
+        }
+        i += 1;
+    }
+    true
+}
+
+// Does a slot hold the low-water mark (01: the floor), given in two-millionths of a byte, where it plays?
+fn holds_mark(kind: u32, held: u32, mark: u64) -> bool
+    ensures { λ r. ⌜ Tells r (kind ≡ playing → mark ≤ parts * held) ⌝ }
+{
+    match kind {
+        PLAYING => mark <= product(PARTS, held),
+        _ => true,
+    }
+}
+
+// Does each playing slot of the first n hold at least the mark?
+pub fn players_hold<'a>(
+    streams: usize,
+    kinds: &'a [u32; 256],
+    held: &'a [u32; 256],
+    mark: u64,
+) -> bool
+    requires { ⌜ streams ≤ maxStreams ⌝ }
+    ensures { λ r. ⌜ Tells r (PlayersHold streams (now (kinds .entry)) (now (held .entry)) mark) ⌝ }
+{
+    let mut i: usize = 0;
+    while i < streams {
+        if !holds_mark(kinds[i], held[i], mark) {
             return false;
         }
         i += 1;

@@ -57,7 +57,7 @@ use Rattle.desk.proofs.Fetch.Laws as T′
 use Rattle.desk.proofs.Fetches as O
 use Rattle.desk.proofs.Fetches.Laws as O′
 use Rattle.fetch_list.specs.Fetches.{entryOf, written, length-written}
-use Rattle.fetch_list.proofs.Laws.{written-none, written-more}
+use Rattle.fetch_list.proofs.Written.{written-none, written-more}
 use Rattle.fetch_list.proofs.entries as counter
 use Rattle.fetch_list.proofs.entries.Symbol as counter-def
 use Rattle.fetch_list.proofs.entries.Symbol.{name as #fetch-list·entries}

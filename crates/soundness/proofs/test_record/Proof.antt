@@ -1,19 +1,16 @@
-use Prim.Native.Nat.{_*_, _≤_}
+use Prim.Native.Nat.{_≤_}
 use mathlib.Core.Path.{_≡_, refl, sym, _∙_}
 use mathlib.Core.Bool.{true}
-use native.Mathlib.Omega.{arith}
-use native.Mathlib.Nat.{mul-le-mul}
 use borrow.Author.Needs.{needs}
 use borrow.Author.Tests.{not-true, not-false}
 use Rattle.laws.specs.Bools.{clash}
-use Rattle.numbers.specs.Limits.{maxRate, maxStreams}
 use Rattle.round_trip.specs.Legality as legality
 use Rattle.card.specs.Card.{Legal}
 use Rattle.plan.specs.Answer.{isPlan}
 use Rattle.plan.specs.Check.{checked-legal}
 use Rattle.desk.specs.declared.Desk.{Desk}
 use Rattle.desk.specs.Desk.{supplyOf}
-use Rattle.floor.specs.Floor.{mostLead, Leads}
+use Rattle.floor.specs.Floor.{Leads}
 use Rattle.soundness.specs.Facts.{recordOf, AllTidy, LeadList}
 use Rattle.soundness.specs.Tests.{tidy-slots, tidy-listed, tidy-each, tidy-small, unsound-phase, unsound-slots, sound-told}
 use Rattle.soundness.specs.Ready.{plan-leads, plan-streams}
@@ -116,8 +113,8 @@ sum-leads-requires c κs = let g = c .before in
 low-water-requires : tie.Need-low-water-requires
 low-water-requires c κs = let h = legal (planned (slots (taken c))) in (h .bytes .1, h .rate .1)
 
-least-level-requires : tie.Need-least-level-requires
-least-level-requires c κs = few (planned (slots (taken (c .before))))
+players-hold-requires : tie.Need-players-hold-requires
+players-hold-requires c κs = few (planned (slots (taken (c .before))))
 
 returns-4 : tie.Need-returns-4
 returns-4 c =
@@ -126,13 +123,9 @@ returns-4 c =
     let t = slots (taken l) in
     let e = planned t in
     let s = start e in
-    let d = given s in
-    let h = legal e in
-    let f = found l in
-    let most : d .plan .figures .rate * l .sum-leads .result ≤ maxRate * (maxStreams * mostLead) = mul-le-mul (h .rate .1) (f .most) in (
+    let f = found l in (
       then-second _ _ _ (passed e)
-          (sound-told d (s .pre .0) _ _ _ (f .sums) (m .low-water .ensures) (omega (arith, m .low-water .ensures, h .bytes .1))
-          (c .least-level .ensures (supplyOf (d .plan)) (d .next) (tidy-slots d (s .pre .0) (tidy t))) (t .before .before .before .if2 .left) (tidy t)),
+          (sound-told (given s) (s .pre .0) _ _ _ (f .sums) (m .low-water .ensures) (t .before .before .before .if2 .left) (tidy t) (c .players-hold .ensures)),
       λ _. f,
     )
 
@@ -149,5 +142,5 @@ test-record-spec =
     gather-leads-requires
     sum-leads-requires
     low-water-requires
-    least-level-requires
+    players-hold-requires
     returns-4)

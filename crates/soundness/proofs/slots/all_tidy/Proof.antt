@@ -1,5 +1,6 @@
 use Prim.Native.Nat.{ℕ, _-_, _≤_, _<_}
 use mathlib.Core.Logic.{by-cases}
+use mathlib.Core.List.{List}
 use native.Mathlib.Omega.{arith}
 use native.Mathlib.Decide.{decLt}
 use borrow.Author.Needs.{needs}
@@ -11,8 +12,13 @@ use Rattle.soundness.proofs.Tells.{tells-yes, tells-no, zero-tidy}
 use Rattle.soundness.proofs.slots.all_tidy.Statement.{statement}
 use Rattle.soundness.proofs.slots.all_tidy.Tie as tie
 
+-- the first i slots are tidy
+record Testing (blocks buffer streams : ℕ) (kinds next held : List ℕ) (i : ℕ) : Type 0 where
+  few : i ≤ streams
+  tidy : (j : ℕ) → j < i → Tidy blocks buffer (getD kinds j 0) (getD next j 0) (getD held j 0)
+
 abbrev Inv-loop : tie.InvT-loop
-Inv-loop blocks buffer streams kinds next held i₀ i = (i ≤ streams) × ((j : ℕ) → j < i → Tidy blocks buffer (getD kinds j 0) (getD next j 0) (getD held j 0))
+Inv-loop blocks buffer streams kinds next held i₀ i = Testing blocks buffer streams kinds next held i
 
 abbrev μ-loop : tie.MeasureT-loop
 μ-loop blocks buffer streams kinds next held i₀ i = streams - i
@@ -28,7 +34,7 @@ returns c =
     (k, z .0, z .1)))
 
 loop-holds : tie.Need-loop-holds Inv-loop μ-loop
-loop-holds c = (omega arith, λ j h. absurd (omega arith))
+loop-holds c = record { few = omega arith; tidy = λ j h. absurd (omega arith) }
 
 mul-is-tidy : tie.Need-mul-is-tidy Inv-loop μ-loop
 mul-is-tidy c = omega arith
@@ -64,8 +70,9 @@ loop-less c = omega arith
 
 loop-again : tie.Need-loop-again Inv-loop μ-loop
 loop-again c =
-    let l = c .before .before .before .before .before .before .loop in
-    (omega arith, below-more _ (l .i) (l .inv .1) (c .before .is-tidy .ensures .yes (not-false _ (c .if2 .left))))
+    let t = c .before .before .before .before .before in
+    let l = t .before .loop in
+    record { few = omega (arith, t .loop-test .taken); tidy = below-more _ (l .i) (l .inv .tidy) (c .before .is-tidy .ensures .yes (not-false _ (c .if2 .left))) }
 
 returns-3 : tie.Need-returns-3 Inv-loop μ-loop
 returns-3 c =
@@ -74,7 +81,7 @@ returns-3 c =
     let z = e .before .rest-zero .ensures .yes (not-false _ (e .if1 .left)) in
     let n = e .before .before .args .streams in
     tells-yes (record {
-      slots = λ j h. by-cases (decLt j n) (λ a. l .inv .1 j (omega arith)) (λ a. let y = z j h (omega arith) in zero-tidy (y .0) (y .1) (y .2));
+      slots = λ j h. by-cases (decLt j n) (λ a. l .inv .tidy j (omega (arith, c .loop-test .left))) (λ a. let y = z j h (omega arith) in zero-tidy (y .0) (y .1) (y .2));
       unused = λ j h u. z j h u .0;
     })
 
