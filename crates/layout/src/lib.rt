@@ -14,7 +14,7 @@ use words::write_256;
 use words::write_words;
 ghost use mathlib.Core.Path.{_≡_};
 ghost use Prim.Native.Nat.{ℕ, _*_, _≤_, _<_};
-ghost use mathlib.Core.List.{List, [], _∷_};
+ghost use mathlib.Core.List.{List};
 ghost use lib.ListN.{length};
 ghost use Rattle.words.specs.Words.{Bytes, Words, wordsOf, withWords};
 ghost use Rattle.plan.specs.declared.Plan.{Plan};

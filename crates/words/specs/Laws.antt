@@ -1,6 +1,6 @@
 -- Laws of entries in byte strings: what an entry is, what a store changes and keeps, and that reading and writing undo each other.
 -- Assumes nothing.
-use Prim.Native.Nat.{ℕ, zero, suc, _+_, _-_, _*_, _/_, _%_, _≤_, _<_}
+use Prim.Native.Nat.{ℕ, zero, suc, _+_, _*_, _/_, _%_, _≤_, _<_}
 use mathlib.Core.Path.{_≡_, refl, sym, ap, _∙_}
 use mathlib.Core.Logic.{_≢_, by-cases}
 use mathlib.Core.List.{List, [], _∷_, _++_, append-assoc}
@@ -11,7 +11,7 @@ use native.Mathlib.Numerals.{add-one, add-two, add-three}
 use mir.Syntax.{w8}
 use mir.Val.{Fits}
 use lib.ListN.{length, getD, set, take, drop, length-set, drop-of-length-le}
-use lib.Seq.{getD-set-same, getD-set-other, take-set-le, drop-set-lt, drop-set-add, drop-cons, take-append-seam, drop-at, length-take-le, sets, sets-eq}
+use lib.Seq.{getD-set-other, drop-set-lt, drop-cons, take-append-seam, drop-at, length-take-le, sets, sets-eq}
 use Rattle.laws.specs.Overwrite.{overwrite, overwrite-none, overwrite-more}
 use Rattle.words.specs.Words.{Bytes, Words, wordsOf, withWord, withWords, bytesOf}
 
@@ -187,6 +187,23 @@ unfolding withWords
 withWords-bytes s start [] y = y
 withWords-bytes s start (v ∷ vs) y = withWords-bytes (withWord s start v) (start + 1) vs (withWord-bytes s start v y)
 
+-- a byte of another entry, or a spare one, stays
+withWord-other : (s : List ℕ) (i v j : ℕ) → j / 4 ≢ i → getD (withWord s i v) j 0 ≡ getD s j 0
+unfolding withWord
+withWord-other s i v j n =
+    let p : j ≢ 4 * i = omega arith in
+    let q : j ≢ 4 * i + 1 = omega arith in
+    let r : j ≢ 4 * i + 2 = omega arith in
+    let t : j ≢ 4 * i + 3 = omega arith in
+    simp getD-set-other
+
+-- a byte after the entries stays
+pub withWords-after : (s : List ℕ) (start : ℕ) (vs : List ℕ) (j : ℕ) → 4 * (start + length vs) ≤ j → getD (withWords s start vs) j 0 ≡ getD s j 0
+unfolding withWords
+withWords-after s start [] j h = refl
+withWords-after s start (v ∷ vs) j h =
+    withWords-after (withWord s start v) (start + 1) vs j (omega arith) ∙ withWord-other s start v j (omega arith)
+
 -- the entries after the stores, element by element
 words-sets : (s : List ℕ) (start : ℕ) (vs : List ℕ) → Words vs → wordsOf (withWords s start vs) ≡ sets (wordsOf s) start vs
 unfolding withWords
@@ -248,11 +265,6 @@ row-stored s start (suc n) (suc i) v y h l =
     ∙ rw (drop-cons (wordsOf s) start 0 there, withWords-cons s start, add-one)
 
 -- ---- the bytes of numbers
-
-pub bytesOf-length : (vs : List ℕ) → length (bytesOf vs) ≡ 4 * length vs
-unfolding bytesOf
-bytesOf-length [] = refl
-bytesOf-length (v ∷ vs) = omega (arith, bytesOf-length vs)
 
 -- an entry is four bytes in a row
 withWord-overwrite : (s : List ℕ) (i v : ℕ) → i < length (wordsOf s) → withWord s i v ≡ overwrite s (4 * i) (bytesOf (v ∷ []))
