@@ -1,9 +1,9 @@
 -- A begin and an end on a desk string D.
 -- Assumes nothing.
-use Prim.Native.Nat.{ℕ, _*_, _≤_}
-use mathlib.Core.Path.{_≡_, refl, sym, ap, _∙_, subst}
+use Prim.Native.Nat.{ℕ, _≤_}
+use mathlib.Core.Path.{_≡_, sym, ap, _∙_}
 use mathlib.Core.Logic.{_≢_, by-cases}
-use mathlib.Core.List.{List, []}
+use mathlib.Core.List.{List}
 use native.Mathlib.Omega.{arith}
 use native.Mathlib.Decide.{ℕ-discrete}
 use lib.ListN.{length}
@@ -14,8 +14,7 @@ use Rattle.words.specs.Laws.{withWords-none}
 use Rattle.desk.specs.declared.Desk.{Desk}
 use Rattle.desk.specs.declared.Answer.{Answer}
 use Rattle.desk.specs.declared.Begun.{Begun}
-use Rattle.desk.specs.declared.Fetches.{Fetches}
-use Rattle.desk.specs.Desk.{blankDesk, beginDesk, fetchesOf, entriesOf, entryWords, fetchListAfter, endDesk}
+use Rattle.desk.specs.Desk.{blankDesk, beginDesk, fetchesOf, entriesOf, fetchListAfter, endDesk}
 use Rattle.desk.specs.Records.{notBegun}
 use Rattle.desk.specs.Ready.{Ready}
 use Rattle.ends.specs.Ends.{Drawn}
@@ -31,7 +30,7 @@ use Rattle.layout.specs.Parts.{withKinds}
 use Rattle.layout.specs.Entries.{rows, rows-of}
 use Rattle.layout.specs.RoundTrip.{DeskSized}
 use Rattle.card.specs.declared.Verdict.{Verdict}
-use Rattle.desk_strings.specs.Calls.{said, answerBy, stringBy, roomIn, begunAnswer, beginAnswer, beginString, fetchString, endAnswer, endString}
+use Rattle.desk_strings.specs.Calls.{said, roomIn, begunAnswer, beginAnswer, beginString, fetchString, endAnswer, endString}
 use Rattle.desk_strings.specs.Laws.{FetchesFit, sweptAnswer, said-sized, right-answer}
 use Rattle.desk_strings.proofs.Judged.{wide-of, slim-of, blank-sized, blank-unsound, Judges, Judged, judged-said, answered-by, judged-answer, refused-string, right-length, accepted-said, accepted-string}
 

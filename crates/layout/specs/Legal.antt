@@ -1,6 +1,6 @@
 -- The plan of legal figures can be written and read back: its arrays have 64 entries, its numbers 32 bits.
 -- Assumes nothing.
-use Prim.Native.Nat.{ℕ, suc, _<_}
+use Prim.Native.Nat.{suc}
 use mathlib.Core.Logic.{by-cases}
 use native.Mathlib.Omega.{arith}
 use native.Mathlib.Decide.{decLt}

@@ -12,7 +12,7 @@ use Rattle.words.specs.Words.{wordsOf, withWords}
 use Rattle.words.specs.Laws.{bytes-fit, words-length}
 use Rattle.desk.specs.declared.Desk.{Desk}
 use Rattle.desk.specs.Records.{withSlot}
-use Rattle.layout.specs.Fields.{Field, Values, _&_, wordCount, stored}
+use Rattle.layout.specs.Fields.{Field, _&_, wordCount, stored}
 use Rattle.layout.specs.FieldLaws.{fields-stored, part-written, columnStored, column-written}
 use Rattle.layout.specs.Layout.{planFields, planWordCount, slotFields, deskWords, deskIn, deskSize}
 

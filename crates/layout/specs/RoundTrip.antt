@@ -3,7 +3,7 @@
 -- Assumes nothing.
 use Prim.Native.Nat.{ℕ, zero, suc, _+_, _*_, _≤_}
 use mathlib.Core.Path.{_≡_, refl, sym, ap, _∙_}
-use mathlib.Core.List.{List, [], _∷_, _++_, append-nil}
+use mathlib.Core.List.{List, [], _++_, append-nil}
 use native.Mathlib.Omega.{arith}
 use lib.ListN.{length, drop, replicate, length-replicate, drop-of-length-le}
 use Rattle.numbers.specs.Limits.{maxZones, maxStreams}
@@ -11,7 +11,6 @@ use Rattle.laws.specs.Overwrite.{overwrite, overwrite-front}
 use Rattle.words.specs.Words.{Bytes, Words, wordsOf, withWords, bytesOf}
 use Rattle.words.specs.Laws.{words-length, words-withWords, withWords-append, withWords-overwrite}
 use Rattle.card.specs.Read.{blankZones, blankFigures}
-use Rattle.card.specs.declared.Figures.{Figures}
 use Rattle.plan.specs.declared.Plan.{Plan}
 use Rattle.plan.specs.Plan.{blankPlan}
 use Rattle.desk.specs.declared.Desk.{Desk}

@@ -6,7 +6,6 @@ use card::Figures;
 use card::Verdict;
 use desk::Desk;
 use plan::Plan;
-use words::put_word;
 use words::read_64;
 use words::read_256;
 use words::word_at;
@@ -15,7 +14,7 @@ use words::write_256;
 use words::write_words;
 ghost use mathlib.Core.Path.{_≡_};
 ghost use Prim.Native.Nat.{ℕ, _*_, _≤_, _<_};
-ghost use mathlib.Core.List.{List, [], _∷_};
+ghost use mathlib.Core.List.{List};
 ghost use lib.ListN.{length};
 ghost use Rattle.words.specs.Words.{Bytes, Words, wordsOf, withWords};
 ghost use Rattle.plan.specs.declared.Plan.{Plan};
@@ -190,9 +189,10 @@ pub fn write_entries<'a>(
 {
     let mut i: usize = 0;
     while i < count {
-        put_word(out, 3 * i, positions[i]);
-        put_word(out, 3 * i + 1, slots[i]);
-        put_word(out, 3 * i + 2, blocks[i]);
+        let position = positions[i];
+        let slot = slots[i];
+        let block = blocks[i];
+        write_words(out, 3 * i, &[position, slot, block]);
         i += 1;
     }
 }

@@ -1,6 +1,6 @@
 -- Laws of entries in byte strings: what an entry is, what a store changes and keeps, and that reading and writing undo each other.
 -- Assumes nothing.
-use Prim.Native.Nat.{ℕ, zero, suc, _+_, _-_, _*_, _/_, _%_, _≤_, _<_}
+use Prim.Native.Nat.{ℕ, zero, suc, _+_, _*_, _/_, _%_, _≤_, _<_}
 use mathlib.Core.Path.{_≡_, refl, sym, ap, _∙_}
 use mathlib.Core.Logic.{_≢_, by-cases}
 use mathlib.Core.List.{List, [], _∷_, _++_, append-assoc}
@@ -11,7 +11,7 @@ use native.Mathlib.Numerals.{add-one, add-two, add-three}
 use mir.Syntax.{w8}
 use mir.Val.{Fits}
 use lib.ListN.{length, getD, set, take, drop, length-set, drop-of-length-le}
-use lib.Seq.{getD-set-same, getD-set-other, take-set-le, drop-set-lt, drop-set-add, drop-cons, take-append-seam, drop-at, length-take-le, sets, sets-eq}
+use lib.Seq.{getD-set-other, drop-set-lt, drop-cons, take-append-seam, drop-at, length-take-le, sets, sets-eq}
 use Rattle.laws.specs.Overwrite.{overwrite, overwrite-none, overwrite-more}
 use Rattle.words.specs.Words.{Bytes, Words, wordsOf, withWord, withWords, bytesOf}
 
@@ -265,11 +265,6 @@ row-stored s start (suc n) (suc i) v y h l =
     ∙ rw (drop-cons (wordsOf s) start 0 there, withWords-cons s start, add-one)
 
 -- ---- the bytes of numbers
-
-pub bytesOf-length : (vs : List ℕ) → length (bytesOf vs) ≡ 4 * length vs
-unfolding bytesOf
-bytesOf-length [] = refl
-bytesOf-length (v ∷ vs) = omega (arith, bytesOf-length vs)
 
 -- an entry is four bytes in a row
 withWord-overwrite : (s : List ℕ) (i v : ℕ) → i < length (wordsOf s) → withWord s i v ≡ overwrite s (4 * i) (bytesOf (v ∷ []))

@@ -18,17 +18,24 @@ pub fn entries(list: &[u8]) -> usize
     list.len() / 4
 }
 
-// The entry i.
-pub fn word_at(list: &[u8], i: usize) -> u32
-    requires { ⌜ i < length (wordsOf (now list)) ⌝ }
-    ensures { λ r. ⌜ r ≡ getD (wordsOf (now (list .entry))) i 0 ⌝ }
+// The number in the four bytes from `at` on.
+fn number_at(list: &[u8], at: usize) -> u32
+    requires { ⌜ at + 3 < length (now list) ⌝ }
+    ensures { λ r. ⌜ (let s = now (list .entry) in r ≡ getD s at 0 + 256 * getD s (at + 1) 0 + 65536 * getD s (at + 2) 0 + 16777216 * getD s (at + 3) 0) ⌝ }
 {
-    let at = 4 * i;
     let b0 = wide(list[at]);
     let b1 = wide(list[at + 1]);
     let b2 = wide(list[at + 2]);
     let b3 = wide(list[at + 3]);
     b0 + 256 * b1 + 65536 * b2 + 16777216 * b3
+}
+
+// The entry i.
+pub fn word_at(list: &[u8], i: usize) -> u32
+    requires { ⌜ i < length (wordsOf (now list)) ⌝ }
+    ensures { λ r. ⌜ r ≡ getD (wordsOf (now (list .entry))) i 0 ⌝ }
+{
+    number_at(list, 4 * i)
 }
 
 // Writes v as the entry i.

@@ -1,4 +1,3 @@
-use mathlib.Core.Path.{_∙_}
 use borrow.Author.Needs.{needs}
 use Rattle.desk_strings.specs.Calls.{said}
 use Rattle.desk_strings.proofs.desk_in.Statement.{statement}

@@ -1,75 +1,46 @@
-use Prim.Native.Nat.{ℕ, _+_, _-_, _*_, _≤_}
-use mathlib.Core.Path.{_≡_, refl, ap, _∙_}
+use Prim.Native.Nat.{_-_}
 use native.Mathlib.Omega.{arith}
 use borrow.Author.Needs.{needs}
-use lib.ListN.{length, getD}
-use mathlib.Core.List.{List}
-use Rattle.words.specs.Words.{withWord, withWords}
-use Rattle.words.specs.Laws.{words-length, withWord-length}
-use Rattle.desk.specs.declared.Fetches.{Fetches}
-use Rattle.layout.specs.Entries.{listOf, rows, rows-more, rows-done}
+use Rattle.words.specs.Laws.{words-length}
+use Rattle.layout.specs.Entries.{listOf, EntriesWritten, entries-start, entries-more, entries-end}
 use Rattle.layout.proofs.write_entries.Statement.{statement}
 use Rattle.layout.proofs.write_entries.Tie as tie
 
 abbrev Inv-loop : tie.InvT-loop
-Inv-loop positions slots blocks count out₀ i₀ out i =
-    (i ≤ count) × (length out ≡ length out₀)
-    × (let f = listOf count positions slots blocks in withWords out (3 * i) (rows i (count - i) f) ≡ withWords out₀ 0 (rows 0 count f))
+Inv-loop positions slots blocks count out₀ i₀ out i = EntriesWritten count (listOf count positions slots blocks) out₀ out i
 
 abbrev μ-loop : tie.MeasureT-loop
 μ-loop positions slots blocks count out₀ i₀ out i = count - i
 
--- the fetches that are written
-abbrev list : tie.Start Inv-loop μ-loop → Fetches
-list c = let a = c .args in listOf (a .count) (a .positions .now) (a .slots .now) (a .blocks .now)
-
 loop-holds : tie.Need-loop-holds Inv-loop μ-loop
-loop-holds c =
-    let n = c .before .args .count in
-    let e : n - 0 ≡ n = omega arith in
-    (omega arith, refl, ap (λ (k : ℕ). withWords (c .before .args .out .now) 0 (rows 0 k (list (c .before)))) e)
+loop-holds c = entries-start _ _ _
 
-mul-put-word : tie.Need-mul-put-word Inv-loop μ-loop
-mul-put-word c = search needs
+mul-position : tie.Need-mul-position Inv-loop μ-loop
+mul-position c = search needs
 
-mul-put-word-2 : tie.Need-mul-put-word-2 Inv-loop μ-loop
-mul-put-word-2 c = search needs
+element-copy-out-position : tie.Need-element-copy-out-position Inv-loop μ-loop
+element-copy-out-position c = search needs
 
-element-copy-out-put-word : tie.Need-element-copy-out-put-word Inv-loop μ-loop
-element-copy-out-put-word c = omega (arith, c .before .before .before .before .pre .0)
+mul-slot : tie.Need-mul-slot Inv-loop μ-loop
+mul-slot c = search needs
 
-put-word-requires : tie.Need-put-word-requires Inv-loop μ-loop
-put-word-requires c κs = let l = c .before .before .before .loop in let a = c .before .before .before .before .before in omega (arith, words-length (l .out), words-length (a .args .out .now), l .inv .1, a .pre .1)
+element-copy-out-slot : tie.Need-element-copy-out-slot Inv-loop μ-loop
+element-copy-out-slot c = search needs
 
-mul-put-word-3 : tie.Need-mul-put-word-3 Inv-loop μ-loop
-mul-put-word-3 c = search needs
+mul-block : tie.Need-mul-block Inv-loop μ-loop
+mul-block c = search needs
 
-add-put-word : tie.Need-add-put-word Inv-loop μ-loop
-add-put-word c = search needs
+element-copy-out-block : tie.Need-element-copy-out-block Inv-loop μ-loop
+element-copy-out-block c = search needs
 
-mul-put-word-4 : tie.Need-mul-put-word-4 Inv-loop μ-loop
-mul-put-word-4 c = search needs
+mul-write-words : tie.Need-mul-write-words Inv-loop μ-loop
+mul-write-words c = search needs
 
-element-copy-out-put-word-2 : tie.Need-element-copy-out-put-word-2 Inv-loop μ-loop
-element-copy-out-put-word-2 c = omega (arith, c .before .before .before .before .before .before .before .before .before .pre .0)
+slice-aggregate-write-words : tie.Need-slice-aggregate-write-words Inv-loop μ-loop
+slice-aggregate-write-words c = search needs
 
-put-word-requires-2 : tie.Need-put-word-requires-2 Inv-loop μ-loop
-put-word-requires-2 c κs = let l = c .before .before .before .before .before .before .before .before .loop in let a = c .before .before .before .before .before .before .before .before .before .before in omega (arith, words-length (c .before .before .before .before .put-word .last .0), words-length (a .args .out .now), l .inv .1, a .pre .1)
-
-mul-put-word-5 : tie.Need-mul-put-word-5 Inv-loop μ-loop
-mul-put-word-5 c = search needs
-
-add-put-word-2 : tie.Need-add-put-word-2 Inv-loop μ-loop
-add-put-word-2 c = search needs
-
-mul-put-word-6 : tie.Need-mul-put-word-6 Inv-loop μ-loop
-mul-put-word-6 c = search needs
-
-element-copy-out-put-word-3 : tie.Need-element-copy-out-put-word-3 Inv-loop μ-loop
-element-copy-out-put-word-3 c = omega (arith, c .before .before .before .before .before .before .before .before .before .before .before .before .before .before .pre .0)
-
-put-word-requires-3 : tie.Need-put-word-requires-3 Inv-loop μ-loop
-put-word-requires-3 c κs = let l = c .before .before .before .before .before .before .before .before .before .before .before .before .before .loop in let a = c .before .before .before .before .before .before .before .before .before .before .before .before .before .before .before in omega (arith, words-length (c .before .before .before .before .put-word2 .last .0), words-length (a .args .out .now), l .inv .1, a .pre .1)
+write-words-requires : tie.Need-write-words-requires Inv-loop μ-loop
+write-words-requires c κs = let l = c .before .before .before .before .before .before in omega (arith, words-length (l .before .before .args .out .now))
 
 add-i : tie.Need-add-i Inv-loop μ-loop
 add-i c = search needs
@@ -79,26 +50,15 @@ loop-less c = search needs
 
 loop-again : tie.Need-loop-again Inv-loop μ-loop
 loop-again c =
-    let l = c .before .before .before .before .before .before .before .before .before .before .before .before .before .before .before .before .loop in
-    let f = list (c .before .before .before .before .before .before .before .before .before .before .before .before .before .before .before .before .before .before) in
-    let n = f .count in
-    let e : c .before .before .put-word3 .last .0 ≡ withWord (withWord (withWord (l .out) (3 * l .i) (getD (f .positions) (l .i) 0)) (3 * l .i + 1) (getD (f .slots) (l .i) 0)) (3 * l .i + 2) (getD (f .blocks) (l .i) 0) =
-    c .before .before .put-word3 .ensures
-    ∙ ap (λ (x : List ℕ). withWord x (3 * l .i + 2) (getD (f .blocks) (l .i) 0))
-    (c .before .before .before .before .before .before .before .put-word2 .ensures ∙ ap (λ (x : List ℕ). withWord x (3 * l .i + 1) (getD (f .slots) (l .i) 0)) (c .before .before .before .before .before .before .before .before .before .before .before .before .put-word .ensures)) in (
-      omega arith,
-      ap length e ∙ simp withWord-length (l .inv .1),
-      ap (λ (x : List ℕ). withWords x (3 * (l .i + 1)) (rows (l .i + 1) (n - (l .i + 1)) f)) e ∙ rows-more f (l .out) (l .i) (n - l .i) (n - (l .i + 1)) (omega arith) ∙ l .inv .2,
-    )
+    let w = c .before .before in
+    let l = w .before .before .before .before .before .before .before .loop in
+    entries-more _ _ _ _ _ (l .inv) (omega arith) _ (w .write-words .ensures)
 
 same-length : tie.Need-same-length Inv-loop μ-loop
 same-length c = search needs
 
 returns : tie.Need-returns Inv-loop μ-loop
-returns c =
-    let l = c .before .loop in
-    let f = list (c .before .before .before) in
-    rows-done f (l .out) (l .i) (f .count - l .i) (omega arith) ∙ l .inv .2
+returns c = entries-end _ _ _ _ _ (c .before .loop .inv) (omega arith)
 
 pub write-entries-spec : {M : Type 1} → statement M
 write-entries-spec =
@@ -107,20 +67,15 @@ write-entries-spec =
     Inv-loop
     μ-loop
     loop-holds
-    mul-put-word
-    mul-put-word-2
-    element-copy-out-put-word
-    put-word-requires
-    mul-put-word-3
-    add-put-word
-    mul-put-word-4
-    element-copy-out-put-word-2
-    put-word-requires-2
-    mul-put-word-5
-    add-put-word-2
-    mul-put-word-6
-    element-copy-out-put-word-3
-    put-word-requires-3
+    mul-position
+    element-copy-out-position
+    mul-slot
+    element-copy-out-slot
+    mul-block
+    element-copy-out-block
+    mul-write-words
+    slice-aggregate-write-words
+    write-words-requires
     add-i
     loop-less
     loop-again

@@ -2,7 +2,7 @@ use native.Mathlib.Omega.{arith}
 use Prim.Native.Nat.{_+_, _*_, _<_}
 use mathlib.Core.Path.{refl}
 use Rattle.words.specs.Words.{withWord}
-use Rattle.words.proofs.Laws.{entry-inside}
+use Rattle.words.specs.Laws.{words-length}
 use lib.ListN.{length, length-set}
 use borrow.Author.Needs.{needs}
 use Rattle.words.proofs.put_word.Statement.{statement}
@@ -10,7 +10,7 @@ use Rattle.words.proofs.put_word.Tie as tie
 
 -- the entry's bytes are inside
 inside : (c : tie.Start) → 4 * c .args .i + 3 < length (c .args .list .now)
-inside c = entry-inside _ _ (c .pre)
+inside c = omega (arith, words-length (c .args .list .now))
 
 mul-at : tie.Need-mul-at
 mul-at c = omega (arith, inside c)

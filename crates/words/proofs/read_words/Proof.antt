@@ -4,7 +4,7 @@ use Prim.Native.Nat.{_-_}
 use lib.ListN.{length}
 use Rattle.words.specs.Words.{wordsOf}
 use Rattle.words.specs.Laws.{words-length}
-use Rattle.words.proofs.Laws.{Reading, read-start, read-more, read-end}
+use Rattle.words.proofs.Loops.{Reading, read-start, read-more, read-end}
 use Rattle.words.proofs.read_words.Statement.{statement}
 use Rattle.words.proofs.read_words.Tie as tie
 

@@ -1,98 +1,19 @@
+use mathlib.Core.Path.{sym, _∙_}
 use native.Mathlib.Omega.{arith}
-use Prim.Native.Nat.{_+_, _*_, _<_}
-use Rattle.words.proofs.Laws.{entry-inside, entry-joined}
-use lib.ListN.{length}
-use borrow.Author.Needs.{needs}
+use Rattle.words.specs.Laws.{words-length, word-bytes}
 use Rattle.words.proofs.word_at.Statement.{statement}
 use Rattle.words.proofs.word_at.Tie as tie
 
--- the entry's bytes are inside
-inside : (c : tie.Start) → 4 * c .args .i + 3 < length (c .args .list .now)
-inside c = entry-inside _ _ (c .pre)
+mul-number-at : tie.Need-mul-number-at
+mul-number-at c = omega (arith, words-length (c .before .args .list .now))
 
-mul-at : tie.Need-mul-at
-mul-at c = omega (arith, inside (c .before))
-
-shared-slice-read-wide : tie.Need-shared-slice-read-wide
-shared-slice-read-wide c = omega (arith, inside (c .before .before))
-
-wide-requires : tie.Need-wide-requires
-wide-requires c κs = search needs
-
-add-wide : tie.Need-add-wide
-add-wide c = omega (arith, inside (c .before .before .before))
-
-shared-slice-read-wide-2 : tie.Need-shared-slice-read-wide-2
-shared-slice-read-wide-2 c = omega (arith, inside (c .before .before .before .before))
-
-wide-requires-2 : tie.Need-wide-requires-2
-wide-requires-2 c κs = search needs
-
-add-wide-2 : tie.Need-add-wide-2
-add-wide-2 c = omega (arith, inside (c .before .before .before .before .before))
-
-shared-slice-read-wide-3 : tie.Need-shared-slice-read-wide-3
-shared-slice-read-wide-3 c = omega (arith, inside (c .before .before .before .before .before .before))
-
-wide-requires-3 : tie.Need-wide-requires-3
-wide-requires-3 c κs = search needs
-
-add-wide-3 : tie.Need-add-wide-3
-add-wide-3 c = omega (arith, inside (c .before .before .before .before .before .before .before))
-
-shared-slice-read-wide-4 : tie.Need-shared-slice-read-wide-4
-shared-slice-read-wide-4 c = omega (arith, inside (c .before .before .before .before .before .before .before .before))
-
-wide-requires-4 : tie.Need-wide-requires-4
-wide-requires-4 c κs = search needs
-
-mul-result : tie.Need-mul-result
-mul-result c = search needs
-
-add-result : tie.Need-add-result
-add-result c = search needs
-
-mul-result-2 : tie.Need-mul-result-2
-mul-result-2 c = search needs
-
-add-result-2 : tie.Need-add-result-2
-add-result-2 c = search needs
-
-mul-result-3 : tie.Need-mul-result-3
-mul-result-3 c = search needs
-
-add-result-3 : tie.Need-add-result-3
-add-result-3 c = search needs
+number-at-requires : tie.Need-number-at-requires
+number-at-requires c κs = omega (arith, words-length (c .before .args .list .now))
 
 returns : tie.Need-returns
 returns c =
-    let s = c .before .before .before .before .before .before .before .before .before in
-    entry-joined (s .args .list .now) (s .args .i) _ _ _ _ (s .pre)
-    (c .before .before .before .before .before .before .wide .ensures .0)
-    (c .before .before .before .before .wide2 .ensures .0)
-    (c .before .before .wide3 .ensures .0)
-    (c .wide4 .ensures .0)
+    let a = c .before .before .args in
+    c .number-at .ensures ∙ sym (word-bytes (a .list .now) (a .i) (omega (arith, words-length (a .list .now))))
 
 pub word-at-spec : {M : Type 1} → statement M
-word-at-spec =
-    tie.close
-    (tie.spec
-    mul-at
-    shared-slice-read-wide
-    wide-requires
-    add-wide
-    shared-slice-read-wide-2
-    wide-requires-2
-    add-wide-2
-    shared-slice-read-wide-3
-    wide-requires-3
-    add-wide-3
-    shared-slice-read-wide-4
-    wide-requires-4
-    mul-result
-    add-result
-    mul-result-2
-    add-result-2
-    mul-result-3
-    add-result-3
-    returns)
+word-at-spec = tie.close (tie.spec mul-number-at number-at-requires returns)

@@ -3,7 +3,7 @@ use native.Mathlib.Omega.{arith}
 use Prim.Native.Nat.{_-_}
 use lib.ListN.{length}
 use Rattle.words.specs.Laws.{words-length}
-use Rattle.words.proofs.Laws.{Writing, write-start, write-room, write-long, write-more, write-end}
+use Rattle.words.proofs.Loops.{Writing, write-start, write-room, write-long, write-more, write-end}
 use Rattle.words.proofs.write_words.Statement.{statement}
 use Rattle.words.proofs.write_words.Tie as tie
 

@@ -1,6 +1,6 @@
--- The bytes of an entry, and a turn of the loops that read and write entries.
+-- A turn of the loops that read and write entries.
 -- Assumes nothing.
-use Prim.Native.Nat.{ℕ, _+_, _*_, _≤_, _<_}
+use Prim.Native.Nat.{ℕ, _+_, _≤_, _<_}
 use mathlib.Core.Path.{_≡_, _∙_, sym, ap, refl}
 use mathlib.Core.List.{List}
 use native.Mathlib.Omega.{arith}
@@ -8,17 +8,7 @@ use native.Mathlib.Numerals.{add-one}
 use lib.ListN.{length, getD, set, take, drop, length-set, length-drop}
 use lib.Seq.{take-all, take-suc, take-suc-set, getD-drop}
 use Rattle.words.specs.Words.{wordsOf, withWord, withWords}
-use Rattle.words.specs.Laws.{words-length, word-bytes, withWords-none, withWords-more, withWords-entries, withWords-length}
-
--- an entry's bytes are inside
-pub entry-inside : (s : List ℕ) (i : ℕ) → i < length (wordsOf s) → 4 * i + 3 < length s
-entry-inside s i h = omega (arith, words-length s)
-
--- an entry from its four bytes
-pub entry-joined : (s : List ℕ) (i a b c d : ℕ) → i < length (wordsOf s)
-    → a ≡ getD s (4 * i) 0 → b ≡ getD s (4 * i + 1) 0 → c ≡ getD s (4 * i + 2) 0 → d ≡ getD s (4 * i + 3) 0
-    → a + 256 * b + 65536 * c + 16777216 * d ≡ getD (wordsOf s) i 0
-entry-joined s i a b c d h p q r t = rw (p, q, r, t) (sym (word-bytes s i (omega (arith, words-length s))))
+use Rattle.words.specs.Laws.{withWords-none, withWords-more, withWords-entries, withWords-length}
 
 -- out is filled up to i with the numbers of ws from start on
 pub record Reading (ws : List ℕ) (start : ℕ) (out₀ out : List ℕ) (i : ℕ) : Type 0 where
