@@ -25,13 +25,13 @@ use Rattle.scheduler.specs.Answers.{begin-unsound, end-unsound}
 use Rattle.scheduler.specs.Ways.{begin-refused, begin-swept, HasEnded, end-turned-down, end-accepted}
 use Rattle.layout.specs.declared.FilmdiskAnswer.{FilmdiskAnswer}
 use Rattle.layout.specs.Answers.{verdictAnswer}
-use Rattle.layout.specs.Layout.{deskWords, deskIn, deskSize}
-use Rattle.layout.specs.Parts.{withKinds}
+use Rattle.layout.specs.Layout.{deskWords, deskIn, deskSize, withKinds}
 use Rattle.layout.specs.Entries.{rows, rows-of}
 use Rattle.layout.specs.RoundTrip.{DeskSized}
 use Rattle.card.specs.declared.Verdict.{Verdict}
 use Rattle.desk_strings.specs.Calls.{said, roomIn, begunAnswer, beginAnswer, beginString, fetchString, endAnswer, endString}
-use Rattle.desk_strings.specs.Laws.{FetchesFit, sweptAnswer, said-sized, right-answer}
+use Rattle.desk_strings.specs.Inner.{FetchesFit, sweptAnswer}
+use Rattle.desk_strings.specs.Laws.{said-sized, right-answer}
 use Rattle.desk_strings.proofs.Judged.{wide-of, slim-of, blank-sized, blank-unsound, Judges, Judged, judged-said, answered-by, judged-answer, refused-string, right-length, accepted-said, accepted-string}
 
 -- ---- begin, with the fetch string F

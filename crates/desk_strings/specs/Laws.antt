@@ -1,36 +1,20 @@
 -- A desk string D by its length: answered and written back, or refused and left.
 -- Assumes nothing.
-use Prim.Native.Nat.{ℕ, _*_, _≤_}
+use Prim.Native.Nat.{ℕ, _≤_}
 use mathlib.Core.Path.{_≡_}
 use mathlib.Core.List.{List}
 use native.Mathlib.Omega.{arith}
 use lib.ListN.{length}
 use borrow.Author.Tests.{eq-eqb, ne-eqb}
-use Rattle.numbers.specs.Limits.{maxStreams}
 use Rattle.numbers.specs.Refusals.{notSound}
 use Rattle.words.specs.Words.{wordsOf, withWords}
 use Rattle.words.specs.Laws.{words-length}
 use Rattle.desk.specs.declared.Desk.{Desk}
-use Rattle.desk.specs.Desk.{blankDesk}
 use Rattle.desk.specs.View.{Wide}
-use Rattle.sweep.specs.declared.Swept.{Swept}
 use Rattle.layout.specs.declared.FilmdiskAnswer.{FilmdiskAnswer}
 use Rattle.layout.specs.Layout.{deskWords, deskWordCount, deskSize}
 use Rattle.layout.specs.RoundTrip.{DeskSized, desk-sized}
 use Rattle.desk_strings.specs.Calls.{refusedBy, said, answerBy, stringBy}
-
--- what is read of it: the desk that it says, or one that is all zero, which is not sound
-pub record DeskRead (D : List ℕ) (d : Desk) : Type 0 where
-  pub right : length D ≡ deskSize → d ≡ said D
-  pub other : (length D ≡ deskSize → ⊥) → d ≡ blankDesk
-
--- the answer of a begin that was accepted, from what it changed
-abbrev pub sweptAnswer : Swept → FilmdiskAnswer
-sweptAnswer s = record { number = s .verdict .number; place = s .verdict .place; count = s .fetches .count; bound = s .bound }
-
--- so many fetches have room in a fetch string
-abbrev pub FetchesFit : ℕ → List ℕ → Type 0
-FetchesFit n F = (n ≤ maxStreams) × (3 * n ≤ length (wordsOf F))
 
 module _ (D : List ℕ) where
   module _ (l : length D ≡ deskSize) where

@@ -31,11 +31,10 @@ ghost use Prim.Native.Nat.{_≤_};
 ghost use lib.ListN.{length};
 ghost use Rattle.numbers.specs.Slots.{sweeping};
 ghost use Rattle.words.specs.Words.{wordsOf, withWords};
-ghost use Rattle.layout.specs.Layout.{deskWords, deskIn, deskSize};
-ghost use Rattle.layout.specs.Parts.{withKinds};
+ghost use Rattle.layout.specs.Layout.{deskWords, deskIn, deskSize, withKinds};
 ghost use Rattle.layout.specs.Entries.{rows};
 ghost use Rattle.desk_strings.specs.Calls.{openedFrom, openAnswer, openString, joinAnswer, joinString, leaveAnswer, leaveString, beginAnswer, beginString, fetchString, endAnswer, endString};
-ghost use Rattle.desk_strings.specs.Laws.{DeskRead, FetchesFit, sweptAnswer};
+ghost use Rattle.desk_strings.specs.Inner.{DeskRead, FetchesFit, sweptAnswer};
 
 // Opens what a plan string says; 14 where it has another length.
 fn open_plan(plan: &[u8], positions: &[u8], leads: &[u8]) -> Answer

@@ -8,9 +8,10 @@ use native.Mathlib.Omega.{arith}
 use lib.ListN.{length, getD, set, take, drop, length-append, length-take, length-drop, length-set}
 use lib.Seq.{drop-cons, drop-drop, take-add, take-at, drop-at, getD-drop}
 use Rattle.laws.specs.Each.{Each, each-at}
+use Rattle.laws.specs.Overwrite.{overwrite-front}
 use Rattle.words.specs.Words.{Bytes, Words, wordsOf, withWords}
-use Rattle.words.specs.Laws.{withWords-none, withWords-append, row-stored, withWords-bytes, withWords-entries, read-after, written-read}
-use Rattle.layout.specs.Fields.{Field, word, array, Value, width, wordsFor, valueAt, Values, wordCount, packed, unpacked, Sized, joined, Same, storeRun, stored}
+use Rattle.words.specs.Laws.{withWords-none, withWords-append, row-stored, withWords-bytes, withWords-entries, words-withWords, read-after, written-read}
+use Rattle.layout.specs.Fields.{Field, word, array, Value, width, wordsFor, valueAt, Values, wordCount, packed, unpacked, Sized, joined, Same}
 
 -- ---- packed and unpacked
 
@@ -66,6 +67,16 @@ same-values (e ∷ (f ∷ (g ∷ []))) (a, (a₁, (a₂, vs))) (b, (b₁, (b₂,
 same-values (e ∷ (f ∷ (g ∷ (h ∷ fs)))) (a, (a₁, (a₂, (a₃, vs)))) (b, (b₁, (b₂, (b₃, us)))) p =
     let others = same-values fs vs us (p .4) in λ i. (p .0 i, (p .1 i, (p .2 i, (p .3 i, others i))))
 
+abbrev pub storeRun : List ℕ → ℕ → List ℕ → List ℕ
+storeRun s k [] = s
+storeRun s k (v ∷ vs) = withWords s k (v ∷ vs)
+
+-- a string after the fields are written from word k on, numbers in a row by one store; `run` are those that wait for it
+abbrev pub stored : (fs : List Field) → ℕ → List ℕ → List ℕ → Values fs → List ℕ
+stored [] k s run vs = storeRun s k run
+stored (word ∷ fs) k s run (v, vs) = stored fs k s (run ++ (v ∷ [])) vs
+stored (array n ∷ fs) k s run (a, vs) = stored fs (k + length run + n) (withWords (storeRun s k run) (k + length run) a) [] vs
+
 run-stored : (s : List ℕ) (k : ℕ) (run : List ℕ) → storeRun s k run ≡ withWords s k run
 unfolding withWords
 run-stored s k [] = refl
@@ -79,6 +90,13 @@ fields-stored (array n ∷ fs) k s run (a, vs) z =
     fields-stored fs (k + length run + n) (withWords (storeRun s k run) (k + length run) a) [] vs (z .1)
     ∙ rw (run-stored s k run, ← (z .0))
     (sym (withWords-append t (k + length run) a (packed fs vs)) ∙ sym (withWords-append s k run (a ++ packed fs vs)))
+
+-- WHAT IS WRITTEN IS READ BACK
+pub fields-written : (fs : List Field) (s : List ℕ) (vs : Values fs) → Sized fs vs → Words (packed fs vs) → wordCount fs ≤ length (wordsOf s)
+    → unpacked fs 0 (wordsOf (withWords s 0 (packed fs vs))) ≡ vs
+fields-written fs s vs z y h =
+    unpacked-packed fs vs 0 _ (drop (length (packed fs vs)) (wordsOf s)) z
+    (words-withWords s 0 (packed fs vs) y (omega (arith, packed-length fs vs z)) ∙ overwrite-front (wordsOf s) (packed fs vs))
 
 -- ---- a part of the fields that is written alone
 

@@ -4,7 +4,6 @@ use Prim.Native.Nat.{ℕ, _+_}
 use mathlib.Core.Path.{_≡_}
 use mathlib.Core.List.{List, [], _∷_, _++_}
 use lib.ListN.{length, getD, take, drop}
-use Rattle.words.specs.Words.{withWords}
 
 pub data Field : Type 0 where
   word : Field
@@ -72,7 +71,7 @@ abbrev pub behind : (fs gs : List Field) → Values (fs ++ gs) → Values gs
 behind [] gs vs = vs
 behind (f ∷ fs) gs (v, vs) = behind fs gs vs
 
--- ---- how code reads and writes them, for its contracts
+-- ---- how code reads them, for its contracts
 
 -- the same values, said field by field; in fours, since the search that proves it of code goes five deep
 abbrev pub Same : (fs : List Field) → Values fs → Values fs → Type 0
@@ -81,13 +80,3 @@ Same (e ∷ []) (a, vs) (b, us) = a ≡ b
 Same (e ∷ (f ∷ [])) (a, (a₁, vs)) (b, (b₁, us)) = (a ≡ b) × (a₁ ≡ b₁)
 Same (e ∷ (f ∷ (g ∷ []))) (a, (a₁, (a₂, vs))) (b, (b₁, (b₂, us))) = (a ≡ b) × (a₁ ≡ b₁) × (a₂ ≡ b₂)
 Same (e ∷ (f ∷ (g ∷ (h ∷ fs)))) (a, (a₁, (a₂, (a₃, vs)))) (b, (b₁, (b₂, (b₃, us)))) = (a ≡ b) × (a₁ ≡ b₁) × (a₂ ≡ b₂) × (a₃ ≡ b₃) × Same fs vs us
-
-abbrev pub storeRun : List ℕ → ℕ → List ℕ → List ℕ
-storeRun s k [] = s
-storeRun s k (v ∷ vs) = withWords s k (v ∷ vs)
-
--- a string after the fields are written from word k on, numbers in a row by one store; `run` are those that wait for it
-abbrev pub stored : (fs : List Field) → ℕ → List ℕ → List ℕ → Values fs → List ℕ
-stored [] k s run vs = storeRun s k run
-stored (word ∷ fs) k s run (v, vs) = stored fs k s (run ++ (v ∷ [])) vs
-stored (array n ∷ fs) k s run (a, vs) = stored fs (k + length run + n) (withWords (storeRun s k run) (k + length run) a) [] vs

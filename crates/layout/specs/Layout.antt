@@ -111,6 +111,10 @@ deskWordCount = wordCount deskFields
 abbrev pub deskSize : ℕ
 deskSize = 4 * deskWordCount
 
+-- with another phase and other kinds
+abbrev pub withKinds : Desk → ℕ → List ℕ → Desk
+withKinds d x ks = record { plan = d .plan; phase = x; kinds = ks; next = d .next; held = d .held }
+
 -- ---- a string that is all zero
 
 unfoldable pub zeroBytes : ℕ → List ℕ

@@ -10,11 +10,10 @@ use lib.ListN.{length, getD, take, drop}
 use Rattle.numbers.specs.Limits.{maxStreams}
 use Rattle.words.specs.Words.{wordsOf, withWords}
 use Rattle.words.specs.Laws.{bytes-fit, words-length}
-use Rattle.desk.specs.declared.Desk.{Desk}
 use Rattle.desk.specs.Records.{withSlot}
-use Rattle.layout.specs.Fields.{Field, _&_, wordCount, stored}
-use Rattle.layout.specs.FieldLaws.{fields-stored, part-written, columnStored, column-written}
-use Rattle.layout.specs.Layout.{planFields, planWordCount, slotFields, deskWords, deskIn, deskSize}
+use Rattle.layout.specs.Fields.{Field, _&_, wordCount}
+use Rattle.layout.specs.FieldLaws.{stored, fields-stored, part-written, columnStored, column-written}
+use Rattle.layout.specs.Layout.{planFields, planWordCount, slotFields, deskWords, deskIn, deskSize, withKinds}
 
 -- ---- a slot: its kind, its next block and nothing held
 
@@ -28,10 +27,6 @@ unfolding deskWords deskIn withSlot
 slot-written s t i k x y h l e = e ∙ column-written untilKinds (drop 4 slotFields) (k ∷ (x ∷ (0 ∷ []))) maxStreams i s (bytes-fit s y) l (omega (arith, words-length s))
 
 -- ---- the phase and the kinds
-
--- a desk with another phase and other kinds
-abbrev pub withKinds : Desk → ℕ → List ℕ → Desk
-withKinds d x ks = record { plan = d .plan; phase = x; kinds = ks; next = d .next; held = d .held }
 
 abbrev pub kindFields : List Field
 kindFields = take 2 slotFields

@@ -5,18 +5,18 @@ use Prim.Native.Nat.{ℕ, zero, suc, _+_, _*_, _≤_}
 use mathlib.Core.Path.{_≡_, refl, sym, ap, _∙_}
 use mathlib.Core.List.{List, [], _++_, append-nil}
 use native.Mathlib.Omega.{arith}
-use lib.ListN.{length, drop, replicate, length-replicate, drop-of-length-le}
+use lib.ListN.{length, replicate, length-replicate, drop-of-length-le}
 use Rattle.numbers.specs.Limits.{maxZones, maxStreams}
 use Rattle.laws.specs.Overwrite.{overwrite, overwrite-front}
 use Rattle.words.specs.Words.{Bytes, Words, wordsOf, withWords, bytesOf}
-use Rattle.words.specs.Laws.{words-length, words-withWords, withWords-append, withWords-overwrite}
+use Rattle.words.specs.Laws.{words-length, withWords-append, withWords-overwrite}
 use Rattle.card.specs.Read.{blankZones, blankFigures}
 use Rattle.plan.specs.declared.Plan.{Plan}
 use Rattle.plan.specs.Plan.{blankPlan}
 use Rattle.desk.specs.declared.Desk.{Desk}
 use Rattle.desk.specs.Desk.{zeros, freshDesk, blankDesk}
-use Rattle.layout.specs.Fields.{Field, Values, unpacked, wordCount, packed, Sized, Same, stored}
-use Rattle.layout.specs.FieldLaws.{unpacked-sized, packed-length, unpacked-packed, same-values, fields-stored, fields-kept, packed-joined, AllFit, joined-fit}
+use Rattle.layout.specs.Fields.{unpacked, wordCount, packed, Sized, Same}
+use Rattle.layout.specs.FieldLaws.{unpacked-sized, packed-length, same-values, stored, fields-stored, fields-written, fields-kept, packed-joined, AllFit, joined-fit}
 use Rattle.layout.specs.Layout.{figureFields, figureValues, figuresOf, plannedFields, plannedValues, planWith, planFields, planValues, planOfValues, planWords, planIn, planWordCount, planSize, slotFields, slotValues, deskWith, deskFields, deskValues, deskOfValues, deskWords, deskIn, deskWordCount, deskSize, zeroBytes}
 
 -- ---- sizes
@@ -85,12 +85,6 @@ desk-stored d s t l z e =
     ∙ sym (ap (withWords s 0) (packed-joined planFields slotFields (planValues (d .plan)) (slotValues d)) ∙ withWords-append s 0 plan slots)
 
 -- ---- written and read
-
-module _ (fs : List Field) (s : List ℕ) (vs : Values fs) (z : Sized fs vs) (y : Words (packed fs vs)) (h : wordCount fs ≤ length (wordsOf s)) where
-  fields-written : unpacked fs 0 (wordsOf (withWords s 0 (packed fs vs))) ≡ vs
-  fields-written =
-      unpacked-packed fs vs 0 _ (drop (length (packed fs vs)) (wordsOf s)) z
-      (words-withWords s 0 (packed fs vs) y (omega (arith, packed-length fs vs z)) ∙ overwrite-front (wordsOf s) (packed fs vs))
 
 -- WHAT IS WRITTEN IS READ BACK
 pub plan-written : (s : List ℕ) (p : Plan) → PlanSized p → Words (planWords p) → planWordCount ≤ length (wordsOf s) → planIn (wordsOf (withWords s 0 (planWords p))) ≡ p

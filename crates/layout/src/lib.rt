@@ -22,9 +22,8 @@ ghost use Rattle.desk.specs.declared.Desk.{Desk};
 ghost use Rattle.desk.specs.Records.{withSlot};
 ghost use Rattle.numbers.specs.Limits.{maxStreams};
 ghost use Rattle.layout.specs.Fields.{wordCount, unpacked, Same};
-ghost use Rattle.layout.specs.Layout.{figureFields, figureValues, plannedFields, plannedValues, planWords, planIn, planWordCount, planSize, slotFields, slotValues, deskWords, deskIn, deskWordCount, deskSize};
+ghost use Rattle.layout.specs.Layout.{figureFields, figureValues, plannedFields, plannedValues, planWords, planIn, planWordCount, planSize, slotFields, slotValues, deskWords, deskIn, deskWordCount, deskSize, withKinds};
 ghost use Rattle.layout.specs.Entries.{rows, listOf};
-ghost use Rattle.layout.specs.Parts.{withKinds};
 ghost use Rattle.layout.specs.RoundTrip.{PlanSized, DeskSized};
 ghost use Rattle.layout.specs.Answers.{verdictAnswer};
 

@@ -2,7 +2,8 @@ use Prim.Native.Nat.{_-_}
 use native.Mathlib.Omega.{arith}
 use borrow.Author.Needs.{needs}
 use Rattle.words.specs.Laws.{words-length}
-use Rattle.layout.specs.Entries.{listOf, EntriesWritten, entries-start, entries-more, entries-end}
+use Rattle.layout.specs.Entries.{listOf}
+use Rattle.layout.proofs.EntryLoop.{EntriesWritten, entries-start, entries-more, entries-end}
 use Rattle.layout.proofs.write_entries.Statement.{statement}
 use Rattle.layout.proofs.write_entries.Tie as tie
 
