@@ -30,6 +30,9 @@ slot-in d w i = slot-at (supplyOf (d .plan)) (d .kinds) (d .next) (d .held) (sam
 pub kind-in : (d : Desk) → Wide d → (i : ℕ) → at (supplyOf (d .plan)) (slotsIn d) i .kind ≡ getD (d .kinds) i 0
 kind-in d w i = ap (λ (s : Slot ℕ). s .kind) (slot-in d w i)
 
+pub held-in : (d : Desk) → Wide d → (i : ℕ) → at (supplyOf (d .plan)) (slotsIn d) i .buffered ≡ getD (d .held) i 0
+held-in d w i = ap (λ (s : Slot ℕ). s .buffered) (slot-in d w i)
+
 pub with-own : (d : Desk) → Wide d → d ≡ withSlots d (slotsIn d)
 unfolding viewOf
 with-own d w = sym (desk-of-view d w)
