@@ -1,17 +1,20 @@
 // The answer to figures that were read or judged.
 use crate::film::plan_of;
-use crate::film::total_of;
 use block_lists::write_leads;
 use block_lists::write_positions;
 use card::CardRead;
-use card::Figures;
 use card::Verdict;
+use numbers::refusals::ACCEPTED;
+use numbers::refusals::NO_STREAM;
+use numbers::refusals::TOO_SHORT;
 use plan::Planned;
 use plan::blank_plan;
+use zones::sum_positions;
 ghost use mathlib.Core.Path.{_≡_};
+ghost use Prim.Native.Nat.{_<_};
+ghost use Rattle.numbers.specs.Refusals.{noStream};
 ghost use Rattle.card.specs.Card.{Legal};
 ghost use Rattle.plan.specs.Answer.{refusal, planned, positionsAfter, leadsAfter};
-ghost use Rattle.planner.specs.Fill.{Fills, Filled};
 
 // A refusal.
 fn refused(number: u32, place: usize) -> Planned
@@ -26,30 +29,14 @@ fn refused(number: u32, place: usize) -> Planned
     }
 }
 
-// Fills both lists where legal figures feed a stream; else these stay. `total` is P.
-fn fill_lists(
-    figures: Figures,
-    total: u32,
-    streams: u32,
-    worst2: u32,
-    positions: &mut [u8],
-    leads: &mut [u8],
-)
-    requires { ⌜ Fills figures total streams worst2 (now positions) (now leads) ⌝ }
-    ensures { λ _. ⌜ Filled figures (now (positions .entry)) (now (leads .entry)) (now (positions .exit)) (now (leads .exit)) ⌝ }
+// The number that a plan of so many streams answers: 12 where not even one fits.
+fn stream_fault(streams: u32) -> u32
+    ensures { λ r. ⌜ ((r ≡ 0 → ⊥) → (streams ≡ 0) × (r ≡ noStream)) × (r ≡ 0 → 0 < streams) ⌝ }
 {
     if streams == 0 {
-        return;
+        return NO_STREAM;
     }
-    write_positions(total, figures.blocks, positions);
-    write_leads(
-        &figures.positions,
-        &figures.times,
-        total,
-        figures.blocks,
-        worst2,
-        leads,
-    );
+    ACCEPTED
 }
 
 // Plans figures that were read or judged: their refusal, else 13, then 12.
@@ -60,32 +47,34 @@ pub fn plan_figures(read: CardRead, positions: &mut [u8], leads: &mut [u8]) -> P
         × (now (leads .exit) ≡ leadsAfter read (now (positions .entry)) (now (leads .entry))) ⌝ }
 {
     let verdict = read.verdict;
-    if verdict.number != 0 {
+    if verdict.number != ACCEPTED {
         return refused(verdict.number, verdict.place);
     }
     let blocks = read.figures.blocks as usize;
     if words::entries(positions) < blocks {
-        return refused(13, 0);
+        return refused(TOO_SHORT, 0);
     }
     if words::entries(leads) < blocks {
-        return refused(13, 0);
+        return refused(TOO_SHORT, 0);
     }
-    let total = total_of(read.figures);
-    let plan = plan_of(read.figures, total);
-    fill_lists(
-        read.figures,
+    let plan = plan_of(read.figures);
+    let number = stream_fault(plan.streams);
+    if number != ACCEPTED {
+        return refused(number, 0);
+    }
+    let total = sum_positions(&read.figures.positions, read.figures.zones);
+    write_positions(total, read.figures.blocks, positions);
+    write_leads(
+        &read.figures.positions,
+        &read.figures.times,
         total,
-        plan.streams,
+        read.figures.blocks,
         plan.worst2,
-        positions,
         leads,
     );
-    if plan.streams == 0 {
-        return refused(12, 0);
-    }
     Planned {
         verdict: Verdict {
-            number: 0,
+            number: number,
             place: 0,
         },
         plan: plan,

@@ -8,23 +8,16 @@ use zones::sum_positions;
 use zones::time_at;
 use zones::worst_time;
 ghost use mathlib.Core.Path.{_≡_};
-ghost use Rattle.card.specs.Card.{Legal, totalPositions};
+ghost use Rattle.card.specs.Card.{Legal};
 ghost use Rattle.plan.specs.Plan.{planOf};
 ghost use Rattle.plan.specs.Answer.{sameNumbers};
 
-// P of legal figures.
-pub fn total_of(figures: Figures) -> u32
+// The plan of legal figures. The film's innermost position is its slowest.
+pub fn plan_of(figures: Figures) -> Plan
     requires { ⌜ Legal figures ⌝ }
-    ensures { λ r. ⌜ r ≡ totalPositions figures ⌝ }
-{
-    sum_positions(&figures.positions, figures.zones)
-}
-
-// The plan of legal figures, `total` being P. The film's innermost position is its slowest.
-pub fn plan_of(figures: Figures, total: u32) -> Plan
-    requires { ⌜ (Legal figures) × (total ≡ totalPositions figures) ⌝ }
     ensures { λ r. ⌜ r ≡ planOf figures ⌝ }
 {
+    let total = sum_positions(&figures.positions, figures.zones);
     let worst2 = worst_time(&figures.positions, &figures.times, total, figures.blocks);
     let slowest = time_at(&figures.positions, &figures.times, total - figures.blocks);
     let margin = 2 * slowest - worst2;

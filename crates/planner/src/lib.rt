@@ -5,18 +5,18 @@ mod figures; // the answer to figures that were read or judged
 use crate::figures::plan_figures;
 use crate::film::plan_of;
 use crate::film::same_numbers;
-use crate::film::total_of;
 use block_lists::both;
 use block_lists::same_leads;
 use block_lists::same_positions;
 use card::CardRead;
 use card::Figures;
+use numbers::refusals::ACCEPTED;
 use plan::Plan;
 use plan::Planned;
+use zones::sum_positions;
 ghost use mathlib.Core.Path.{_≡_};
 ghost use Rattle.card.specs.Read.{readCard};
-ghost use Rattle.plan.specs.Answer.{planned, positionsAfter, leadsAfter, judged, hasNumbers, hasPositions, hasLeads, isPlan};
-ghost use Rattle.plan.specs.Check.{Numbered};
+ghost use Rattle.plan.specs.Answer.{planned, positionsAfter, leadsAfter, judged, hasNumbers, isPlan};
 
 // Plans a card: 1 to 11 as the reader gives them, then 13, then 12. A refusal leaves both lists.
 pub fn plan_card(card: &[u8], positions: &mut [u8], leads: &mut [u8]) -> Planned
@@ -46,35 +46,11 @@ pub fn has_numbers(plan: Plan) -> bool
     ensures { λ r. ⌜ r ≡ hasNumbers plan ⌝ }
 {
     let verdict = card::judge_figures(plan.figures);
-    if verdict.number != 0 {
+    if verdict.number != ACCEPTED {
         return false;
     }
-    let own = plan_of(plan.figures, total_of(plan.figures));
+    let own = plan_of(plan.figures);
     both(0 < own.streams, same_numbers(plan, own))
-}
-
-// Does the list begin with the film's N positions?
-pub fn has_positions(plan: Plan, positions: &[u8]) -> bool
-    requires { ⌜ Numbered plan ⌝ }
-    ensures { λ r. ⌜ r ≡ hasPositions plan (now (positions .entry)) ⌝ }
-{
-    same_positions(total_of(plan.figures), plan.figures.blocks, positions)
-}
-
-// Does the list begin with the film's N leads?
-pub fn has_leads(plan: Plan, leads: &[u8]) -> bool
-    requires { ⌜ Numbered plan ⌝ }
-    ensures { λ r. ⌜ r ≡ hasLeads plan (now (leads .entry)) ⌝ }
-{
-    let total = total_of(plan.figures);
-    same_leads(
-        &plan.figures.positions,
-        &plan.figures.times,
-        total,
-        plan.figures.blocks,
-        plan.worst2,
-        leads,
-    )
 }
 
 // Is this record the plan of its figures, and do both lists begin with its N entries?
@@ -84,5 +60,15 @@ pub fn is_plan(plan: Plan, positions: &[u8], leads: &[u8]) -> bool
     if !has_numbers(plan) {
         return false;
     }
-    both(has_positions(plan, positions), has_leads(plan, leads))
+    let total = sum_positions(&plan.figures.positions, plan.figures.zones);
+    let placed = same_positions(total, plan.figures.blocks, positions);
+    let led = same_leads(
+        &plan.figures.positions,
+        &plan.figures.times,
+        total,
+        plan.figures.blocks,
+        plan.worst2,
+        leads,
+    );
+    both(placed, led)
 }

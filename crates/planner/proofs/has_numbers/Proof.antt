@@ -1,8 +1,8 @@
+use Prim.Native.Nat.{ℕ}
 use mathlib.Core.Path.{_≡_, sym, ap, ap₂, _∙_}
 use mathlib.Core.Bool.{Bool, _&&_}
-use Prim.Native.Nat.{ℕ}
 use lib.Dec.{ltb}
-use Rattle.card.specs.Card.{Legal, recordFault}
+use Rattle.card.specs.Card.{recordFault}
 use Rattle.round_trip.specs.Legality.{Wide, fault-legal}
 use Rattle.plan.specs.declared.Plan.{Plan}
 use Rattle.plan.specs.Answer.{sameNumbers}
@@ -18,28 +18,21 @@ wide c = (search needs, search needs)
 clear : (c : tie.Else1) → recordFault (c .before .before .before .args .plan .figures) ≡ 0
 clear c = let j = c .before .before .judge-figures in sym (record-fault (c .before .before .before .args .plan .figures) (j .result) (j .ensures)) ∙ c .if1 .left
 
-legal : (c : tie.Else1) → Legal (c .before .before .before .args .plan .figures)
-legal c = let s = c .before .before .before in fault-legal (s .args .plan .figures) (wide s) (clear c)
-
 returns : tie.Need-returns
 returns c = let j = c .before .before .judge-figures in
     let p = c .before .before .before .args .plan in
     not-legal p (λ e. c .if1 .taken (record-fault (p .figures) (j .result) (j .ensures) ∙ e))
 
-total-of-requires : tie.Need-total-of-requires
-total-of-requires c κs = legal c
-
 plan-of-requires : tie.Need-plan-of-requires
-plan-of-requires c κs = (legal (c .before), c .total-of .ensures)
+plan-of-requires c κs = let s = c .before .before .before in fault-legal (s .args .plan .figures) (wide s) (clear c)
 
 returns-2 : tie.Need-returns-2
 returns-2 c = let o = c .before .before .before in
-    let e = o .before .before in
-    let p = e .before .before .before .args .plan in
+    let p = o .before .before .before .before .args .plan in
     let own = o .plan-of .ensures in
     c .both .ensures
     ∙ ap₂ (λ (n : ℕ) (t : Bool). ltb 0 n && t) (plan-streams (p .figures) (o .plan-of .result) own) (c .before .same-numbers .ensures ∙ ap (λ (q : Plan). sameNumbers p q) own)
-    ∙ numbers-decide p (clear e)
+    ∙ numbers-decide p (clear (o .before))
 
 pub has-numbers-spec : {M : Type 1} → statement M
 has-numbers-spec =
@@ -47,7 +40,6 @@ has-numbers-spec =
     (tie.spec
     (λ c κs. search needs)
     returns
-    total-of-requires
     plan-of-requires
     (λ c κs. search needs)
     (λ c κs. search needs)

@@ -1,36 +1,60 @@
+use Prim.Native.Nat.{ℕ}
 use mathlib.Core.Path.{_≡_, sym, ap₂, _∙_}
 use mathlib.Core.Bool.{true, false, _&&_}
+use mathlib.Core.List.{List}
 use borrow.Author.Tests.{not-true, not-false}
+use Rattle.words.specs.Words.{wordsOf}
+use Rattle.card.specs.Card.{totalPositions}
 use Rattle.round_trip.specs.Legality.{Wide}
-use Rattle.plan.specs.Answer.{hasNumbers, isPlan}
+use Rattle.plan.specs.Legal.{legal-zoned, total-zones}
+use Rattle.plan.specs.Answer.{begins, hasNumbers, hasPositions, hasLeads, isPlan}
 use Rattle.plan.specs.Check.{Numbered, numbered}
+use Rattle.plan.specs.Ways.{plan-worst2, film-on, positions-are, leads-are}
 use borrow.Author.Needs.{needs}
 use Rattle.planner.proofs.is_plan.Statement.{statement}
 use Rattle.planner.proofs.is_plan.Tie as tie
 
-wide : (c : tie.Start) → Wide (c .args .plan .figures)
-wide c = (search needs, search needs)
-
 abbrev start : (c : tie.Else1) → tie.Start
 start c = c .before .before .before .before
 
-passed : (c : tie.Else1) → hasNumbers (start c .args .plan) ≡ true
+wide : (c : tie.Start) → Wide (c .args .t1 .figures)
+wide c = (search needs, search needs)
+
+passed : (c : tie.Else1) → hasNumbers (start c .args .t1) ≡ true
 passed c = sym (c .before .has-numbers .ensures) ∙ not-false _ (c .if1 .left)
+
+has : (c : tie.Else1) → Numbered (start c .args .t1)
+has c = numbered (start c .args .t1) (wide (start c)) (passed c)
+
+abbrev first : (c : tie.After-sum-positions) → tie.Else1
+first c = c .before .before .before
+
+sum : (c : tie.After-sum-positions) → c .sum-positions .result ≡ totalPositions (start (first c) .args .t1 .figures)
+sum c = c .sum-positions .ensures ∙ total-zones (start (first c) .args .t1 .figures) (has (first c) .legal)
 
 returns : tie.Need-returns
 unfolding isPlan
-returns c = let e : hasNumbers (c .before .before .before .before .args .plan) ≡ false = sym (c .before .has-numbers .ensures) ∙ not-true _ (c .if1 .taken) in rw e
+returns c = let e : hasNumbers (c .before .before .before .before .args .t1) ≡ false = sym (c .before .has-numbers .ensures) ∙ not-true _ (c .if1 .taken) in rw e
 
-has-positions-requires : tie.Need-has-positions-requires
-has-positions-requires c κs = numbered _ (wide (start c)) (passed c)
+sum-positions-requires : tie.Need-sum-positions-requires
+sum-positions-requires c κs = let ok = has (c .before .before) .legal in (legal-zoned _ ok, ok .zones .1)
 
-has-leads-requires : tie.Need-has-leads-requires
-has-leads-requires c κs = numbered _ (wide (start (c .before))) (passed (c .before))
+same-positions-requires : tie.Need-same-positions-requires
+same-positions-requires c κs = let f = film-on _ (has (first c) .legal) _ (sum c) in (f .some, f .room)
+
+same-leads-requires : tie.Need-same-leads-requires
+same-leads-requires c κs = let t = c .before .before .before .before in film-on _ (has (first t) .legal) _ (sum t)
 
 returns-2 : tie.Need-returns-2
-unfolding isPlan
-returns-2 c = let q = c .before .before in
-    rw (passed (q .before)) (c .both .ensures ∙ ap₂ _&&_ (q .has-positions .ensures) (c .before .has-leads .ensures))
+unfolding isPlan hasPositions hasLeads
+returns-2 c = let q = c .before .before .before .before .before in
+    let t = q .before in
+    let a = start (first t) .args in
+    let n = has (first t) in
+    rw (passed (first t))
+    (c .both .ensures ∙ ap₂ _&&_ (q .same-positions .ensures) (c .before .same-leads .ensures)
+    ∙ ap₂ (λ (x y : List ℕ). begins x (wordsOf (a .positions .now)) && begins y (wordsOf (a .leads .now)))
+    (positions-are (a .t1 .figures) (n .legal) _ (sum t)) (leads-are (a .t1 .figures) (n .legal) _ (sum t) _ (plan-worst2 (a .t1 .figures) (a .t1) (n .plan))))
 
 pub is-plan-spec : {M : Type 1} → statement M
 is-plan-spec =
@@ -38,7 +62,8 @@ is-plan-spec =
     (tie.spec
     (λ c κs. search needs)
     returns
-    has-positions-requires
-    has-leads-requires
+    sum-positions-requires
+    same-positions-requires
+    same-leads-requires
     (λ c κs. search needs)
     returns-2)

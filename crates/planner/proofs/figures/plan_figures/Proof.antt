@@ -1,26 +1,27 @@
-use Prim.Native.Nat.{_≤_}
-use mathlib.Core.Path.{_≡_, sym, _∙_}
+use Prim.Native.Nat.{ℕ, _≤_}
+use mathlib.Core.Path.{_≡_, sym, ap, _∙_}
 use native.Mathlib.Omega.{arith}
 use lib.ListN.{length}
-use Rattle.card.specs.Card.{Legal}
-use Rattle.words.specs.Words.{wordsOf}
-use Rattle.plan.specs.Plan.{streamsOf}
-use Rattle.plan.specs.Ways.{by-figures, by-plan, by-none, short-positions, short-leads, no-stream, some-stream, plan-streams, plan-worst2}
+use Rattle.card.specs.Card.{Legal, totalPositions}
+use Rattle.words.specs.Words.{wordsOf, withWords}
+use Rattle.plan.specs.Legal.{legal-zoned, total-zones}
+use Rattle.plan.specs.Answer.{refusal}
+use Rattle.plan.specs.Ways.{by-figures, by-plan, by-none, short-positions, short-leads, no-stream, some-stream, plan-streams, plan-worst2, film-on, positions-are, leads-are}
 use borrow.Author.Needs.{needs}
 use Rattle.planner.proofs.figures.plan_figures.Statement.{statement}
 use Rattle.planner.proofs.figures.plan_figures.Tie as tie
 
 -- past the tests of both lengths
 abbrev start : (c : tie.Else3) → tie.Start
-start c = c .before .before .before .before .before .before .before .before .before .before .before .before
+start c = c .before .before .before .before .before .before .before .before .before .before .before
 
-accepted : (c : tie.Else3) → start c .args .read .verdict .number ≡ 0
-accepted c = c .before .before .before .before .before .before .before .if1 .left
+accepted : (c : tie.Else3) → start c .args .t1 .verdict .number ≡ 0
+accepted c = c .before .before .before .before .before .before .if1 .left
 
-legal : (c : tie.Else3) → Legal (start c .args .read .figures)
+legal : (c : tie.Else3) → Legal (start c .args .t1 .figures)
 legal c = start c .pre (accepted c)
 
-long : (c : tie.Else3) → (let a = start c .args in (a .read .figures .blocks ≤ length (wordsOf (a .positions .now))) × (a .read .figures .blocks ≤ length (wordsOf (a .leads .now))))
+long : (c : tie.Else3) → (let a = start c .args in (a .t1 .figures .blocks ≤ length (wordsOf (a .positions .now))) × (a .t1 .figures .blocks ≤ length (wordsOf (a .leads .now))))
 long c =
     let e = c .before .before .before .before .entries .ensures in
     let d = c .before .entries2 .ensures in
@@ -28,64 +29,71 @@ long c =
 
 returns : tie.Need-returns
 returns c = let a = c .before .before .before .before .before .before .args in
-    let o = by-figures (a .read) (a .positions .now) (a .leads .now) (c .before .if1 .taken) in
+    let o = by-figures (a .t1) (a .positions .now) (a .leads .now) (c .before .if1 .taken) in
     (c .refused .ensures ∙ o .0, o .1, o .2)
 
 returns-2 : tie.Need-returns-2
-returns-2 c = let f = c .before .before .before .before .before in
+returns-2 c = let f = c .before .before .before .before in
     let a = f .before .before .before .before .before .args in
     let e = c .before .before .entries .ensures in
-    let o = by-plan (a .read) (a .positions .now) (a .leads .now) 12 (f .if1 .left) (short-positions (a .read .figures) _ _ (omega (arith, c .before .if2 .taken))) in
+    let o = by-plan (a .t1) (a .positions .now) (a .leads .now) 12 (f .if1 .left) (short-positions (a .t1 .figures) _ _ (omega (arith, c .before .if2 .taken))) in
     (c .refused2 .ensures ∙ o .0, o .1, o .2)
 
 returns-3 : tie.Need-returns-3
-returns-3 c = let f = c .before .before .before .before .before .before .before .before in
+returns-3 c = let f = c .before .before .before .before .before .before .before in
     let a = f .before .before .before .before .before .args in
     let e = c .before .before .before .before .before .entries .ensures in
     let d = c .before .before .entries2 .ensures in
-    let o = by-plan (a .read) (a .positions .now) (a .leads .now) 12 (f .if1 .left) (short-leads (a .read .figures) _ _ (omega (arith, c .before .before .before .before .if2 .left)) (omega (arith, c .before .if3 .taken))) in
+    let o = by-plan (a .t1) (a .positions .now) (a .leads .now) 12 (f .if1 .left) (short-leads (a .t1 .figures) _ _ (omega (arith, c .before .before .before .before .if2 .left)) (omega (arith, c .before .if3 .taken))) in
     (c .refused3 .ensures ∙ o .0, o .1, o .2)
 
-total-of-requires : tie.Need-total-of-requires
-total-of-requires c κs = legal c
-
 plan-of-requires : tie.Need-plan-of-requires
-plan-of-requires c κs = (legal (c .before), c .total-of .ensures)
-
-fill-lists-requires : tie.Need-fill-lists-requires
-fill-lists-requires c κs = let p = c .before .before in
-    let e = p .before .before in
-    let f = start e .args .read .figures in
-    record {
-      legal = legal e;
-      total = p .before .total-of .ensures;
-      streams = plan-streams f (p .plan-of .result) (p .plan-of .ensures);
-      worst2 = plan-worst2 f (p .plan-of .result) (p .plan-of .ensures);
-      positions = long e .0;
-      leads = long e .1;
-    }
+plan-of-requires c κs = legal (c .before)
 
 returns-4 : tie.Need-returns-4
-returns-4 c = let l = c .before .before .before .before .before .before .before in
-    let p = l .before .before .before in
+returns-4 c = let n = c .before .before in
+    let p = n .before in
     let e = p .before .before in
     let a = start e .args in
-    let f = a .read .figures in
-    let z = sym (plan-streams f (p .plan-of .result) (p .plan-of .ensures)) ∙ c .before .if4 .taken in
-    let o = by-plan (a .read) (a .positions .now) (a .leads .now) 11 (accepted e) (no-stream f _ _ (long e .0) (long e .1) z) in
-    let k = l .fill-lists .ensures .none z in
-    (c .refused4 .ensures ∙ o .0, k .0 ∙ o .1, k .1 ∙ o .2)
+    let k = n .stream-fault .ensures .0 (c .before .if4 .taken) in
+    let o = by-plan (a .t1) (a .positions .now) (a .leads .now) 11 (accepted e) (no-stream (a .t1 .figures) _ _ (long e .0) (long e .1) (sym (plan-streams (a .t1 .figures) (p .plan-of .result) (p .plan-of .ensures)) ∙ k .0)) in
+    (c .refused4 .ensures ∙ ap (λ (j : ℕ). refusal j 0) (k .1) ∙ o .0, o .1, o .2)
+
+abbrev made : (c : tie.After-sum-positions) → tie.After-plan-of
+made c = c .before .before .before .before .before
+
+abbrev past : (c : tie.After-sum-positions) → tie.Else3
+past c = made c .before .before
+
+total : (c : tie.After-sum-positions) → c .sum-positions .result ≡ totalPositions (start (past c) .args .t1 .figures)
+total c = c .sum-positions .ensures ∙ total-zones _ (legal (past c))
+
+sum-positions-requires : tie.Need-sum-positions-requires
+sum-positions-requires c κs = let ok = legal (c .before .before .before .before .before .before) in (legal-zoned _ ok, ok .zones .1)
+
+write-positions-requires : tie.Need-write-positions-requires
+write-positions-requires c κs = let t = c .before in
+    let f = film-on _ (legal (past t)) _ (total t) in
+    (f .some, f .room, long (past t) .0)
+
+write-leads-requires : tie.Need-write-leads-requires
+write-leads-requires c κs = let t = c .before .before .before .before .before .before .before .before in (film-on _ (legal (past t)) _ (total t), long (past t) .1)
 
 returns-5 : tie.Need-returns-5
-returns-5 c = let l = c .before .before .before .before .before .before in
-    let p = l .before .before .before in
-    let e = p .before .before in
+returns-5 c = let w = c .before .before in
+    let q = w .before .before .before .before .before .before .before in
+    let t = q .before .before in
+    let p = made t .plan-of in
+    let e = past t in
     let a = start e .args in
-    let f = a .read .figures in
-    let n : streamsOf f ≡ 0 → ⊥ = λ z. c .if4 .left (plan-streams f (p .plan-of .result) (p .plan-of .ensures) ∙ z) in
-    let o = by-none (a .read) (a .positions .now) (a .leads .now) (accepted e) (some-stream f _ _ (long e .0) (long e .1) n) in
-    let k = l .fill-lists .ensures .some n in
-    ((λ i. record { verdict = record { number = 0; place = 0 }; plan = p .plan-of .ensures i }) ∙ o .0, k .0 ∙ o .1, k .1 ∙ o .2)
+    let f = a .t1 .figures in
+    let n = t .before .before .before .before .stream-fault in
+    let z = t .before .before .before .if4 .left in
+    let o = by-none (a .t1) (a .positions .now) (a .leads .now) (accepted e) (some-stream f _ _ (long e .0) (long e .1) (λ y. omega (arith, n .ensures .1 z, plan-streams f (p .result) (p .ensures)))) in (
+      (λ i. record { verdict = record { number = z i; place = 0 }; plan = p .ensures i }) ∙ o .0,
+      q .write-positions .ensures ∙ ap (withWords (a .positions .now) 0) (positions-are f (legal e) _ (total t)) ∙ o .1,
+      w .write-leads .ensures ∙ ap (withWords (a .leads .now) 0) (leads-are f (legal e) _ (total t) _ (plan-worst2 f (p .result) (p .ensures))) ∙ o .2,
+    )
 
 pub plan-figures-spec : {M : Type 1} → statement M
 plan-figures-spec =
@@ -103,13 +111,15 @@ plan-figures-spec =
     (λ c. search needs)
     (λ c. search needs)
     returns-3
-    total-of-requires
     plan-of-requires
-    fill-lists-requires
+    (λ c κs. search needs)
     (λ c κs. search needs)
     (λ c. search needs)
     (λ c. search needs)
     returns-4
+    sum-positions-requires
+    write-positions-requires
+    write-leads-requires
     (λ c. search needs)
     (λ c. search needs)
     returns-5)

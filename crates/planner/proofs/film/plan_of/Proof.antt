@@ -5,14 +5,17 @@ use Rattle.card.specs.declared.Figures.{Figures}
 use Rattle.card.specs.Card.{totalPositions}
 use Rattle.pacing.specs.Streams.{streams, bufferOf}
 use Rattle.plan.specs.Plan.{timeOn, overOf, worst2Of, marginOf, streamsOf, bufferSize, planOf}
-use Rattle.plan.specs.Legal.{total-is, legal-zoned, worst2-small, time-small, margin-is, margin-exact, margin-less, streams-few, buffer-small}
+use Rattle.plan.specs.Legal.{total-is, total-zones, legal-zoned, worst2-small, time-small, margin-is, margin-exact, margin-less, streams-few, buffer-small}
 use Rattle.plan.specs.Ways.{film-on, worst2-is}
 use borrow.Author.Needs.{needs}
 use Rattle.planner.proofs.film.plan_of.Statement.{statement}
 use Rattle.planner.proofs.film.plan_of.Tie as tie
 
+total : (c : tie.After-sum-positions) → c .sum-positions .result ≡ totalPositions (c .before .before .before .args .t1)
+total c = let s = c .before .before .before in c .sum-positions .ensures ∙ total-zones (s .args .t1) (s .pre)
+
 abbrev start : (c : tie.After-time-at) → tie.Start
-start c = c .before .before .before .before .before .before .before .before
+start c = c .before .before .before .before .before .before .before .before .before .before .before
 
 -- worst2 and the margin, as the two calls find them
 record Found (f : Figures) (w t : ℕ) : Type 0 where
@@ -25,9 +28,10 @@ found : (c : tie.After-time-at) → Found (start c .args .t1) (c .before .before
 found c =
     let s = start c in
     let f = s .args .t1 in
-    let ok = s .pre .0 in
-    let pair : c .before .before .before .before .worst-time .result ≡ worst2Of f = c .before .before .before .before .worst-time .ensures ∙ worst2-is f ok _ (s .pre .1) in
-    let time : c .time-at .result ≡ timeOn f (totalPositions f - f .blocks) = c .time-at .ensures ∙ ap (λ (P : ℕ). timeOn f (P - f .blocks)) (s .pre .1) in
+    let ok = s .pre in
+    let sum = total (c .before .before .before .before .before .before .before .before) in
+    let pair : c .before .before .before .before .worst-time .result ≡ worst2Of f = c .before .before .before .before .worst-time .ensures ∙ worst2-is f ok _ sum in
+    let time : c .time-at .result ≡ timeOn f (totalPositions f - f .blocks) = c .time-at .ensures ∙ ap (λ (P : ℕ). timeOn f (P - f .blocks)) sum in
     record {
       pair = pair;
       time = omega (arith, time-small f ok (totalPositions f - f .blocks) (omega (arith, ok .room, ok .blocks)));
@@ -43,13 +47,22 @@ buffer-are : (f : Figures) → bufferOf (f .rate) (streamsOf f) (marginOf f) (f 
 unfolding bufferSize
 buffer-are f = refl
 
+sum-positions-requires : tie.Need-sum-positions-requires
+sum-positions-requires c κs = let s = c .before .before in (legal-zoned (s .args .t1) (s .pre), s .pre .zones .1)
+
 worst-time-requires : tie.Need-worst-time-requires
-worst-time-requires c κs = let s = c .before .before .before in film-on (s .args .t1) (s .pre .0) _ (s .pre .1)
+worst-time-requires c κs = let t = c .before .before .before in
+    let s = t .before .before .before in
+    film-on (s .args .t1) (s .pre) _ (total t)
+
+sub-time-at : tie.Need-sub-time-at
+sub-time-at c = let t = c .before .before .before .before .before .before .before in omega (arith, total t, t .before .before .before .pre .room)
 
 time-at-requires : tie.Need-time-at-requires
-time-at-requires c κs = let s = c .before .before .before .before .before .before .before in
+time-at-requires c κs = let t = c .before .before .before .before .before .before .before in
+    let s = t .before .before .before in
     let f = s .args .t1 in
-    (legal-zoned f (s .pre .0), omega (arith, total-is f (s .pre .0), s .pre .0 .room, s .pre .0 .blocks, s .pre .1))
+    (legal-zoned f (s .pre), omega (arith, total-is f (s .pre), s .pre .room, s .pre .blocks, total t))
 
 mul-margin : tie.Need-mul-margin
 mul-margin c = omega (arith, found c .time)
@@ -59,16 +72,16 @@ sub-margin c = omega (arith, found c .exact)
 
 count-streams-requires : tie.Need-count-streams-requires
 count-streams-requires c κs = let s = start c in
-    record { pair = omega (arith, found c .pair, worst2-small (s .args .t1) (s .pre .0)); hops = s .pre .0 .hop .1; backs = s .pre .0 .back .1 }
+    record { pair = omega (arith, found c .pair, worst2-small (s .args .t1) (s .pre)); hops = s .pre .hop .1; backs = s .pre .back .1 }
 
 buffer-size-requires : tie.Need-buffer-size-requires
 buffer-size-requires c κs = let s = start (c .before) in
     let f = s .args .t1 in
     let w = found (c .before) in
     let n = c .count-streams .ensures ∙ streams-are (c .before) in (
-      omega (arith, streams-few f (s .pre .0)),
-      omega (arith, w .margin, margin-less f (s .pre .0), worst2-small f (s .pre .0)),
-      omega (arith, ap₂ (λ (n m : ℕ). bufferOf (f .rate) n m (f .bytes)) n (w .margin), buffer-are f, buffer-small f (s .pre .0), s .pre .0 .bytes .1),
+      omega (arith, streams-few f (s .pre)),
+      omega (arith, w .margin, margin-less f (s .pre), worst2-small f (s .pre)),
+      omega (arith, ap₂ (λ (n m : ℕ). bufferOf (f .rate) n m (f .bytes)) n (w .margin), buffer-are f, buffer-small f (s .pre), s .pre .bytes .1),
     )
 
 returns : tie.Need-returns
@@ -84,8 +97,9 @@ pub plan-of-spec : {M : Type 1} → statement M
 plan-of-spec =
     tie.close
     (tie.spec
+    sum-positions-requires
     worst-time-requires
-    (λ c. search needs)
+    sub-time-at
     time-at-requires
     mul-margin
     sub-margin
