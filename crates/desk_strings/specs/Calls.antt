@@ -16,7 +16,7 @@ use Rattle.layout.specs.Answers.{verdictAnswer}
 use Rattle.layout.specs.Layout.{planIn, planSize, deskWords, deskIn, deskSize}
 
 -- a refusal with no place
-unfoldable pub refusedBy : ℕ → FilmdiskAnswer
+abbrev pub refusedBy : ℕ → FilmdiskAnswer
 refusedBy k = verdictAnswer (verdict k 0)
 
 -- ---- open, with the plan string P

@@ -3,7 +3,6 @@ use admission::judge_join;
 use admission::judge_leave;
 use card::Verdict;
 use desk::Answer;
-use desk::Desk;
 use desk::answer_with;
 use desk::blank_desk;
 use layout::DESK_BYTES;
@@ -29,12 +28,13 @@ use sweep::end_sweep;
 ghost use mathlib.Core.Path.{_≡_};
 ghost use Prim.Native.Nat.{_≤_};
 ghost use lib.ListN.{length};
+ghost use Rattle.numbers.specs.Refusals.{notSound};
 ghost use Rattle.numbers.specs.Slots.{sweeping};
 ghost use Rattle.words.specs.Words.{wordsOf, withWords};
 ghost use Rattle.layout.specs.Layout.{deskWords, deskIn, deskSize, withKinds};
 ghost use Rattle.layout.specs.Entries.{rows};
-ghost use Rattle.desk_strings.specs.Calls.{openedFrom, openAnswer, openString, joinAnswer, joinString, leaveAnswer, leaveString, beginAnswer, beginString, fetchString, endAnswer, endString};
-ghost use Rattle.desk_strings.specs.Inner.{DeskRead, FetchesFit, sweptAnswer};
+ghost use Rattle.desk_strings.specs.Calls.{refusedBy, openedFrom, openAnswer, openString, joinAnswer, joinString, leaveAnswer, leaveString, beginAnswer, beginString, fetchString, endAnswer, endString};
+ghost use Rattle.desk_strings.specs.Inner.{FetchesFit, sweptAnswer};
 
 // Opens what a plan string says; 14 where it has another length.
 fn open_plan(plan: &[u8], positions: &[u8], leads: &[u8]) -> Answer
@@ -66,14 +66,14 @@ pub fn open(plan: &[u8], positions: &[u8], leads: &[u8], desk: &mut [u8]) -> Fil
     })
 }
 
-// The desk that a string says. One of another length says none: the desk that is all zero is not sound, and every call on it is 14.
-fn desk_in(desk: &[u8]) -> Desk
-    ensures { λ r. ⌜ DeskRead (now (desk .entry)) r ⌝ }
+// The answer where a desk string has another length: 14.
+fn not_sound() -> FilmdiskAnswer
+    ensures { λ r. ⌜ r ≡ refusedBy notSound ⌝ }
 {
-    if desk.len() != DESK_BYTES {
-        return blank_desk();
-    }
-    read_desk(desk)
+    verdict_answer(Verdict {
+        number: NOT_SOUND,
+        place: 0,
+    })
 }
 
 // A free slot becomes asked: 14 to 18. A refused call writes nothing, another its slot alone.
@@ -87,7 +87,10 @@ pub fn join(
     ensures { λ r. ⌜ (r ≡ joinAnswer (now (desk .entry)) (now (positions .entry)) (now (leads .entry)) slot block)
         × (now (desk .exit) ≡ joinString (now (desk .entry)) (now (positions .entry)) (now (leads .entry)) slot block) ⌝ }
 {
-    let judged = judge_join(desk_in(desk), positions, leads, slot, block);
+    if desk.len() != DESK_BYTES {
+        return not_sound();
+    }
+    let judged = judge_join(read_desk(desk), positions, leads, slot, block);
     if judged.number != ACCEPTED {
         return verdict_answer(judged);
     }
@@ -100,7 +103,10 @@ pub fn leave(desk: &mut [u8], positions: &[u8], leads: &[u8], slot: u32) -> Film
     ensures { λ r. ⌜ (r ≡ leaveAnswer (now (desk .entry)) (now (positions .entry)) (now (leads .entry)) slot)
         × (now (desk .exit) ≡ leaveString (now (desk .entry)) (now (positions .entry)) (now (leads .entry)) slot) ⌝ }
 {
-    let judged = judge_leave(desk_in(desk), positions, leads, slot);
+    if desk.len() != DESK_BYTES {
+        return not_sound();
+    }
+    let judged = judge_leave(read_desk(desk), positions, leads, slot);
     if judged.number != ACCEPTED {
         return verdict_answer(judged);
     }
@@ -139,8 +145,11 @@ pub fn begin(desk: &mut [u8], positions: &[u8], leads: &[u8], fetches: &mut [u8]
         × (now (desk .exit) ≡ beginString (now (desk .entry)) (now (positions .entry)) (now (leads .entry)) (now (fetches .entry)))
         × (now (fetches .exit) ≡ fetchString (now (desk .entry)) (now (positions .entry)) (now (leads .entry)) (now (fetches .entry))) ⌝ }
 {
+    if desk.len() != DESK_BYTES {
+        return not_sound();
+    }
     let room = words::entries(fetches) / 3;
-    let swept = judge_begin(desk_in(desk), positions, leads, room);
+    let swept = judge_begin(read_desk(desk), positions, leads, room);
     let judged = swept.verdict;
     if judged.number != ACCEPTED {
         return verdict_answer(judged);
@@ -153,7 +162,10 @@ pub fn end(desk: &mut [u8], positions: &[u8], leads: &[u8], draws: &[u8]) -> Fil
     ensures { λ r. ⌜ (r ≡ endAnswer (now (desk .entry)) (now (positions .entry)) (now (leads .entry)) (now (draws .entry)))
         × (now (desk .exit) ≡ endString (now (desk .entry)) (now (positions .entry)) (now (leads .entry)) (now (draws .entry))) ⌝ }
 {
-    let read = desk_in(desk);
+    if desk.len() != DESK_BYTES {
+        return not_sound();
+    }
+    let read = read_desk(desk);
     let judged = judge_end(read, positions, leads, draws);
     if judged.number != ACCEPTED {
         return verdict_answer(judged);
