@@ -3,4 +3,7 @@ pub mod Zones
 pub mod Tally
 pub mod Row
 pub mod Best
+pub mod Circle
+pub mod CircleBest
+pub mod CircleRow
 pub mod Quick

@@ -14,18 +14,18 @@ abbrev pub Balanced : ℕ → ℕ → ℕ → Type 0
 Balanced s f m = (s ≤ f) ⊎ ((s ≡ f + 1) × (m ≡ s + f))
 
 -- the same by its last block
-abbrev Row : Class → ℕ → ℕ → ℕ → Type 0
+abbrev pub Row : Class → ℕ → ℕ → ℕ → Type 0
 Row slow s f m = Balanced s f m
 Row fast s f m = (s < f) ⊎ ((s ≡ f) × (m ≡ s + f))
 Row other s f m = s ≤ f
 
-first : (x : Class) → Row x (bit (isSlow x) + 0) (bit (isFast x) + 0) 1
+pub first : (x : Class) → Row x (bit (isSlow x) + 0) (bit (isFast x) + 0) 1
 first slow = inr (omega arith)
 first fast = inl (omega arith)
 first other = omega arith
 
 -- one block more
-step : (x y : Class) (s f m : ℕ) → Row x s f m → Beside x y → Row y (bit (isSlow y) + s) (bit (isFast y) + f) (suc m)
+pub step : (x y : Class) (s f m : ℕ) → Row x s f m → Beside x y → Row y (bit (isSlow y) + s) (bit (isFast y) + f) (suc m)
 step slow slow s f m r o = absurd o
 step slow fast s f m (inl r) o = inl (omega arith)
 step slow fast s f m (inr r) o = inr (omega arith)
