@@ -17,25 +17,20 @@ test:
 # The listing of the bench film: reads its card from standard input.
 run:
 	@sh tests/tools rt
-	@mkdir -p target
-	@rt check listing >target/run.log 2>&1 || { cat target/run.log; exit 1; }
+	@sh tests/progress 'the listing' target/run.log rt check listing
 	@target/bin/listing <crates/listing/stdin
 
 # target/bin/listing and target/bin/mkcard, proved and tried
 programs:
 	@sh tests/tools rt
-	@mkdir -p target
-	@echo 'proving and building the programs; the first time takes minutes'
-	@rt check listing mkcard >target/programs.log 2>&1 || { cat target/programs.log; exit 1; }
+	@sh tests/progress 'the programs' target/programs.log rt check listing mkcard
 
 # target/staticlib/libfilmdisk.a, proved; made again where a crate has changed
 library: target/staticlib/libfilmdisk.a
 
 target/staticlib/libfilmdisk.a: crates.txt $(shell find crates -name must-fail -prune -o -type f -print)
 	@sh tests/tools rt
-	@mkdir -p target
-	@echo 'proving and building the library; the first time takes minutes'
-	@rt staticlib filmdisk >target/library.log 2>&1 || { cat target/library.log; exit 1; }
+	@sh tests/progress 'the library' target/library.log rt staticlib filmdisk
 
 build: programs library
 
@@ -74,7 +69,7 @@ fuzz: library
 	@sh tests/tools cc
 	@sh tests/fuzz/run target/staticlib target-tests/fuzz $(FUZZ_SECONDS)
 
-# The library against plain C and plain Rust, in one run; docs/BENCH.md tells how. Not part of the gate.
+# The library against plain C, in one run; docs/BENCH.md tells how. Not part of the gate.
 bench:
 	@sh bench/run
 

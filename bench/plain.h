@@ -1,4 +1,4 @@
-/* The interface of filmdisk.h under other prefixes: plain_ in plain C, rust_ in plain Rust. Yardsticks of the benchmark. */
+/* The interface of filmdisk.h under other prefixes; under plain_ it is there in plain C, the yardstick of the benchmark. */
 #ifndef PLAIN_H
 #define PLAIN_H
 
@@ -19,6 +19,5 @@
                                  const uint8_t *leads, size_t leads_len, const uint8_t *draws, size_t draws_len);
 
 DECLARE_TWIN(plain)
-DECLARE_TWIN(rust)
 
 #endif

@@ -1,10 +1,10 @@
-/* How much stack a call takes. */
+/* How much stack a job takes. */
 #ifndef STACK_H
 #define STACK_H
 
-#include "calls.h"
+#include <stddef.h>
 
-/* Bytes of stack below the caller's frame that the call writes, on a stack painted before it. */
-size_t stack_of(call *c, const struct twin *t, const struct input *in, struct strings *s);
+/* Bytes below the caller's frame that the job writes, on a stack painted before it. */
+size_t stack_of(void (*job)(void));
 
 #endif

@@ -1,23 +1,17 @@
 #include "twins.h"
 #include "plain.h"
 
-/* The copies' entry points, renamed at the build from filmdisk_, plain_ and rust_. */
+/* The copies' entry points, renamed at the build from filmdisk_ and plain_. */
 DECLARE_TWIN(library0)
 DECLARE_TWIN(library1)
 DECLARE_TWIN(library2)
 DECLARE_TWIN(plain0)
 DECLARE_TWIN(plain1)
 DECLARE_TWIN(plain2)
-DECLARE_TWIN(rust0)
-DECLARE_TWIN(rust1)
-DECLARE_TWIN(rust2)
 
 #define TWIN(prefix) { prefix##_plan, prefix##_open, prefix##_join, prefix##_leave, prefix##_begin, prefix##_end }
 
 const struct twin twins[TWINS][COPIES] = {
     { TWIN(library0), TWIN(library1), TWIN(library2) },
     { TWIN(plain0), TWIN(plain1), TWIN(plain2) },
-    { TWIN(rust0), TWIN(rust1), TWIN(rust2) },
 };
-
-const char *const twin_names[TWINS] = { "library", "C", "Rust" };

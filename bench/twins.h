@@ -1,10 +1,10 @@
-/* The three implementations of the interface that the benchmark runs side by side. */
+/* The two implementations of the interface that the benchmark runs side by side. */
 #ifndef TWINS_H
 #define TWINS_H
 
 #include "filmdisk.h"
 
-enum { LIBRARY, PLAIN_C, PLAIN_RUST, TWINS };
+enum { LIBRARY, PLAIN_C, TWINS };
 
 /*
  * Each implementation is linked three times: as it comes, 16 bytes further, and with each function at a multiple of 32. Where a
@@ -22,6 +22,5 @@ struct twin {
 };
 
 extern const struct twin twins[TWINS][COPIES];
-extern const char *const twin_names[TWINS];
 
 #endif

@@ -1,9 +1,19 @@
 /*
- * The film-disk planner and its sweep desk: link libfilmdisk.a.
+ * The film-disk planner and its sweep desk: link libfilmdisk.a. docs/GUIDE.md leads through the calls, docs/LAYOUT.md gives every byte.
  *
- * Plans, desks, lists and entries are byte strings, each lent as a pointer and a length; docs/LAYOUT.md gives every byte.
- * Words have 32 bits, lowest byte first. Strings lent to one call share no byte: that is the caller's duty, and nothing tests it.
- * NULL with length 0 is an empty string. The library keeps nothing between calls and takes no memory but the stack.
+ * Strings: plans, desks, lists and entries are byte strings, each lent as a pointer and a length. Words have 32 bits, lowest byte
+ * first. Strings lent to one call share no byte: that is the caller's duty, and nothing tests it. NULL with length 0 is an empty string.
+ *
+ * Refused calls leave all that they were lent as it was, but for two: a plan call that is refused by 1 to 12 fills a plan string of the
+ * right length with zeros, and an opening that is refused by 14 a desk string of the right length.
+ *
+ * Threads: the library has no globals and keeps nothing between calls, so calls on different strings may run at once. A string that is
+ * only read, such as the lists of several desks, may be lent to several calls at a time.
+ *
+ * Cost: each call on a desk judges its plan and both lists anew, so its time grows with N (docs/BENCH.md: about 2 microseconds at
+ * N 1,000, about 25 at N 16,384).
+ *
+ * Memory: the stack alone, for each call at most FILMDISK_STACK_ bytes below the caller's frame.
  */
 #ifndef FILMDISK_H
 #define FILMDISK_H
@@ -15,11 +25,10 @@
 extern "C" {
 #endif
 
-/* Sizes in bytes. */
-#define FILMDISK_PLAN_BYTES 552
-#define FILMDISK_DESK_BYTES 3628
-#define FILMDISK_ENTRY_BYTES 4  /* an entry of positions, leads or draws */
-#define FILMDISK_FETCH_BYTES 12 /* an entry of the fetch list */
+#define FILMDISK_VERSION "0.1.0"
+#define FILMDISK_VERSION_MAJOR 0
+#define FILMDISK_VERSION_MINOR 1
+#define FILMDISK_VERSION_PATCH 0
 
 /* Limits. */
 #define FILMDISK_MAX_CARD_BYTES 467
@@ -27,30 +36,49 @@ extern "C" {
 #define FILMDISK_MAX_BLOCKS 16384
 #define FILMDISK_MAX_STREAMS 256
 
-/* The words of a plan. A desk begins with its plan. */
-#define FILMDISK_PLAN_ZONES 0
-#define FILMDISK_PLAN_POSITIONS 1 /* 64 words */
-#define FILMDISK_PLAN_TIMES 65    /* 64 words */
-#define FILMDISK_PLAN_BLOCKS 129
-#define FILMDISK_PLAN_BLOCK_BYTES 130
-#define FILMDISK_PLAN_RATE 131
-#define FILMDISK_PLAN_HOP 132
-#define FILMDISK_PLAN_RETURN 133
-#define FILMDISK_PLAN_STREAMS 134
-#define FILMDISK_PLAN_BUFFER 135
-#define FILMDISK_PLAN_WORST2 136
-#define FILMDISK_PLAN_MARGIN 137
+/* The words of a plan, one after the other. */
+enum filmdisk_plan_word {
+    FILMDISK_PLAN_ZONES,
+    FILMDISK_PLAN_POSITIONS, /* a word for each zone */
+    FILMDISK_PLAN_TIMES = FILMDISK_PLAN_POSITIONS + FILMDISK_MAX_ZONES, /* a word for each zone */
+    FILMDISK_PLAN_BLOCKS = FILMDISK_PLAN_TIMES + FILMDISK_MAX_ZONES,
+    FILMDISK_PLAN_BLOCK_BYTES,
+    FILMDISK_PLAN_RATE,
+    FILMDISK_PLAN_HOP,
+    FILMDISK_PLAN_RETURN,
+    FILMDISK_PLAN_STREAMS,
+    FILMDISK_PLAN_BUFFER,
+    FILMDISK_PLAN_WORST2,
+    FILMDISK_PLAN_MARGIN,
+    FILMDISK_PLAN_WORDS /* how many there are */
+};
 
-/* The words of a desk after its plan. */
-#define FILMDISK_DESK_PHASE 138
-#define FILMDISK_DESK_KINDS 139 /* 256 words */
-#define FILMDISK_DESK_NEXT 395  /* 256 words */
-#define FILMDISK_DESK_HELD 651  /* 256 words */
+/* The words of a desk, which begins with its plan. */
+enum filmdisk_desk_word {
+    FILMDISK_DESK_PHASE = FILMDISK_PLAN_WORDS,
+    FILMDISK_DESK_KINDS, /* a word for each slot */
+    FILMDISK_DESK_NEXT = FILMDISK_DESK_KINDS + FILMDISK_MAX_STREAMS, /* a word for each slot */
+    FILMDISK_DESK_HELD = FILMDISK_DESK_NEXT + FILMDISK_MAX_STREAMS, /* a word for each slot */
+    FILMDISK_DESK_WORDS = FILMDISK_DESK_HELD + FILMDISK_MAX_STREAMS
+};
 
 /* The words of a fetch entry. */
-#define FILMDISK_FETCH_POSITION 0
-#define FILMDISK_FETCH_SLOT 1
-#define FILMDISK_FETCH_BLOCK 2
+enum filmdisk_fetch_word { FILMDISK_FETCH_POSITION, FILMDISK_FETCH_SLOT, FILMDISK_FETCH_BLOCK, FILMDISK_FETCH_WORDS };
+
+/* Sizes in bytes. */
+#define FILMDISK_WORD_BYTES 4
+#define FILMDISK_PLAN_BYTES (FILMDISK_PLAN_WORDS * FILMDISK_WORD_BYTES)   /* 552 */
+#define FILMDISK_DESK_BYTES (FILMDISK_DESK_WORDS * FILMDISK_WORD_BYTES)   /* 3,628 */
+#define FILMDISK_ENTRY_BYTES FILMDISK_WORD_BYTES                          /* an entry of positions, leads or draws */
+#define FILMDISK_FETCH_BYTES (FILMDISK_FETCH_WORDS * FILMDISK_WORD_BYTES) /* an entry of the fetch list */
+
+/* Stack in bytes that a call takes below the caller's frame, at most. */
+#define FILMDISK_STACK_PLAN 3200
+#define FILMDISK_STACK_OPEN 7900
+#define FILMDISK_STACK_JOIN 8500
+#define FILMDISK_STACK_LEAVE 8500
+#define FILMDISK_STACK_BEGIN 24100
+#define FILMDISK_STACK_END 15900
 
 /* The kind of a slot. */
 enum filmdisk_kind {
@@ -61,30 +89,33 @@ enum filmdisk_kind {
     FILMDISK_TAIL = 4
 };
 
+/* The phase of a desk. */
+enum filmdisk_phase { FILMDISK_BETWEEN = 0, FILMDISK_SWEEPING = 1 };
+
 /* Why a call is refused; `place` is 0 where nothing is said of it. */
 enum filmdisk_number {
     FILMDISK_ACCEPTED = 0,
-    FILMDISK_CARD_ENDS = 1,         /* place: card length */
-    FILMDISK_NUMBER_FORM = 2,       /* 2 to 10, place: offset of the number in the card */
-    FILMDISK_KIND = 3,
-    FILMDISK_ZONES = 4,
-    FILMDISK_ZONE_POSITIONS = 5,
-    FILMDISK_ZONE_TIME = 6,
-    FILMDISK_ZONE_TIME_RISES = 7,
-    FILMDISK_BLOCKS = 8,
-    FILMDISK_BLOCKS_ABOVE_POSITIONS = 9,
-    FILMDISK_MEASURE = 10,
-    FILMDISK_CARD_GOES_ON = 11,     /* place: first extra offset */
-    FILMDISK_NO_STREAM = 12,
-    FILMDISK_TOO_SHORT = 13,
-    FILMDISK_NOT_SOUND = 14,
-    FILMDISK_WRONG_PHASE = 15,
-    FILMDISK_NO_SUCH_SLOT = 16,     /* 16 to 18, place: slot */
-    FILMDISK_SLOT_STATE = 17,
-    FILMDISK_NO_SUCH_BLOCK = 18,
-    FILMDISK_DRAW_COUNT = 19,
-    FILMDISK_DRAW_ABOVE_LIMIT = 20, /* 20 and 21, place: lowest such slot */
-    FILMDISK_DRAW_ABOVE_HELD = 21
+    FILMDISK_REFUSED_CARD_ENDS = 1,         /* place: card length */
+    FILMDISK_REFUSED_NUMBER_FORM = 2,       /* 2 to 10, place: offset of the number in the card */
+    FILMDISK_REFUSED_KIND = 3,
+    FILMDISK_REFUSED_ZONES = 4,
+    FILMDISK_REFUSED_ZONE_POSITIONS = 5,
+    FILMDISK_REFUSED_ZONE_TIME = 6,
+    FILMDISK_REFUSED_ZONE_TIME_RISES = 7,
+    FILMDISK_REFUSED_BLOCKS = 8,
+    FILMDISK_REFUSED_BLOCKS_ABOVE_POSITIONS = 9,
+    FILMDISK_REFUSED_MEASURE = 10,
+    FILMDISK_REFUSED_CARD_GOES_ON = 11,     /* place: first extra offset */
+    FILMDISK_REFUSED_NO_STREAM = 12,
+    FILMDISK_REFUSED_TOO_SHORT = 13,
+    FILMDISK_REFUSED_NOT_SOUND = 14,
+    FILMDISK_REFUSED_WRONG_PHASE = 15,
+    FILMDISK_REFUSED_NO_SUCH_SLOT = 16,     /* 16 to 18, place: slot */
+    FILMDISK_REFUSED_SLOT_STATE = 17,
+    FILMDISK_REFUSED_NO_SUCH_BLOCK = 18,
+    FILMDISK_REFUSED_DRAW_COUNT = 19,
+    FILMDISK_REFUSED_DRAW_ABOVE_LIMIT = 20, /* 20 and 21, place: lowest such slot */
+    FILMDISK_REFUSED_DRAW_ABOVE_HELD = 21
 };
 
 /* The answer of every call. Refused: number and place, the rest 0. Accepted: number and place 0. */
@@ -112,8 +143,8 @@ static inline const char *filmdisk_meaning(uint32_t number)
         "block bytes, rate, hop or return out of range",
         "bytes left over",
         "not even one stream fits",
-        "lent list too short, or plan or desk string of another length",
-        "record not sound",
+        "lent list too short, or a plan or desk string of another length where it is only written",
+        "record not sound with these lists, or a plan or desk string of another length where it is read",
         "wrong phase",
         "no such slot",
         "join on an occupied, leave on a free slot",
@@ -128,18 +159,63 @@ static inline const char *filmdisk_meaning(uint32_t number)
 /* The word `index` of a string. */
 static inline uint32_t filmdisk_word(const uint8_t *bytes, size_t index)
 {
-    const uint8_t *b = bytes + 4 * index;
+    const uint8_t *b = bytes + FILMDISK_WORD_BYTES * index;
     return (uint32_t)b[0] | (uint32_t)b[1] << 8 | (uint32_t)b[2] << 16 | (uint32_t)b[3] << 24;
 }
 
 /* Writes the word `index` of a string. */
 static inline void filmdisk_put_word(uint8_t *bytes, size_t index, uint32_t word)
 {
-    uint8_t *b = bytes + 4 * index;
+    uint8_t *b = bytes + FILMDISK_WORD_BYTES * index;
     b[0] = (uint8_t)word;
     b[1] = (uint8_t)(word >> 8);
     b[2] = (uint8_t)(word >> 16);
     b[3] = (uint8_t)(word >> 24);
+}
+
+/* The kind of a slot below FILMDISK_MAX_STREAMS, by a desk. */
+static inline uint32_t filmdisk_slot_kind(const uint8_t *desk, uint32_t slot)
+{
+    return filmdisk_word(desk, (size_t)FILMDISK_DESK_KINDS + slot);
+}
+
+/* The block that the slot gets next. */
+static inline uint32_t filmdisk_slot_next(const uint8_t *desk, uint32_t slot)
+{
+    return filmdisk_word(desk, (size_t)FILMDISK_DESK_NEXT + slot);
+}
+
+/* The bytes that the slot holds. */
+static inline uint32_t filmdisk_slot_held(const uint8_t *desk, uint32_t slot)
+{
+    return filmdisk_word(desk, (size_t)FILMDISK_DESK_HELD + slot);
+}
+
+/* The most bytes that a slot may draw in a sweep of this bound, by the desk that the begin left: above it the end answers 20. */
+static inline uint64_t filmdisk_draw_limit(const uint8_t *desk, uint32_t slot, uint32_t bound)
+{
+    const uint32_t kind = filmdisk_slot_kind(desk, slot);
+    if (kind != FILMDISK_PLAYING && kind != FILMDISK_TAIL)
+        return 0;
+    return (uint64_t)filmdisk_word(desk, FILMDISK_PLAN_RATE) * bound / 1000000;
+}
+
+/* An entry of the fetch list: read the block at this position into the slot's buffer. */
+typedef struct filmdisk_fetch {
+    uint32_t position;
+    uint32_t slot;
+    uint32_t block;
+} filmdisk_fetch;
+
+/* The entry `index` of a fetch list. */
+static inline filmdisk_fetch filmdisk_fetch_at(const uint8_t *fetches, size_t index)
+{
+    const uint8_t *entry = fetches + FILMDISK_FETCH_BYTES * index;
+    filmdisk_fetch fetch;
+    fetch.position = filmdisk_word(entry, FILMDISK_FETCH_POSITION);
+    fetch.slot = filmdisk_word(entry, FILMDISK_FETCH_SLOT);
+    fetch.block = filmdisk_word(entry, FILMDISK_FETCH_BLOCK);
+    return fetch;
 }
 
 /* Plans a card: writes the plan and the first N entries of both lists. Refusals 1 to 11, then 13, then 12. */

@@ -3,17 +3,17 @@
 #include "pictures.h"
 #include "svg.h"
 
-enum { WIDTH = 1000, HEIGHT = 920, LABELS = 135, LEFT_BARS = 150, RIGHT_BARS = 580, BAR_ROOM = 250, FIRST_ROW = 100, ROW = 198 };
+enum { WIDTH = 1000, HEIGHT = 952, LABELS = 135, LEFT_BARS = 150, RIGHT_BARS = 580, BAR_ROOM = 250, FIRST_ROW = 100, ROW = 198 };
 enum { SLOWEST, PLAIN, LIBRARY, WAYS };
 
 static const char *const way_names[WAYS] = {"slowest zone", "plain order", "this planner"};
 static const char *const way_colours[WAYS] = {"#b9b9b9", "#8fb3d1", "#1f6f8b"};
 
-/* One side of a row: a bar for each way. `printed` is the papers' figure for a way, or 0. */
+/* One side of a row: a bar for each way. `published` is the papers' figure for a way, or 0. */
 struct bars {
     const char *head;
     double values[WAYS];
-    double printed[WAYS];
+    double published[WAYS];
     int decimals;
 };
 
@@ -32,12 +32,9 @@ static void draw_bar(FILE *out, const struct bars *bars, int way, double x, doub
             most = bars->values[other];
     double width = BAR_ROOM * bars->values[way] / most;
     svg_rect(out, x, y, width, 20, "bar", way_colours[way]);
-    if (bars->decimals)
-        svg_text(out, x + width + 14, y + 15, "head", "%.2f", bars->values[way]);
-    else
-        svg_text(out, x + width + 14, y + 15, "head", "%s", svg_thousands((uint64_t)bars->values[way]));
-    if (bars->printed[way] > 0) {
-        double at = x + BAR_ROOM * bars->printed[way] / most;
+    svg_text(out, x + width + 14, y + 15, "head", "%.*f", bars->decimals, bars->values[way]);
+    if (bars->published[way] > 0) {
+        double at = x + BAR_ROOM * bars->published[way] / most;
         fprintf(out, "<path class=\"printed\" d=\"M%.1f %.1fl6 6l-6 6l-6 -6z\"/>\n", at, y + 4);
     }
 }
@@ -90,12 +87,12 @@ static struct row card_row(const struct card *card, const char *head, const char
         .note = note,
         .below = {"", ""},
         .left = {.head = "streams (rooms that may be fed)"},
-        .right = {.head = "buffer of a stream, bytes"}
+        .right = {.head = "buffer of a stream, MB", .decimals = 2}
     };
     for (int way = 0; way < WAYS; way++) {
         promises[way] = promise_by(way, card);
         row.left.values[way] = promises[way].streams;
-        row.right.values[way] = promises[way].buffer;
+        row.right.values[way] = promises[way].buffer / 1e6;
     }
     return row;
 }
@@ -104,7 +101,7 @@ static void draw_bench(FILE *out)
 {
     struct promise promises[WAYS];
     struct row row = card_row(&bench_card, "Six zones: the bench film",
-                              "blocks of 262,144 bytes, films of 500,000 bytes a second, the block times of 001's example 1", promises);
+                              "blocks of 0.26 MB, films of 0.5 MB a second, the block times of 001's example 1", promises);
     row.below[0] = gain_of(promises);
     must(promises[SLOWEST].streams == 14 && promises[LIBRARY].streams == 16, "the scope's 14 and 16 streams of the bench film");
     draw_row(out, &row, 0);
@@ -114,7 +111,7 @@ static void draw_barracuda(FILE *out)
 {
     struct promise promises[WAYS];
     struct row row = card_row(&barracuda_card, "Seven zones: Seagate Barracuda 9, the whole disk",
-                              "blocks of 1 MiB, films of 4 Mbit/s; rates of the zones from 001, Table 6.1", promises);
+                              "blocks of 1.05 MB, films of 4 Mbit/s; rates of the zones from 001, Table 6.1", promises);
     row.below[0] = gain_of(promises);
     row.below[1] = "001, Table 6.2, ends at 13 users by the slowest zone (TB) and at 16 with this laying (DA2); "
                    "other block sizes and rates, not recomputed.";
@@ -128,8 +125,8 @@ static void draw_example(FILE *out)
         .note = "six zones of 60 to 85 Mbit/s, films of 4 Mbit/s; kB of 1,024 bytes as in 001",
         .below = {"Published in 001 for the slowest zone: block 280.19 kB, buffer 840.57 kB. The rest is rounding: times here are whole microseconds.",
                   "001 itself comes to 171 kB and 535.23 kB by looking over longer runs than two blocks: not recomputed."},
-        .left = {.head = "least block for 12 streams, kB", .printed = {280.19, 0, 0}, .decimals = 1},
-        .right = {.head = "buffer of a stream, kB", .printed = {840.57, 0, 0}, .decimals = 1}
+        .left = {.head = "least block for 12 streams, kB", .published = {280.19, 0, 0}, .decimals = 2},
+        .right = {.head = "buffer of a stream, kB", .published = {840.57, 0, 0}, .decimals = 2}
     };
     for (int way = 0; way < WAYS; way++) {
         struct card card = example_card(150000);
@@ -147,13 +144,13 @@ static void draw_deskstar(FILE *out)
     const struct card *card = &deskstar_card;
     struct promise promises[WAYS];
     struct row row = card_row(card, "One zone: IBM Deskstar 120GXP of 003",
-                              "35 MB/s, films of 1.5 Mbit/s, blocks of 1,829,000 bytes. Without zones the three plans are one.", promises);
+                              "35 MB/s, films of 1.5 Mbit/s, blocks of 1.83 MB. Without zones the three plans are one.", promises);
     uint32_t sweep = promises[LIBRARY].streams * (card->times[0] + card->hop) + card->back;
     snprintf(published, sizeof published, "Published in 003: 150 sessions in a cycle of about 9.8 s. Here the longest sweep takes %.2f s.", sweep / 1e6);
     row.below[0] = published;
     row.below[1] = "003 gives a session two buffers of a cycle each; this desk gives it three blocks, as 001 does.";
     for (int way = 0; way < WAYS; way++)
-        row.left.printed[way] = 150;
+        row.left.published[way] = 150;
     draw_row(out, &row, 3);
 }
 
@@ -170,6 +167,8 @@ void draw_compare(FILE *out)
     draw_barracuda(out);
     draw_example(out);
     draw_deskstar(out);
-    svg_text(out, 20, HEIGHT - 16, "note", "This planner: filmdisk_plan. The other two: the same formulas over their own block times. 001, 003: sources of the scope.");
+    svg_text(out, 20, HEIGHT - 48, "note", "This planner: filmdisk_plan. The other two: the same formulas over their own block times. MB: a million bytes.");
+    svg_text(out, 20, HEIGHT - 32, "note", "001: W.P.A.J. Michiels, Block Placement on Multi-Zone Disks, master's thesis, 1999.");
+    svg_text(out, 20, HEIGHT - 16, "note", "003: I. Shin, K. Koh and Y. Won, Practical Issues Related to Disk Scheduling for Video-On-Demand Services.");
     svg_close(out);
 }

@@ -34,17 +34,17 @@ static uint8_t desk[FILMDISK_DESK_BYTES];
 
 static uint32_t kind_of(int room)
 {
-    return filmdisk_word(desk, FILMDISK_DESK_KINDS + (size_t)room);
+    return filmdisk_slot_kind(desk, (uint32_t)room);
 }
 
 static uint32_t held_of(int room)
 {
-    return filmdisk_word(desk, FILMDISK_DESK_HELD + (size_t)room);
+    return filmdisk_slot_held(desk, (uint32_t)room);
 }
 
 static uint64_t lead_of(const struct desk_run *run, int room)
 {
-    return filmdisk_word(run->film.leads, filmdisk_word(desk, FILMDISK_DESK_NEXT + (size_t)room));
+    return filmdisk_word(run->film.leads, filmdisk_slot_next(desk, (uint32_t)room));
 }
 
 static void note(struct desk_run *run, int room, enum happening what)
@@ -139,10 +139,8 @@ static void sweep(struct desk_run *run)
     note_changes(run, before);
     const struct sample *sample = take_sample(run);
     note_delay(run, sample);
-    uint64_t limit = (uint64_t)run->film.card.rate * begun.bound / 1000000;
     for (int room = 0; room < ROOMS; room++) {
-        int draws_now = sample->kinds[room] == FILMDISK_PLAYING || sample->kinds[room] == FILMDISK_TAIL;
-        uint64_t draw = draws_now ? limit * draw_share(room, run->time) / 100 : 0;
+        uint64_t draw = filmdisk_draw_limit(desk, (uint32_t)room, begun.bound) * draw_share(room, run->time) / 100;
         if (sample->kinds[room] == FILMDISK_TAIL && draw > sample->held[room])
             draw = sample->held[room];
         filmdisk_put_word(draws, (size_t)room, (uint32_t)draw);

@@ -211,7 +211,7 @@ static void draw_blocks(FILE *out, const struct desk_run *run, const struct fram
     for (double blocks = 1; blocks * run->film.card.bytes <= frame->high; blocks += step) {
         double bytes = blocks * run->film.card.bytes, y = frame_y(frame, bytes);
         svg_line(out, frame->x, y, frame->x + frame->width, y, "grid");
-        svg_text(out, frame->x - 6, y + 4, "small end", "%s", svg_thousands((uint64_t)bytes));
+        svg_text(out, frame->x - 6, y + 4, "small end", "%s", svg_megabytes(bytes));
     }
 }
 
@@ -233,9 +233,9 @@ static void draw_delay(FILE *out, const struct desk_run *run)
     double bytes = run->film.card.bytes;
     struct frame frame = {90, DETAIL_WIDE, DETAIL_TOP, DETAIL_FOOT, 0, 5e6, bytes * 0.97, bytes * 1.3};
     svg_text(out, 20, DETAIL_TOP - 44, "head", "Why room %d waits: the first seconds, larger", 101 + run->delay.room);
-    svg_text(out, 20, DETAIL_TOP - 27, "small", "With room %d each playing room would have to hold %s bytes", 101 + run->delay.room,
-             svg_thousands((run->delay.needed + 1999999) / 2000000));
-    svg_text(out, 20, DETAIL_TOP - 12, "small", "(dashed). One holds %s (black). One sweep later all hold enough.", svg_thousands(run->delay.least));
+    svg_text(out, 20, DETAIL_TOP - 27, "small", "With room %d each playing room would have to hold %s (dashed).",
+             101 + run->delay.room, svg_megabytes((double)run->delay.needed / 2e6));
+    svg_text(out, 20, DETAIL_TOP - 12, "small", "One holds %s (black). One sweep later all hold enough.", svg_megabytes(run->delay.least));
     svg_rect(out, frame.x, frame.top, frame.width, frame.foot - frame.top, "ground", NULL);
     draw_blocks(out, run, &frame, 0.125);
     draw_wait(out, run, &frame);
@@ -283,15 +283,16 @@ void draw_evening(FILE *out)
     svg_open(out, WIDTH, HEIGHT, "An evening of the desk",
              "What each of eight rooms holds in its buffer over the evening, against the floor and the buffer size.");
     svg_text(out, 20, 32, "title", "An evening of the desk: eight rooms, one film disk");
-    svg_text(out, 20, 54, "note", "Each strip: the bytes that a room holds between the sweeps. From the moment it plays until its last block is fetched");
-    svg_text(out, 20, 70, "note", "it holds at least the floor (red), and never more than the buffer of %s bytes (black).",
-             svg_thousands(run.film.promise.buffer));
+    svg_text(out, 20, 54, "note", "Each strip: what a room holds between the sweeps. From the moment it plays until its last block is fetched");
+    svg_text(out, 20, 70, "note", "it holds at least the floor (red), and never more than the buffer of %s (black).",
+             svg_megabytes(run.film.promise.buffer));
     draw_legend(out);
     for (int room = 0; room < ROOMS; room++)
         draw_strip(out, &run, room, until);
     draw_seconds(out, &axis, 10e6);
     draw_delay(out, &run);
     draw_margin(out, &run, until);
-    svg_text(out, 20, HEIGHT - 14, "note", "%s sweeps of the library. Seconds: the bounds of the sweeps added up.", svg_thousands(run.sweeps));
+    svg_text(out, 20, HEIGHT - 14, "note", "%s sweeps of the library. Seconds: the bounds of the sweeps added up. MB: a million bytes.",
+             svg_thousands(run.sweeps));
     svg_close(out);
 }

@@ -134,7 +134,7 @@ void plan_film(struct film *film, const struct card *card)
                                            film->positions, sizeof film->positions, film->leads, sizeof film->leads);
     film->card = *card;
     film->promise = (struct promise){0, 0, 0, 0};
-    if (answer.number == FILMDISK_NO_STREAM)
+    if (answer.number == FILMDISK_REFUSED_NO_STREAM)
         return;
     must(answer.number == FILMDISK_ACCEPTED, filmdisk_meaning(answer.number));
     film->promise.streams = filmdisk_word(film->plan, FILMDISK_PLAN_STREAMS);

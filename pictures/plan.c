@@ -83,14 +83,14 @@ void draw_plan(FILE *out)
     plan_film(&film, &evening_card);
     svg_open(out, WIDTH, HEIGHT, "A plan: the film's blocks as laid",
              "Bars: time to read each block in the order of the film; below, of each two successive blocks, with the limit worst2.");
-    svg_text(out, 20, 32, "title", "A plan: %u streams, a buffer of %s bytes for each", film.promise.streams,
-             svg_thousands(film.promise.buffer));
-    svg_text(out, 20, 58, "note", "%u blocks of %s bytes on the seven zones of a Barracuda 9, a film of 8 Mbit/s. "
+    svg_text(out, 20, 32, "title", "A plan: %u streams, a buffer of %s for each", film.promise.streams,
+             svg_megabytes(film.promise.buffer));
+    svg_text(out, 20, 58, "note", "%u blocks of %s on the seven zones of a Barracuda 9, a film of 8 Mbit/s. "
              "Slow and quick blocks take turns; worst2 is %.1f ms.",
-             film.card.blocks, svg_thousands(film.card.bytes), film.promise.worst2 / 1000.0);
+             film.card.blocks, svg_megabytes(film.card.bytes), film.promise.worst2 / 1000.0);
     draw_zones(out, &film);
     draw_bars(out, &film);
     draw_pairs(out, &film);
-    svg_text(out, 20, HEIGHT - 16, "note", "Drawn by the library's filmdisk_plan. ms: thousandths of a second.");
+    svg_text(out, 20, HEIGHT - 16, "note", "Drawn by the library's filmdisk_plan. ms: thousandths of a second. MB: a million bytes.");
     svg_close(out);
 }

@@ -62,11 +62,26 @@ void svg_rect(FILE *out, double x, double y, double width, double height, const 
     fputs("/>\n", out);
 }
 
+enum { TEXTS = 4, TEXT_ROOM = 32 };
+
+/* Room for one of the texts that are in use. */
+static char *text_room(void)
+{
+    static char texts[TEXTS][TEXT_ROOM];
+    static size_t turn;
+    return texts[turn = (turn + 1) % TEXTS];
+}
+
+const char *svg_megabytes(double bytes)
+{
+    char *text = text_room();
+    snprintf(text, TEXT_ROOM, "%.2f MB", bytes / 1e6);
+    return text;
+}
+
 const char *svg_thousands(uint64_t number)
 {
-    static char texts[4][32];
-    static size_t turn;
-    char *at = texts[turn = (turn + 1) % 4] + 31;
+    char *at = text_room() + TEXT_ROOM - 1;
     *at = '\0';
     for (int digit = 1;; digit++) {
         *--at = (char)('0' + number % 10);

@@ -20,7 +20,10 @@ void svg_coloured(FILE *out, double x, double y, const char *class, const char *
 void svg_line(FILE *out, double x1, double y1, double x2, double y2, const char *class);
 void svg_rect(FILE *out, double x, double y, double width, double height, const char *class, const char *colour);
 
-/* A number with a comma between thousands; four texts may be in use at a time. */
+/* A number with a comma between thousands. */
 const char *svg_thousands(uint64_t number);
+
+/* Bytes as MB, a million each, with two decimals. Of these texts and those of svg_thousands four may be in use at a time. */
+const char *svg_megabytes(double bytes);
 
 #endif

@@ -166,8 +166,8 @@ static uint32_t word(enum lent which, size_t index)
 /* The draw of a slot: nothing, its limit, what it holds, and one beside these. */
 static uint32_t choose_draw(uint32_t slot, uint32_t choice)
 {
-    uint64_t limit = (uint64_t)word(DESK, FILMDISK_PLAN_RATE) * last_bound / 1000000;
-    uint32_t kind = word(DESK, FILMDISK_DESK_KINDS + slot), held = word(DESK, FILMDISK_DESK_HELD + slot);
+    uint64_t limit = filmdisk_draw_limit(contents[DESK], slot, last_bound);
+    uint32_t kind = filmdisk_slot_kind(contents[DESK], slot), held = filmdisk_slot_held(contents[DESK], slot);
     if (kind != FILMDISK_PLAYING && kind != FILMDISK_TAIL)
         return choice % 16 == 15;
     uint32_t most = held < limit ? held : (uint32_t)limit;

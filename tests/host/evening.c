@@ -32,16 +32,14 @@ static void expect_begun(filmdisk_answer answer, uint32_t count, uint32_t bound)
     expect(answer, 0, 0);
     check(answer.count == count && answer.bound == bound, "expected count %u, bound %u; got %u, %u", count, bound, answer.count,
           answer.bound);
-    check(word(DESK, FILMDISK_DESK_PHASE) == 1, "the desk is in a sweep");
+    check(word(DESK, FILMDISK_DESK_PHASE) == FILMDISK_SWEEPING, "the desk is in a sweep");
 }
 
 static void expect_fetch(size_t entry, uint32_t position, uint32_t slot, uint32_t block)
 {
-    const size_t first = 3 * entry;
-    check(word(FETCHES, first + FILMDISK_FETCH_POSITION) == position && word(FETCHES, first + FILMDISK_FETCH_SLOT) == slot &&
-              word(FETCHES, first + FILMDISK_FETCH_BLOCK) == block,
-          "fetch %zu: expected %u, %u, %u; got %u, %u, %u", entry, position, slot, block, word(FETCHES, first),
-          word(FETCHES, first + 1), word(FETCHES, first + 2));
+    const filmdisk_fetch got = fetch(entry);
+    check(got.position == position && got.slot == slot && got.block == block, "fetch %zu: expected %u, %u, %u; got %u, %u, %u", entry,
+          position, slot, block, got.position, got.slot, got.block);
 }
 
 static void bench_desk(void)
@@ -110,7 +108,7 @@ static void opening(void)
 {
     bench_desk();
     check(memcmp(bytes_of(DESK), bytes_of(PLAN), FILMDISK_PLAN_BYTES) == 0, "the desk begins with the plan");
-    for (size_t i = FILMDISK_DESK_PHASE; i < FILMDISK_DESK_BYTES / 4; i++)
+    for (size_t i = FILMDISK_DESK_PHASE; i < FILMDISK_DESK_WORDS; i++)
         check(word(DESK, i) == 0, "word %zu is 0", i);
 }
 
@@ -131,7 +129,7 @@ static void worked_desk(void)
     expect_slot(0, FILMDISK_PLAYING, 1, 262144);
     expect_slot(1, FILMDISK_ASKED, 0, 0);
     put(DRAWS, 0, 21696);
-    expect(host_end(), FILMDISK_DRAW_ABOVE_LIMIT, 0);
+    expect(host_end(), FILMDISK_REFUSED_DRAW_ABOVE_LIMIT, 0);
     put(DRAWS, 0, 21695);
     expect(host_end(), 0, 0);
     expect_slot(0, FILMDISK_PLAYING, 2, 502593);
@@ -147,11 +145,11 @@ static void floor_to_the_half_byte(void)
     bench_desk();
     put_slot(0, FILMDISK_PLAYING, 3, BLOCK_BYTES + 777);
     put_slot(1, FILMDISK_FILLING, 2, BLOCK_BYTES + 777);
-    expect(host_begin(), FILMDISK_NOT_SOUND, 0);
+    expect(host_begin(), FILMDISK_REFUSED_NOT_SOUND, 0);
     put_slot(0, FILMDISK_PLAYING, 3, BLOCK_BYTES + 778);
     expect(host_begin(), 0, 0);
     expect_slot(1, FILMDISK_FILLING, 2, BLOCK_BYTES + 777);
-    put(DESK, FILMDISK_DESK_PHASE, 0);
+    put(DESK, FILMDISK_DESK_PHASE, FILMDISK_BETWEEN);
     put_slot(1, FILMDISK_FILLING, 2, BLOCK_BYTES + 778);
     expect(host_begin(), 0, 0);
     expect_slot(1, FILMDISK_PLAYING, 2, BLOCK_BYTES + 778);
@@ -225,7 +223,7 @@ static void make_events(unsigned sweep, struct screen *screens)
             screens[e->slot].blocks = BLOCKS - e->block;
             screens[e->slot].bytes = (uint64_t)(BLOCKS - e->block) * BLOCK_BYTES;
         } else {
-            expect(host_join(e->slot, e->block), FILMDISK_SLOT_STATE, e->slot);
+            expect(host_join(e->slot, e->block), FILMDISK_REFUSED_SLOT_STATE, e->slot);
         }
     }
 }
@@ -235,13 +233,11 @@ static void sweep_screens(struct screen *screens)
 {
     filmdisk_answer answer = host_begin();
     expect(answer, 0, 0);
-    uint64_t limit = 500000ull * answer.bound / 1000000;
     for (uint32_t i = 0; i < answer.count; i++)
-        screens[word(FETCHES, 3 * i + FILMDISK_FETCH_SLOT)].blocks--;
+        screens[fetch(i).slot].blocks--;
     for (uint32_t slot = 0; slot < STREAMS; slot++) {
-        int draws = kind(slot) == FILMDISK_PLAYING || kind(slot) == FILMDISK_TAIL;
-        uint32_t most = held(slot) < limit ? held(slot) : (uint32_t)limit;
-        put(DRAWS, slot, draws ? most : 0);
+        uint64_t limit = draw_limit(slot, answer.bound);
+        put(DRAWS, slot, held(slot) < limit ? held(slot) : (uint32_t)limit);
         screens[slot].bytes -= word(DRAWS, slot);
         check(kind(slot) != FILMDISK_PLAYING || held(slot) >= limit, "screen %u does not freeze", slot);
     }
@@ -312,10 +308,10 @@ static void refusal_1(void)
     size_t length = bench_card(card);
     check(length == 36, "the bench card has 36 bytes, not %zu", length);
     for (size_t cut = 0; cut < length; cut++)
-        expect_card_refused(card, cut, FILMDISK_CARD_ENDS, cut);
+        expect_card_refused(card, cut, FILMDISK_REFUSED_CARD_ENDS, cut);
     lend_bench();
     lend_null(CARD);
-    expect(host_plan(), FILMDISK_CARD_ENDS, 0);
+    expect(host_plan(), FILMDISK_REFUSED_CARD_ENDS, 0);
 }
 
 static void refusal_2(void)
@@ -325,63 +321,63 @@ static void refusal_2(void)
     static const uint8_t five[] = {1, 0xFF, 0xFF, 0xFF, 0xFF, 0xFF};
     static const uint8_t above[] = {1, 0xFF, 0xFF, 0xFF, 0xFF, 0x10};
     static const uint8_t greatest[] = {1, 0xFF, 0xFF, 0xFF, 0xFF, 0x0F};
-    expect_card_refused(longer, sizeof longer, FILMDISK_NUMBER_FORM, 0);
-    expect_card_refused(six, sizeof six, FILMDISK_NUMBER_FORM, 1);
-    expect_card_refused(five, sizeof five, FILMDISK_NUMBER_FORM, 1);
-    expect_card_refused(above, sizeof above, FILMDISK_NUMBER_FORM, 1);
-    expect_card_refused(greatest, sizeof greatest, FILMDISK_ZONES, 1);
+    expect_card_refused(longer, sizeof longer, FILMDISK_REFUSED_NUMBER_FORM, 0);
+    expect_card_refused(six, sizeof six, FILMDISK_REFUSED_NUMBER_FORM, 1);
+    expect_card_refused(five, sizeof five, FILMDISK_REFUSED_NUMBER_FORM, 1);
+    expect_card_refused(above, sizeof above, FILMDISK_REFUSED_NUMBER_FORM, 1);
+    expect_card_refused(greatest, sizeof greatest, FILMDISK_REFUSED_ZONES, 1);
 }
 
 static void refusal_3(void)
 {
-    refuse_with(BENCH_KIND, 0, FILMDISK_KIND);
-    refuse_with(BENCH_KIND, 2, FILMDISK_KIND);
+    refuse_with(BENCH_KIND, 0, FILMDISK_REFUSED_KIND);
+    refuse_with(BENCH_KIND, 2, FILMDISK_REFUSED_KIND);
 }
 
 static void refusal_4(void)
 {
-    refuse_with(BENCH_ZONES, 0, FILMDISK_ZONES);
-    refuse_with(BENCH_ZONES, FILMDISK_MAX_ZONES + 1, FILMDISK_ZONES);
+    refuse_with(BENCH_ZONES, 0, FILMDISK_REFUSED_ZONES);
+    refuse_with(BENCH_ZONES, FILMDISK_MAX_ZONES + 1, FILMDISK_REFUSED_ZONES);
 }
 
 static void refusal_5(void)
 {
-    refuse_with(BENCH_ZONE_POSITIONS(0), 0, FILMDISK_ZONE_POSITIONS);
-    refuse_with(BENCH_ZONE_POSITIONS(0), 1048577, FILMDISK_ZONE_POSITIONS);
-    refuse_with(BENCH_ZONE_POSITIONS(5), 1048572, FILMDISK_ZONE_POSITIONS);
+    refuse_with(BENCH_ZONE_POSITIONS(0), 0, FILMDISK_REFUSED_ZONE_POSITIONS);
+    refuse_with(BENCH_ZONE_POSITIONS(0), 1048577, FILMDISK_REFUSED_ZONE_POSITIONS);
+    refuse_with(BENCH_ZONE_POSITIONS(5), 1048572, FILMDISK_REFUSED_ZONE_POSITIONS);
 }
 
 static void refusal_6(void)
 {
-    refuse_with(BENCH_ZONE_TIME(0), 4000001, FILMDISK_ZONE_TIME);
-    refuse_with(BENCH_ZONE_TIME(1), 0, FILMDISK_ZONE_TIME);
+    refuse_with(BENCH_ZONE_TIME(0), 4000001, FILMDISK_REFUSED_ZONE_TIME);
+    refuse_with(BENCH_ZONE_TIME(1), 0, FILMDISK_REFUSED_ZONE_TIME);
     check(offset_of(bench_film, BENCH_ZONE_TIME(1)) == 7, "the second zone's time is at 7");
 }
 
 static void refusal_7(void)
 {
-    refuse_with(BENCH_ZONE_TIME(1), 22271, FILMDISK_ZONE_TIME_RISES);
-    refuse_with(BENCH_ZONE_TIME(5), 16701, FILMDISK_ZONE_TIME_RISES);
+    refuse_with(BENCH_ZONE_TIME(1), 22271, FILMDISK_REFUSED_ZONE_TIME_RISES);
+    refuse_with(BENCH_ZONE_TIME(5), 16701, FILMDISK_REFUSED_ZONE_TIME_RISES);
 }
 
 static void refusal_8(void)
 {
-    refuse_with(BENCH_BLOCKS, 1, FILMDISK_BLOCKS);
-    refuse_with(BENCH_BLOCKS, FILMDISK_MAX_BLOCKS + 1, FILMDISK_BLOCKS);
+    refuse_with(BENCH_BLOCKS, 1, FILMDISK_REFUSED_BLOCKS);
+    refuse_with(BENCH_BLOCKS, FILMDISK_MAX_BLOCKS + 1, FILMDISK_REFUSED_BLOCKS);
 }
 
 static void refusal_9(void)
 {
-    refuse_with(BENCH_BLOCKS, 7, FILMDISK_BLOCKS_ABOVE_POSITIONS);
-    refuse_with(BENCH_BLOCKS, FILMDISK_MAX_BLOCKS, FILMDISK_BLOCKS_ABOVE_POSITIONS);
+    refuse_with(BENCH_BLOCKS, 7, FILMDISK_REFUSED_BLOCKS_ABOVE_POSITIONS);
+    refuse_with(BENCH_BLOCKS, FILMDISK_MAX_BLOCKS, FILMDISK_REFUSED_BLOCKS_ABOVE_POSITIONS);
 }
 
 static void refusal_10(void)
 {
     static const uint32_t above[] = {4194305, 10000001, 1000001, 1000001};
     for (size_t i = 0; i < COUNT(above); i++) {
-        refuse_with(BENCH_BLOCK_BYTES + i, 0, FILMDISK_MEASURE);
-        refuse_with(BENCH_BLOCK_BYTES + i, above[i], FILMDISK_MEASURE);
+        refuse_with(BENCH_BLOCK_BYTES + i, 0, FILMDISK_REFUSED_MEASURE);
+        refuse_with(BENCH_BLOCK_BYTES + i, above[i], FILMDISK_REFUSED_MEASURE);
     }
 }
 
@@ -391,8 +387,8 @@ static void refusal_11(void)
     size_t length = bench_card(card);
     card[length] = '\n';
     card[length + 1] = 0x80;
-    expect_card_refused(card, length + 1, FILMDISK_CARD_GOES_ON, length);
-    expect_card_refused(card, length + 2, FILMDISK_CARD_GOES_ON, length);
+    expect_card_refused(card, length + 1, FILMDISK_REFUSED_CARD_GOES_ON, length);
+    expect_card_refused(card, length + 2, FILMDISK_REFUSED_CARD_GOES_ON, length);
 }
 
 static void refusal_12(void)
@@ -400,9 +396,9 @@ static void refusal_12(void)
     uint32_t numbers[] = {1, 1, 2, 20000, 2, 23834, 500000, 12670, 15000};
     lend_bench();
     lend_card(numbers, COUNT(numbers));
-    expect(host_plan(), FILMDISK_NO_STREAM, 0);
+    expect(host_plan(), FILMDISK_REFUSED_NO_STREAM, 0);
     resize(LEADS, 7);
-    expect(host_plan(), FILMDISK_TOO_SHORT, 0);
+    expect(host_plan(), FILMDISK_REFUSED_TOO_SHORT, 0);
     numbers[5] = 23835;
     lend_bench();
     lend_card(numbers, COUNT(numbers));
@@ -417,7 +413,7 @@ static void plan_too_short(enum lent which, size_t length)
 {
     lend_bench();
     resize(which, length);
-    expect(host_plan(), FILMDISK_TOO_SHORT, 0);
+    expect(host_plan(), FILMDISK_REFUSED_TOO_SHORT, 0);
 }
 
 static void refusal_13_of_plan(void)
@@ -432,7 +428,7 @@ static void refusal_13_of_plan(void)
     plan_too_short(PLAN, 0);
     lend_bench();
     lend_null(PLAN);
-    expect(host_plan(), FILMDISK_TOO_SHORT, 0);
+    expect(host_plan(), FILMDISK_REFUSED_TOO_SHORT, 0);
     lend_bench();
     resize(POSITIONS, list_bytes);
     expect(host_plan(), 0, 0);
@@ -444,12 +440,12 @@ static void refusal_13_of_open(void)
     bench_desk();
     for (size_t i = 0; i < COUNT(lengths); i++) {
         lend_noise(DESK, lengths[i]);
-        expect(host_open(), FILMDISK_TOO_SHORT, 0);
+        expect(host_open(), FILMDISK_REFUSED_TOO_SHORT, 0);
     }
     lend_null(DESK);
-    expect(host_open(), FILMDISK_TOO_SHORT, 0);
+    expect(host_open(), FILMDISK_REFUSED_TOO_SHORT, 0);
     put(PLAN, FILMDISK_PLAN_STREAMS, 15);
-    expect(host_open(), FILMDISK_NOT_SOUND, 0);
+    expect(host_open(), FILMDISK_REFUSED_NOT_SOUND, 0);
 }
 
 static void refusal_13_of_begin(void)
@@ -459,10 +455,10 @@ static void refusal_13_of_begin(void)
     expect(host_join(3, 1), 0, 0);
     for (size_t i = 0; i < COUNT(lengths); i++) {
         lend_noise(FETCHES, lengths[i]);
-        expect(host_begin(), FILMDISK_TOO_SHORT, 0);
+        expect(host_begin(), FILMDISK_REFUSED_TOO_SHORT, 0);
     }
     lend_null(FETCHES);
-    expect(host_begin(), FILMDISK_TOO_SHORT, 0);
+    expect(host_begin(), FILMDISK_REFUSED_TOO_SHORT, 0);
     lend_noise(FETCHES, STREAMS * FILMDISK_FETCH_BYTES + 11);
     expect_begun(host_begin(), 1, 15720 + 12670 + RETURN);
 }
@@ -472,9 +468,9 @@ static void refusal_13_of_begin(void)
 static void expect_opening_refused(void)
 {
     lend_noise(DESK, FILMDISK_DESK_BYTES);
-    expect(host_open(), FILMDISK_NOT_SOUND, 0);
+    expect(host_open(), FILMDISK_REFUSED_NOT_SOUND, 0);
     lend_noise(DESK, FILMDISK_DESK_BYTES + 4);
-    expect(host_open(), FILMDISK_NOT_SOUND, 0);
+    expect(host_open(), FILMDISK_REFUSED_NOT_SOUND, 0);
 }
 
 /* With another time, hop or return the rest may still be the plan; with any other figure changed it is none. */
@@ -571,12 +567,12 @@ static const struct unsound unsound[] = {
 
 static void refusal_14_of_desks(void)
 {
-    mixed_desk(0);
-    expect(host_leave(4), FILMDISK_SLOT_STATE, 4);
+    mixed_desk(FILMDISK_BETWEEN);
+    expect(host_leave(4), FILMDISK_REFUSED_SLOT_STATE, 4);
     for (size_t i = 0; i < COUNT(unsound); i++) {
         mixed_desk((uint32_t)i % 2);
         put(DESK, unsound[i].word, unsound[i].value);
-        expect_calls_refused(FILMDISK_NOT_SOUND);
+        expect_calls_refused(FILMDISK_REFUSED_NOT_SOUND);
     }
 }
 
@@ -584,58 +580,58 @@ static void refusal_14_of_desk_strings(void)
 {
     static const enum lent read[] = {DESK, POSITIONS, LEADS};
     for (size_t i = 0; i < COUNT(read); i++) {
-        mixed_desk(0);
+        mixed_desk(FILMDISK_BETWEEN);
         bytes_of(read[i])[4] ^= 1;
-        expect_calls_refused(FILMDISK_NOT_SOUND);
-        mixed_desk(1);
+        expect_calls_refused(FILMDISK_REFUSED_NOT_SOUND);
+        mixed_desk(FILMDISK_SWEEPING);
         resize(read[i], length_of(read[i]) - 1);
-        expect_calls_refused(FILMDISK_NOT_SOUND);
+        expect_calls_refused(FILMDISK_REFUSED_NOT_SOUND);
         lend_null(read[i]);
-        expect_calls_refused(FILMDISK_NOT_SOUND);
+        expect_calls_refused(FILMDISK_REFUSED_NOT_SOUND);
     }
-    mixed_desk(1);
+    mixed_desk(FILMDISK_SWEEPING);
     resize(DESK, FILMDISK_DESK_BYTES + 1);
-    expect_calls_refused(FILMDISK_NOT_SOUND);
+    expect_calls_refused(FILMDISK_REFUSED_NOT_SOUND);
 }
 
 /* Refusals of a sound desk. */
 
 static void refusal_15(void)
 {
-    mixed_desk(1);
+    mixed_desk(FILMDISK_SWEEPING);
     lend_null(FETCHES);
-    expect(host_join(STREAMS, BLOCKS), FILMDISK_WRONG_PHASE, 0);
-    expect(host_leave(STREAMS), FILMDISK_WRONG_PHASE, 0);
-    expect(host_begin(), FILMDISK_WRONG_PHASE, 0);
-    mixed_desk(0);
+    expect(host_join(STREAMS, BLOCKS), FILMDISK_REFUSED_WRONG_PHASE, 0);
+    expect(host_leave(STREAMS), FILMDISK_REFUSED_WRONG_PHASE, 0);
+    expect(host_begin(), FILMDISK_REFUSED_WRONG_PHASE, 0);
+    mixed_desk(FILMDISK_BETWEEN);
     lend_null(DRAWS);
-    expect(host_end(), FILMDISK_WRONG_PHASE, 0);
+    expect(host_end(), FILMDISK_REFUSED_WRONG_PHASE, 0);
 }
 
 static void refusal_16(void)
 {
     static const uint32_t slots[] = {STREAMS, 255, 256, 0x80000000u, 0xFFFFFFFFu};
-    mixed_desk(0);
+    mixed_desk(FILMDISK_BETWEEN);
     for (size_t i = 0; i < COUNT(slots); i++) {
-        expect(host_join(slots[i], BLOCKS), FILMDISK_NO_SUCH_SLOT, slots[i]);
-        expect(host_leave(slots[i]), FILMDISK_NO_SUCH_SLOT, slots[i]);
+        expect(host_join(slots[i], BLOCKS), FILMDISK_REFUSED_NO_SUCH_SLOT, slots[i]);
+        expect(host_leave(slots[i]), FILMDISK_REFUSED_NO_SUCH_SLOT, slots[i]);
     }
 }
 
 static void refusal_17(void)
 {
-    mixed_desk(0);
+    mixed_desk(FILMDISK_BETWEEN);
     for (uint32_t slot = 0; slot < 4; slot++)
-        expect(host_join(slot, BLOCKS), FILMDISK_SLOT_STATE, slot);
-    expect(host_leave(4), FILMDISK_SLOT_STATE, 4);
-    expect(host_leave(STREAMS - 1), FILMDISK_SLOT_STATE, STREAMS - 1);
+        expect(host_join(slot, BLOCKS), FILMDISK_REFUSED_SLOT_STATE, slot);
+    expect(host_leave(4), FILMDISK_REFUSED_SLOT_STATE, 4);
+    expect(host_leave(STREAMS - 1), FILMDISK_REFUSED_SLOT_STATE, STREAMS - 1);
 }
 
 static void refusal_18(void)
 {
-    mixed_desk(0);
-    expect(host_join(4, BLOCKS), FILMDISK_NO_SUCH_BLOCK, 4);
-    expect(host_join(STREAMS - 1, 0xFFFFFFFFu), FILMDISK_NO_SUCH_BLOCK, STREAMS - 1);
+    mixed_desk(FILMDISK_BETWEEN);
+    expect(host_join(4, BLOCKS), FILMDISK_REFUSED_NO_SUCH_BLOCK, 4);
+    expect(host_join(STREAMS - 1, 0xFFFFFFFFu), FILMDISK_REFUSED_NO_SUCH_BLOCK, STREAMS - 1);
     expect(host_join(STREAMS - 1, BLOCKS - 1), 0, 0);
     expect_slot(STREAMS - 1, FILMDISK_ASKED, BLOCKS - 1, 0);
 }
@@ -644,13 +640,13 @@ static void refusal_18(void)
 static void refusal_19(void)
 {
     static const size_t lengths[] = {0, 4, STREAMS * 4 - 1, STREAMS * 4 + 4, FILMDISK_MAX_STREAMS * 4};
-    mixed_desk(1);
+    mixed_desk(FILMDISK_SWEEPING);
     for (size_t i = 0; i < COUNT(lengths); i++) {
         lend_noise(DRAWS, lengths[i]);
-        expect(host_end(), FILMDISK_DRAW_COUNT, 0);
+        expect(host_end(), FILMDISK_REFUSED_DRAW_COUNT, 0);
     }
     lend_null(DRAWS);
-    expect(host_end(), FILMDISK_DRAW_COUNT, 0);
+    expect(host_end(), FILMDISK_REFUSED_DRAW_COUNT, 0);
     lend_noise(DRAWS, STREAMS * 4 + 3);
     memset(bytes_of(DRAWS), 0, STREAMS * 4);
     expect(host_end(), 0, 0);
@@ -662,17 +658,17 @@ static void refusal_19(void)
 static void refusal_20(void)
 {
     static const uint32_t others[] = {0, 1, 4, 15};
-    mixed_desk(1);
+    mixed_desk(FILMDISK_SWEEPING);
     for (size_t i = 0; i < COUNT(others); i++) {
         put(DRAWS, others[i], 1);
-        expect(host_end(), FILMDISK_DRAW_ABOVE_LIMIT, others[i]);
+        expect(host_end(), FILMDISK_REFUSED_DRAW_ABOVE_LIMIT, others[i]);
         put(DRAWS, others[i], 0);
     }
     put(DRAWS, 2, MIXED_LIMIT + 1);
     put(DRAWS, 3, 0xFFFFFFFFu);
-    expect(host_end(), FILMDISK_DRAW_ABOVE_LIMIT, 2);
+    expect(host_end(), FILMDISK_REFUSED_DRAW_ABOVE_LIMIT, 2);
     put(DRAWS, 2, MIXED_LIMIT);
-    expect(host_end(), FILMDISK_DRAW_ABOVE_LIMIT, 3);
+    expect(host_end(), FILMDISK_REFUSED_DRAW_ABOVE_LIMIT, 3);
     put(DRAWS, 3, 1);
     expect(host_end(), 0, 0);
     expect_slot(2, FILMDISK_PLAYING, 4, 2 * BLOCK_BYTES - MIXED_LIMIT);
@@ -682,14 +678,14 @@ static void refusal_20(void)
 /* 20 goes over all slots before 21. */
 static void refusal_21(void)
 {
-    mixed_desk(1);
+    mixed_desk(FILMDISK_SWEEPING);
     put_slot(7, FILMDISK_TAIL, BLOCKS, 100);
     put(DRAWS, 7, 101);
-    expect(host_end(), FILMDISK_DRAW_ABOVE_HELD, 7);
+    expect(host_end(), FILMDISK_REFUSED_DRAW_ABOVE_HELD, 7);
     put(DRAWS, 3, MIXED_LIMIT);
-    expect(host_end(), FILMDISK_DRAW_ABOVE_HELD, 3);
+    expect(host_end(), FILMDISK_REFUSED_DRAW_ABOVE_HELD, 3);
     put(DRAWS, 15, 1);
-    expect(host_end(), FILMDISK_DRAW_ABOVE_LIMIT, 15);
+    expect(host_end(), FILMDISK_REFUSED_DRAW_ABOVE_LIMIT, 15);
     put(DRAWS, 15, 0);
     put(DRAWS, 3, 1);
     put(DRAWS, 7, 99);
@@ -712,6 +708,105 @@ static void spare_bytes(void)
     expect(host_leave(0), 0, 0);
     lend_noise(DESK, FILMDISK_DESK_BYTES);
     expect(host_open(), 0, 0);
+}
+
+/* The header. */
+
+struct constant {
+    size_t its, by_layout;
+};
+
+/* Each size and offset of docs/LAYOUT.md. */
+static void sizes_and_offsets(void)
+{
+    static const struct constant constants[] = {
+        {FILMDISK_PLAN_ZONES, 0},    {FILMDISK_PLAN_POSITIONS, 1},     {FILMDISK_PLAN_TIMES, 65},
+        {FILMDISK_PLAN_BLOCKS, 129}, {FILMDISK_PLAN_BLOCK_BYTES, 130}, {FILMDISK_PLAN_RATE, 131},
+        {FILMDISK_PLAN_HOP, 132},    {FILMDISK_PLAN_RETURN, 133},      {FILMDISK_PLAN_STREAMS, 134},
+        {FILMDISK_PLAN_BUFFER, 135}, {FILMDISK_PLAN_WORST2, 136},      {FILMDISK_PLAN_MARGIN, 137},
+        {FILMDISK_PLAN_WORDS, 138},  {FILMDISK_PLAN_BYTES, 552},       {FILMDISK_DESK_PHASE, 138},
+        {FILMDISK_DESK_KINDS, 139},  {FILMDISK_DESK_NEXT, 395},        {FILMDISK_DESK_HELD, 651},
+        {FILMDISK_DESK_WORDS, 907},  {FILMDISK_DESK_BYTES, 3628},      {FILMDISK_FETCH_POSITION, 0},
+        {FILMDISK_FETCH_SLOT, 1},    {FILMDISK_FETCH_BLOCK, 2},        {FILMDISK_FETCH_BYTES, 12},
+        {FILMDISK_ENTRY_BYTES, 4},
+    };
+    for (size_t i = 0; i < COUNT(constants); i++)
+        check(constants[i].its == constants[i].by_layout, "constant %zu: expected %zu, got %zu", i, constants[i].by_layout,
+              constants[i].its);
+}
+
+/* A word of a string, byte by byte; its bytes all differ. */
+static void put_bytes(enum lent which, size_t byte, uint8_t lowest)
+{
+    for (size_t i = 0; i < 4; i++)
+        bytes_of(which)[byte + i] = (uint8_t)(lowest + i);
+}
+
+static void slots_and_fetches_by_the_header(void)
+{
+    static const uint32_t slots[] = {0, 1, 77, 255};
+    lend_noise(DESK, FILMDISK_DESK_BYTES);
+    lend_noise(FETCHES, 256 * FILMDISK_FETCH_BYTES);
+    for (size_t i = 0; i < COUNT(slots); i++) {
+        uint32_t slot = slots[i];
+        put_bytes(DESK, 556 + 4 * slot, 0x10);
+        put_bytes(DESK, 1580 + 4 * slot, 0x20);
+        put_bytes(DESK, 2604 + 4 * slot, 0x30);
+        check(filmdisk_slot_kind(bytes_of(DESK), slot) == 0x13121110, "kind of slot %u", slot);
+        check(filmdisk_slot_next(bytes_of(DESK), slot) == 0x23222120, "next of slot %u", slot);
+        check(filmdisk_slot_held(bytes_of(DESK), slot) == 0x33323130, "held of slot %u", slot);
+        put_bytes(FETCHES, 12 * slot, 0x40);
+        put_bytes(FETCHES, 12 * slot + 4, 0x50);
+        put_bytes(FETCHES, 12 * slot + 8, 0x60);
+        filmdisk_fetch got = filmdisk_fetch_at(bytes_of(FETCHES), slot);
+        check(got.position == 0x43424140 && got.slot == 0x53525150 && got.block == 0x63626160, "fetch %u: %x, %x, %x", slot,
+              got.position, got.slot, got.block);
+    }
+}
+
+/* c x bound / 1,000,000 rounded down for playing and tail slots, 0 for the others; the products go beyond 32 bits. */
+static void draw_limits(void)
+{
+    static const uint32_t cases[][3] = {
+        {500000, 43390, 21695}, {500000, 43391, 21695}, {500000, 1, 0}, {500000, 2, 1}, {10000000, 429496729, 4294967290u},
+    };
+    bench_desk();
+    for (uint32_t its_kind = FILMDISK_FREE; its_kind <= FILMDISK_TAIL; its_kind++) {
+        int draws = its_kind == FILMDISK_PLAYING || its_kind == FILMDISK_TAIL;
+        put(DESK, FILMDISK_DESK_KINDS + its_kind, its_kind);
+        for (size_t i = 0; i < COUNT(cases); i++) {
+            put(DESK, FILMDISK_PLAN_RATE, cases[i][0]);
+            check(draw_limit(its_kind, cases[i][1]) == (draws ? cases[i][2] : 0), "kind %u, case %zu: %llu", its_kind, i,
+                  (unsigned long long)draw_limit(its_kind, cases[i][1]));
+        }
+    }
+    check(draw_limit(FILMDISK_TAIL, 0xFFFFFFFFu) == 42949672950ull, "the limit has 64 bits");
+}
+
+/* A slot of each kind: what the header lets it draw is accepted, one byte more is 20. */
+static void draw_limits_of_a_sweep(void)
+{
+    mixed_desk(FILMDISK_BETWEEN);
+    put_slot(3, FILMDISK_TAIL, BLOCKS, BUFFER);
+    filmdisk_answer begun = host_begin();
+    expect(begun, 0, 0);
+    for (uint32_t slot = 0; slot < STREAMS; slot++) {
+        uint32_t limit = (uint32_t)draw_limit(slot, begun.bound);
+        check((limit > 0) == (slot >= 1 && slot <= 3), "slot %u may draw %u", slot, limit);
+        put(DRAWS, slot, limit + 1);
+        expect(host_end(), FILMDISK_REFUSED_DRAW_ABOVE_LIMIT, slot);
+        put(DRAWS, slot, limit);
+    }
+    expect(host_end(), 0, 0);
+}
+
+static void a_meaning_for_each_number(void)
+{
+    for (uint32_t number = 0; number <= FILMDISK_REFUSED_DRAW_ABOVE_HELD; number++)
+        for (uint32_t other = 0; other < number; other++)
+            check(strcmp(filmdisk_meaning(number), filmdisk_meaning(other)) != 0, "%u and %u mean the same", other, number);
+    check(strcmp(filmdisk_meaning(FILMDISK_REFUSED_DRAW_ABOVE_HELD), "draw above held") == 0, "21 is the last");
+    check(strcmp(filmdisk_meaning(22), "no such number") == 0, "22 is none");
 }
 
 static const test tests[] = {
@@ -750,6 +845,11 @@ static const test tests[] = {
     TEST(refusal_20),
     TEST(refusal_21),
     TEST(spare_bytes),
+    TEST(sizes_and_offsets),
+    TEST(slots_and_fetches_by_the_header),
+    TEST(draw_limits),
+    TEST(draw_limits_of_a_sweep),
+    TEST(a_meaning_for_each_number),
 };
 
 int main(int argc, char **argv)

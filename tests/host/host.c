@@ -129,6 +129,11 @@ uint8_t *bytes_of(enum lent which)
     return strings[which].bytes;
 }
 
+uint8_t *lent_bytes(enum lent which)
+{
+    return is_null[which] ? NULL : strings[which].bytes;
+}
+
 uint32_t word(enum lent which, size_t index)
 {
     return filmdisk_word(strings[which].bytes, index);
@@ -141,17 +146,27 @@ void put(enum lent which, size_t index, uint32_t value)
 
 uint32_t kind(uint32_t slot)
 {
-    return word(DESK, FILMDISK_DESK_KINDS + slot);
+    return filmdisk_slot_kind(bytes_of(DESK), slot);
 }
 
 uint32_t next(uint32_t slot)
 {
-    return word(DESK, FILMDISK_DESK_NEXT + slot);
+    return filmdisk_slot_next(bytes_of(DESK), slot);
 }
 
 uint32_t held(uint32_t slot)
 {
-    return word(DESK, FILMDISK_DESK_HELD + slot);
+    return filmdisk_slot_held(bytes_of(DESK), slot);
+}
+
+uint64_t draw_limit(uint32_t slot, uint32_t bound)
+{
+    return filmdisk_draw_limit(bytes_of(DESK), slot, bound);
+}
+
+filmdisk_fetch fetch(size_t entry)
+{
+    return filmdisk_fetch_at(bytes_of(FETCHES), entry);
 }
 
 /* A number's shortest form; answers its length. */
@@ -251,13 +266,6 @@ static void after_call(void)
     }
 }
 
-static uint8_t *lent_bytes(enum lent which)
-{
-    return is_null[which] ? NULL : strings[which].bytes;
-}
-
-#define LENT(which) lent_bytes(which), length_of(which)
-
 /* The calls. */
 
 filmdisk_answer host_plan(void)
@@ -270,7 +278,7 @@ filmdisk_answer host_plan(void)
         check_kept(POSITIONS, list_bytes);
         check_kept(LEADS, list_bytes);
         check_others_kept(1u << PLAN | 1u << POSITIONS | 1u << LEADS);
-    } else if (answer.number == FILMDISK_TOO_SHORT) {
+    } else if (answer.number == FILMDISK_REFUSED_TOO_SHORT) {
         check_others_kept(0);
     } else {
         check_cleared(PLAN, FILMDISK_PLAN_BYTES);
@@ -285,7 +293,7 @@ filmdisk_answer host_open(void)
     after_call();
     if (answer.number == 0)
         check_others_kept(1u << DESK);
-    else if (answer.number == FILMDISK_TOO_SHORT)
+    else if (answer.number == FILMDISK_REFUSED_TOO_SHORT)
         check_others_kept(0);
     else
         check_cleared(DESK, FILMDISK_DESK_BYTES);

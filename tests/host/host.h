@@ -37,10 +37,16 @@ uint8_t *bytes_of(enum lent which);
 uint32_t word(enum lent which, size_t index);
 void put(enum lent which, size_t index, uint32_t value);
 
-/* The words of a slot in the desk. */
+/* A string as it is lent to a call: pointer and length. */
+uint8_t *lent_bytes(enum lent which);
+#define LENT(which) lent_bytes(which), length_of(which)
+
+/* The words of a slot in the desk, and what it may draw in a sweep; an entry of the fetches. */
 uint32_t kind(uint32_t slot);
 uint32_t next(uint32_t slot);
 uint32_t held(uint32_t slot);
+uint64_t draw_limit(uint32_t slot, uint32_t bound);
+filmdisk_fetch fetch(size_t entry);
 
 /* The card of these numbers; where a number of it begins. */
 void lend_card(const uint32_t *numbers, size_t count);

@@ -119,7 +119,7 @@ static void house_of_256_streams(void)
     static const uint32_t house[] = {1, 2, 20, 3000, 20, 2000, 40, 1768000, 1000000, 500, 1000000};
     start_story(house, COUNT(house));
     check(streams() == 256, "%u streams", streams());
-    expect(host_join(256, 0), FILMDISK_NO_SUCH_SLOT, 256);
+    expect(host_join(256, 0), FILMDISK_REFUSED_NO_SUCH_SLOT, 256);
     for (uint32_t slot = 0; slot < 256; slot++)
         join_slot(slot, 0);
     check(sweep(DRAW_ALL) == 256, "all fill");

@@ -164,30 +164,23 @@ static void check_entries(uint32_t count)
 {
     uint64_t last = 0;
     for (uint32_t i = 0; i < count; i++) {
-        uint32_t position = word(FETCHES, 3 * i + FILMDISK_FETCH_POSITION);
-        uint32_t slot = word(FETCHES, 3 * i + FILMDISK_FETCH_SLOT);
-        uint32_t block = word(FETCHES, 3 * i + FILMDISK_FETCH_BLOCK);
-        uint64_t order = (uint64_t)position << 32 | slot;
+        const filmdisk_fetch got = fetch(i);
+        uint64_t order = (uint64_t)got.position << 32 | got.slot;
         check(i == 0 || order > last, "entry %u rises", i);
         last = order;
-        int is_its = slot < streams() && is_fetched[slot] && block == next(slot) && position == word(POSITIONS, block);
-        check(is_its, "entry %u is a fetch by the rules: position %u, slot %u, block %u", i, position, slot, block);
+        int is_its = got.slot < streams() && is_fetched[got.slot] && got.block == next(got.slot) &&
+                     got.position == word(POSITIONS, got.block);
+        check(is_its, "entry %u is a fetch by the rules: position %u, slot %u, block %u", i, got.position, got.slot, got.block);
     }
 }
 
 /* The phase rises, kinds go by the rules, all else of the desk stays. */
 static void check_begun_desk(void)
 {
-    filmdisk_put_word(foreseen_desk, FILMDISK_DESK_PHASE, 1);
+    filmdisk_put_word(foreseen_desk, FILMDISK_DESK_PHASE, FILMDISK_SWEEPING);
     for (uint32_t slot = 0; slot < streams(); slot++)
         filmdisk_put_word(foreseen_desk, FILMDISK_DESK_KINDS + slot, kinds[slot]);
     check(is_foreseen(), "the desk of the begin is the one by the rules");
-}
-
-/* What a playing or tail slot may draw. */
-static uint64_t draw_limit(uint32_t bound)
-{
-    return (uint64_t)figure(FILMDISK_PLAN_RATE) * bound / 1000000;
 }
 
 static filmdisk_answer begin_sweep(void)
@@ -202,18 +195,18 @@ static filmdisk_answer begin_sweep(void)
     check_entries(answer.count);
     check_begun_desk();
     for (uint32_t slot = 0; slot < streams(); slot++)
-        check(kind(slot) != FILMDISK_PLAYING || held(slot) >= draw_limit(answer.bound), "playing slot %u holds %u of %llu", slot,
-              held(slot), (unsigned long long)draw_limit(answer.bound));
+        check(kind(slot) != FILMDISK_PLAYING || held(slot) >= draw_limit(slot, answer.bound), "playing slot %u holds %u of %llu", slot,
+              held(slot), (unsigned long long)draw_limit(slot, answer.bound));
     return answer;
 }
 
 /* End by the rules. */
 
-static void choose_draws(enum draw draw, uint64_t limit)
+static void choose_draws(enum draw draw, uint32_t bound)
 {
     for (uint32_t slot = 0; slot < streams(); slot++) {
-        int draws = kind(slot) == FILMDISK_PLAYING || kind(slot) == FILMDISK_TAIL;
-        uint32_t most = !draws ? 0 : held(slot) < limit ? held(slot) : (uint32_t)limit;
+        uint64_t limit = draw_limit(slot, bound);
+        uint32_t most = held(slot) < limit ? held(slot) : (uint32_t)limit;
         put(DRAWS, slot, draw == DRAW_NOTHING ? 0 : draw == DRAW_ALL ? most : below(most + 1));
     }
 }
@@ -265,7 +258,7 @@ static void check_book(void)
 static void end_sweep(void)
 {
     save_desk();
-    filmdisk_put_word(foreseen_desk, FILMDISK_DESK_PHASE, 0);
+    filmdisk_put_word(foreseen_desk, FILMDISK_DESK_PHASE, FILMDISK_BETWEEN);
     for (uint32_t slot = 0; slot < streams(); slot++)
         foresee_end(slot);
     expect(host_end(), 0, 0);
@@ -277,7 +270,7 @@ static void end_sweep(void)
 uint32_t sweep(enum draw draw)
 {
     filmdisk_answer answer = begin_sweep();
-    choose_draws(draw, draw_limit(answer.bound));
+    choose_draws(draw, answer.bound);
     end_sweep();
     return answer.count;
 }

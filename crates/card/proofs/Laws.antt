@@ -15,6 +15,8 @@ use Rattle.card.specs.declared.fields.Rule.{Rule}
 use Rattle.card.specs.declared.fields.Rule.the-variants.{Positions, Time}
 use Rattle.card.specs.declared.fields.Field.the-variants.{Value, Refused}
 use Rattle.laws.specs.Runs.{allBy}
+use Rattle.numbers.specs.Limits.{maxZones}
+use Rattle.numbers.specs.Refusals.{wrongZones}
 use Rattle.card.specs.Card.{filmFault, zoneFaults, zerosFrom}
 use Rattle.card.specs.Ranges.{first, below, above, outside, thenAbove, faultOf}
 use Rattle.card.specs.Read.{onFault}
@@ -114,27 +116,27 @@ module _ (f : Figures) (i total before : ℕ) where
 
 -- ---- the unused zones
 
-module _ (ps ts : List ℕ) (i : ℕ) (p : length ps ≡ 64) (t : length ts ≡ 64) where
-  zeros-here : i < 64 → zerosFrom i ps ts ≡ ((eqb (getD ps i 0) 0 && allBy (λ (v : ℕ). eqb v 0) (drop (suc i) ps)) && (eqb (getD ts i 0) 0 && allBy (λ (v : ℕ). eqb v 0) (drop (suc i) ts)))
+module _ (ps ts : List ℕ) (i : ℕ) (p : length ps ≡ maxZones) (t : length ts ≡ maxZones) where
+  zeros-here : i < maxZones → zerosFrom i ps ts ≡ ((eqb (getD ps i 0) 0 && allBy (λ (v : ℕ). eqb v 0) (drop (suc i) ps)) && (eqb (getD ts i 0) 0 && allBy (λ (v : ℕ). eqb v 0) (drop (suc i) ts)))
   unfolding zerosFrom allBy
   zeros-here h = rw (drop-cons ps i 0 (omega arith), drop-cons ts i 0 (omega arith))
 
-  pub unused-positions : i < 64 → (getD ps i 0 ≡ 0 → ⊥) → _≡_ {A = ℕ} 4 (cond (zerosFrom i ps ts) 0 4)
+  pub unused-positions : i < maxZones → (getD ps i 0 ≡ 0 → ⊥) → _≡_ {A = ℕ} wrongZones (cond (zerosFrom i ps ts) 0 wrongZones)
   unused-positions h n = rw (zeros-here h, ne-eqb _ _ n)
 
-  pub unused-times : i < 64 → getD ps i 0 ≡ 0 → (getD ts i 0 ≡ 0 → ⊥) → _≡_ {A = ℕ} 4 (cond (zerosFrom i ps ts) 0 4)
+  pub unused-times : i < maxZones → getD ps i 0 ≡ 0 → (getD ts i 0 ≡ 0 → ⊥) → _≡_ {A = ℕ} wrongZones (cond (zerosFrom i ps ts) 0 wrongZones)
   unused-times h z n = rw (zeros-here h, eq-eqb _ _ z, ne-eqb _ _ n) (go (allBy (λ (v : ℕ). eqb v 0) (drop (suc i) ps)))
     where
-      go : (x : Bool) → _≡_ {A = ℕ} 4 (cond ((true && x) && false) 0 4)
+      go : (x : Bool) → _≡_ {A = ℕ} wrongZones (cond ((true && x) && false) 0 wrongZones)
       go true = refl
       go false = refl
 
-  pub unused-more : i < 64 → getD ps i 0 ≡ 0 → getD ts i 0 ≡ 0 → zerosFrom (i + 1) ps ts ≡ zerosFrom i ps ts
+  pub unused-more : i < maxZones → getD ps i 0 ≡ 0 → getD ts i 0 ≡ 0 → zerosFrom (i + 1) ps ts ≡ zerosFrom i ps ts
   unused-more h z y = let e : i + 1 ≡ suc i = omega arith in rw (e, zeros-here h, eq-eqb _ _ z, eq-eqb _ _ y) (last e)
     where
       last : i + 1 ≡ suc i → zerosFrom (suc i) ps ts ≡ (allBy (λ (v : ℕ). eqb v 0) (drop (suc i) ps) && allBy (λ (v : ℕ). eqb v 0) (drop (suc i) ts))
       last e = unfold zerosFrom in refl
 
-  pub unused-end : 64 ≤ i → _≡_ {A = ℕ} 0 (cond (zerosFrom i ps ts) 0 4)
+  pub unused-end : maxZones ≤ i → _≡_ {A = ℕ} 0 (cond (zerosFrom i ps ts) 0 wrongZones)
   unfolding zerosFrom allBy
   unused-end h = rw (drop-of-length-le ps {i = i} (omega arith), drop-of-length-le ts {i = i} (omega arith))

@@ -6,6 +6,8 @@ use mathlib.Core.Bool.{Bool, cond, _&&_}
 use lib.ListN.{length, getD, take, drop}
 use lib.Dec.{leb, eqb}
 use Rattle.laws.specs.Runs.{allBy, sumBy}
+use Rattle.numbers.specs.Limits.{cardKind, maxZones, maxPositions, maxTime, minBlocks, maxBlocks, maxBytes, maxRate, maxMove}
+use Rattle.numbers.specs.Refusals.{wrongZones, tooShort}
 use Rattle.leb128.specs.Number.{groups}
 use Rattle.card.specs.declared.Figures.{Figures}
 use Rattle.card.specs.declared.Verdict.{Verdict}
@@ -20,21 +22,21 @@ unfoldable pub totalPositions : Figures → ℕ
 totalPositions f = sumBy (λ (p : ℕ). p) (take (f .zones) (f .positions))
 
 pub record Legal (f : Figures) : Type 0 where
-  -- a record has 64 zone entries
-  pub wide : (length (f .positions) ≡ 64) × (length (f .times) ≡ 64)
-  pub zones : (1 ≤ f .zones) × (f .zones ≤ 64)
+  -- the entries of a record
+  pub wide : (length (f .positions) ≡ maxZones) × (length (f .times) ≡ maxZones)
+  pub zones : (1 ≤ f .zones) × (f .zones ≤ maxZones)
   pub unused : (i : ℕ) → f .zones ≤ i → (getD (f .positions) i 0 ≡ 0) × (getD (f .times) i 0 ≡ 0)
   pub positions : (i : ℕ) → i < f .zones → 1 ≤ getD (f .positions) i 0
-  pub total : totalPositions f ≤ 1048576
-  pub times : (i : ℕ) → i < f .zones → (1 ≤ getD (f .times) i 0) × (getD (f .times) i 0 ≤ 4000000)
+  pub total : totalPositions f ≤ maxPositions
+  pub times : (i : ℕ) → i < f .zones → (1 ≤ getD (f .times) i 0) × (getD (f .times) i 0 ≤ maxTime)
   -- never above the zone before
   pub falling : (i : ℕ) → suc i < f .zones → getD (f .times) (suc i) 0 ≤ getD (f .times) i 0
-  pub blocks : (2 ≤ f .blocks) × (f .blocks ≤ 16384)
+  pub blocks : (minBlocks ≤ f .blocks) × (f .blocks ≤ maxBlocks)
   pub room : f .blocks ≤ totalPositions f
-  pub bytes : (1 ≤ f .bytes) × (f .bytes ≤ 4194304)
-  pub rate : (1 ≤ f .rate) × (f .rate ≤ 10000000)
-  pub hop : (1 ≤ f .hop) × (f .hop ≤ 1000000)
-  pub back : (1 ≤ f .back) × (f .back ≤ 1000000)
+  pub bytes : (1 ≤ f .bytes) × (f .bytes ≤ maxBytes)
+  pub rate : (1 ≤ f .rate) × (f .rate ≤ maxRate)
+  pub hop : (1 ≤ f .hop) × (f .hop ≤ maxMove)
+  pub back : (1 ≤ f .back) × (f .back ≤ maxMove)
 
 -- ---- the judge of a record: 4 to 10 in the card's order
 
@@ -42,9 +44,9 @@ pub record Legal (f : Figures) : Type 0 where
 unfoldable pub filmFault : Figures → ℕ → ℕ
 filmFault f total =
     first (faultOf Blocks total (f .blocks))
-    (first (faultOf Measure 4194304 (f .bytes))
-    (first (faultOf Measure 10000000 (f .rate))
-    (first (faultOf Measure 1000000 (f .hop)) (faultOf Measure 1000000 (f .back)))))
+    (first (faultOf Measure maxBytes (f .bytes))
+    (first (faultOf Measure maxRate (f .rate))
+    (first (faultOf Measure maxMove (f .hop)) (faultOf Measure maxMove (f .back)))))
 
 -- `left` more zones from the i-th on; total is the positions so far, before the time of the zone before
 unfoldable pub zoneFaults : ℕ → ℕ → Figures → ℕ → ℕ → ℕ
@@ -64,7 +66,7 @@ unusedZero f = zerosFrom (f .zones) (f .positions) (f .times)
 
 -- the refusal of a record, 0 where it is legal
 unfoldable pub recordFault : Figures → ℕ
-recordFault f = first (faultOf Zones 0 (f .zones)) (first (cond (unusedZero f) 0 4) (zoneFaults (f .zones) 0 f 0 4000000))
+recordFault f = first (faultOf Zones 0 (f .zones)) (first (cond (unusedZero f) 0 wrongZones) (zoneFaults (f .zones) 0 f 0 maxTime))
 
 -- records answer with offset 0
 unfoldable pub judgeRecord : Figures → Verdict
@@ -83,7 +85,7 @@ zoneNumbers (suc left) i f = getD (f .positions) i 0 ∷ getD (f .times) i 0 ∷
 
 -- the numbers of a card, in order: kind, zones, each zone, the film
 unfoldable pub numbersOf : Figures → List ℕ
-numbersOf f = 1 ∷ f .zones ∷ zoneNumbers (f .zones) 0 f
+numbersOf f = cardKind ∷ f .zones ∷ zoneNumbers (f .zones) 0 f
 
 -- numbers as bytes, one after the other
 unfoldable pub bytesOf : List ℕ → List ℕ
@@ -97,7 +99,7 @@ cardOf f = bytesOf (numbersOf f)
 -- ---- the writer: 4 to 10, then 13
 
 unfoldable pub writeFault : Figures → ℕ → ℕ
-writeFault f room = first (recordFault f) (cond (leb (length (cardOf f)) room) 0 13)
+writeFault f room = first (recordFault f) (cond (leb (length (cardOf f)) room) 0 tooShort)
 
 -- a refusal answers offset 0 and length 0
 abbrev pub notWritten : ℕ → CardWritten

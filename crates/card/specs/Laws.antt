@@ -1,11 +1,13 @@
 -- Laws of the ranges: a figure is not refused just where it is in its range.
 -- Assumes nothing.
-use Prim.Native.Nat.{ℕ, zero, suc, _+_, _≤_}
+use Prim.Native.Nat.{ℕ, zero, suc, _+_, _≤_, _<_}
 use mathlib.Core.Path.{_≡_, refl}
 use mathlib.Core.Bool.{Bool, true, false, cond}
 use native.Mathlib.Omega.{arith}
 use lib.Dec.{leb}
 use borrow.Author.Tests.{leb-true, le-leb}
+use Rattle.numbers.specs.Limits.{cardKind, maxNumber, maxZones, maxPositions, maxTime, minBlocks, maxBlocks}
+use Rattle.numbers.specs.Refusals.{wrongKind, wrongZones, wrongPositions, wrongTime, risingTime, wrongBlocks, blocksAbovePositions, wrongMeasure}
 use Rattle.card.specs.declared.Figures.{Figures}
 use Rattle.card.specs.declared.fields.Rule.the-variants.{Kind, Zones, Positions, Time, Blocks, Measure}
 use Rattle.card.specs.Card.{recordFault}
@@ -21,11 +23,11 @@ pub first-clear : {j k : ℕ} → j ≡ 0 → k ≡ 0 → first j k ≡ 0
 unfolding first
 first-clear p q = rw (p, q)
 
-pub above-range : (most k v : ℕ) → above most (suc k) v ≡ 0 → v ≤ most
+pub above-range : (most k v : ℕ) → 0 < k → above most k v ≡ 0 → v ≤ most
 unfolding above
-above-range most k v e = go (leb v most) refl e
+above-range most k v p e = go (leb v most) refl e
   where
-    go : (t : Bool) → leb v most ≡ t → cond t 0 (suc k) ≡ 0 → v ≤ most
+    go : (t : Bool) → leb v most ≡ t → cond t 0 k ≡ 0 → v ≤ most
     go true q e = leb-true v most q
     go false q e = absurd (omega arith)
 
@@ -33,76 +35,76 @@ pub range-above : (most k v : ℕ) → v ≤ most → above most k v ≡ 0
 unfolding above
 range-above most k v h = rw (le-leb v most h)
 
-pub outside-range : (least most k v : ℕ) → outside least most (suc k) v ≡ 0 → (least ≤ v) × (v ≤ most)
+pub outside-range : (least most k v : ℕ) → 0 < k → outside least most k v ≡ 0 → (least ≤ v) × (v ≤ most)
 unfolding outside below
-outside-range least most k v e = go (leb least v) refl e
+outside-range least most k v p e = go (leb least v) refl e
   where
-    go : (t : Bool) → leb least v ≡ t → first (cond t 0 (suc k)) (above most (suc k) v) ≡ 0 → (least ≤ v) × (v ≤ most)
-    go true q e = (leb-true least v q, above-range most k v (first-none 0 (above most (suc k) v) e .1))
-    go false q e = absurd (omega (arith, first-none (suc k) (above most (suc k) v) e .0))
+    go : (t : Bool) → leb least v ≡ t → first (cond t 0 k) (above most k v) ≡ 0 → (least ≤ v) × (v ≤ most)
+    go true q e = (leb-true least v q, above-range most k v p (first-none 0 (above most k v) e .1))
+    go false q e = absurd (omega (arith, first-none k (above most k v) e .0))
 
 pub range-outside : (least most k v : ℕ) → least ≤ v → v ≤ most → outside least most k v ≡ 0
 unfolding outside below
 range-outside least most k v l h = rw (le-leb least v l) (first-clear refl (range-above most k v h))
 
 module _ (bound v : ℕ) where
-  pub kind-range : faultOf Kind bound v ≡ 0 → v ≡ 1
+  pub kind-range : faultOf Kind bound v ≡ 0 → v ≡ cardKind
   unfolding faultOf
-  kind-range e = omega (arith, outside-range 1 1 2 v e)
+  kind-range e = omega (arith, outside-range cardKind cardKind wrongKind v (omega arith) e)
 
-  pub zones-range : faultOf Zones bound v ≡ 0 → (1 ≤ v) × (v ≤ 64)
+  pub zones-range : faultOf Zones bound v ≡ 0 → (1 ≤ v) × (v ≤ maxZones)
   unfolding faultOf
-  zones-range e = outside-range 1 64 3 v e
+  zones-range e = outside-range 1 maxZones wrongZones v (omega arith) e
 
-  pub positions-range : faultOf Positions bound v ≡ 0 → (1 ≤ v) × (bound + v ≤ 1048576)
+  pub positions-range : faultOf Positions bound v ≡ 0 → (1 ≤ v) × (bound + v ≤ maxPositions)
   unfolding faultOf thenAbove
   positions-range e =
-      let h = first-none (outside 1 4294967295 5 v) (above 1048576 5 (bound + v)) e in
-      (outside-range 1 4294967295 4 v (h .0) .0, above-range 1048576 4 (bound + v) (h .1))
+      let h = first-none (outside 1 maxNumber wrongPositions v) (above maxPositions wrongPositions (bound + v)) e in
+      (outside-range 1 maxNumber wrongPositions v (omega arith) (h .0) .0, above-range maxPositions wrongPositions (bound + v) (omega arith) (h .1))
 
-  pub time-range : faultOf Time bound v ≡ 0 → (1 ≤ v) × (v ≤ 4000000) × (v ≤ bound)
+  pub time-range : faultOf Time bound v ≡ 0 → (1 ≤ v) × (v ≤ maxTime) × (v ≤ bound)
   unfolding faultOf thenAbove
   time-range e =
-      let h = first-none (outside 1 4000000 6 v) (above bound 7 v) e in
-      let r = outside-range 1 4000000 5 v (h .0) in
-      (r .0, r .1, above-range bound 6 v (h .1))
+      let h = first-none (outside 1 maxTime wrongTime v) (above bound risingTime v) e in
+      let r = outside-range 1 maxTime wrongTime v (omega arith) (h .0) in
+      (r .0, r .1, above-range bound risingTime v (omega arith) (h .1))
 
-  pub blocks-range : faultOf Blocks bound v ≡ 0 → (2 ≤ v) × (v ≤ 16384) × (v ≤ bound)
+  pub blocks-range : faultOf Blocks bound v ≡ 0 → (minBlocks ≤ v) × (v ≤ maxBlocks) × (v ≤ bound)
   unfolding faultOf thenAbove
   blocks-range e =
-      let h = first-none (outside 2 16384 8 v) (above bound 9 v) e in
-      let r = outside-range 2 16384 7 v (h .0) in
-      (r .0, r .1, above-range bound 8 v (h .1))
+      let h = first-none (outside minBlocks maxBlocks wrongBlocks v) (above bound blocksAbovePositions v) e in
+      let r = outside-range minBlocks maxBlocks wrongBlocks v (omega arith) (h .0) in
+      (r .0, r .1, above-range bound blocksAbovePositions v (omega arith) (h .1))
 
   pub measure-range : faultOf Measure bound v ≡ 0 → (1 ≤ v) × (v ≤ bound)
   unfolding faultOf
-  measure-range e = outside-range 1 bound 9 v e
+  measure-range e = outside-range 1 bound wrongMeasure v (omega arith) e
 
-  pub zones-legal : 1 ≤ v → v ≤ 64 → faultOf Zones bound v ≡ 0
+  pub zones-legal : 1 ≤ v → v ≤ maxZones → faultOf Zones bound v ≡ 0
   unfolding faultOf
-  zones-legal l h = range-outside 1 64 4 v l h
+  zones-legal l h = range-outside 1 maxZones wrongZones v l h
 
-  pub positions-legal : 1 ≤ v → bound + v ≤ 1048576 → faultOf Positions bound v ≡ 0
+  pub positions-legal : 1 ≤ v → bound + v ≤ maxPositions → faultOf Positions bound v ≡ 0
   unfolding faultOf thenAbove
-  positions-legal l h = first-clear (range-outside 1 4294967295 5 v l (omega arith)) (range-above 1048576 5 (bound + v) h)
+  positions-legal l h = first-clear (range-outside 1 maxNumber wrongPositions v l (omega arith)) (range-above maxPositions wrongPositions (bound + v) h)
 
-  pub time-legal : 1 ≤ v → v ≤ 4000000 → v ≤ bound → faultOf Time bound v ≡ 0
+  pub time-legal : 1 ≤ v → v ≤ maxTime → v ≤ bound → faultOf Time bound v ≡ 0
   unfolding faultOf thenAbove
-  time-legal l h b = first-clear (range-outside 1 4000000 6 v l h) (range-above bound 7 v b)
+  time-legal l h b = first-clear (range-outside 1 maxTime wrongTime v l h) (range-above bound risingTime v b)
 
-  pub blocks-legal : 2 ≤ v → v ≤ 16384 → v ≤ bound → faultOf Blocks bound v ≡ 0
+  pub blocks-legal : minBlocks ≤ v → v ≤ maxBlocks → v ≤ bound → faultOf Blocks bound v ≡ 0
   unfolding faultOf thenAbove
-  blocks-legal l h b = first-clear (range-outside 2 16384 8 v l h) (range-above bound 9 v b)
+  blocks-legal l h b = first-clear (range-outside minBlocks maxBlocks wrongBlocks v l h) (range-above bound blocksAbovePositions v b)
 
   pub measure-legal : 1 ≤ v → v ≤ bound → faultOf Measure bound v ≡ 0
   unfolding faultOf
-  measure-legal l h = range-outside 1 bound 10 v l h
+  measure-legal l h = range-outside 1 bound wrongMeasure v l h
 
-pub kind-legal : (bound : ℕ) → faultOf Kind bound 1 ≡ 0
+pub kind-legal : (bound : ℕ) → faultOf Kind bound cardKind ≡ 0
 unfolding faultOf
-kind-legal bound = range-outside 1 1 3 1 (omega arith) (omega arith)
+kind-legal bound = range-outside cardKind cardKind wrongKind cardKind (omega arith) (omega arith)
 
--- a legal record has at most 64 zones
-pub fault-zones : (f : Figures) → recordFault f ≡ 0 → f .zones ≤ 64
+-- a legal record has as many zones as its entries
+pub fault-zones : (f : Figures) → recordFault f ≡ 0 → f .zones ≤ maxZones
 unfolding recordFault
 fault-zones f e = zones-range 0 (f .zones) (first-none (faultOf Zones 0 (f .zones)) _ e .0) .1

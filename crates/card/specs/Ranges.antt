@@ -2,6 +2,8 @@
 use Prim.Native.Nat.{ℕ, zero, suc, _+_}
 use mathlib.Core.Bool.{cond}
 use lib.Dec.{leb}
+use Rattle.numbers.specs.Limits.{cardKind, maxNumber, maxZones, maxPositions, maxTime, minBlocks, maxBlocks}
+use Rattle.numbers.specs.Refusals.{wrongKind, wrongZones, wrongPositions, wrongTime, risingTime, wrongBlocks, blocksAbovePositions, wrongMeasure}
 use Rattle.card.specs.declared.fields.Rule.{Rule}
 use Rattle.card.specs.declared.fields.Rule.the-variants.{Kind, Zones, Positions, Time, Blocks, Measure}
 
@@ -26,9 +28,9 @@ thenAbove fault most k v = first fault (above most k v)
 -- the refusal of the value v of a figure, 0 where it is in range. The bound is the total of positions so far, the time of the
 -- zone before, P, or the greatest value of B, c, hop or return
 unfoldable pub faultOf : Rule → ℕ → ℕ → ℕ
-faultOf Kind bound v = outside 1 1 3 v
-faultOf Zones bound v = outside 1 64 4 v
-faultOf Positions total v = thenAbove (outside 1 4294967295 5 v) 1048576 5 (total + v)
-faultOf Time before v = thenAbove (outside 1 4000000 6 v) before 7 v
-faultOf Blocks total v = thenAbove (outside 2 16384 8 v) total 9 v
-faultOf Measure most v = outside 1 most 10 v
+faultOf Kind bound v = outside cardKind cardKind wrongKind v
+faultOf Zones bound v = outside 1 maxZones wrongZones v
+faultOf Positions total v = thenAbove (outside 1 maxNumber wrongPositions v) maxPositions wrongPositions (total + v)
+faultOf Time before v = thenAbove (outside 1 maxTime wrongTime v) before risingTime v
+faultOf Blocks total v = thenAbove (outside minBlocks maxBlocks wrongBlocks v) total blocksAbovePositions v
+faultOf Measure most v = outside 1 most wrongMeasure v

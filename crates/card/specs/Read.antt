@@ -4,6 +4,8 @@ use mathlib.Core.List.{List}
 use mathlib.Core.Bool.{cond}
 use lib.ListN.{length, set, replicate}
 use lib.Dec.{ltb}
+use Rattle.numbers.specs.Refusals.{cardEnds, numberForm, cardGoesOn}
+use Rattle.numbers.specs.Limits.{maxZones, maxTime, maxBytes, maxRate, maxMove}
 use Rattle.leb128.specs.declared.Number.{Number}
 use Rattle.leb128.specs.declared.Number.the-variants as number
 use Rattle.leb128.specs.Number.{numberAt}
@@ -27,8 +29,8 @@ onFault (suc k) at v next = Refused (suc k) at
 -- shortest form, over five bytes or above 4,294,967,295 is 2 with the number's offset
 unfoldable pub onNumber : (ℕ → ℕ) → ℕ → Number → Field
 onNumber judge at (number.Value v next) = onFault (judge v) at v next
-onNumber judge at (number.CutOff size) = Refused 1 size
-onNumber judge at (number.Malformed start) = Refused 2 start
+onNumber judge at (number.CutOff size) = Refused cardEnds size
+onNumber judge at (number.Malformed start) = Refused numberForm start
 
 -- the figure at an offset of the card s
 unfoldable pub fieldAt : Rule → ℕ → List ℕ → ℕ → Field
@@ -38,7 +40,7 @@ fieldAt rule bound s at = onNumber (faultOf rule bound) at (numberAt s at)
 
 -- the entries of a record's arrays, all zero
 unfoldable pub blankZones : List ℕ
-blankZones = replicate 64 0
+blankZones = replicate maxZones 0
 
 -- figures that are all zero
 unfoldable pub blankFigures : Figures
@@ -85,18 +87,18 @@ withFilm f n b c hop ret = record {
   back = ret;
 }
 
--- after the last figure no byte is left over (11)
+-- after the last figure no byte is left over
 unfoldable pub cardEnd : List ℕ → ℕ → Figures → CardRead
-cardEnd s at f = cond (ltb at (length s)) (refusedCard 11 at) (record { verdict = accepted; figures = f })
+cardEnd s at f = cond (ltb at (length s)) (refusedCard cardGoesOn at) (record { verdict = accepted; figures = f })
 
 -- the film's figures from an offset on: N, B, c, hop, return; total is P
 unfoldable pub filmFrom : List ℕ → ℕ → Figures → ℕ → CardRead
 filmFrom s at f total =
     thenField (fieldAt Blocks total s at) (λ n at₁.
-    thenField (fieldAt Measure 4194304 s at₁) (λ b at₂.
-    thenField (fieldAt Measure 10000000 s at₂) (λ c at₃.
-    thenField (fieldAt Measure 1000000 s at₃) (λ hop at₄.
-    thenField (fieldAt Measure 1000000 s at₄) (λ ret at₅.
+    thenField (fieldAt Measure maxBytes s at₁) (λ b at₂.
+    thenField (fieldAt Measure maxRate s at₂) (λ c at₃.
+    thenField (fieldAt Measure maxMove s at₃) (λ hop at₄.
+    thenField (fieldAt Measure maxMove s at₄) (λ ret at₅.
     cardEnd s at₅ (withFilm f n b c hop ret))))))
 
 -- `left` more zones from the i-th on, at an offset; total is the positions so far, before the time of the zone before
@@ -112,4 +114,4 @@ unfoldable pub readCard : List ℕ → CardRead
 readCard s =
     thenField (fieldAt Kind 0 s 0) (λ kind at₁.
     thenField (fieldAt Zones 0 s at₁) (λ z at₂.
-    zonesFrom z s at₂ 0 (withZones z) 0 4000000))
+    zonesFrom z s at₂ 0 (withZones z) 0 maxTime))

@@ -1,5 +1,22 @@
 // One figure of a card: its form, then its range.
 use leb128::Number;
+use numbers::limits::CARD_KIND;
+use numbers::limits::MAX_BLOCKS;
+use numbers::limits::MAX_NUMBER;
+use numbers::limits::MAX_POSITIONS;
+use numbers::limits::MAX_TIME;
+use numbers::limits::MAX_ZONES;
+use numbers::limits::MIN_BLOCKS;
+use numbers::refusals::BLOCKS_ABOVE_POSITIONS;
+use numbers::refusals::CARD_ENDS;
+use numbers::refusals::NUMBER_FORM;
+use numbers::refusals::RISING_TIME;
+use numbers::refusals::WRONG_BLOCKS;
+use numbers::refusals::WRONG_KIND;
+use numbers::refusals::WRONG_MEASURE;
+use numbers::refusals::WRONG_POSITIONS;
+use numbers::refusals::WRONG_TIME;
+use numbers::refusals::WRONG_ZONES;
 ghost use mathlib.Core.Path.{_≡_};
 ghost use Rattle.card.specs.Ranges.{outside, thenAbove, faultOf};
 ghost use Rattle.card.specs.Read.{fieldAt, onNumber, onFault};
@@ -57,17 +74,27 @@ pub fn fault(rule: Rule, bound: u32, v: u32) -> u32
     ensures { λ r. ⌜ r ≡ faultOf rule bound v ⌝ }
 {
     match rule {
-        Rule::Kind => outside(1, 1, 3, v),
-        Rule::Zones => outside(1, 64, 4, v),
+        Rule::Kind => outside(CARD_KIND, CARD_KIND, WRONG_KIND, v),
+        Rule::Zones => outside(1, MAX_ZONES, WRONG_ZONES, v),
         Rule::Positions => then_above(
-            outside(1, 4294967295, 5, v),
-            1048576,
-            5,
+            outside(1, MAX_NUMBER, WRONG_POSITIONS, v),
+            MAX_POSITIONS as u64,
+            WRONG_POSITIONS,
             bound as u64 + v as u64,
         ),
-        Rule::Time => then_above(outside(1, 4000000, 6, v), bound as u64, 7, v as u64),
-        Rule::Blocks => then_above(outside(2, 16384, 8, v), bound as u64, 9, v as u64),
-        Rule::Measure => outside(1, bound, 10, v),
+        Rule::Time => then_above(
+            outside(1, MAX_TIME, WRONG_TIME, v),
+            bound as u64,
+            RISING_TIME,
+            v as u64,
+        ),
+        Rule::Blocks => then_above(
+            outside(MIN_BLOCKS, MAX_BLOCKS, WRONG_BLOCKS, v),
+            bound as u64,
+            BLOCKS_ABOVE_POSITIONS,
+            v as u64,
+        ),
+        Rule::Measure => outside(1, bound, WRONG_MEASURE, v),
     }
 }
 
@@ -89,8 +116,8 @@ fn field_of(rule: Rule, bound: u32, at: usize, n: Number) -> Field
 {
     match n {
         Number::Value(v, next) => judged(rule, bound, v, at, next),
-        Number::CutOff(size) => Field::Refused(1, size),
-        Number::Malformed(start) => Field::Refused(2, start),
+        Number::CutOff(size) => Field::Refused(CARD_ENDS, size),
+        Number::Malformed(start) => Field::Refused(NUMBER_FORM, start),
     }
 }
 

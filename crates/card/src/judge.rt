@@ -2,10 +2,18 @@
 use crate::Figures;
 use crate::fields::Rule;
 use crate::fields::fault;
+use numbers::limits::MAX_BYTES;
+use numbers::limits::MAX_MOVE;
+use numbers::limits::MAX_RATE;
+use numbers::limits::MAX_TIME;
+use numbers::limits::MAX_ZONES;
+use numbers::refusals::WRONG_ZONES;
 ghost use mathlib.Core.Path.{_≡_};
 ghost use Prim.Native.Nat.{_≤_};
 ghost use mathlib.Core.Bool.{cond};
 ghost use lib.ListN.{length};
+ghost use Rattle.numbers.specs.Limits.{maxZones, maxTime};
+ghost use Rattle.numbers.specs.Refusals.{wrongZones};
 ghost use Rattle.card.specs.Card.{filmFault, zoneFaults, zerosFrom, recordFault};
 ghost use Rattle.card.specs.Read.{blankFigures, withFilm};
 
@@ -17,29 +25,29 @@ fn fault_of_film(total: u32, blocks: u32, bytes: u32, rate: u32, hop: u32, back:
     if few != 0 {
         return few;
     }
-    let small = fault(Rule::Measure, 4194304, bytes);
+    let small = fault(Rule::Measure, MAX_BYTES, bytes);
     if small != 0 {
         return small;
     }
-    let slow = fault(Rule::Measure, 10000000, rate);
+    let slow = fault(Rule::Measure, MAX_RATE, rate);
     if slow != 0 {
         return slow;
     }
-    let far = fault(Rule::Measure, 1000000, hop);
+    let far = fault(Rule::Measure, MAX_MOVE, hop);
     if far != 0 {
         return far;
     }
-    fault(Rule::Measure, 1000000, back)
+    fault(Rule::Measure, MAX_MOVE, back)
 }
 
 // Each zone's positions, then its time; then the film.
 fn fault_of_zones(figures: Figures) -> u32
-    requires { ⌜ figures .zones ≤ 64 ⌝ }
-    ensures { λ r. ⌜ r ≡ zoneFaults (figures .zones) 0 figures 0 4000000 ⌝ }
+    requires { ⌜ figures .zones ≤ maxZones ⌝ }
+    ensures { λ r. ⌜ r ≡ zoneFaults (figures .zones) 0 figures 0 maxTime ⌝ }
 {
     let zones = figures.zones as usize;
     let mut total: u32 = 0;
-    let mut before: u32 = 4000000;
+    let mut before: u32 = MAX_TIME;
     let mut i: usize = 0;
     while i < zones {
         let positions = figures.positions[i];
@@ -68,16 +76,16 @@ fn fault_of_zones(figures: Figures) -> u32
 
 // 4 where an entry past the zone count is not zero, else 0.
 fn fault_of_unused<'a>(zones: u32, positions: &'a [u32; 64], times: &'a [u32; 64]) -> u32
-    requires { ⌜ (zones ≤ 64) × (length (now positions) ≡ 64) × (length (now times) ≡ 64) ⌝ }
-    ensures { λ r. ⌜ r ≡ cond (zerosFrom zones (now (positions .entry)) (now (times .entry))) 0 4 ⌝ }
+    requires { ⌜ (zones ≤ maxZones) × (length (now positions) ≡ maxZones) × (length (now times) ≡ maxZones) ⌝ }
+    ensures { λ r. ⌜ r ≡ cond (zerosFrom zones (now (positions .entry)) (now (times .entry))) 0 wrongZones ⌝ }
 {
     let mut i = zones as usize;
-    while i < 64 {
+    while i < MAX_ZONES as usize {
         if positions[i] != 0 {
-            return 4;
+            return WRONG_ZONES;
         }
         if times[i] != 0 {
-            return 4;
+            return WRONG_ZONES;
         }
         i += 1;
     }

@@ -6,6 +6,8 @@ use mathlib.Core.List.{List}
 use native.Mathlib.Omega.{arith}
 use lib.ListN.{length}
 use borrow.Author.Tests.{lt-ltb, le-ltb}
+use Rattle.numbers.specs.Limits.{maxZones, maxPositions}
+use Rattle.numbers.specs.Refusals.{cardGoesOn}
 use Rattle.leb128.specs.declared.Number.{Number}
 use Rattle.leb128.specs.declared.Number.the-variants as number
 use Rattle.leb128.specs.Number.{numberAt}
@@ -32,7 +34,7 @@ module _ {F G : Field} (same : F ≡ G) where
   card-goes go e = ap (λ (x : Field). thenField x go) (sym e ∙ same)
 
 module _ (s : List ℕ) (at : ℕ) (f : Figures) where
-  pub end-left : at < length s → refusedCard 11 at ≡ cardEnd s at f
+  pub end-left : at < length s → refusedCard cardGoesOn at ≡ cardEnd s at f
   unfolding cardEnd
   end-left h = rw (lt-ltb _ _ h)
 
@@ -96,8 +98,8 @@ field-judged rule bound s at {v} {next} e h = go (numberAt s at) (sym e ∙ h)
     go (number.CutOff size) e = absurd (let z : _≡_ {A = ℕ} 0 1 = cc in omega arith)
     go (number.Malformed start) e = absurd (let z : _≡_ {A = ℕ} 0 1 = cc in omega arith)
 
-pub field-fits : (total : ℕ) (s : List ℕ) (at : ℕ) {v next : ℕ} {F : Field} → F ≡ fieldAt Positions total s at → F ≡ Value v next → total + v ≤ 1048576
+pub field-fits : (total : ℕ) (s : List ℕ) (at : ℕ) {v next : ℕ} {F : Field} → F ≡ fieldAt Positions total s at → F ≡ Value v next → total + v ≤ maxPositions
 field-fits total s at e h = positions-range total _ (field-judged Positions total s at e h) .1
 
-pub zones-bound : (bound : ℕ) (s : List ℕ) (at : ℕ) {v next : ℕ} {F : Field} → F ≡ fieldAt Zones bound s at → F ≡ Value v next → v ≤ 64
+pub zones-bound : (bound : ℕ) (s : List ℕ) (at : ℕ) {v next : ℕ} {F : Field} → F ≡ fieldAt Zones bound s at → F ≡ Value v next → v ≤ maxZones
 zones-bound bound s at e h = zones-range bound _ (field-judged Zones bound s at e h) .1

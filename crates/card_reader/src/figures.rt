@@ -5,8 +5,15 @@ use card::Verdict;
 use card::fields::Field;
 use card::fields::Rule;
 use card::fields::read_field;
+use numbers::limits::MAX_BYTES;
+use numbers::limits::MAX_MOVE;
+use numbers::limits::MAX_RATE;
+use numbers::limits::MAX_TIME;
+use numbers::refusals::ACCEPTED;
+use numbers::refusals::CARD_GOES_ON;
 ghost use mathlib.Core.Path.{_≡_};
 ghost use Prim.Native.Nat.{_≤_};
+ghost use Rattle.numbers.specs.Limits.{maxZones, maxTime};
 ghost use Rattle.card.specs.declared.Figures.{Figures};
 ghost use Rattle.card.specs.Read.{withZones, refusedCard, thenField, filmFrom, zonesFrom};
 ghost use Rattle.card_reader.specs.Film.{acceptedCard, cardWith};
@@ -47,7 +54,7 @@ fn accepted_card(figures: Figures) -> CardRead
 {
     CardRead {
         verdict: Verdict {
-            number: 0,
+            number: ACCEPTED,
             place: 0,
         },
         figures: figures,
@@ -88,37 +95,37 @@ fn read_film(card: &[u8], at: usize, total: u32) -> Film
     let Field::Value(blocks, at1) = first else {
         return refused_film(first);
     };
-    let second = read_field(card, at1, Rule::Measure, 4194304);
+    let second = read_field(card, at1, Rule::Measure, MAX_BYTES);
     let Field::Value(bytes, at2) = second else {
         return refused_film(second);
     };
-    let third = read_field(card, at2, Rule::Measure, 10000000);
+    let third = read_field(card, at2, Rule::Measure, MAX_RATE);
     let Field::Value(rate, at3) = third else {
         return refused_film(third);
     };
-    let fourth = read_field(card, at3, Rule::Measure, 1000000);
+    let fourth = read_field(card, at3, Rule::Measure, MAX_MOVE);
     let Field::Value(hop, at4) = fourth else {
         return refused_film(fourth);
     };
-    let fifth = read_field(card, at4, Rule::Measure, 1000000);
+    let fifth = read_field(card, at4, Rule::Measure, MAX_MOVE);
     let Field::Value(back, at5) = fifth else {
         return refused_film(fifth);
     };
     if at5 < card.len() {
-        return Film::Refused(11, at5);
+        return Film::Refused(CARD_GOES_ON, at5);
     }
     Film::Figures(blocks, bytes, rate, hop, back)
 }
 
 // The zones, innermost first, each its positions and its time; then the film.
 pub fn read_zones(card: &[u8], start: usize, zones: u32) -> CardRead
-    requires { ⌜ zones ≤ 64 ⌝ }
-    ensures { λ r. ⌜ r ≡ zonesFrom zones (now (card .entry)) start 0 (withZones zones) 0 4000000 ⌝ }
+    requires { ⌜ zones ≤ maxZones ⌝ }
+    ensures { λ r. ⌜ r ≡ zonesFrom zones (now (card .entry)) start 0 (withZones zones) 0 maxTime ⌝ }
 {
     let mut f = with_zones(zones);
     let mut at = start;
     let mut total: u32 = 0;
-    let mut before: u32 = 4000000;
+    let mut before: u32 = MAX_TIME;
     let mut i: usize = 0;
     while i < zones as usize {
         let first = read_field(card, at, Rule::Positions, total);

@@ -8,6 +8,7 @@ use native.Mathlib.Omega.{arith}
 use lib.ListN.{length, getD, length-append}
 use lib.Dec.{leb}
 use borrow.Author.Tests.{le-leb, lt-leb}
+use Rattle.numbers.specs.Refusals.{tooShort}
 use Rattle.card.specs.declared.Figures.{Figures}
 use Rattle.laws.specs.Overwrite.{overwrite, overwrite-none, overwrite-length, overwrite-more, overwrite-front}
 use Rattle.leb128.specs.Number.{groups, groupsFrom}
@@ -77,12 +78,12 @@ module _ (f : Figures) (out : List ℕ) where
   write-faulty {k} e n = by k e n
     where
       by : (k : ℕ) → k ≡ recordFault f → (k ≡ 0 → ⊥)
-          → (notWritten k ≡ writtenBy (first (recordFault f) (cond (leb (length (cardOf f)) (length out)) 0 13)) f) × (out ≡ bufferBy (first (recordFault f) (cond (leb (length (cardOf f)) (length out)) 0 13)) f out)
+          → (notWritten k ≡ writtenBy (first (recordFault f) (cond (leb (length (cardOf f)) (length out)) 0 tooShort)) f) × (out ≡ bufferBy (first (recordFault f) (cond (leb (length (cardOf f)) (length out)) 0 tooShort)) f out)
       by zero e n = absurd (n refl)
       by (suc k) e n = unfold first in (rw (sym e), rw (sym e))
 
   module _ (legal : recordFault f ≡ 0) where
-    pub write-short : length out < length (cardOf f) → (notWritten 13 ≡ writtenCard f out) × (out ≡ bufferAfter f out)
+    pub write-short : length out < length (cardOf f) → (notWritten tooShort ≡ writtenCard f out) × (out ≡ bufferAfter f out)
     unfolding writtenCard bufferAfter writeFault first
     write-short h = (rw (legal, lt-leb _ _ h), rw (legal, lt-leb _ _ h))
 

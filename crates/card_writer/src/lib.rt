@@ -1,10 +1,12 @@
 // The card's writer: figures to bytes in a lent buffer.
-mod numbers; // the numbers of a card, one after the other
+mod writing; // the numbers of a card, one after the other
 
 use card::CardWritten;
 use card::Figures;
 use card::Verdict;
 use card::judge::fault_of_record;
+use numbers::refusals::ACCEPTED;
+use numbers::refusals::TOO_SHORT;
 ghost use mathlib.Core.Path.{_≡_};
 ghost use Rattle.card.specs.Card.{writtenCard, bufferAfter};
 
@@ -14,16 +16,16 @@ pub fn write_card(figures: Figures, out: &mut [u8]) -> CardWritten
 {
     let number = fault_of_record(figures);
     if number != 0 {
-        return numbers::not_written(number);
+        return writing::not_written(number);
     }
-    let length = numbers::card_length(figures);
+    let length = writing::card_length(figures);
     if out.len() < length {
-        return numbers::not_written(13);
+        return writing::not_written(TOO_SHORT);
     }
-    numbers::write_numbers(figures, out);
+    writing::write_numbers(figures, out);
     CardWritten {
         verdict: Verdict {
-            number: 0,
+            number: ACCEPTED,
             place: 0,
         },
         length: length,

@@ -11,6 +11,7 @@ use lib.Arith.{digits-lt}
 use lib.ListN.{length, getD, set, take, drop, length-set}
 use lib.Seq.{set-split, take-suc-set, drop-set-lt, drop-drop}
 use borrow.Author.Tests.{lt-ltb, le-ltb, eq-eqb, ne-eqb}
+use Rattle.numbers.specs.Limits.{noNumber}
 use Rattle.leb128.specs.declared.Number.the-variants.{Value, CutOff, Malformed}
 use Rattle.leb128.specs.Number.{judged, scan, groupsFrom, groups}
 use Rattle.laws.specs.Overwrite.{overwrite}
@@ -21,19 +22,19 @@ module _ (start at b v : ℕ) (low : start ≤ at) where
   judged-zero n z = simp (lt-ltb 0 (at - start) (omega arith), eq-eqb _ _ z)
 
   -- the only group, or a last one that is not zero
-  pub judged-first : at ≡ start → v < 4294967296 → Value v (at + 1) ≡ judged start (at - start) b v
+  pub judged-first : at ≡ start → v < noNumber → Value v (at + 1) ≡ judged start (at - start) b v
   unfolding judged
   judged-first e h = let p : at + 1 ≡ start + (at - start) + 1 = omega arith in simp (le-ltb 0 (at - start) (omega arith), lt-ltb _ _ h) (ap (Value v) p)
 
-  pub judged-more : (at ≡ start → ⊥) → (b ≡ 0 → ⊥) → v < 4294967296 → Value v (at + 1) ≡ judged start (at - start) b v
+  pub judged-more : (at ≡ start → ⊥) → (b ≡ 0 → ⊥) → v < noNumber → Value v (at + 1) ≡ judged start (at - start) b v
   unfolding judged
   judged-more n z h = let p : at + 1 ≡ start + (at - start) + 1 = omega arith in simp (lt-ltb 0 (at - start) (omega arith), ne-eqb _ _ z, lt-ltb _ _ h) (ap (Value v) p)
 
-  pub judged-great-first : at ≡ start → 4294967296 ≤ v → Malformed start ≡ judged start (at - start) b v
+  pub judged-great-first : at ≡ start → noNumber ≤ v → Malformed start ≡ judged start (at - start) b v
   unfolding judged
   judged-great-first e h = simp (le-ltb 0 (at - start) (omega arith), le-ltb _ _ h)
 
-  pub judged-great-more : (at ≡ start → ⊥) → (b ≡ 0 → ⊥) → 4294967296 ≤ v → Malformed start ≡ judged start (at - start) b v
+  pub judged-great-more : (at ≡ start → ⊥) → (b ≡ 0 → ⊥) → noNumber ≤ v → Malformed start ≡ judged start (at - start) b v
   unfolding judged
   judged-great-more n z h = simp (lt-ltb 0 (at - start) (omega arith), ne-eqb _ _ z, le-ltb _ _ h)
 
@@ -111,7 +112,7 @@ pub record Counting (v rest count : ℕ) : Type 0 where
   pub small : rest < 128 ^ suc (5 - count)
   pub whole : count + length (groupsFrom (5 - count) rest) ≡ length (groups v) + 1
 
-pub count-start : (v : ℕ) → v < 4294967296 → Counting v v 1
+pub count-start : (v : ℕ) → v < noNumber → Counting v v 1
 unfolding groups
 count-start v h = record { low = omega arith; high = omega arith; small = omega arith; whole = omega arith }
 
@@ -135,7 +136,7 @@ pub record Writing (out₀ : List ℕ) (start v : ℕ) (out : List ℕ) (rest at
   pub whole : take at out ++ (groupsFrom (start + 4 - at) rest ++ drop (start + length (groups v)) out₀) ≡ overwrite out₀ start (groups v)
   pub later : drop at out ≡ drop at out₀
 
-pub write-start : (out : List ℕ) (start v : ℕ) → v < 4294967296 → Writing out start v out v start
+pub write-start : (out : List ℕ) (start v : ℕ) → v < noNumber → Writing out start v out v start
 unfolding groups overwrite
 write-start out start v h =
     let e : start + 4 - start ≡ 4 = omega arith in

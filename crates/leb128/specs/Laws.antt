@@ -11,6 +11,7 @@ use lib.Seq.{drop-append-seam, getD-drop, drop-drop, length-take-le}
 use lib.Dec.{leb, ltb, eqb, leb·suc-suc}
 use borrow.Author.Tests.{ltb-true, ltb-false, leb-false, lt-ltb, le-ltb, lt-leb, ne-eqb}
 use Rattle.laws.specs.Bools.{clash}
+use Rattle.numbers.specs.Limits.{noNumber}
 use Rattle.leb128.specs.declared.Number.{Number}
 use Rattle.leb128.specs.declared.Number.the-variants.{Value, CutOff, Malformed}
 use Rattle.leb128.specs.Number.{groupsFrom, groups, continuing, joined, judged, numberIn, numberAt, scan}
@@ -54,7 +55,7 @@ grouped (suc k) v post h = go (ltb v 128) refl (grouped k (v / 128) post (let e 
         lasts (suc m) g = g .last (omega arith)
 
 -- a number takes one to five bytes
-pub groups-long : (v : ℕ) → v < 4294967296 → (0 < length (groups v)) × (length (groups v) ≤ 5)
+pub groups-long : (v : ℕ) → v < noNumber → (0 < length (groups v)) × (length (groups v) ≤ 5)
 unfolding groups
 groups-long v h = go (grouped 4 v [] (omega arith))
   where
@@ -68,13 +69,13 @@ shortest : (k b : ℕ) → (0 < k → 0 < b) → (ltb 0 k && eqb b 0) ≡ false
 shortest zero b h = refl
 shortest (suc k) b h = rw (lt-ltb 0 (suc k) (omega arith)) (ne-eqb b 0 (λ e. omega (arith, h (omega arith))))
 
-value-of : (size start : ℕ) (bs : List ℕ) (k : ℕ) → k < 5 → k < length bs → (0 < k → 0 < getD bs k 0) → joined (take (suc k) bs) < 4294967296
+value-of : (size start : ℕ) (bs : List ℕ) (k : ℕ) → k < 5 → k < length bs → (0 < k → 0 < getD bs k 0) → joined (take (suc k) bs) < noNumber
     → numberIn size start bs k ≡ Value (joined (take (suc k) bs)) (start + k + 1)
 unfolding numberIn judged
 value-of size start bs k f l s v = simp (lt-leb _ _ f, lt-leb _ _ l, shortest k (getD bs k 0) s, lt-ltb _ _ v)
 
 -- WHAT IS WRITTEN IS READ BACK
-pub written-read : (pre post : List ℕ) (v : ℕ) → v < 4294967296 → numberAt (pre ++ (groups v ++ post)) (length pre) ≡ Value v (length pre + length (groups v))
+pub written-read : (pre post : List ℕ) (v : ℕ) → v < noNumber → numberAt (pre ++ (groups v ++ post)) (length pre) ≡ Value v (length pre + length (groups v))
 unfolding numberAt groups
 written-read pre post v h = rw drop-append-seam (go (grouped 4 v post (omega arith)))
   where
@@ -91,16 +92,16 @@ record Found (start v next : ℕ) (bs : List ℕ) (k : ℕ) : Type 0 where
   five : k < 5
   inside : k < length bs
   short : 0 < k → 0 < getD bs k 0
-  small : v < 4294967296
+  small : v < noNumber
   is : v ≡ joined (take (suc k) bs)
   after : next ≡ start + k + 1
 
 found : (size start v next : ℕ) (bs : List ℕ) (k : ℕ) → numberIn size start bs k ≡ Value v next → Found start v next bs k
 unfolding numberIn judged
-found size start v next bs k e = go (leb 5 k) refl (leb (length bs) k) refl (ltb 0 k && eqb (getD bs k 0) 0) refl (ltb (joined (take (suc k) bs)) 4294967296) refl e
+found size start v next bs k e = go (leb 5 k) refl (leb (length bs) k) refl (ltb 0 k && eqb (getD bs k 0) 0) refl (ltb (joined (take (suc k) bs)) noNumber) refl e
   where
     go : (a : Bool) → leb 5 k ≡ a → (b : Bool) → leb (length bs) k ≡ b → (c : Bool) → (ltb 0 k && eqb (getD bs k 0) 0) ≡ c
-        → (d : Bool) → ltb (joined (take (suc k) bs)) 4294967296 ≡ d
+        → (d : Bool) → ltb (joined (take (suc k) bs)) noNumber ≡ d
         → cond a (Malformed start) (cond b (CutOff size) (cond c (Malformed start) (cond d (Value (joined (take (suc k) bs)) (start + k + 1)) (Malformed start)))) ≡ Value v next
         → Found start v next bs k
     go true p b q c r d s e = absurd (let z : _≡_ {A = ℕ} 0 1 = cc in omega arith)
@@ -114,7 +115,7 @@ found size start v next bs k e = go (leb 5 k) refl (leb (length bs) k) refl (ltb
           five = leb-false 5 k p;
           inside = leb-false (length bs) k q;
           short = λ h. shorts (getD bs k 0) h r;
-          small = omega (arith, ltb-true (joined (take (suc k) bs)) 4294967296 s);
+          small = omega (arith, ltb-true (joined (take (suc k) bs)) noNumber s);
           is = sym is;
           after = sym after;
         }
@@ -173,7 +174,7 @@ regrouped (suc n) (b ∷ bs) y h l s = go (ltb b 128) refl h l s (regrouped n bs
 
 -- the number v stands at an offset of s, and next is the offset after it
 pub record Stands (s : List ℕ) (start v next : ℕ) : Type 0 where
-  pub small : v < 4294967296
+  pub small : v < noNumber
   pub after : next ≡ start + length (groups v)
   pub inside : next ≤ length s
   pub bytes : drop start s ≡ groups v ++ drop next s

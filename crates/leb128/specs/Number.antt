@@ -4,6 +4,7 @@ use mathlib.Core.List.{List, [], _∷_}
 use mathlib.Core.Bool.{cond, _&&_}
 use lib.ListN.{length, getD, take, drop}
 use lib.Dec.{leb, ltb, eqb}
+use Rattle.numbers.specs.Limits.{noNumber}
 use Rattle.leb128.specs.declared.Number.{Number}
 use Rattle.leb128.specs.declared.Number.the-variants.{Value, CutOff, Malformed}
 
@@ -31,7 +32,7 @@ joined (b ∷ bs) = b % 128 + 128 * joined bs
 unfoldable pub judged : ℕ → ℕ → ℕ → ℕ → Number
 judged start k last v =
     cond (ltb 0 k && eqb last 0) (Malformed start)
-    (cond (ltb v 4294967296) (Value v (start + k + 1)) (Malformed start))
+    (cond (ltb v noNumber) (Value v (start + k + 1)) (Malformed start))
 
 -- the number whose bytes are bs and what follows, of which k continue; `size` is the length of all the bytes
 unfoldable pub numberIn : ℕ → ℕ → List ℕ → ℕ → Number

@@ -1,4 +1,5 @@
 // One number of a card: groups of seven bits, lowest first, in the shortest form, at most five bytes and at most 4,294,967,295.
+use numbers::limits::NO_NUMBER;
 ghost use mathlib.Core.Path.{_≡_};
 ghost use Prim.Native.Nat.{_+_, _-_, _*_, _≤_, _<_, _^_};
 ghost use lib.ListN.{length};
@@ -26,7 +27,7 @@ fn last_group(start: usize, at: usize, sum: u64, weight: u64, b: u64) -> Number
         }
     }
     let value = sum + b * weight;
-    if value < 4294967296 {
+    if value < NO_NUMBER {
         Number::Value(value as u32, at + 1)
     } else {
         Number::Malformed(start)

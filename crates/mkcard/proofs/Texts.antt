@@ -10,6 +10,7 @@ use native.Mathlib.Nat.{pow-succ'}
 use lib.ListN.{length, getD, set, length-set}
 use lib.Seq.{getD-set-same, getD-set-other}
 use borrow.Author.Tests.{lt-ltb}
+use Rattle.numbers.specs.Limits.{noNumber}
 use Rattle.card.specs.Card.{bytesOf}
 use Rattle.mkcard.specs.declared.scan.Scan.{Scan}
 use Rattle.mkcard.specs.Scan.{capped, begun, ended, lineAfter, stepped, scanned, numbersFrom, cardOfWords, digits, textOf, Spelled, cardOfText}
@@ -29,7 +30,7 @@ abbrev after : Scan → ℕ → Scan
 after s v = record { line = s .line; comment = s .comment; inside = false; value = 0; count = s .count + 1; values = set (s .values) (s .count) v; lines = set (s .lines) (s .count) (s .line) }
 
 -- a digit more
-digit-step : (s : Scan) (v : ℕ) → s .comment ≡ false → s .value ≡ v / 10 → v < 4294967296 → stepped s (48 + v % 10) ≡ within s v
+digit-step : (s : Scan) (v : ℕ) → s .comment ≡ false → s .value ≡ v / 10 → v < noNumber → stepped s (48 + v % 10) ≡ within s v
 digit-step s v o q u =
     let d : v ≡ s .value * 10 + (48 + v % 10 - 48) = omega arith in
     sym (step-word s (48 + v % 10) (λ e. omega arith) o (λ e. omega arith) (blank-none (48 + v % 10) none) v (d ∙ grown-digit (s .value) (48 + v % 10) (omega arith) (omega arith) (omega arith)))
@@ -39,7 +40,7 @@ digit-step s v o q u =
     none (inr (inl e)) = omega arith
     none (inr (inr e)) = omega arith
 
-digits-read : (k v : ℕ) (s : Scan) → s .comment ≡ false → s .value ≡ 0 → v < 10 ^ suc k → v < 4294967296 → scanned s (digits (suc k) v) ≡ within s v
+digits-read : (k v : ℕ) (s : Scan) → s .comment ≡ false → s .value ≡ 0 → v < 10 ^ suc k → v < noNumber → scanned s (digits (suc k) v) ≡ within s v
 unfolding digits scanned
 digits-read zero v s o z h u = digit-step s v o (omega arith) u
 digits-read (suc k) v s o z h u =

@@ -4,6 +4,7 @@ use mathlib.Core.List.{List, [], _∷_, _++_}
 use mathlib.Core.Bool.{Bool, true, false, cond, _&&_, _||_}
 use lib.ListN.{length, getD, set, take, replicate}
 use lib.Dec.{leb, ltb, eqb}
+use Rattle.numbers.specs.Limits.{noNumber}
 use Rattle.card.specs.Card.{bytesOf}
 use Rattle.card.specs.Read.{readCard}
 use Rattle.mkcard.specs.declared.scan.Scan.{Scan}
@@ -15,11 +16,11 @@ begun = record { line = 1; comment = false; inside = false; value = 0; count = 0
 
 -- a number of 32 bits; 4,294,967,296 stands for every other
 unfoldable pub capped : ℕ → ℕ
-capped n = cond (ltb n 4294967296) n 4294967296
+capped n = cond (ltb n noNumber) n noNumber
 
 -- the value of a word with a byte more: a digit after the digits before it, or no number
 unfoldable pub grown : ℕ → ℕ → ℕ
-grown v b = cond (leb 48 b && leb b 57) (capped (v * 10 + (b - 48))) 4294967296
+grown v b = cond (leb 48 b && leb b 57) (capped (v * 10 + (b - 48))) noNumber
 
 -- a word ends: its value and its line are kept, if it is among the first 136
 unfoldable pub ended : Scan → Scan
@@ -100,7 +101,7 @@ textOf more (v ∷ vs) = digits (suc (more v)) v ++ (10 ∷ textOf more vs)
 -- the numbers have 32 bits, and enough digits
 unfoldable pub Spelled : (ℕ → ℕ) → List ℕ → Type 0
 Spelled more [] = Unit
-Spelled more (v ∷ vs) = (v < 4294967296) × (v < 10 ^ suc (more v)) × Spelled more vs
+Spelled more (v ∷ vs) = (v < noNumber) × (v < 10 ^ suc (more v)) × Spelled more vs
 
 -- THE CARD OF A TEXT, from its first byte to its last
 unfoldable pub cardOfText : List ℕ → List ℕ

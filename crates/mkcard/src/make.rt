@@ -1,8 +1,8 @@
 // The card of the words of a text.
-use crate::scan::NO_NUMBER;
 use crate::scan::Scan;
 use crate::scan::WORDS;
 use leb128::write_number;
+use numbers::limits::NO_NUMBER;
 ghost use mathlib.Core.Path.{_≡_};
 ghost use mathlib.Core.List.{List};
 ghost use Prim.Native.Nat.{ℕ, _+_, _≤_};

@@ -1,12 +1,10 @@
 // A text of figures, byte by byte: words between spaces, tabs, carriage returns and line feeds; `#` starts a comment that ends with its line.
+use numbers::limits::NO_NUMBER;
 ghost use mathlib.Core.Path.{_≡_};
 ghost use Rattle.mkcard.specs.Scan.{begun, grown, ended, stepped, scanned};
 
 // The most words that are kept. A card has at most 135 numbers, so one word more is left over, and words after that change no answer.
 pub const WORDS: usize = 136;
-
-// The value of a word that is no number of 32 bits.
-pub const NO_NUMBER: u64 = 4294967296;
 
 // What has been read of a text.
 pub struct Scan {
@@ -16,7 +14,7 @@ pub struct Scan {
     pub comment: bool,
     // In a word.
     pub inside: bool,
-    // The value of the word so far; 0 outside of words.
+    // The value of the word so far; 0 outside of words, NO_NUMBER where it is none.
     pub value: u64,
     // How many words are kept.
     pub count: usize,

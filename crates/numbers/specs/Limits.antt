@@ -1,6 +1,18 @@
 -- The limits of document 01's table of ranges, and of the desk.
 use Prim.Native.Nat.{ℕ}
 
+-- the kind of a card
+abbrev pub cardKind : ℕ
+cardKind = 1
+
+-- any number of a card
+abbrev pub maxNumber : ℕ
+maxNumber = 4294967295
+
+-- the least that is none
+abbrev pub noNumber : ℕ
+noNumber = 4294967296
+
 abbrev pub maxZones : ℕ
 maxZones = 64
 

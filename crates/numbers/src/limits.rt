@@ -1,4 +1,13 @@
 // The greatest and least figures of a card, and of a desk.
+// The kind of a card.
+pub const CARD_KIND: u32 = 1;
+
+// Any number of a card.
+pub const MAX_NUMBER: u32 = 4294967295;
+
+// The least that is none.
+pub const NO_NUMBER: u64 = 4294967296;
+
 pub const MAX_ZONES: u32 = 64;
 
 // P, the positions of all zones.

@@ -6,6 +6,7 @@ use mathlib.Core.Bool.{Bool, true, false, cond, _&&_}
 use mathlib.Core.List.{List, []}
 use lib.Dec.{ltb, eqb}
 use Rattle.laws.specs.Greatest.{greatestOf}
+use Rattle.numbers.specs.Refusals.{noSuchBlock}
 
 -- A names what a slot reads next: in document 01 the number of a block
 pub record Film (A : Type 0) : Type 0 where
@@ -67,7 +68,7 @@ once N time place = record {
   none = 0;
   isNone = λ b. eqb b 0;
   isBlock = λ b. ltb b N;
-  fault = λ b. cond (ltb b N) 0 18;
+  fault = λ b. cond (ltb b N) 0 noSuchBlock;
   isEnd = λ b. eqb b N;
   next = suc;
   number = λ b. b;

@@ -6,6 +6,8 @@ use mathlib.Core.Logic.{by-cases}
 use native.Mathlib.Omega.{arith}
 use native.Mathlib.Decide.{decLt}
 use Rattle.laws.specs.Greatest.{greatestOf, greatestOf-above, greatestOf-least, greatestOf-reached}
+use Rattle.numbers.specs.Units.{parts}
+use Rattle.numbers.specs.Limits.{maxStreams}
 use Rattle.placement.specs.Placement.{place, Laying, Falling, worstTime}
 use Rattle.placement.specs.Best.{placement-best}
 use Rattle.placement.specs.Quick.{slowest-quick}
@@ -74,6 +76,6 @@ margin-quick P N np some τ falls = rw (slowest-quick P N np τ falls some)
 
 -- of any laying 'with [its worst time] in place of worst2 no number above n in the range of streams meets the formula of streams'
 pub no-laying-feeds-more : (P N : ℕ) → N ≤ P → (τ : ℕ → ℕ) → Falling P τ → (l : ℕ → ℕ) → Laying P N l
-    → (c : ℕ) (over : ℕ → ℕ) (B n : ℕ) → streams c (worstTime τ (place P N) N) over B < n → n ≤ 256 → 2000000 * B < load c (worstTime τ l N) over n
+    → (c : ℕ) (over : ℕ → ℕ) (B n : ℕ) → streams c (worstTime τ (place P N) N) over B < n → n ≤ maxStreams → parts * B < load c (worstTime τ l N) over n
 no-laying-feeds-more P N np τ falls l lay c over B n m u =
     streams-best c (worstTime τ (place P N) N) over B (worstTime τ l N) n (placement-best P N np τ falls l lay) m u

@@ -9,6 +9,8 @@ use native.Mathlib.Decide.{decLt}
 use lib.Dec.{leb}
 use borrow.Author.Tests.{leb-true, leb-false, le-leb, lt-leb}
 use Rattle.laws.specs.Greatest.{greatest, greatest-le, greatest-above, greatest-fits, greatest-hit, greatest-down}
+use Rattle.numbers.specs.Units.{parts, wholeBytes}
+use Rattle.numbers.specs.Limits.{maxStreams}
 
 -- the overhead of a sweep that fetches k blocks: 'count × hop, plus return'. All else knows only that it never falls
 unfoldable pub overhead : ℕ → ℕ → ℕ → ℕ
@@ -24,37 +26,37 @@ load c w over n = c * (n * w + 2 * over n)
 
 -- n meets the formula of streams
 abbrev pub fits : ℕ → ℕ → (ℕ → ℕ) → ℕ → ℕ → Bool
-fits c w over B n = leb (load c w over n) (2000000 * B)
+fits c w over B n = leb (load c w over n) (parts * B)
 
 -- streams: 'the greatest whole number from 1 to 256, called n', that meets the formula; 0 where none does
 unfoldable pub streams : ℕ → ℕ → (ℕ → ℕ) → ℕ → ℕ
-streams c w over B = greatest (fits c w over B) 256
+streams c w over B = greatest (fits c w over B) maxStreams
 
 -- buffer: '3 × B plus c × n × margin / 2,000,000 rounded up, in bytes'
 unfoldable pub bufferOf : ℕ → ℕ → ℕ → ℕ → ℕ
-bufferOf c n margin B = 3 * B + (c * n * margin + 1999999) / 2000000
+bufferOf c n margin B = 3 * B + wholeBytes (c * n * margin)
 
 -- ---- what streams is
 
 module _ (c w : ℕ) (over : ℕ → ℕ) (B : ℕ) where
-  pub streams-le : streams c w over B ≤ 256
+  pub streams-le : streams c w over B ≤ maxStreams
   unfolding streams
-  streams-le = greatest-le (fits c w over B) 256
+  streams-le = greatest-le (fits c w over B) maxStreams
 
   -- it meets the formula
-  pub streams-fits : 0 < streams c w over B → load c w over (streams c w over B) ≤ 2000000 * B
+  pub streams-fits : 0 < streams c w over B → load c w over (streams c w over B) ≤ parts * B
   unfolding streams
-  streams-fits h = leb-true (load c w over (streams c w over B)) (2000000 * B) (greatest-fits (fits c w over B) 256 h)
+  streams-fits h = leb-true (load c w over (streams c w over B)) (parts * B) (greatest-fits (fits c w over B) maxStreams h)
 
   -- no number above it does, even with a greater worst time
-  pub streams-best : (w′ n : ℕ) → w ≤ w′ → streams c w over B < n → n ≤ 256 → 2000000 * B < load c w′ over n
+  pub streams-best : (w′ n : ℕ) → w ≤ w′ → streams c w over B < n → n ≤ maxStreams → parts * B < load c w′ over n
   unfolding streams load
   streams-best w′ n l m u =
-      omega (arith, leb-false (load c w over n) (2000000 * B) (greatest-above (fits c w over B) 256 n m u), mul-le-mul-left c (mul-le-mul-left n l))
+      omega (arith, leb-false (load c w over n) (parts * B) (greatest-above (fits c w over B) maxStreams n m u), mul-le-mul-left c (mul-le-mul-left n l))
 
   -- and no other number has both
-  pub streams-only : (n : ℕ) → 0 < n → n ≤ 256 → load c w over n ≤ 2000000 * B
-      → ((k : ℕ) → n < k → k ≤ 256 → 2000000 * B < load c w over k) → n ≡ streams c w over B
+  pub streams-only : (n : ℕ) → 0 < n → n ≤ maxStreams → load c w over n ≤ parts * B
+      → ((k : ℕ) → n < k → k ≤ maxStreams → parts * B < load c w over k) → n ≡ streams c w over B
   streams-only n p u l above = go (decLt (streams c w over B) n) (decLt n (streams c w over B))
     where
       go : Dec (streams c w over B < n) → Dec (n < streams c w over B) → n ≡ streams c w over B
@@ -68,7 +70,7 @@ unfolding load
 load-rises c w over rises j k h = omega (arith, mul-le-mul-left c (mul-le-mul-right w h), mul-le-mul-left c (rises j k h))
 
 -- where one stream does not fit, no number does: 'not even one stream fits'
-pub streams-none : (c w : ℕ) (over : ℕ → ℕ) (B : ℕ) → ((j k : ℕ) → j ≤ k → over j ≤ over k) → 2000000 * B < load c w over 1 → streams c w over B ≡ 0
+pub streams-none : (c w : ℕ) (over : ℕ → ℕ) (B : ℕ) → ((j k : ℕ) → j ≤ k → over j ≤ over k) → parts * B < load c w over 1 → streams c w over B ≡ 0
 streams-none c w over B rises h = go (decLt 0 (streams c w over B))
   where
     go : Dec (0 < streams c w over B) → streams c w over B ≡ 0
@@ -83,19 +85,19 @@ tried c w over B n = greatest (fits c w over B) n
 
 module _ (c w : ℕ) (over : ℕ → ℕ) (B : ℕ) where
   -- the start
-  pub tried-all : tried c w over B 256 ≡ streams c w over B
+  pub tried-all : tried c w over B maxStreams ≡ streams c w over B
   unfolding tried streams
   tried-all = refl
 
   -- the first that fits
-  pub tried-hit : (n : ℕ) → 0 < n → load c w over n ≤ 2000000 * B → tried c w over B n ≡ n
+  pub tried-hit : (n : ℕ) → 0 < n → load c w over n ≤ parts * B → tried c w over B n ≡ n
   unfolding tried
-  tried-hit n p l = greatest-hit (fits c w over B) n p (le-leb (load c w over n) (2000000 * B) l)
+  tried-hit n p l = greatest-hit (fits c w over B) n p (le-leb (load c w over n) (parts * B) l)
 
   -- one turn
-  pub tried-down : (n : ℕ) → 0 < n → 2000000 * B < load c w over n → tried c w over B n ≡ tried c w over B (n - 1)
+  pub tried-down : (n : ℕ) → 0 < n → parts * B < load c w over n → tried c w over B n ≡ tried c w over B (n - 1)
   unfolding tried
-  tried-down n p l = greatest-down (fits c w over B) n p (lt-leb (load c w over n) (2000000 * B) l)
+  tried-down n p l = greatest-down (fits c w over B) n p (lt-leb (load c w over n) (parts * B) l)
 
   -- no number is left
   pub tried-none : (n : ℕ) → n ≡ 0 → tried c w over B n ≡ 0
@@ -106,11 +108,11 @@ module _ (c w : ℕ) (over : ℕ → ℕ) (B : ℕ) where
 
 module _ (c w : ℕ) (over : ℕ → ℕ) (B n margin : ℕ) where
   -- the margins of n streams cost at most a block, in two-millionths of a byte
-  pub margin-cost : margin ≤ w → load c w over n ≤ 2000000 * B → c * n * margin ≤ 2000000 * B
+  pub margin-cost : margin ≤ w → load c w over n ≤ parts * B → c * n * margin ≤ parts * B
   unfolding load
   margin-cost h l = omega (arith, mul-le-mul-left (c * n) h)
 
   -- so the buffer is at most four blocks
-  pub buffer-bound : margin ≤ w → load c w over n ≤ 2000000 * B → bufferOf c n margin B ≤ 4 * B
+  pub buffer-bound : margin ≤ w → load c w over n ≤ parts * B → bufferOf c n margin B ≤ 4 * B
   unfolding bufferOf
   buffer-bound h l = omega (arith, margin-cost h l)

@@ -1,6 +1,7 @@
 pub mod Answer
 pub mod Check
 pub mod Cursors
+pub mod Greatest
 pub mod Legal
 pub mod Plan
 pub mod Promise

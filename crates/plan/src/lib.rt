@@ -8,7 +8,9 @@ ghost use Rattle.card.specs.declared.Figures.{Figures};
 ghost use Rattle.card.specs.Card.{Legal, totalPositions};
 ghost use Rattle.placement.specs.Placement.{Laying, worstTime};
 ghost use Rattle.pacing.specs.Streams.{load};
-ghost use Rattle.plan.specs.Plan.{timeOn, placeOf, worst2Of, overOf, streamsOf, blankPlan};
+ghost use Rattle.plan.specs.Plan.{timeOn, placeOf, worst2Of, overOf, streamsOf, leadOf, blankPlan};
+ghost use Rattle.plan.specs.Answer.{planFault};
+ghost use Rattle.plan.specs.Greatest.{GreatestRun, MostStreams, TooMany};
 ghost use Rattle.plan.specs.Promise.{LeadLaws, Promise};
 
 // A plan; all zero where there is none.
@@ -73,4 +75,19 @@ pub fn placement_best()
 pub fn lead_promise()
     ensures leads { λ _. ⌜ ((f : Figures) → Legal f → LeadLaws f) ⌝ }
     ensures all { λ _. ⌜ ((f : Figures) → Legal f → 0 < streamsOf f → Promise f) ⌝ }
+{}
+
+// A lead is the greatest sum over the runs from its block, the empty run included, and no other number is. For every film, N and block.
+pub fn lead_is_the_greatest()
+    ensures greatest { λ _. ⌜ ((f : Figures) (b : ℕ) → b ≤ f .blocks → GreatestRun f b (leadOf f b)) ⌝ }
+    ensures only { λ _. ⌜ ((f : Figures) (b m : ℕ) → b ≤ f .blocks → GreatestRun f b m → m ≡ leadOf f b) ⌝ }
+{}
+
+// The streams of a plan are the greatest whole number from 1 to 256 that meets the formula, and no other number is. 12 is answered only
+// where no number meets it, and where the lists have room always if not even 1 does.
+pub fn streams_are_the_most()
+    ensures most { λ _. ⌜ ((f : Figures) → 0 < streamsOf f → MostStreams f (streamsOf f)) ⌝ }
+    ensures only { λ _. ⌜ ((f : Figures) (n : ℕ) → MostStreams f n → n ≡ streamsOf f) ⌝ }
+    ensures none { λ _. ⌜ ((f : Figures) (np nl : ℕ) → planFault f np nl ≡ 12 → (n : ℕ) → 1 ≤ n → n ≤ 256 → TooMany f n) ⌝ }
+    ensures one { λ _. ⌜ ((f : Figures) (np nl : ℕ) → f .blocks ≤ np → f .blocks ≤ nl → TooMany f 1 → planFault f np nl ≡ 12) ⌝ }
 {}

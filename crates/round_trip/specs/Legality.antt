@@ -13,6 +13,7 @@ use lib.Dec.{eqb}
 use borrow.Author.Tests.{eqb-true, eq-eqb}
 use Rattle.laws.specs.Bools.{and-left, and-right, and-both}
 use Rattle.laws.specs.Runs.{allBy, all-at, sumBy}
+use Rattle.numbers.specs.Limits.{maxZones, maxPositions, maxTime, minBlocks, maxBlocks, maxBytes, maxRate, maxMove}
 use Rattle.card.specs.declared.Figures.{Figures}
 use Rattle.card.specs.declared.Verdict.{Verdict}
 use Rattle.card.specs.declared.fields.Rule.the-variants.{Zones, Positions, Time, Blocks, Measure}
@@ -23,44 +24,44 @@ use Rattle.card.specs.Laws.{first-none, first-clear, zones-range, positions-ran
 
 -- a record has 64 zone entries
 abbrev pub Wide : Figures → Type 0
-Wide f = (length (f .positions) ≡ 64) × (length (f .times) ≡ 64)
+Wide f = (length (f .positions) ≡ maxZones) × (length (f .times) ≡ maxZones)
 
 -- ---- the film
 
 -- N, B, c, hop and return in their ranges, total being P
 pub record FilmLegal (f : Figures) (total : ℕ) : Type 0 where
-  pub blocks : (2 ≤ f .blocks) × (f .blocks ≤ 16384)
+  pub blocks : (minBlocks ≤ f .blocks) × (f .blocks ≤ maxBlocks)
   pub room : f .blocks ≤ total
-  pub bytes : (1 ≤ f .bytes) × (f .bytes ≤ 4194304)
-  pub rate : (1 ≤ f .rate) × (f .rate ≤ 10000000)
-  pub hop : (1 ≤ f .hop) × (f .hop ≤ 1000000)
-  pub back : (1 ≤ f .back) × (f .back ≤ 1000000)
+  pub bytes : (1 ≤ f .bytes) × (f .bytes ≤ maxBytes)
+  pub rate : (1 ≤ f .rate) × (f .rate ≤ maxRate)
+  pub hop : (1 ≤ f .hop) × (f .hop ≤ maxMove)
+  pub back : (1 ≤ f .back) × (f .back ≤ maxMove)
 
 -- a film that is not refused is legal, and back
 pub fault-film : (f : Figures) (total : ℕ) → filmFault f total ≡ 0 → FilmLegal f total
 unfolding filmFault
 fault-film f total e =
     let n = first-none (faultOf Blocks total (f .blocks)) _ e in
-    let b = first-none (faultOf Measure 4194304 (f .bytes)) _ (n .1) in
-    let c = first-none (faultOf Measure 10000000 (f .rate)) _ (b .1) in
-    let h = first-none (faultOf Measure 1000000 (f .hop)) _ (c .1) in
+    let b = first-none (faultOf Measure maxBytes (f .bytes)) _ (n .1) in
+    let c = first-none (faultOf Measure maxRate (f .rate)) _ (b .1) in
+    let h = first-none (faultOf Measure maxMove (f .hop)) _ (c .1) in
     let blocks = blocks-range total (f .blocks) (n .0) in
     record {
       blocks = (blocks .0, blocks .1);
       room = blocks .2;
-      bytes = measure-range 4194304 (f .bytes) (b .0);
-      rate = measure-range 10000000 (f .rate) (c .0);
-      hop = measure-range 1000000 (f .hop) (h .0);
-      back = measure-range 1000000 (f .back) (h .1);
+      bytes = measure-range maxBytes (f .bytes) (b .0);
+      rate = measure-range maxRate (f .rate) (c .0);
+      hop = measure-range maxMove (f .hop) (h .0);
+      back = measure-range maxMove (f .back) (h .1);
     }
 
 film-fault : (f : Figures) (total : ℕ) → FilmLegal f total → filmFault f total ≡ 0
 unfolding filmFault
 film-fault f total l =
     first-clear (blocks-legal total (f .blocks) (l .blocks .0) (l .blocks .1) (l .room))
-    (first-clear (measure-legal 4194304 (f .bytes) (l .bytes .0) (l .bytes .1))
-    (first-clear (measure-legal 10000000 (f .rate) (l .rate .0) (l .rate .1))
-    (first-clear (measure-legal 1000000 (f .hop) (l .hop .0) (l .hop .1)) (measure-legal 1000000 (f .back) (l .back .0) (l .back .1)))))
+    (first-clear (measure-legal maxBytes (f .bytes) (l .bytes .0) (l .bytes .1))
+    (first-clear (measure-legal maxRate (f .rate) (l .rate .0) (l .rate .1))
+    (first-clear (measure-legal maxMove (f .hop) (l .hop .0) (l .hop .1)) (measure-legal maxMove (f .back) (l .back .0) (l .back .1)))))
 
 -- ---- the zones
 
@@ -80,10 +81,10 @@ sum-here left i f h = let e : i + 1 ≡ suc i = omega arith in rw (drop-cons (f 
 -- `left` zones from the i-th on and the film are legal, after zones of `total` positions of which the last has the time `before`
 record ZonesLegal (left i : ℕ) (f : Figures) (total before : ℕ) : Type 0 where
   positions : (j : ℕ) → i ≤ j → j < i + left → 1 ≤ getD (f .positions) j 0
-  times : (j : ℕ) → i ≤ j → j < i + left → (1 ≤ getD (f .times) j 0) × (getD (f .times) j 0 ≤ 4000000)
+  times : (j : ℕ) → i ≤ j → j < i + left → (1 ≤ getD (f .times) j 0) × (getD (f .times) j 0 ≤ maxTime)
   start : 0 < left → getD (f .times) i 0 ≤ before
   falling : (j : ℕ) → i ≤ j → suc j < i + left → getD (f .times) (suc j) 0 ≤ getD (f .times) j 0
-  sum : total + sumFrom left i f ≤ 1048576
+  sum : total + sumFrom left i f ≤ maxPositions
   film : FilmLegal f (total + sumFrom left i f)
 
 -- a fact at the i-th place and from the next on is a fact from the i-th on
@@ -91,7 +92,7 @@ from-here : (P : ℕ → Type 0) (i left : ℕ) → P i → ((j : ℕ) → i + 1
 from-here P i left here later j l h = by-cases (ℕ-discrete i j) (λ e. subst P e here) (λ n. later j (omega arith) (omega arith))
 
 -- zones that are not refused are legal
-fault-zones-legal : (left i : ℕ) (f : Figures) (total before : ℕ) → i + left ≤ length (f .positions) → total ≤ 1048576
+fault-zones-legal : (left i : ℕ) (f : Figures) (total before : ℕ) → i + left ≤ length (f .positions) → total ≤ maxPositions
     → zoneFaults left i f total before ≡ 0 → ZonesLegal left i f total before
 unfolding zoneFaults
 fault-zones-legal zero i f total before w t e =
@@ -114,7 +115,7 @@ fault-zones-legal (suc left) i f total before w t e =
     let sum : total + sumFrom (suc left) i f ≡ total + getD (f .positions) i 0 + sumFrom left (i + 1) f = omega (arith, sum-here left i f (omega arith)) in
     record {
       positions = from-here (λ j. 1 ≤ getD (f .positions) j 0) i left (few .0) (later .positions);
-      times = from-here (λ j. (1 ≤ getD (f .times) j 0) × (getD (f .times) j 0 ≤ 4000000)) i left (slow .0, slow .1) (later .times);
+      times = from-here (λ j. (1 ≤ getD (f .times) j 0) × (getD (f .times) j 0 ≤ maxTime)) i left (slow .0, slow .1) (later .times);
       start = λ h. slow .2;
       falling = λ j l h. by-cases (ℕ-discrete i j)
           (λ n. subst (λ (k : ℕ). getD (f .times) (suc k) 0 ≤ getD (f .times) k 0) n (rw (sym next) (later .start (omega arith))))
@@ -183,9 +184,9 @@ clear false e = absurd (omega arith)
 
 -- what the judge of a record looks at, one by one
 pub record Judged (f : Figures) : Type 0 where
-  pub zones : (1 ≤ f .zones) × (f .zones ≤ 64)
+  pub zones : (1 ≤ f .zones) × (f .zones ≤ maxZones)
   pub unused : Unused f
-  pub faults : zoneFaults (f .zones) 0 f 0 4000000 ≡ 0
+  pub faults : zoneFaults (f .zones) 0 f 0 maxTime ≡ 0
 
 -- a record without a fault has none of these, and back
 pub fault-judged : (f : Figures) → recordFault f ≡ 0 → Judged f
@@ -215,7 +216,7 @@ sum-total f = omega arith
 pub fault-legal : (f : Figures) → Wide f → recordFault f ≡ 0 → Legal f
 fault-legal f w e =
     let j = fault-judged f e in
-    let l = fault-zones-legal (f .zones) 0 f 0 4000000 (omega (arith, j .zones)) (omega arith) (j .faults) in
+    let l = fault-zones-legal (f .zones) 0 f 0 maxTime (omega (arith, j .zones)) (omega arith) (j .faults) in
     record {
       wide = w;
       zones = j .zones;
@@ -243,7 +244,7 @@ legal-fault f l =
       hop = l .hop;
       back = l .back;
     } in
-    let zones : ZonesLegal (f .zones) 0 f 0 4000000 = record {
+    let zones : ZonesLegal (f .zones) 0 f 0 maxTime = record {
       positions = λ j m h. l .positions j (omega arith);
       times = λ j m h. l .times j (omega arith);
       start = λ h. l .times 0 h .1;
@@ -251,7 +252,7 @@ legal-fault f l =
       sum = omega (arith, l .total, sum-total f);
       film = film;
     } in
-    judged-fault f (record { zones = l .zones; unused = l .unused; faults = zones-legal-fault (f .zones) 0 f 0 4000000 (omega (arith, l .zones, l .wide)) zones })
+    judged-fault f (record { zones = l .zones; unused = l .unused; faults = zones-legal-fault (f .zones) 0 f 0 maxTime (omega (arith, l .zones, l .wide)) zones })
 
 -- THE JUDGE ACCEPTS EXACTLY THE LEGAL FIGURES
 pub judge-legal : (f : Figures) → Wide f → ((judgeRecord f ≡ accepted) ↔ Legal f) × ((recordFault f ≡ 0) ↔ Legal f)

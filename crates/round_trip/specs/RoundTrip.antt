@@ -11,6 +11,8 @@ use lib.Seq.{length-take-le, drop-append-seam, drop-drop}
 use lib.Dec.{leb, ltb}
 use borrow.Author.Tests.{ltb-false, le-ltb, le-leb}
 use Rattle.laws.specs.Each.{zero-at}
+use Rattle.numbers.specs.Limits.{cardKind, noNumber, maxZones, maxTime, maxBytes, maxRate, maxMove}
+use Rattle.numbers.specs.Refusals.{cardGoesOn}
 use Rattle.leb128.specs.declared.Number.{Number}
 use Rattle.leb128.specs.declared.Number.the-variants as number
 use Rattle.leb128.specs.Number.{groups, numberAt}
@@ -45,7 +47,7 @@ module _ {s : List ℕ} {at v : ℕ} {vs : List ℕ} (a : Ahead s at (v ∷ vs))
   }
 
   -- the first number is what the reader finds
-  number-ahead : v < 4294967296 → numberAt s at ≡ number.Value v (at + length (groups v))
+  number-ahead : v < noNumber → numberAt s at ≡ number.Value v (at + length (groups v))
   unfolding bytesOf
   number-ahead h =
       let front : length (take at s) ≡ at = length-take-le at s (a .inside) in
@@ -53,7 +55,7 @@ module _ {s : List ℕ} {at v : ℕ} {vs : List ℕ} (a : Ahead s at (v ∷ vs))
       rw front at (rw whole at (written-read (take at s) (bytesOf vs) v h))
 
   -- a figure in its range is read, and the card goes on
-  field-goes : (rule : Rule) (bound : ℕ) (go : ℕ → ℕ → CardRead) → v < 4294967296 → faultOf rule bound v ≡ 0
+  field-goes : (rule : Rule) (bound : ℕ) (go : ℕ → ℕ → CardRead) → v < noNumber → faultOf rule bound v ≡ 0
       → thenField (fieldAt rule bound s at) go ≡ go v (at + length (groups v))
   unfolding fieldAt onNumber onFault thenField
   field-goes rule bound go h e = rw (number-ahead h, e)
@@ -70,18 +72,18 @@ unfolding filmFrom filmNumbers filmFault
 film-goes s at f g total a e =
     let l = fault-film f total e in
     let n = first-none (faultOf Blocks total (f .blocks)) _ e in
-    let b = first-none (faultOf Measure 4194304 (f .bytes)) _ (n .1) in
-    let c = first-none (faultOf Measure 10000000 (f .rate)) _ (b .1) in
-    let h = first-none (faultOf Measure 1000000 (f .hop)) _ (c .1) in
+    let b = first-none (faultOf Measure maxBytes (f .bytes)) _ (n .1) in
+    let c = first-none (faultOf Measure maxRate (f .rate)) _ (b .1) in
+    let h = first-none (faultOf Measure maxMove (f .hop)) _ (c .1) in
     let a₁ = ahead-next a in
     let a₂ = ahead-next a₁ in
     let a₃ = ahead-next a₂ in
     let a₄ = ahead-next a₃ in
     field-goes a Blocks total _ (omega (arith, l .blocks)) (n .0)
-    ∙ field-goes a₁ Measure 4194304 _ (omega (arith, l .bytes)) (b .0)
-    ∙ field-goes a₂ Measure 10000000 _ (omega (arith, l .rate)) (c .0)
-    ∙ field-goes a₃ Measure 1000000 _ (omega (arith, l .hop)) (h .0)
-    ∙ field-goes a₄ Measure 1000000 _ (omega (arith, l .back)) (h .1)
+    ∙ field-goes a₁ Measure maxBytes _ (omega (arith, l .bytes)) (b .0)
+    ∙ field-goes a₂ Measure maxRate _ (omega (arith, l .rate)) (c .0)
+    ∙ field-goes a₃ Measure maxMove _ (omega (arith, l .hop)) (h .0)
+    ∙ field-goes a₄ Measure maxMove _ (omega (arith, l .back)) (h .1)
     ∙ end-goes s _ _ (ahead-next a₄)
 
 -- g has the zone count of f, and its entries but for `left` from the i-th on
@@ -91,7 +93,7 @@ record Filled (i left : ℕ) (g f : Figures) : Type 0 where
   times : Agree i left (g .times) (f .times)
 
 -- the zones from the i-th on are read, then the film
-zones-go : (s : List ℕ) (f : Figures) → Wide f → (left at i : ℕ) (g : Figures) (total before : ℕ) → i + left ≤ 64 → Filled i left g f
+zones-go : (s : List ℕ) (f : Figures) → Wide f → (left at i : ℕ) (g : Figures) (total before : ℕ) → i + left ≤ maxZones → Filled i left g f
     → Ahead s at (zoneNumbers left i f) → zoneFaults left i f total before ≡ 0 → zonesFrom left s at i g total before ≡ record { verdict = accepted; figures = f }
 unfolding zonesFrom zoneNumbers zoneFaults
 zones-go s f w zero at i g total before b u a e = film-goes s at f g total a e ∙ (λ t. record { verdict = accepted; figures = full t })
@@ -124,9 +126,9 @@ zones-go s f w (suc left) at i g total before b u a e =
 -- the entries of a record before any is read
 blank-at : (i : ℕ) → getD blankZones i 0 ≡ 0
 unfolding blankZones
-blank-at i = zero-at 64 i
+blank-at i = zero-at maxZones i
 
-blank-long : length blankZones ≡ 64
+blank-long : length blankZones ≡ maxZones
 unfolding blankZones
 blank-long = refl
 
@@ -143,7 +145,7 @@ card-read f w e =
     } in
     field-goes a Kind 0 _ (omega arith) (kind-legal 0)
     ∙ field-goes (ahead-next a) Zones 0 _ (omega (arith, j .zones)) (zones-legal 0 (f .zones) (j .zones .0) (j .zones .1))
-    ∙ zones-go (cardOf f) f w (f .zones) _ 0 _ 0 4000000 (omega (arith, j .zones)) u (ahead-next (ahead-next a)) (j .faults)
+    ∙ zones-go (cardOf f) f w (f .zones) _ 0 _ 0 maxTime (omega (arith, j .zones)) u (ahead-next (ahead-next a)) (j .faults)
 
 -- ---- what is accepted is what would be written
 
@@ -180,8 +182,8 @@ end-got : (s : List ℕ) (at : ℕ) (f : Figures) → at ≤ length s → cardEn
 unfolding cardEnd refusedCard bytesOf
 end-got s at f l e = by (ltb at (length s)) refl e
   where
-    by : (t : Bool) → ltb at (length s) ≡ t → cond t (refusedCard 11 at) (record { verdict = accepted; figures = f }) .verdict .number ≡ 0
-        → (cond (ltb at (length s)) (refusedCard 11 at) (record { verdict = accepted; figures = f }) ≡ record { verdict = accepted; figures = f }) × Ahead s at []
+    by : (t : Bool) → ltb at (length s) ≡ t → cond t (refusedCard cardGoesOn at) (record { verdict = accepted; figures = f }) .verdict .number ≡ 0
+        → (cond (ltb at (length s)) (refusedCard cardGoesOn at) (record { verdict = accepted; figures = f }) ≡ record { verdict = accepted; figures = f }) × Ahead s at []
     by true q e = absurd (omega arith)
     by false q e = (rw q, record { inside = l; bytes = drop-of-length-le s (ltb-false at (length s) q) })
 
@@ -202,7 +204,7 @@ ahead-more {v = v} n a = record { inside = omega (arith, n .after, n .inside); b
 
 -- the film's five figures and the end are a rest with no zones
 film-rest : (s : List ℕ) (at i : ℕ) (f : Figures) (total before : ℕ)
-    (n : Got Blocks total s at) (b : Got Measure 4194304 s (n .next)) (c : Got Measure 10000000 s (b .next)) (h : Got Measure 1000000 s (c .next)) (r : Got Measure 1000000 s (h .next))
+    (n : Got Blocks total s at) (b : Got Measure maxBytes s (n .next)) (c : Got Measure maxRate s (b .next)) (h : Got Measure maxMove s (c .next)) (r : Got Measure maxMove s (h .next))
     → cardEnd s (r .next) (withFilm f (n .value) (b .value) (c .value) (h .value) (r .value)) .verdict .number ≡ 0 → Rest zero s at i f total before
 unfolding filmFrom zonesFrom zoneFaults zoneNumbers filmFault filmNumbers
 film-rest s at i f total before n b c h r e = by (end-got s (r .next) g (r .stands .inside) e)
@@ -213,8 +215,8 @@ film-rest s at i f total before n b c h r e = by (end-got s (r .next) g (r .stan
     by : (cardEnd s (r .next) g ≡ record { verdict = accepted; figures = g }) × Ahead s (r .next) [] → Rest zero s at i f total before
     by end = record {
       figures = g;
-      is = got-goes Blocks total s at _ n ∙ got-goes Measure 4194304 s (n .next) _ b ∙ got-goes Measure 10000000 s (b .next) _ c
-          ∙ got-goes Measure 1000000 s (c .next) _ h ∙ got-goes Measure 1000000 s (h .next) _ r ∙ end .0;
+      is = got-goes Blocks total s at _ n ∙ got-goes Measure maxBytes s (n .next) _ b ∙ got-goes Measure maxRate s (b .next) _ c
+          ∙ got-goes Measure maxMove s (c .next) _ h ∙ got-goes Measure maxMove s (h .next) _ r ∙ end .0;
       zones = refl;
       positions = agree-self i (f .positions);
       times = agree-self i (f .times);
@@ -227,14 +229,14 @@ film-got : (s : List ℕ) (at i : ℕ) (f : Figures) (total before : ℕ) → By
 unfolding filmFrom
 film-got s at i f total before y e =
     accepted-field Blocks total s at _ y e (λ n e₁.
-    accepted-field Measure 4194304 s (n .next) _ y e₁ (λ b e₂.
-    accepted-field Measure 10000000 s (b .next) _ y e₂ (λ c e₃.
-    accepted-field Measure 1000000 s (c .next) _ y e₃ (λ h e₄.
-    accepted-field Measure 1000000 s (h .next) _ y e₄ (λ r e₅.
+    accepted-field Measure maxBytes s (n .next) _ y e₁ (λ b e₂.
+    accepted-field Measure maxRate s (b .next) _ y e₂ (λ c e₃.
+    accepted-field Measure maxMove s (c .next) _ y e₃ (λ h e₄.
+    accepted-field Measure maxMove s (h .next) _ y e₄ (λ r e₅.
     film-rest s at i f total before n b c h r e₅)))))
 
 -- a zone in front of a rest is a rest with one zone more
-zone-rest : (left : ℕ) (s : List ℕ) (at i : ℕ) (f : Figures) (total before : ℕ) → i < 64 → Wide f
+zone-rest : (left : ℕ) (s : List ℕ) (at i : ℕ) (f : Figures) (total before : ℕ) → i < maxZones → Wide f
     → (p : Got Positions total s at) (t : Got Time before s (p .next))
     → Rest left s (t .next) (i + 1) (withZone f i (p .value) (t .value)) (total + p .value) (t .value) → Rest (suc left) s at i f total before
 unfolding zonesFrom zoneFaults zoneNumbers
@@ -255,7 +257,7 @@ zone-rest left s at i f total before b w p t r =
     }
 
 -- an accepted card has each zone and the film
-zones-got : (left : ℕ) (s : List ℕ) (at i : ℕ) (f : Figures) (total before : ℕ) → Bytes s → i + left ≤ 64 → Wide f
+zones-got : (left : ℕ) (s : List ℕ) (at i : ℕ) (f : Figures) (total before : ℕ) → Bytes s → i + left ≤ maxZones → Wide f
     → zonesFrom left s at i f total before .verdict .number ≡ 0 → Rest left s at i f total before
 unfolding zonesFrom
 zones-got zero s at i f total before y b w e = film-got s at i f total before y e
@@ -278,20 +280,20 @@ abbrev pub AcceptedCard : List ℕ → Type 0
 AcceptedCard s = AcceptedWith s (readCard s .figures)
 
 -- the numbers from the front on are the whole
-ahead-whole : (s : List ℕ) (f : Figures) (kind zones : ℕ) → kind ≡ 1 → zones ≡ f .zones → Ahead s 0 (kind ∷ zones ∷ zoneNumbers zones 0 f) → s ≡ cardOf f
+ahead-whole : (s : List ℕ) (f : Figures) (kind zones : ℕ) → kind ≡ cardKind → zones ≡ f .zones → Ahead s 0 (kind ∷ zones ∷ zoneNumbers zones 0 f) → s ≡ cardOf f
 unfolding cardOf numbersOf
 ahead-whole s f kind zones one e a = a .bytes ∙ ap₂ (λ (k z : ℕ). bytesOf (k ∷ z ∷ zoneNumbers z 0 f)) one e
 
 -- kind, zone count and the rest are the whole card
-accepted-rest : (s : List ℕ) (k : Got Kind 0 s 0) (z : Got Zones 0 s (k .next)) → k .value ≡ 1 → (1 ≤ z .value) × (z .value ≤ 64)
-    → (r : Rest (z .value) s (z .next) 0 (withZones (z .value)) 0 4000000) → AcceptedWith s (r .figures)
+accepted-rest : (s : List ℕ) (k : Got Kind 0 s 0) (z : Got Zones 0 s (k .next)) → k .value ≡ cardKind → (1 ≤ z .value) × (z .value ≤ maxZones)
+    → (r : Rest (z .value) s (z .next) 0 (withZones (z .value)) 0 maxTime) → AcceptedWith s (r .figures)
 unfolding readCard
 accepted-rest s k z one few r = record {
   wide = (sym (r .positions .long) ∙ blank-long, sym (r .times .long) ∙ blank-long);
   clear = judged-fault (r .figures) (record {
     zones = rw (r .zones) few;
     unused = λ i l. (sym (r .positions .high i (omega (arith, r .zones))) ∙ blank-at i, sym (r .times .high i (omega (arith, r .zones))) ∙ blank-at i);
-    faults = subst (λ (n : ℕ). zoneFaults n 0 (r .figures) 0 4000000 ≡ 0) (sym (r .zones)) (r .faults);
+    faults = subst (λ (n : ℕ). zoneFaults n 0 (r .figures) 0 maxTime ≡ 0) (sym (r .zones)) (r .faults);
   });
   same = ahead-whole s (r .figures) (k .value) (z .value) one (sym (r .zones)) (ahead-more (k .stands) (ahead-more (z .stands) (r .ahead)));
   whole = got-goes Kind 0 s 0 _ k ∙ got-goes Zones 0 s (k .next) _ z ∙ r .is;
@@ -309,10 +311,10 @@ read-card s y e =
     answered : {g : Figures} → AcceptedWith s g → AcceptedCard s
     answered a = subst (AcceptedWith s) (ap (λ (x : CardRead). x .figures) (sym (a .whole))) a
 
-    by : (k : Got Kind 0 s 0) (z : Got Zones 0 s (k .next)) → (1 ≤ z .value) × (z .value ≤ 64)
-        → zonesFrom (z .value) s (z .next) 0 (withZones (z .value)) 0 4000000 .verdict .number ≡ 0 → AcceptedCard s
+    by : (k : Got Kind 0 s 0) (z : Got Zones 0 s (k .next)) → (1 ≤ z .value) × (z .value ≤ maxZones)
+        → zonesFrom (z .value) s (z .next) 0 (withZones (z .value)) 0 maxTime .verdict .number ≡ 0 → AcceptedCard s
     by k z few e = answered (accepted-rest s k z (kind-range 0 (k .value) (k .clear)) few
-        (zones-got (z .value) s (z .next) 0 (withZones (z .value)) 0 4000000 y (omega arith) (blank-long, blank-long) e))
+        (zones-got (z .value) s (z .next) 0 (withZones (z .value)) 0 maxTime y (omega arith) (blank-long, blank-long) e))
 
 -- ---- the same of legal figures
 
@@ -362,7 +364,7 @@ end-blank : (s : List ℕ) (at : ℕ) (f : Figures) → Blank (cardEnd s at f)
 unfolding cardEnd refusedCard
 end-blank s at f = by (ltb at (length s))
   where
-    by : (t : Bool) → Blank (cond t (refusedCard 11 at) (record { verdict = accepted; figures = f }))
+    by : (t : Bool) → Blank (cond t (refusedCard cardGoesOn at) (record { verdict = accepted; figures = f }))
     by true = λ k e. refl
     by false = λ k e. absurd (omega arith)
 
@@ -376,4 +378,4 @@ zones-blank (suc left) s at i f total before =
 -- A REFUSED CARD ANSWERS NO FIGURES
 pub refused-blank : (s : List ℕ) (k : ℕ) → readCard s .verdict .number ≡ suc k → readCard s .figures ≡ blankFigures
 unfolding readCard
-refused-blank s = then-blank _ _ (λ kind at₁. then-blank _ _ (λ z at₂. zones-blank z s at₂ 0 (withZones z) 0 4000000))
+refused-blank s = then-blank _ _ (λ kind at₁. then-blank _ _ (λ z at₂. zones-blank z s at₂ 0 (withZones z) 0 maxTime))

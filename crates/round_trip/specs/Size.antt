@@ -9,6 +9,7 @@ use native.Mathlib.Nat.{pow-succ'}
 use lib.ListN.{length, getD, length-append}
 use lib.Dec.{ltb}
 use borrow.Author.Tests.{ltb-false}
+use Rattle.numbers.specs.Limits.{maxTime}
 use Rattle.leb128.specs.Number.{groupsFrom, groups}
 use Rattle.card.specs.declared.Figures.{Figures}
 use Rattle.card.specs.declared.fields.Rule.the-variants.{Positions, Time}
@@ -75,5 +76,5 @@ legal-size f l =
       j .zones,
       bytes-more 0 1 (f .zones ∷ zoneNumbers (f .zones) 0 f) (omega arith),
       bytes-more 0 (f .zones) (zoneNumbers (f .zones) 0 f) (omega (arith, j .zones)),
-      zones-size (f .zones) 0 f 0 4000000 (j .faults),
+      zones-size (f .zones) 0 f 0 maxTime (j .faults),
     )

@@ -14,8 +14,9 @@ use borrow.Author.Tests.{leb-true, ltb-true, ltb-false, eqb-true, eq-eqb, ne-eqb
 use Rattle.laws.specs.Bools.{bit, clash, and-left, and-right, and-both, bool-ext}
 use Rattle.laws.specs.Map.{mapFrom}
 use Rattle.laws.specs.Each.{Each, Both, both-set, both-at}
+use Rattle.numbers.specs.Units.{micros}
 use Rattle.safety.specs.Supply.{Supply, Lawful}
-use Rattle.numbers.specs.Slots.{draining}
+use Rattle.numbers.specs.Slots.{draining, sweeping}
 use Rattle.safety.specs.Scheduler.{Slot, Entry, Call, join, leave, begin, end, freeSlot, waitingSlot, at}
 use Rattle.safety.specs.Scheduler.{before, insert, sorted, entriesAt, lowWater, joined, left, isFetched, entriesFrom, entries}
 use Rattle.safety.specs.Scheduler.{leads, times, fetchCount, bound, sweptBy, releaseBy, released, endedSlot, ended, mostDrawn}
@@ -249,7 +250,7 @@ module _ {A : Type 0} (p : Supply A) where
 
     module _ (k T L M : ℕ) (few : k ≤ p .n) (paid : 2 * T + M ≤ L + k * p .pairTime) (top : L ≤ p .n * p .margin) where
       lines-ended : (i : ℕ) (ss : List (Slot A)) (ls : List Line) (ds : List ℕ) → Each (Good p L) ss → Both (Agree true) ss ls
-          → Drawables p ok (p .c * (T + p .overhead k) / 1000000) ds i ss
+          → Drawables p ok (p .c * (T + p .overhead k) / micros) ds i ss
           → Both (Agree false) (mapFrom (λ j s. endedSlot p s (getD ds j 0)) i ss) (mapFrom (λ j l. settledLine (p .B) (drawnLine l (getD ds j 0))) i ls)
       unfolding mapFrom endedSlot
       lines-ended i [] [] ds g b w = tt
@@ -259,14 +260,14 @@ module _ {A : Type 0} (p : Supply A) where
           let d : ℕ = getD ds i 0 in (
             settled-agrees M (sweptBy p (isFetched p s) s d) (drawnLine l d)
                 (swept-of p ok k T L M few paid top s d (g .0) (w .0))
-                (swept-line L (p .c * (T + p .overhead k) / 1000000) s l d (g .0) (b .0) (w .0)),
+                (swept-line L (p .c * (T + p .overhead k) / micros) s l d (g .0) (b .0) (w .0)),
             lines-ended (suc i) ss ls ds (g .1) (b .1) (w .1),
           )
 
     -- ---- every call
 
-    between : (q : ℕ) → q ≡ 0 → eqb q 1 ≡ false
-    between q e = ne-eqb q 1 (λ z. omega arith)
+    no-sweep : (q : ℕ) → q ≡ 0 → eqb q 1 ≡ false
+    no-sweep q e = ne-eqb q 1 (λ z. omega arith)
 
     -- a slot and a line are put in place of others
     lines-set : (ss : List (Slot A)) (ls : List Line) (i : ℕ) (a : Slot A) (l : Line) → Both (Agree false) ss ls
@@ -275,25 +276,25 @@ module _ {A : Type 0} (p : Supply A) where
 
     module _ {Q : Type 0} (o : Order A Q) (orderly : Orderly p o) where
       abbrev pub Agrees : Scheduler A Q → List Line → Type 0
-      Agrees d ls = Both (Agree (eqb (d .phase) 1)) (d .slots) ls
+      Agrees d ls = Both (Agree (eqb (d .phase) sweeping)) (d .slots) ls
 
       -- an accepted call keeps the ledger in step
       pub recorded-keeps : (d : Scheduler A Q) (c : Call A) (ls : List Line) → Sound p o d → Allowed p o d c → Agrees d ls
           → Agrees (accepted p o d c .scheduler) (recorded (p .B) ls c true (accepted p o d c .entries))
       unfolding accepted recorded joined left ended mostDrawn bound entries isFetched
       recorded-keeps d (join i b) ls h a r =
-          lines-set (d .slots) ls i (waitingSlot p b) (openedLine (lineAt ls i)) (rw (between (d .phase) (a .0)) at r)
+          lines-set (d .slots) ls i (waitingSlot p b) (openedLine (lineAt ls i)) (rw (no-sweep (d .phase) (a .0)) at r)
           (λ q. record { opens = refl; sums = λ _. omega arith; quiet = λ _ _. refl; marks = q .marks })
       recorded-keeps d (leave i) ls h a r =
-          lines-set (d .slots) ls i (freeSlot p) (closeBy true (lineAt ls i)) (rw (between (d .phase) (a .0)) at r)
+          lines-set (d .slots) ls i (freeSlot p) (closeBy true (lineAt ls i)) (rw (no-sweep (d .phase) (a .0)) at r)
           (λ q. record { opens = refl; sums = λ z. clash z refl; quiet = λ z. clash z refl; marks = q .marks })
       recorded-keeps d begin ls h a r =
           let ss = d .slots in
           let ts = o .begins (d .queue) ss .slots in
-          lines-begun 0 _ ss ts ls (λ j _. named-sorted j (entriesFrom p 0 ts)) (orderly .began (d .queue) ss (h .slots) .kept) (rw (between (d .phase) a) at r)
+          lines-begun 0 _ ss ts ls (λ j _. named-sorted j (entriesFrom p 0 ts)) (orderly .began (d .queue) ss (h .slots) .kept) (rw (no-sweep (d .phase) a) at r)
       recorded-keeps d (end ds) ls h a r =
           let ss = d .slots in
           let m : ℕ = mostDrawn p ss in
           lines-ended (fetchCount p ss) (times p ss) (leads p ss) (leads p (ended p ss ds)) (fetches-le p ok (p .n) ss (h .unused))
           (leads-after p ok (leads p ss) ss ds (h .slots)) (leads-le p ok (leads p ss) (p .n) ss (h .slots) (h .unused)) 0 ss ls ds (h .slots)
-          (rw (eq-eqb (d .phase) 1 (a .0)) at r) (drawables-of p ok m ds 0 ss (a .2) (a .3))
+          (rw (eq-eqb (d .phase) sweeping (a .0)) at r) (drawables-of p ok m ds 0 ss (a .2) (a .3))

@@ -11,6 +11,7 @@ use borrow.Author.Tests.{leb-true, eqb-true, eq-eqb}
 use Rattle.laws.specs.Bools.{implies, implied, and-left, and-right}
 use Rattle.laws.specs.Runs.{sumBy, allBy}
 use Rattle.laws.specs.Each.{Both, each-map, both-refl}
+use Rattle.numbers.specs.Units.{parts}
 use Rattle.safety.specs.Supply.{Supply}
 use Rattle.numbers.specs.Slots.{waiting, filling, playing}
 use Rattle.safety.specs.Scheduler.{Slot, at, leadOf, leads, lowWater, holds}
@@ -49,11 +50,11 @@ module _ {A : Type 0} (p : Supply A) where
   pub started-floored : (x L : ℕ) (ss : List (Slot A)) → lowWater p L ≤ x → Floored p L ss → Floored p L (started p x ss)
   unfolding started startedSlot holds
   started-floored x L [] h f = tt
-  started-floored x L (s ∷ ss) h f = (go (eqb (s .kind) filling && leb x (2000000 * s .buffered)) refl, started-floored x L ss h (f .1))
+  started-floored x L (s ∷ ss) h f = (go (eqb (s .kind) filling && leb x (parts * s .buffered)) refl, started-floored x L ss h (f .1))
     where
-      go : (t : Bool) → (eqb (s .kind) filling && leb x (2000000 * s .buffered)) ≡ t
-          → startBy p t s .kind ≡ playing → lowWater p L ≤ 2000000 * startBy p t s .buffered
-      go true e k = omega (arith, leb-true x (2000000 * s .buffered) (and-right (eqb (s .kind) filling) _ e))
+      go : (t : Bool) → (eqb (s .kind) filling && leb x (parts * s .buffered)) ≡ t
+          → startBy p t s .kind ≡ playing → lowWater p L ≤ parts * startBy p t s .buffered
+      go true e k = omega (arith, leb-true x (parts * s .buffered) (and-right (eqb (s .kind) filling) _ e))
       go false e k = f .0 k
 
   pub started-began : (x : ℕ) (ss : List (Slot A)) → lowWater p (leads p ss) ≤ x → Floored p (leads p ss) ss → Began p ss (started p x ss)
@@ -68,8 +69,8 @@ module _ {A : Type 0} (p : Supply A) where
   unfolding playersHold allBy holds
   floored-of-test L [] e = tt
   floored-of-test L (s ∷ ss) e =
-      let t : Bool = implies (eqb (s .kind) playing) (leb (lowWater p L) (2000000 * s .buffered)) in (
-        λ k. leb-true (lowWater p L) (2000000 * s .buffered) (implied (eqb (s .kind) playing) _ (and-left t _ e) (eq-eqb (s .kind) playing k)),
+      let t : Bool = implies (eqb (s .kind) playing) (leb (lowWater p L) (parts * s .buffered)) in (
+        λ k. leb-true (lowWater p L) (parts * s .buffered) (implied (eqb (s .kind) playing) _ (and-left t _ e) (eq-eqb (s .kind) playing k)),
         floored-of-test L ss (and-right t _ e),
       )
 

@@ -7,7 +7,7 @@ use mathlib.Core.List.{List, [], _∷_}
 use lib.ListN.{length}
 use Rattle.laws.specs.Places.{allFrom}
 use Rattle.safety.specs.Supply.{Supply}
-use Rattle.numbers.specs.Slots.{free}
+use Rattle.numbers.specs.Slots.{free, between, sweeping}
 use Rattle.safety.specs.Scheduler.{Entry, Call, join, leave, begin, end, at, joined, left, entries, bound, ended, mostDrawn}
 use Rattle.safety.specs.Order.{Scheduler, Order, opened}
 use Rattle.safety.specs.Refusals.{Verdict, verdict, drawAllowed, drawHeld}
@@ -52,14 +52,14 @@ module _ {A Q : Type 0} (p : Supply A) (o : Order A Q) where
   accepted d (join i b) = record {
     number = 0;
     place = 0;
-    scheduler = record { phase = 0; slots = joined p (d .slots) i b; queue = o .joins (d .queue) (d .slots) i };
+    scheduler = record { phase = between; slots = joined p (d .slots) i b; queue = o .joins (d .queue) (d .slots) i };
     entries = [];
     bound = 0;
   }
   accepted d (leave i) = record {
     number = 0;
     place = 0;
-    scheduler = record { phase = 0; slots = left p (d .slots) i; queue = o .leaves (d .queue) (d .slots) i };
+    scheduler = record { phase = between; slots = left p (d .slots) i; queue = o .leaves (d .queue) (d .slots) i };
     entries = [];
     bound = 0;
   }
@@ -68,14 +68,14 @@ module _ {A Q : Type 0} (p : Supply A) (o : Order A Q) where
       record {
         number = 0;
         place = 0;
-        scheduler = record { phase = 1; slots = b .slots; queue = b .queue };
+        scheduler = record { phase = sweeping; slots = b .slots; queue = b .queue };
         entries = entries p (b .slots);
         bound = bound p (b .slots);
       }
   accepted d (end ds) = record {
     number = 0;
     place = 0;
-    scheduler = record { phase = 0; slots = ended p (d .slots) ds; queue = d .queue };
+    scheduler = record { phase = between; slots = ended p (d .slots) ds; queue = d .queue };
     entries = [];
     bound = 0;
   }
@@ -86,11 +86,11 @@ module _ {A Q : Type 0} (p : Supply A) (o : Order A Q) where
 
   -- all that a call has to meet for the rules to be obeyed
   abbrev pub Allowed : Scheduler A Q → Call A → Type 0
-  Allowed d (join i b) = (d .phase ≡ 0) × (i < p .n) × (at p (d .slots) i .kind ≡ free) × (p .isBlock b ≡ true)
-  Allowed d (leave i) = (d .phase ≡ 0) × (i < p .n) × (0 < at p (d .slots) i .kind)
-  Allowed d begin = d .phase ≡ 0
+  Allowed d (join i b) = (d .phase ≡ between) × (i < p .n) × (at p (d .slots) i .kind ≡ free) × (p .isBlock b ≡ true)
+  Allowed d (leave i) = (d .phase ≡ between) × (i < p .n) × (0 < at p (d .slots) i .kind)
+  Allowed d begin = d .phase ≡ between
   Allowed d (end ds) =
-      (d .phase ≡ 1) × (length ds ≡ p .n)
+      (d .phase ≡ sweeping) × (length ds ≡ p .n)
       × (allFrom (drawAllowed p (mostDrawn p (d .slots)) ds) 0 (d .slots) ≡ true)
       × (allFrom (drawHeld p ds) 0 (d .slots) ≡ true)
 

@@ -10,6 +10,9 @@ use lib.ListN.{length}
 use lib.Dec.{eqb}
 use borrow.Author.Tests.{ltb-true, lt-ltb}
 use Rattle.laws.specs.Each.{each-at, both-at}
+use Rattle.numbers.specs.Units.{micros}
+use Rattle.numbers.specs.Limits.{maxStreams}
+use Rattle.numbers.specs.Refusals.{notSound}
 use Rattle.safety.specs.Supply.{Supply, Lawful, Named}
 use Rattle.numbers.specs.Slots.{free, playing}
 use Rattle.safety.specs.Scheduler.{Slot, Call, begin, freeSlot, at, leads}
@@ -45,7 +48,7 @@ module _ {A Q : Type 0} (p : Supply A) (o : Order A Q) where
   -- the rule gives the kind of a slot after an accepted call
   pub record Safe (rule : Scheduler A Q → Call A → ℕ → ℕ) (xs : List (Given A)) : Type 0 where
     -- `a desk has 256 slots, all free at the start`
-    pub all-slots : length (stateAfter xs .scheduler .slots) ≡ 256
+    pub all-slots : length (stateAfter xs .scheduler .slots) ≡ maxStreams
     pub opens-free : (i : ℕ) → slotAfter [] i .kind ≡ free
     -- `the occupied slots (kinds 1 to 4) are exactly the open ones`
     pub occupied-open : (i : ℕ) → ((1 ≤ slotAfter xs i .kind) × (slotAfter xs i .kind ≤ 4)) ↔ (lineAfter xs i .isOpen ≡ true)
@@ -57,13 +60,13 @@ module _ {A Q : Type 0} (p : Supply A) (o : Order A Q) where
     -- `a sweep starts with an accepted begin: where that is the last call, each playing slot holds at least c × bound / 1,000,000, rounded
     -- down, with the bound it answered`
     pub starts-full : (ys : List (Given A)) (x : Given A) → xs ≡ ys ++ (x ∷ []) → x .call ≡ begin → answerAfter ys x .number ≡ 0
-        → (i : ℕ) → slotAfter xs i .kind ≡ playing → p .c * answerAfter ys x .bound / 1000000 ≤ slotAfter xs i .buffered
+        → (i : ℕ) → slotAfter xs i .kind ≡ playing → p .c * answerAfter ys x .bound / micros ≤ slotAfter xs i .buffered
     -- `each slot's kind is the one that the desk's rules give over the same list`: a refused call leaves it
-    pub ruled : (ys : List (Given A)) (x : Given A) → xs ≡ ys ++ (x ∷ []) → (i : ℕ) → i < 256
+    pub ruled : (ys : List (Given A)) (x : Given A) → xs ≡ ys ++ (x ∷ []) → (i : ℕ) → i < maxStreams
         → slotAfter xs i .kind ≡ cond (isAccepted (answerAfter ys x .number)) (rule (stateAfter ys .scheduler) (x .call) i) (slotAfter ys i .kind)
     -- the record is sound, so that a call with fair lists is never answered 14
     pub stays-sound : sound p o (stateAfter xs .scheduler) ≡ true
-    pub never-unsound : (x : Given A) → x .fair ≡ true → answerAfter xs x .number ≢ 14
+    pub never-unsound : (x : Given A) → x .fair ≡ true → answerAfter xs x .number ≢ notSound
 
 module _ {A : Type 0} (p : Supply A) (ok : Lawful p) (names : Named p) where
   -- ---- one call on any record
@@ -88,12 +91,12 @@ module _ {A : Type 0} (p : Supply A) (ok : Lawful p) (names : Named p) where
     abbrev Starts : List (Given A) → Given A → List (Given A) → Type 0
     Starts ys x xs =
         x .call ≡ begin → answerAfter p o ys x .number ≡ 0
-        → (i : ℕ) → slotAfter p o xs i .kind ≡ playing → p .c * answerAfter p o ys x .bound / 1000000 ≤ slotAfter p o xs i .buffered
+        → (i : ℕ) → slotAfter p o xs i .kind ≡ playing → p .c * answerAfter p o ys x .bound / micros ≤ slotAfter p o xs i .buffered
 
     starts : (ys : List (Given A)) (x : Given A) → Starts ys x (ys ++ (x ∷ []))
     unfolding turn refusals
     starts ys x m a i =
-        let b : ℕ = p .c * answerAfter p o ys x .bound / 1000000 in
+        let b : ℕ = p .c * answerAfter p o ys x .bound / micros in
         let ts : List (Slot A) = answerAfter p o ys x .scheduler .slots in
         rw (after-last p o (refusals p o) (opening p o) ys x)
         (each-at (λ s. s .kind ≡ playing → b ≤ s .buffered) ts i (freeSlot p)
@@ -103,16 +106,16 @@ module _ {A : Type 0} (p : Supply A) (ok : Lawful p) (names : Named p) where
     whole : (xs : List (Given A)) → sound p o (stateAfter p o xs .scheduler) ≡ true
     whole xs = says-sound p names o (stateAfter p o xs .scheduler) (kept xs .sound)
 
-    never : (xs : List (Given A)) (x : Given A) → x .fair ≡ true → answerAfter p o xs x .number ≢ 14
+    never : (xs : List (Given A)) (x : Given A) → x .fair ≡ true → answerAfter p o xs x .number ≢ notSound
     unfolding refusals
     never xs x f e =
         let d = stateAfter p o xs .scheduler in
         sound-never-unsound p names o d (x .room) (x .call) (whole xs)
-        (subst (λ (t : Bool). verdict p o d t (x .room) (x .call) .number ≡ 14) f (sym (answer-number p o (refusals p o) d x) ∙ e))
+        (subst (λ (t : Bool). verdict p o d t (x .room) (x .call) .number ≡ notSound) f (sym (answer-number p o (refusals p o) d x) ∙ e))
 
     abbrev Ruled : (Scheduler A Q → Call A → ℕ → ℕ) → List (Given A) → Given A → List (Given A) → Type 0
     Ruled rule ys x xs =
-        (i : ℕ) → i < 256
+        (i : ℕ) → i < maxStreams
         → slotAfter p o xs i .kind ≡ cond (isAccepted (answerAfter p o ys x .number)) (rule (stateAfter p o ys .scheduler) (x .call) i) (slotAfter p o ys i .kind)
 
     -- k is the kind of slot i if the call is accepted
@@ -137,7 +140,7 @@ module _ {A : Type 0} (p : Supply A) (ok : Lawful p) (names : Named p) where
 
     opens : (i : ℕ) → slotAfter p o [] i .kind ≡ free
     unfolding after opening opened
-    opens i = replicate-free p 256 i
+    opens i = replicate-free p maxStreams i
 
     -- in any orderly order, with any rule that accepted calls follow
     pub orderly-list-safe : (rule : Scheduler A Q → Call A → ℕ → ℕ)

@@ -5,22 +5,23 @@
 use Prim.Native.Nat.{ℕ, _+_, _*_, _-_, _/_, _≤_, _<_}
 use native.Mathlib.Omega.{arith}
 use native.Mathlib.Nat.{mul-le-mul-left, mul-le-mul-right}
+use Rattle.numbers.specs.Units.{parts, micros, wholeBytes}
 
 -- the formula of streams leaves room for k fetches
-pub room-of-streams : (c n w O B k o : ℕ) → c * (n * w + 2 * O) ≤ 2000000 * B → k ≤ n → o ≤ O → c * (k * w + 2 * o + 0) ≤ 2000000 * B
+pub room-of-streams : (c n w O B k o : ℕ) → c * (n * w + 2 * O) ≤ parts * B → k ≤ n → o ≤ O → c * (k * w + 2 * o + 0) ≤ parts * B
 room-of-streams c n w O B k o fit kn less = omega (arith, mul-le-mul-right (c * w) kn, mul-le-mul-left c less)
 
-module _ (c w B k o T L M E : ℕ) (room : c * (k * w + 2 * o + E) ≤ 2000000 * B) (leads : 2 * T + M ≤ L + k * w) where
+module _ (c w B k o T L M E : ℕ) (room : c * (k * w + 2 * o + E) ≤ parts * B) (leads : 2 * T + M ≤ L + k * w) where
   -- a playing slot that is fetched for
-  pub fetched-stays : (buffered draw : ℕ) → 2000000 * B + c * L ≤ 2000000 * buffered → draw ≤ c * (T + o) / 1000000
-      → (draw ≤ buffered) × (2000000 * B + c * (M + E) ≤ 2000000 * (buffered - draw + B))
+  pub fetched-stays : (buffered draw : ℕ) → parts * B + c * L ≤ parts * buffered → draw ≤ c * (T + o) / micros
+      → (draw ≤ buffered) × (parts * B + c * (M + E) ≤ parts * (buffered - draw + B))
   fetched-stays buffered draw floor drawn = omega (arith, mul-le-mul-left c leads)
 
   -- one that is not, its buffer being too full
-  pub full-stays : (n margin buffered draw : ℕ) → L + E ≤ n * margin → 3 * B + (c * n * margin + 1999999) / 2000000 < buffered + B
-      → draw ≤ c * (T + o) / 1000000 → (draw ≤ buffered) × (2000000 * B + c * (M + E) ≤ 2000000 * (buffered - draw))
+  pub full-stays : (n margin buffered draw : ℕ) → L + E ≤ n * margin → 3 * B + wholeBytes (c * n * margin) < buffered + B
+      → draw ≤ c * (T + o) / micros → (draw ≤ buffered) × (parts * B + c * (M + E) ≤ parts * (buffered - draw))
   full-stays n margin buffered draw top full drawn = omega (arith, mul-le-mul-left c leads, mul-le-mul-left c top)
 
   -- what the sweep may draw is within the low-water mark
-  pub sweep-within : 2 * (c * (T + o)) ≤ 2000000 * B + c * L
+  pub sweep-within : 2 * (c * (T + o)) ≤ parts * B + c * L
   sweep-within = omega (arith, mul-le-mul-left c leads)

@@ -7,6 +7,7 @@ use lib.ListN.{getD, set, replicate}
 use lib.Dec.{leb, eqb}
 use Rattle.laws.specs.Bools.{bit}
 use Rattle.laws.specs.Map.{mapFrom}
+use Rattle.numbers.specs.Limits.{maxStreams}
 use Rattle.safety.specs.Scheduler.{Entry, Call, join, leave, begin, end}
 
 -- a slot's line: open or closed, fetched, drawn and a mark
@@ -24,7 +25,7 @@ abbrev pub lineAt : List Line → ℕ → Line
 lineAt ls i = getD ls i blank
 
 unfoldable pub openedLedger : List Line
-openedLedger = replicate 256 blank
+openedLedger = replicate maxStreams blank
 
 -- join: `the slot opens, fetched and drawn 0`
 abbrev pub openedLine : Line → Line

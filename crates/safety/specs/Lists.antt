@@ -7,6 +7,8 @@ use mathlib.Core.List.{List, [], _∷_, _++_}
 use native.Mathlib.Omega.{arith}
 use lib.ListN.{length, replicate, length-replicate}
 use Rattle.laws.specs.Each.{Each, each-replicate, both-replicate}
+use Rattle.numbers.specs.Units.{micros}
+use Rattle.numbers.specs.Limits.{maxStreams}
 use Rattle.safety.specs.Supply.{Supply, Lawful}
 use Rattle.numbers.specs.Slots.{playing}
 use Rattle.safety.specs.Scheduler.{Call, join, leave, begin, end, freeSlot, leads, bound, mostDrawn}
@@ -81,21 +83,21 @@ module _ {A Q X : Type 0} (p : Supply A) (o : Order A Q) (u : Rules A Q X) where
 
 module _ {A Q : Type 0} (p : Supply A) (ok : Lawful p) (o : Order A Q) (orderly : Orderly p o) where
   pub record InStep (v : State A Q) : Type 0 where
-    pub long : length (v .scheduler .slots) ≡ 256
+    pub long : length (v .scheduler .slots) ≡ maxStreams
     pub sound : Sound p o (v .scheduler)
     pub agrees : Agrees p ok o orderly (v .scheduler) (v .ledger)
 
   pub opening-in-step : InStep (opening p o)
   unfolding opening opened openedLedger
   opening-in-step = record {
-    long = length-replicate 256 (freeSlot p);
+    long = length-replicate maxStreams (freeSlot p);
     sound = record {
       phase = omega arith;
-      slots = each-replicate (Good p (leads p (replicate 256 (freeSlot p)))) 256 (freeSlot p) (good-free p _);
-      unused = λ i l. replicate-free p 256 i;
+      slots = each-replicate (Good p (leads p (replicate maxStreams (freeSlot p)))) maxStreams (freeSlot p) (good-free p _);
+      unused = λ i l. replicate-free p maxStreams i;
       queue = orderly .queue-opened;
     };
-    agrees = both-replicate (Agree p false) 256 (freeSlot p) blank (agree-free p false);
+    agrees = both-replicate (Agree p false) maxStreams (freeSlot p) blank (agree-free p false);
   }
 
   module _ {X : Type 0} (u : Rules A Q X) (us : Strict p o u) where
@@ -129,7 +131,7 @@ module _ {A Q : Type 0} (p : Supply A) (ok : Lawful p) (o : Order A Q) (orderly 
 
     -- after an accepted begin each playing slot holds what the sweep may draw
     pub sweep-starts : (d : Scheduler A Q) (x : X) → Sound p o d → u .move x ≡ begin → answer p o u d x .number ≡ 0
-        → Each (λ s. s .kind ≡ playing → p .c * answer p o u d x .bound / 1000000 ≤ s .buffered) (answer p o u d x .scheduler .slots)
+        → Each (λ s. s .kind ≡ playing → p .c * answer p o u d x .bound / micros ≤ s .buffered) (answer p o u d x .scheduler .slots)
     unfolding accepted mostDrawn
     sweep-starts d x h m e =
         let z = verdict-zero p o u d x e in

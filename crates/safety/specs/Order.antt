@@ -4,6 +4,8 @@ use Prim.Native.Nat.{ℕ}
 use mathlib.Core.Bool.{Bool, true}
 use mathlib.Core.List.{List}
 use lib.ListN.{replicate}
+use Rattle.numbers.specs.Limits.{maxStreams}
+use Rattle.numbers.specs.Slots.{between}
 use Rattle.safety.specs.Supply.{Supply}
 use Rattle.safety.specs.Scheduler.{Slot, freeSlot, begun}
 
@@ -41,4 +43,4 @@ module _ {A : Type 0} (p : Supply A) where
 
   -- `256 slots, all free at the start`, between sweeps
   unfoldable pub opened : {Q : Type 0} → Order A Q → Scheduler A Q
-  opened o = record { phase = 0; slots = replicate 256 (freeSlot p); queue = o .opening }
+  opened o = record { phase = between; slots = replicate maxStreams (freeSlot p); queue = o .opening }

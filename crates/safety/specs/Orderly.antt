@@ -9,6 +9,8 @@ use native.Mathlib.Omega.{arith}
 use lib.ListN.{replicate}
 use lib.Dec.{eqb}
 use Rattle.laws.specs.Each.{Each, Both, both-refl, both-trans}
+use Rattle.numbers.specs.Units.{parts}
+use Rattle.numbers.specs.Limits.{maxStreams}
 use Rattle.safety.specs.Supply.{Supply}
 use Rattle.numbers.specs.Slots.{free, waiting, playing}
 use Rattle.safety.specs.Scheduler.{Slot, freeSlot, at, leads, lowWater, joined, left}
@@ -43,7 +45,7 @@ module _ {A : Type 0} where
 module _ {A : Type 0} (p : Supply A) where
   -- each playing slot holds at least the mark of leads that add up to L
   abbrev pub Floored : ℕ → List (Slot A) → Type 0
-  Floored L ss = Each (λ s. s .kind ≡ playing → lowWater p L ≤ 2000000 * s .buffered) ss
+  Floored L ss = Each (λ s. s .kind ≡ playing → lowWater p L ≤ parts * s .buffered) ss
 
   pub record Began (ss ts : List (Slot A)) : Type 0 where
     pub kept : Both Kept ss ts
@@ -52,7 +54,7 @@ module _ {A : Type 0} (p : Supply A) where
   pub record Orderly {Q : Type 0} (o : Order A Q) : Type 0 where
     pub began : (q : Q) (ss : List (Slot A)) → Each (Good p (leads p ss)) ss → Began ss (o .begins q ss .slots)
     -- the queue stays sound
-    pub queue-opened : o .queueSound (o .opening) (replicate 256 (freeSlot p)) ≡ true
+    pub queue-opened : o .queueSound (o .opening) (replicate maxStreams (freeSlot p)) ≡ true
     pub queue-joined : (q : Q) (ss : List (Slot A)) (i : ℕ) (b : A) → at p ss i .kind ≡ free
         → o .queueSound q ss ≡ true → o .queueSound (o .joins q ss i) (joined p ss i b) ≡ true
     pub queue-left : (q : Q) (ss : List (Slot A)) (i : ℕ) → 0 < at p ss i .kind

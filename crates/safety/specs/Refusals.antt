@@ -6,8 +6,9 @@ use mathlib.Core.List.{List}
 use lib.ListN.{length, getD}
 use lib.Dec.{leb, ltb, eqb}
 use Rattle.laws.specs.Places.{allFrom, lowestFrom}
+use Rattle.numbers.specs.Refusals.{tooShort, notSound, wrongPhase, noSuchSlot, slotState, drawCount, drawAboveLimit, drawAboveHeld}
 use Rattle.safety.specs.Supply.{Supply}
-use Rattle.numbers.specs.Slots.{free}
+use Rattle.numbers.specs.Slots.{free, between, sweeping}
 use Rattle.safety.specs.Scheduler.{Slot, Call, join, leave, begin, end, at, mostDrawn, drawLimit}
 use Rattle.safety.specs.Order.{Scheduler, Order}
 use Rattle.safety.specs.Sound.{sound}
@@ -40,28 +41,28 @@ module _ {A : Type 0} (p : Supply A) where
     -- the slot may draw, 21 draw above held
     unfoldable pub judged : ℕ → Call A → Verdict
     judged room (join i b) =
-        unless (eqb (d .phase) 0) 15 0
-        (unless (ltb i (p .n)) 16 i
-        (unless (eqb (at p (d .slots) i .kind) free) 17 i
+        unless (eqb (d .phase) between) wrongPhase 0
+        (unless (ltb i (p .n)) noSuchSlot i
+        (unless (eqb (at p (d .slots) i .kind) free) slotState i
         (unless (eqb (p .fault b) 0) (p .fault b) i
         accept)))
     judged room (leave i) =
-        unless (eqb (d .phase) 0) 15 0
-        (unless (ltb i (p .n)) 16 i
-        (unless (ltb 0 (at p (d .slots) i .kind)) 17 i
+        unless (eqb (d .phase) between) wrongPhase 0
+        (unless (ltb i (p .n)) noSuchSlot i
+        (unless (ltb 0 (at p (d .slots) i .kind)) slotState i
         accept))
     judged room begin =
-        unless (eqb (d .phase) 0) 15 0
-        (unless (leb (p .visits * p .n) room) 13 0
+        unless (eqb (d .phase) between) wrongPhase 0
+        (unless (leb (p .visits * p .n) room) tooShort 0
         accept)
     judged room (end ds) =
         let m = mostDrawn p (d .slots) in
-        unless (eqb (d .phase) 1) 15 0
-        (unless (eqb (length ds) (p .n)) 19 0
-        (unless (allFrom (drawAllowed m ds) 0 (d .slots)) 20 (lowestFrom (drawAllowed m ds) 0 (d .slots))
-        (unless (allFrom (drawHeld ds) 0 (d .slots)) 21 (lowestFrom (drawHeld ds) 0 (d .slots))
+        unless (eqb (d .phase) sweeping) wrongPhase 0
+        (unless (eqb (length ds) (p .n)) drawCount 0
+        (unless (allFrom (drawAllowed m ds) 0 (d .slots)) drawAboveLimit (lowestFrom (drawAllowed m ds) 0 (d .slots))
+        (unless (allFrom (drawHeld ds) 0 (d .slots)) drawAboveHeld (lowestFrom (drawHeld ds) 0 (d .slots))
         accept)))
 
   -- 14 record not sound; fair: it is the plan of its figures and both lent lists begin with its entries
   unfoldable pub verdict : {Q : Type 0} → Order A Q → Scheduler A Q → Bool → ℕ → Call A → Verdict
-  verdict o d fair room c = unless (fair && sound p o d) 14 0 (judged d room c)
+  verdict o d fair room c = unless (fair && sound p o d) notSound 0 (judged d room c)

@@ -9,8 +9,9 @@ use native.Mathlib.Omega.{arith}
 use lib.ListN.{length}
 use borrow.Author.Tests.{eq-eqb, ne-eqb, lt-ltb, le-ltb, le-leb, lt-leb}
 use Rattle.laws.specs.Places.{allFrom, lowestFrom}
+use Rattle.numbers.specs.Refusals.{tooShort, notSound, wrongPhase, noSuchSlot, slotState, drawCount, drawAboveLimit, drawAboveHeld}
 use Rattle.safety.specs.Supply.{Supply}
-use Rattle.numbers.specs.Slots.{free}
+use Rattle.numbers.specs.Slots.{free, between, sweeping}
 use Rattle.safety.specs.Scheduler.{Call, join, leave, begin, end, at, mostDrawn}
 use Rattle.safety.specs.Order.{Scheduler, Order}
 use Rattle.safety.specs.Sound.{sound}
@@ -22,11 +23,11 @@ refuse k i = record { number = k; place = i }
 module _ {A Q : Type 0} (p : Supply A) (o : Order A Q) (d : Scheduler A Q) where
   -- ---- 14
 
-  pub row-unfair : (room : ℕ) (c : Call A) → verdict p o d false room c ≡ refuse 14 0
+  pub row-unfair : (room : ℕ) (c : Call A) → verdict p o d false room c ≡ refuse notSound 0
   unfolding verdict
   row-unfair room c = refl
 
-  pub row-unsound : (fair : Bool) (room : ℕ) (c : Call A) → sound p o d ≡ false → verdict p o d fair room c ≡ refuse 14 0
+  pub row-unsound : (fair : Bool) (room : ℕ) (c : Call A) → sound p o d ≡ false → verdict p o d fair room c ≡ refuse notSound 0
   unfolding verdict
   row-unsound true room c e = rw e
   row-unsound false room c e = refl
@@ -39,85 +40,85 @@ module _ {A Q : Type 0} (p : Supply A) (d : Scheduler A Q) (room : ℕ) where
   -- ---- join
 
   module _ (i : ℕ) (b : A) where
-    pub join-phase : d .phase ≢ 0 → judged p d room (join i b) ≡ refuse 15 0
+    pub join-phase : d .phase ≢ between → judged p d room (join i b) ≡ refuse wrongPhase 0
     unfolding judged
-    join-phase h = rw (ne-eqb (d .phase) 0 h)
+    join-phase h = rw (ne-eqb (d .phase) between h)
 
-    pub join-slot : d .phase ≡ 0 → p .n ≤ i → judged p d room (join i b) ≡ refuse 16 i
+    pub join-slot : d .phase ≡ between → p .n ≤ i → judged p d room (join i b) ≡ refuse noSuchSlot i
     unfolding judged
-    join-slot h l = rw (eq-eqb (d .phase) 0 h, le-ltb i (p .n) l)
+    join-slot h l = rw (eq-eqb (d .phase) between h, le-ltb i (p .n) l)
 
-    pub join-occupied : d .phase ≡ 0 → i < p .n → at p (d .slots) i .kind ≢ free → judged p d room (join i b) ≡ refuse 17 i
+    pub join-occupied : d .phase ≡ between → i < p .n → at p (d .slots) i .kind ≢ free → judged p d room (join i b) ≡ refuse slotState i
     unfolding judged
-    join-occupied h l k = rw (eq-eqb (d .phase) 0 h, lt-ltb i (p .n) l, ne-eqb (at p (d .slots) i .kind) free k)
+    join-occupied h l k = rw (eq-eqb (d .phase) between h, lt-ltb i (p .n) l, ne-eqb (at p (d .slots) i .kind) free k)
 
-    pub join-fault : d .phase ≡ 0 → i < p .n → at p (d .slots) i .kind ≡ free → p .fault b ≢ 0 → judged p d room (join i b) ≡ refuse (p .fault b) i
+    pub join-fault : d .phase ≡ between → i < p .n → at p (d .slots) i .kind ≡ free → p .fault b ≢ 0 → judged p d room (join i b) ≡ refuse (p .fault b) i
     unfolding judged
-    join-fault h l k f = rw (eq-eqb (d .phase) 0 h, lt-ltb i (p .n) l, eq-eqb (at p (d .slots) i .kind) free k, ne-eqb (p .fault b) 0 f)
+    join-fault h l k f = rw (eq-eqb (d .phase) between h, lt-ltb i (p .n) l, eq-eqb (at p (d .slots) i .kind) free k, ne-eqb (p .fault b) 0 f)
 
-    pub join-accepted : d .phase ≡ 0 → i < p .n → at p (d .slots) i .kind ≡ free → p .fault b ≡ 0 → judged p d room (join i b) ≡ accept
+    pub join-accepted : d .phase ≡ between → i < p .n → at p (d .slots) i .kind ≡ free → p .fault b ≡ 0 → judged p d room (join i b) ≡ accept
     unfolding judged
-    join-accepted h l k f = rw (eq-eqb (d .phase) 0 h, lt-ltb i (p .n) l, eq-eqb (at p (d .slots) i .kind) free k, eq-eqb (p .fault b) 0 f)
+    join-accepted h l k f = rw (eq-eqb (d .phase) between h, lt-ltb i (p .n) l, eq-eqb (at p (d .slots) i .kind) free k, eq-eqb (p .fault b) 0 f)
 
   -- ---- leave
 
   module _ (i : ℕ) where
-    pub leave-phase : d .phase ≢ 0 → judged p d room (leave i) ≡ refuse 15 0
+    pub leave-phase : d .phase ≢ between → judged p d room (leave i) ≡ refuse wrongPhase 0
     unfolding judged
-    leave-phase h = rw (ne-eqb (d .phase) 0 h)
+    leave-phase h = rw (ne-eqb (d .phase) between h)
 
-    pub leave-slot : d .phase ≡ 0 → p .n ≤ i → judged p d room (leave i) ≡ refuse 16 i
+    pub leave-slot : d .phase ≡ between → p .n ≤ i → judged p d room (leave i) ≡ refuse noSuchSlot i
     unfolding judged
-    leave-slot h l = rw (eq-eqb (d .phase) 0 h, le-ltb i (p .n) l)
+    leave-slot h l = rw (eq-eqb (d .phase) between h, le-ltb i (p .n) l)
 
-    pub leave-free : d .phase ≡ 0 → i < p .n → at p (d .slots) i .kind ≡ free → judged p d room (leave i) ≡ refuse 17 i
+    pub leave-free : d .phase ≡ between → i < p .n → at p (d .slots) i .kind ≡ free → judged p d room (leave i) ≡ refuse slotState i
     unfolding judged
-    leave-free h l k = rw (eq-eqb (d .phase) 0 h, lt-ltb i (p .n) l, le-ltb 0 (at p (d .slots) i .kind) (omega arith))
+    leave-free h l k = rw (eq-eqb (d .phase) between h, lt-ltb i (p .n) l, le-ltb 0 (at p (d .slots) i .kind) (omega arith))
 
-    pub leave-accepted : d .phase ≡ 0 → i < p .n → at p (d .slots) i .kind ≢ free → judged p d room (leave i) ≡ accept
+    pub leave-accepted : d .phase ≡ between → i < p .n → at p (d .slots) i .kind ≢ free → judged p d room (leave i) ≡ accept
     unfolding judged
-    leave-accepted h l k = rw (eq-eqb (d .phase) 0 h, lt-ltb i (p .n) l, lt-ltb 0 (at p (d .slots) i .kind) (omega arith))
+    leave-accepted h l k = rw (eq-eqb (d .phase) between h, lt-ltb i (p .n) l, lt-ltb 0 (at p (d .slots) i .kind) (omega arith))
 
   -- ---- begin
 
-  pub begin-phase : d .phase ≢ 0 → judged p d room begin ≡ refuse 15 0
+  pub begin-phase : d .phase ≢ between → judged p d room begin ≡ refuse wrongPhase 0
   unfolding judged
-  begin-phase h = rw (ne-eqb (d .phase) 0 h)
+  begin-phase h = rw (ne-eqb (d .phase) between h)
 
-  pub begin-short : d .phase ≡ 0 → room < p .visits * p .n → judged p d room begin ≡ refuse 13 0
+  pub begin-short : d .phase ≡ between → room < p .visits * p .n → judged p d room begin ≡ refuse tooShort 0
   unfolding judged
-  begin-short h l = rw (eq-eqb (d .phase) 0 h, lt-leb (p .visits * p .n) room l)
+  begin-short h l = rw (eq-eqb (d .phase) between h, lt-leb (p .visits * p .n) room l)
 
-  pub begin-accepted : d .phase ≡ 0 → p .visits * p .n ≤ room → judged p d room begin ≡ accept
+  pub begin-accepted : d .phase ≡ between → p .visits * p .n ≤ room → judged p d room begin ≡ accept
   unfolding judged
-  begin-accepted h l = rw (eq-eqb (d .phase) 0 h, le-leb (p .visits * p .n) room l)
+  begin-accepted h l = rw (eq-eqb (d .phase) between h, le-leb (p .visits * p .n) room l)
 
   -- ---- end
 
   module _ (ds : List ℕ) where
-    pub end-phase : d .phase ≢ 1 → judged p d room (end ds) ≡ refuse 15 0
+    pub end-phase : d .phase ≢ sweeping → judged p d room (end ds) ≡ refuse wrongPhase 0
     unfolding judged
-    end-phase h = rw (ne-eqb (d .phase) 1 h)
+    end-phase h = rw (ne-eqb (d .phase) sweeping h)
 
-    pub end-length : d .phase ≡ 1 → length ds ≢ p .n → judged p d room (end ds) ≡ refuse 19 0
+    pub end-length : d .phase ≡ sweeping → length ds ≢ p .n → judged p d room (end ds) ≡ refuse drawCount 0
     unfolding judged
-    end-length h l = rw (eq-eqb (d .phase) 1 h, ne-eqb (length ds) (p .n) l)
+    end-length h l = rw (eq-eqb (d .phase) sweeping h, ne-eqb (length ds) (p .n) l)
 
-    pub end-excess : (i : ℕ) → d .phase ≡ 1 → length ds ≡ p .n
+    pub end-excess : (i : ℕ) → d .phase ≡ sweeping → length ds ≡ p .n
         → (allFrom (drawAllowed p (mostDrawn p (d .slots)) ds) 0 (d .slots) ≡ false) × (lowestFrom (drawAllowed p (mostDrawn p (d .slots)) ds) 0 (d .slots) ≡ i)
-        → judged p d room (end ds) ≡ refuse 20 i
+        → judged p d room (end ds) ≡ refuse drawAboveLimit i
     unfolding judged
-    end-excess i h l e = rw (eq-eqb (d .phase) 1 h, eq-eqb (length ds) (p .n) l, e .0, e .1)
+    end-excess i h l e = rw (eq-eqb (d .phase) sweeping h, eq-eqb (length ds) (p .n) l, e .0, e .1)
 
-    pub end-overdrawn : (i : ℕ) → d .phase ≡ 1 → length ds ≡ p .n
+    pub end-overdrawn : (i : ℕ) → d .phase ≡ sweeping → length ds ≡ p .n
         → allFrom (drawAllowed p (mostDrawn p (d .slots)) ds) 0 (d .slots) ≡ true
         → (allFrom (drawHeld p ds) 0 (d .slots) ≡ false) × (lowestFrom (drawHeld p ds) 0 (d .slots) ≡ i)
-        → judged p d room (end ds) ≡ refuse 21 i
+        → judged p d room (end ds) ≡ refuse drawAboveHeld i
     unfolding judged
-    end-overdrawn i h l e f = rw (eq-eqb (d .phase) 1 h, eq-eqb (length ds) (p .n) l, e, f .0, f .1)
+    end-overdrawn i h l e f = rw (eq-eqb (d .phase) sweeping h, eq-eqb (length ds) (p .n) l, e, f .0, f .1)
 
-    pub end-accepted : d .phase ≡ 1 → length ds ≡ p .n
+    pub end-accepted : d .phase ≡ sweeping → length ds ≡ p .n
         → allFrom (drawAllowed p (mostDrawn p (d .slots)) ds) 0 (d .slots) ≡ true → allFrom (drawHeld p ds) 0 (d .slots) ≡ true
         → judged p d room (end ds) ≡ accept
     unfolding judged
-    end-accepted h l e f = rw (eq-eqb (d .phase) 1 h, eq-eqb (length ds) (p .n) l, e, f)
+    end-accepted h l e f = rw (eq-eqb (d .phase) sweeping h, eq-eqb (length ds) (p .n) l, e, f)

@@ -15,6 +15,7 @@ use Rattle.laws.specs.Map.{mapFrom}
 use Rattle.laws.specs.Runs.{sumBy}
 use Rattle.laws.specs.Each.{Each, EachFrom, Both, each-set, each-map, both-at, both-length}
 use Rattle.laws.specs.Places.{allFrom, length-mapFrom}
+use Rattle.numbers.specs.Units.{parts, micros}
 use Rattle.safety.specs.Supply.{Supply, Lawful}
 use Rattle.numbers.specs.Slots.{free, waiting, playing, draining}
 use Rattle.safety.specs.Scheduler.{Slot, Call, join, leave, begin, end, freeSlot, waitingSlot, at}
@@ -38,7 +39,7 @@ module _ {A : Type 0} (p : Supply A) where
   pub good-lower : (L M : ℕ) → M ≤ L → (s : Slot A) → Good p L s → Good p M s
   unfolding lowWater
   good-lower L M u s g =
-      let f : s .kind ≡ playing → lowWater p M ≤ 2000000 * s .buffered = λ k. omega (arith, g .floored k, mul-le-mul-left (p .c) u) in
+      let f : s .kind ≡ playing → lowWater p M ≤ parts * s .buffered = λ k. omega (arith, g .floored k, mul-le-mul-left (p .c) u) in
       search
 
   leads-set : (ss : List (Slot A)) (i : ℕ) (a : Slot A) → leadOf p a ≡ 0 → leads p (set ss i a) ≤ leads p ss
@@ -59,7 +60,7 @@ module _ {A : Type 0} (p : Supply A) where
 
   -- ---- begin
 
-  kept-good : (L M : ℕ) (s t : Slot A) → Kept s t → (t .kind ≡ playing → lowWater p M ≤ 2000000 * t .buffered) → Good p L s → Good p M t
+  kept-good : (L M : ℕ) (s t : Slot A) → Kept s t → (t .kind ≡ playing → lowWater p M ≤ parts * t .buffered) → Good p L s → Good p M t
   kept-good L M s t k f g = record {
     kinds = omega (arith, k .bounded, g .kinds);
     zeros = λ z. let y : s .kind ≡ free = omega (arith, k .rises) in (k .next ∙ g .zeros y .0, k .buffered ∙ g .zeros y .1);
@@ -150,7 +151,7 @@ module _ {A : Type 0} (p : Supply A) where
     unfolding ended
     leads-after L ss ds g = leads-from L 0 ss ds g
 
-    pub room-of : (k : ℕ) → k ≤ p .n → p .c * (k * p .pairTime + 2 * p .overhead k + 0) ≤ 2000000 * p .B
+    pub room-of : (k : ℕ) → k ≤ p .n → p .c * (k * p .pairTime + 2 * p .overhead k + 0) ≤ parts * p .B
     room-of k kn = room-of-streams (p .c) (p .n) (p .pairTime) (p .overhead (p .n)) (p .B) k (p .overhead k) (ok .streams-fit) kn (ok .overhead-rises k (p .n) kn)
 
     -- a sweep over ss draws no more than its low-water mark
@@ -207,7 +208,7 @@ module _ {A : Type 0} (p : Supply A) where
       pub named : 1 ≤ s .kind → s .kind ≤ 3 → p .isBlock (s .next) ≡ true
       pub past : s .kind ≡ draining → p .isEnd (s .next) ≡ true
       pub fits : s .buffered ≤ p .buffer
-      pub floored : s .kind ≡ playing → lowWater p L ≤ 2000000 * s .buffered
+      pub floored : s .kind ≡ playing → lowWater p L ≤ parts * s .buffered
 
     released-good : (L : ℕ) (s : Slot A) → Swept L s → Good p L (released p s)
     unfolding released
@@ -229,7 +230,7 @@ module _ {A : Type 0} (p : Supply A) where
     -- a sweep of k fetches that take T; L and M are the leads before and after it
     module _ (k T L M : ℕ) (few : k ≤ p .n) (paid : 2 * T + M ≤ L + k * p .pairTime) (top : L ≤ p .n * p .margin) where
       abbrev most : ℕ
-      most = p .c * (T + p .overhead k) / 1000000
+      most = p .c * (T + p .overhead k) / micros
 
       pub swept-of : (s : Slot A) (d : ℕ) → Good p L s → Drawable most s d → Swept M (sweptBy p (isFetched p s) s d)
       unfolding sweptBy lowWater

@@ -10,6 +10,7 @@ use Rattle.laws.specs.Bools.{bit, implies}
 use Rattle.laws.specs.Map.{mapFrom}
 use Rattle.laws.specs.Runs.{sumBy, allBy}
 use Rattle.numbers.specs.Slots.{free, waiting, filling, playing, draining}
+use Rattle.numbers.specs.Units.{parts, micros}
 use Rattle.safety.specs.Supply.{Supply}
 
 -- a slot: its kind, its next block and its held bytes
@@ -72,11 +73,11 @@ module _ {A : Type 0} (p : Supply A) where
 
   -- B plus c / 2,000,000 times leads that add up to L
   unfoldable pub lowWater : ℕ → ℕ
-  lowWater L = 2000000 * p .B + p .c * L
+  lowWater L = parts * p .B + p .c * L
 
   -- the slot holds at least the mark x
   unfoldable pub holds : ℕ → Slot A → Bool
-  holds x s = leb x (2000000 * s .buffered)
+  holds x s = leb x (parts * s .buffered)
 
   -- ---- join and leave
 
@@ -186,7 +187,7 @@ module _ {A : Type 0} (p : Supply A) where
 
   -- what a playing or tail slot may draw: `c × bound / 1,000,000, rounded down`
   unfoldable pub mostDrawn : List (Slot A) → ℕ
-  mostDrawn ss = p .c * bound ss / 1000000
+  mostDrawn ss = p .c * bound ss / micros
 
   -- what a slot may draw where m is the most; `other kinds draw 0`
   unfoldable pub drawLimit : ℕ → Slot A → ℕ

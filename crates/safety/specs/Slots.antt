@@ -9,6 +9,7 @@ use native.Mathlib.Decide.{ℕ-discrete}
 use lib.Dec.{eqb}
 use borrow.Author.Tests.{leb-true, leb-false, eqb-true, ne-eqb, le-leb, lt-leb}
 use Rattle.laws.specs.Bools.{and-left, and-right, or-cases}
+use Rattle.numbers.specs.Units.{parts}
 use Rattle.safety.specs.Supply.{Supply}
 use Rattle.numbers.specs.Slots.{filling, playing}
 use Rattle.safety.specs.Scheduler.{Slot, reads, leadOf, holds, isFetched, timeOf}
@@ -80,10 +81,10 @@ module _ {A : Type 0} (p : Supply A) where
 
   -- ---- a slot holds the mark x
 
-  pub holds-yes : (x : ℕ) (s : Slot A) → x ≤ 2000000 * s .buffered → holds p x s ≡ true
+  pub holds-yes : (x : ℕ) (s : Slot A) → x ≤ parts * s .buffered → holds p x s ≡ true
   unfolding holds
-  holds-yes x s h = le-leb x (2000000 * s .buffered) h
+  holds-yes x s h = le-leb x (parts * s .buffered) h
 
-  pub holds-no : (x : ℕ) (s : Slot A) → 2000000 * s .buffered < x → holds p x s ≡ false
+  pub holds-no : (x : ℕ) (s : Slot A) → parts * s .buffered < x → holds p x s ≡ false
   unfolding holds
-  holds-no x s h = lt-leb x (2000000 * s .buffered) h
+  holds-no x s h = lt-leb x (parts * s .buffered) h

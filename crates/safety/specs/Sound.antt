@@ -13,8 +13,9 @@ use borrow.Author.Tests.{leb-true, eqb-true, eq-eqb, le-leb}
 use Rattle.laws.specs.Bools.{implies, implied, implies-of, and-says, and-both}
 use Rattle.laws.specs.Runs.{allBy}
 use Rattle.laws.specs.Each.{Each, each-map, each-at, each-of-all, all-of-each}
+use Rattle.numbers.specs.Units.{parts}
 use Rattle.safety.specs.Supply.{Supply, Named}
-use Rattle.numbers.specs.Slots.{free, waiting, playing, draining}
+use Rattle.numbers.specs.Slots.{free, waiting, playing, draining, sweeping}
 use Rattle.safety.specs.Scheduler.{Slot, freeSlot, at, leads, lowWater, holds}
 use Rattle.safety.specs.Order.{Scheduler, Order}
 
@@ -26,10 +27,10 @@ module _ {A : Type 0} (p : Supply A) where
   -- tail holds 1 or more, no slot holds above the buffer, and each playing slot holds at least the floor`: L is the sum of the leads
   unfoldable pub soundSlot : ℕ → Slot A → Bool
   soundSlot L s =
-      leb (s .kind) 4
+      leb (s .kind) draining
       && (implies (eqb (s .kind) free) (isZero s)
       && (implies (eqb (s .kind) waiting) (eqb (s .buffered) 0)
-      && (implies (leb 1 (s .kind) && leb (s .kind) 3) (p .isBlock (s .next))
+      && (implies (leb waiting (s .kind) && leb (s .kind) playing) (p .isBlock (s .next))
       && (implies (eqb (s .kind) draining) (p .isEnd (s .next))
       && (implies (eqb (s .kind) draining) (leb 1 (s .buffered))
       && (leb (s .buffered) (p .buffer)
@@ -38,7 +39,7 @@ module _ {A : Type 0} (p : Supply A) where
   -- `the phase is 0 or 1`, each slot, and `all slots from n on are zero`
   unfoldable pub sound : {Q : Type 0} → Order A Q → Scheduler A Q → Bool
   sound o d =
-      leb (d .phase) 1
+      leb (d .phase) sweeping
       && (allBy (soundSlot (leads p (d .slots))) (d .slots)
       && (allBy isZero (drop (p .n) (d .slots))
       && o .queueSound (d .queue) (d .slots)))
@@ -47,21 +48,21 @@ module _ {A : Type 0} (p : Supply A) where
 
   -- a slot, in the order of its test; some: a tail holds something
   pub record Good (L : ℕ) (s : Slot A) : Type 0 where
-    pub kinds : s .kind ≤ 4
+    pub kinds : s .kind ≤ draining
     pub zeros : s .kind ≡ free → (s .next ≡ p .none) × (s .buffered ≡ 0)
     pub empty : s .kind ≡ waiting → s .buffered ≡ 0
-    pub named : 1 ≤ s .kind → s .kind ≤ 3 → p .isBlock (s .next) ≡ true
+    pub named : waiting ≤ s .kind → s .kind ≤ playing → p .isBlock (s .next) ≡ true
     pub past : s .kind ≡ draining → p .isEnd (s .next) ≡ true
     pub some : s .kind ≡ draining → 1 ≤ s .buffered
     pub fits : s .buffered ≤ p .buffer
-    pub floored : s .kind ≡ playing → lowWater p L ≤ 2000000 * s .buffered
+    pub floored : s .kind ≡ playing → lowWater p L ≤ parts * s .buffered
 
   -- the slots from m on are free
   abbrev pub FreeFrom : ℕ → List (Slot A) → Type 0
   FreeFrom m ss = (i : ℕ) → m ≤ i → at p ss i .kind ≡ free
 
   pub record Sound {Q : Type 0} (o : Order A Q) (d : Scheduler A Q) : Type 0 where
-    pub phase : d .phase ≤ 1
+    pub phase : d .phase ≤ sweeping
     pub slots : Each (Good (leads p (d .slots))) (d .slots)
     pub unused : FreeFrom (p .n) (d .slots)
     pub queue : o .queueSound (d .queue) (d .slots) ≡ true
@@ -85,8 +86,8 @@ module _ {A : Type 0} (p : Supply A) where
     floored = λ z. absurd (omega arith);
   }
 
-  pub good-block : (L : ℕ) (s : Slot A) → 1 ≤ s .kind → s .kind ≤ 3 → p .isBlock (s .next) ≡ true → (s .kind ≡ waiting → s .buffered ≡ 0)
-      → s .buffered ≤ p .buffer → (s .kind ≡ playing → lowWater p L ≤ 2000000 * s .buffered) → Good L s
+  pub good-block : (L : ℕ) (s : Slot A) → waiting ≤ s .kind → s .kind ≤ playing → p .isBlock (s .next) ≡ true → (s .kind ≡ waiting → s .buffered ≡ 0)
+      → s .buffered ≤ p .buffer → (s .kind ≡ playing → lowWater p L ≤ parts * s .buffered) → Good L s
   good-block L s k l x e h f = record {
     kinds = omega arith;
     zeros = λ z. absurd (omega arith);
@@ -118,22 +119,22 @@ module _ {A : Type 0} (p : Supply A) where
     unfolding soundSlot holds
     good-of-sound L s e =
         let k = s .kind in
-        let t = and-says (leb k 4) _ e in
+        let t = and-says (leb k draining) _ e in
         let t₁ = and-says (implies (eqb k free) (isZero s)) _ (t .1) in
         let t₂ = and-says (implies (eqb k waiting) (eqb (s .buffered) 0)) _ (t₁ .1) in
-        let t₃ = and-says (implies (leb 1 k && leb k 3) (p .isBlock (s .next))) _ (t₂ .1) in
+        let t₃ = and-says (implies (leb waiting k && leb k playing) (p .isBlock (s .next))) _ (t₂ .1) in
         let t₄ = and-says (implies (eqb k draining) (p .isEnd (s .next))) _ (t₃ .1) in
         let t₅ = and-says (implies (eqb k draining) (leb 1 (s .buffered))) _ (t₄ .1) in
         let t₆ = and-says (leb (s .buffered) (p .buffer)) _ (t₅ .1) in
         record {
-          kinds = leb-true k 4 (t .0);
+          kinds = leb-true k draining (t .0);
           zeros = λ h. let z = zero-says s (implied (eqb k free) _ (t₁ .0) (eq-eqb k free h)) in (z .1, z .2);
           empty = λ h. eqb-true (s .buffered) 0 (implied (eqb k waiting) _ (t₂ .0) (eq-eqb k waiting h));
-          named = λ l h. implied (leb 1 k && leb k 3) _ (t₃ .0) (and-both (le-leb 1 k l) (le-leb k 3 h));
+          named = λ l h. implied (leb waiting k && leb k playing) _ (t₃ .0) (and-both (le-leb waiting k l) (le-leb k playing h));
           past = λ h. implied (eqb k draining) _ (t₄ .0) (eq-eqb k draining h);
           some = λ h. leb-true 1 (s .buffered) (implied (eqb k draining) _ (t₅ .0) (eq-eqb k draining h));
           fits = leb-true (s .buffered) (p .buffer) (t₆ .0);
-          floored = λ h. leb-true (lowWater p L) (2000000 * s .buffered) (implied (eqb k playing) _ (t₆ .1) (eq-eqb k playing h));
+          floored = λ h. leb-true (lowWater p L) (parts * s .buffered) (implied (eqb k playing) _ (t₆ .1) (eq-eqb k playing h));
         }
 
     -- and a good one passes
@@ -142,14 +143,14 @@ module _ {A : Type 0} (p : Supply A) where
     sound-of-good L s g =
         let k = s .kind in
         let h = s .buffered in
-        and-both (le-leb k 4 (g .kinds))
+        and-both (le-leb k draining (g .kinds))
         (and-both (implies-of (eqb k free) (isZero s) (λ e. let z = g .zeros (eqb-true k free e) in of-zero s (eqb-true k free e) (z .0) (z .1)))
         (and-both (implies-of (eqb k waiting) (eqb h 0) (λ e. eq-eqb h 0 (g .empty (eqb-true k waiting e))))
-        (and-both (implies-of (leb 1 k && leb k 3) (p .isBlock (s .next)) (λ e. let t = and-says (leb 1 k) _ e in g .named (leb-true 1 k (t .0)) (leb-true k 3 (t .1))))
+        (and-both (implies-of (leb waiting k && leb k playing) (p .isBlock (s .next)) (λ e. let t = and-says (leb waiting k) _ e in g .named (leb-true waiting k (t .0)) (leb-true k playing (t .1))))
         (and-both (implies-of (eqb k draining) (p .isEnd (s .next)) (λ e. g .past (eqb-true k draining e)))
         (and-both (implies-of (eqb k draining) (leb 1 h) (λ e. le-leb 1 h (g .some (eqb-true k draining e))))
         (and-both (le-leb h (p .buffer) (g .fits))
-        (implies-of (eqb k playing) (leb (lowWater p L) (2000000 * h)) (λ e. le-leb (lowWater p L) (2000000 * h) (g .floored (eqb-true k playing e))))))))))
+        (implies-of (eqb k playing) (leb (lowWater p L) (parts * h)) (λ e. le-leb (lowWater p L) (parts * h) (g .floored (eqb-true k playing e))))))))))
 
     free-of-zero : (m : ℕ) (ss : List (Slot A)) → allBy isZero (drop m ss) ≡ true → FreeFrom m ss
     free-of-zero m ss e i l =
@@ -171,11 +172,11 @@ module _ {A : Type 0} (p : Supply A) where
     unfolding sound
     sound-says o d e =
         let L = leads p (d .slots) in
-        let t = and-says (leb (d .phase) 1) _ e in
+        let t = and-says (leb (d .phase) sweeping) _ e in
         let t₁ = and-says (allBy (soundSlot L) (d .slots)) _ (t .1) in
         let t₂ = and-says (allBy isZero (drop (p .n) (d .slots))) _ (t₁ .1) in
         record {
-          phase = leb-true (d .phase) 1 (t .0);
+          phase = leb-true (d .phase) sweeping (t .0);
           slots = each-map _ _ (d .slots) (good-of-sound L) (each-of-all (soundSlot L) (d .slots) (t₁ .0));
           unused = free-of-zero (p .n) (d .slots) (t₂ .0);
           queue = t₂ .1;
@@ -185,6 +186,6 @@ module _ {A : Type 0} (p : Supply A) where
     unfolding sound
     says-sound o d h =
         let L = leads p (d .slots) in
-        and-both (le-leb (d .phase) 1 (h .phase))
+        and-both (le-leb (d .phase) sweeping (h .phase))
         (and-both (all-of-each (soundSlot L) (d .slots) (each-map _ _ (d .slots) (sound-of-good L) (h .slots)))
         (and-both (zero-of-free L (p .n) (d .slots) (h .slots) (h .unused)) (h .queue)))

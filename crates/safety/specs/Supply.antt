@@ -6,6 +6,8 @@ use mathlib.Core.Path.{_≡_}
 use mathlib.Core.Logic.{_≢_}
 use mathlib.Core.Bool.{Bool, true, false, cond}
 use mathlib.Core.List.{List}
+use Rattle.numbers.specs.Units.{parts, wholeBytes}
+use Rattle.numbers.specs.Refusals.{notSound}
 
 pub record Supply (A : Type 0) : Type 0 where
   -- the name that stands in a free slot, and its test
@@ -47,9 +49,9 @@ pub record Lawful {A : Type 0} (p : Supply A) : Type 0 where
   -- a sweep of more blocks has no less overhead
   pub overhead-rises : (j k : ℕ) → j ≤ k → p .overhead j ≤ p .overhead k
   -- the formula of streams
-  pub streams-fit : p .c * (p .n * p .pairTime + 2 * p .overhead (p .n)) ≤ 2000000 * p .B
+  pub streams-fit : p .c * (p .n * p .pairTime + 2 * p .overhead (p .n)) ≤ parts * p .B
   -- the formula of the buffer, rounded up
-  pub buffer-holds : 3 * p .B + (p .c * p .n * p .margin + 1999999) / 2000000 ≤ p .buffer
+  pub buffer-holds : 3 * p .B + wholeBytes (p .c * p .n * p .margin) ≤ p .buffer
   -- after a block comes a block or the end
   pub next-block : (a : A) → p .isBlock a ≡ true → p .isEnd (p .next a) ≡ false → p .isBlock (p .next a) ≡ true
   -- a lead covers what reading its block takes beyond half of worst2, and the lead after it. lead(N) is 0
@@ -63,4 +65,4 @@ pub record Named {A : Type 0} (p : Supply A) : Type 0 where
   pub none-only : (a : A) → p .isNone a ≡ true → a ≡ p .none
   pub faultless : (a : A) → p .fault a ≡ 0 → p .isBlock a ≡ true
   -- a join's fault is not taken for an unsound record
-  pub fault-own : (a : A) → p .fault a ≢ 14
+  pub fault-own : (a : A) → p .fault a ≢ notSound

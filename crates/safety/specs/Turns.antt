@@ -19,6 +19,7 @@ use Rattle.laws.specs.Runs.{allBy}
 use Rattle.laws.specs.Sums.{sum-none, sum-next, sum-rest}
 use Rattle.laws.specs.Each.{each-at, each-by}
 use Rattle.laws.specs.Places.{mapFrom-at, mapFrom-map, mapTo-rest, allFrom, lowestFrom, all-passed, first-failed}
+use Rattle.numbers.specs.Units.{parts}
 use Rattle.safety.specs.Supply.{Supply, Named}
 use Rattle.numbers.specs.Slots.{free, waiting, filling, playing, draining}
 use Rattle.safety.specs.Scheduler.{Slot, freeSlot, at}
@@ -109,18 +110,18 @@ module _ {A : Type 0} (p : Supply A) where
       ∙ ap (λ (t : Bool). cond t (min (leastHeld top (take i ss)) (at p ss i .buffered)) (leastHeld top (take i ss))) (ne-eqb (at p ss i .kind) playing k)
 
   -- every playing slot holds x where the least does
-  pub least-holds : (top x : ℕ) (ss : List (Slot A)) → x ≤ 2000000 * top → playersHold p x ss ≡ leb x (2000000 * leastHeld top ss)
+  pub least-holds : (top x : ℕ) (ss : List (Slot A)) → x ≤ parts * top → playersHold p x ss ≡ leb x (parts * leastHeld top ss)
   unfolding playersHold allBy leastHeld holds
-  least-holds top x [] h = sym (le-leb x (2000000 * top) h)
+  least-holds top x [] h = sym (le-leb x (parts * top) h)
   least-holds top x (s ∷ ss) h = rw (least-holds top x ss h) (go (eqb (s .kind) playing) (leastHeld top ss))
     where
-      both : (a b : ℕ) → (leb x (2000000 * a) && leb x (2000000 * b)) ≡ leb x (2000000 * min a b)
+      both : (a b : ℕ) → (leb x (parts * a) && leb x (parts * b)) ≡ leb x (parts * min a b)
       both a b =
-          bool-ext (leb x (2000000 * a) && leb x (2000000 * b)) (leb x (2000000 * min a b))
-          (λ e. le-leb x (2000000 * min a b) (omega (arith, leb-true x (2000000 * a) (and-left (leb x (2000000 * a)) _ e), leb-true x (2000000 * b) (and-right (leb x (2000000 * a)) _ e))))
-          (λ e. let l = leb-true x (2000000 * min a b) e in and-both (le-leb x (2000000 * a) (omega arith)) (le-leb x (2000000 * b) (omega arith)))
+          bool-ext (leb x (parts * a) && leb x (parts * b)) (leb x (parts * min a b))
+          (λ e. le-leb x (parts * min a b) (omega (arith, leb-true x (parts * a) (and-left (leb x (parts * a)) _ e), leb-true x (parts * b) (and-right (leb x (parts * a)) _ e))))
+          (λ e. let l = leb-true x (parts * min a b) e in and-both (le-leb x (parts * a) (omega arith)) (le-leb x (parts * b) (omega arith)))
 
-      go : (t : Bool) (r : ℕ) → (implies t (leb x (2000000 * s .buffered)) && leb x (2000000 * r)) ≡ leb x (2000000 * cond t (min (s .buffered) r) r)
+      go : (t : Bool) (r : ℕ) → (implies t (leb x (parts * s .buffered)) && leb x (parts * r)) ≡ leb x (parts * cond t (min (s .buffered) r) r)
       go true r = both (s .buffered) r
       go false r = refl
 
@@ -149,12 +150,12 @@ module _ {A : Type 0} (p : Supply A) where
 
   -- ---- begin: filling slots start to play, x being the mark
 
-  pub starts-playing : (x : ℕ) (s : Slot A) → s .kind ≡ filling → x ≤ 2000000 * s .buffered
+  pub starts-playing : (x : ℕ) (s : Slot A) → s .kind ≡ filling → x ≤ parts * s .buffered
       → startedSlot p x s ≡ playingSlot p s
   unfolding startedSlot
   starts-playing x s k h = rw (eq-eqb (s .kind) filling k, holds-yes p x s h)
 
-  pub starts-not : (x : ℕ) (s : Slot A) → (s .kind ≡ filling → 2000000 * s .buffered < x) → startedSlot p x s ≡ s
+  pub starts-not : (x : ℕ) (s : Slot A) → (s .kind ≡ filling → parts * s .buffered < x) → startedSlot p x s ≡ s
   unfolding startedSlot
   starts-not x s h = go (eqb (s .kind) filling) refl
     where

@@ -13,8 +13,9 @@ use borrow.Author.Tests.{leb-true, leb-false, ltb-true, eqb-true}
 use Rattle.laws.specs.Bools.{and-right}
 use Rattle.laws.specs.Each.{each-at}
 use Rattle.laws.specs.Places.{allFrom, lowestFrom, Lowest, lowest-fails, each-of-allFrom, eachFrom-at}
+use Rattle.numbers.specs.Refusals.{tooShort, notSound, wrongPhase, noSuchSlot, slotState, drawCount, drawAboveLimit, drawAboveHeld}
 use Rattle.safety.specs.Supply.{Supply, Lawful, Named}
-use Rattle.numbers.specs.Slots.{free, playing, draining}
+use Rattle.numbers.specs.Slots.{free, playing, draining, between, sweeping}
 use Rattle.safety.specs.Scheduler.{Slot, Call, join, leave, begin, end, freeSlot, at, mostDrawn, drawLimit}
 use Rattle.safety.specs.Order.{Scheduler, Order}
 use Rattle.safety.specs.Sound.{sound, Sound}
@@ -53,92 +54,92 @@ module _ {A : Type 0} (p : Supply A) (names : Named p) where
     judged-strict : (d : Scheduler A Q) (room : ℕ) (c : Call A) → judged p d room c .number ≡ 0 → Allowed p o d c
     unfolding judged
     judged-strict d room (join i b) e =
-        let a = passed (eqb (d .phase) 0) 15 0 _ (omega arith) e in
-        let a₁ = passed (ltb i (p .n)) 16 i _ (omega arith) (a .1) in
-        let a₂ = passed (eqb (at p (d .slots) i .kind) free) 17 i _ (omega arith) (a₁ .1) in (
-          eqb-true (d .phase) 0 (a .0),
+        let a = passed (eqb (d .phase) between) wrongPhase 0 _ (omega arith) e in
+        let a₁ = passed (ltb i (p .n)) noSuchSlot i _ (omega arith) (a .1) in
+        let a₂ = passed (eqb (at p (d .slots) i .kind) free) slotState i _ (omega arith) (a₁ .1) in (
+          eqb-true (d .phase) between (a .0),
           ltb-true i (p .n) (a₁ .0),
           eqb-true (at p (d .slots) i .kind) free (a₂ .0),
           names .faultless b (passed-fault (p .fault b) i (a₂ .1)),
         )
     judged-strict d room (leave i) e =
-        let a = passed (eqb (d .phase) 0) 15 0 _ (omega arith) e in
-        let a₁ = passed (ltb i (p .n)) 16 i _ (omega arith) (a .1) in
-        let a₂ = passed (ltb 0 (at p (d .slots) i .kind)) 17 i _ (omega arith) (a₁ .1) in
-        (eqb-true (d .phase) 0 (a .0), ltb-true i (p .n) (a₁ .0), ltb-true 0 (at p (d .slots) i .kind) (a₂ .0))
-    judged-strict d room begin e = eqb-true (d .phase) 0 (passed (eqb (d .phase) 0) 15 0 _ (omega arith) e .0)
+        let a = passed (eqb (d .phase) between) wrongPhase 0 _ (omega arith) e in
+        let a₁ = passed (ltb i (p .n)) noSuchSlot i _ (omega arith) (a .1) in
+        let a₂ = passed (ltb 0 (at p (d .slots) i .kind)) slotState i _ (omega arith) (a₁ .1) in
+        (eqb-true (d .phase) between (a .0), ltb-true i (p .n) (a₁ .0), ltb-true 0 (at p (d .slots) i .kind) (a₂ .0))
+    judged-strict d room begin e = eqb-true (d .phase) between (passed (eqb (d .phase) between) wrongPhase 0 _ (omega arith) e .0)
     judged-strict d room (end ds) e =
         let ss = d .slots in
         let m : ℕ = mostDrawn p ss in
-        let a = passed (eqb (d .phase) 1) 15 0 _ (omega arith) e in
-        let a₁ = passed (eqb (length ds) (p .n)) 19 0 _ (omega arith) (a .1) in
-        let a₂ = passed (allFrom (drawAllowed p m ds) 0 ss) 20 (lowestFrom (drawAllowed p m ds) 0 ss) _ (omega arith) (a₁ .1) in
-        let a₃ = passed (allFrom (drawHeld p ds) 0 ss) 21 (lowestFrom (drawHeld p ds) 0 ss) _ (omega arith) (a₂ .1) in
-        (eqb-true (d .phase) 1 (a .0), eqb-true (length ds) (p .n) (a₁ .0), a₂ .0, a₃ .0)
+        let a = passed (eqb (d .phase) sweeping) wrongPhase 0 _ (omega arith) e in
+        let a₁ = passed (eqb (length ds) (p .n)) drawCount 0 _ (omega arith) (a .1) in
+        let a₂ = passed (allFrom (drawAllowed p m ds) 0 ss) drawAboveLimit (lowestFrom (drawAllowed p m ds) 0 ss) _ (omega arith) (a₁ .1) in
+        let a₃ = passed (allFrom (drawHeld p ds) 0 ss) drawAboveHeld (lowestFrom (drawHeld p ds) 0 ss) _ (omega arith) (a₂ .1) in
+        (eqb-true (d .phase) sweeping (a .0), eqb-true (length ds) (p .n) (a₁ .0), a₂ .0, a₃ .0)
 
     pub refusals-strict : Strict p o (refusals p o)
     unfolding refusals verdict
     refusals-strict = record {
-      strict = λ d x e. judged-strict d (x .room) (x .call) (passed (x .fair && sound p o d) 14 0 _ (omega arith) e .1);
+      strict = λ d x e. judged-strict d (x .room) (x .call) (passed (x .fair && sound p o d) notSound 0 _ (omega arith) e .1);
     }
 
     -- ---- and only over a sound record
 
     pub accepted-was-sound : (d : Scheduler A Q) (fair : Bool) (room : ℕ) (c : Call A) → verdict p o d fair room c .number ≡ 0 → sound p o d ≡ true
     unfolding verdict
-    accepted-was-sound d fair room c e = and-right fair _ (passed (fair && sound p o d) 14 0 _ (omega arith) e .0)
+    accepted-was-sound d fair room c e = and-right fair _ (passed (fair && sound p o d) notSound 0 _ (omega arith) e .0)
 
   -- ---- over a sound record with fair lists no row gives 14
 
   module _ {Q : Type 0} (d : Scheduler A Q) where
-    other : (t : Bool) (k i : ℕ) (r : Verdict) → k ≢ 14 → r .number ≢ 14 → unless t k i r .number ≢ 14
+    other : (t : Bool) (k i : ℕ) (r : Verdict) → k ≢ notSound → r .number ≢ notSound → unless t k i r .number ≢ notSound
     other true k i r h g = g
     other false k i r h g = h
 
-    judged-other : (room : ℕ) (c : Call A) → judged p d room c .number ≢ 14
+    judged-other : (room : ℕ) (c : Call A) → judged p d room c .number ≢ notSound
     unfolding judged
     judged-other room (join i b) =
-        other (eqb (d .phase) 0) 15 0 _ (λ e. omega arith)
-        (other (ltb i (p .n)) 16 i _ (λ e. omega arith)
-        (other (eqb (at p (d .slots) i .kind) free) 17 i _ (λ e. omega arith)
+        other (eqb (d .phase) between) wrongPhase 0 _ (λ e. omega arith)
+        (other (ltb i (p .n)) noSuchSlot i _ (λ e. omega arith)
+        (other (eqb (at p (d .slots) i .kind) free) slotState i _ (λ e. omega arith)
         (other (eqb (p .fault b) 0) (p .fault b) i accept (names .fault-own b) (λ e. omega arith))))
     judged-other room (leave i) =
-        other (eqb (d .phase) 0) 15 0 _ (λ e. omega arith)
-        (other (ltb i (p .n)) 16 i _ (λ e. omega arith)
-        (other (ltb 0 (at p (d .slots) i .kind)) 17 i accept (λ e. omega arith) (λ e. omega arith)))
+        other (eqb (d .phase) between) wrongPhase 0 _ (λ e. omega arith)
+        (other (ltb i (p .n)) noSuchSlot i _ (λ e. omega arith)
+        (other (ltb 0 (at p (d .slots) i .kind)) slotState i accept (λ e. omega arith) (λ e. omega arith)))
     judged-other room begin =
-        other (eqb (d .phase) 0) 15 0 _ (λ e. omega arith)
-        (other (leb (p .visits * p .n) room) 13 0 accept (λ e. omega arith) (λ e. omega arith))
+        other (eqb (d .phase) between) wrongPhase 0 _ (λ e. omega arith)
+        (other (leb (p .visits * p .n) room) tooShort 0 accept (λ e. omega arith) (λ e. omega arith))
     judged-other room (end ds) =
         let ss = d .slots in
         let m : ℕ = mostDrawn p ss in
-        other (eqb (d .phase) 1) 15 0 _ (λ e. omega arith)
-        (other (eqb (length ds) (p .n)) 19 0 _ (λ e. omega arith)
-        (other (allFrom (drawAllowed p m ds) 0 ss) 20 (lowestFrom (drawAllowed p m ds) 0 ss) _ (λ e. omega arith)
-        (other (allFrom (drawHeld p ds) 0 ss) 21 (lowestFrom (drawHeld p ds) 0 ss) accept (λ e. omega arith) (λ e. omega arith))))
+        other (eqb (d .phase) sweeping) wrongPhase 0 _ (λ e. omega arith)
+        (other (eqb (length ds) (p .n)) drawCount 0 _ (λ e. omega arith)
+        (other (allFrom (drawAllowed p m ds) 0 ss) drawAboveLimit (lowestFrom (drawAllowed p m ds) 0 ss) _ (λ e. omega arith)
+        (other (allFrom (drawHeld p ds) 0 ss) drawAboveHeld (lowestFrom (drawHeld p ds) 0 ss) accept (λ e. omega arith) (λ e. omega arith))))
 
   -- only unfair lists are answered 14 over a sound record
   pub sound-never-unsound : {Q : Type 0} (o : Order A Q) (d : Scheduler A Q) (room : ℕ) (c : Call A) → sound p o d ≡ true
-      → verdict p o d true room c .number ≢ 14
+      → verdict p o d true room c .number ≢ notSound
   sound-never-unsound o d room c e q = judged-other d room c (ap (λ (v : Verdict). v .number) (sym (row-sound p o d room c e)) ∙ q)
 
   -- ---- refusals of draws
 
   module _ {Q : Type 0} (d : Scheduler A Q) (room : ℕ) (ds : List ℕ) where
     -- the place of 20 is the lowest slot whose draw is above what it may draw
-    pub excess-lowest : judged p d room (end ds) .number ≡ 20
+    pub excess-lowest : judged p d room (end ds) .number ≡ drawAboveLimit
         → Lowest (drawAllowed p (mostDrawn p (d .slots)) ds) (freeSlot p) (d .slots) (judged p d room (end ds) .place)
     unfolding judged
     excess-lowest e =
         let ss = d .slots in
         let f : ℕ → Slot A → Bool = drawAllowed p (mostDrawn p ss) ds in
-        let held : Verdict = unless (allFrom (drawHeld p ds) 0 ss) 21 (lowestFrom (drawHeld p ds) 0 ss) accept in
-        let a = passed-other (eqb (d .phase) 1) 15 0 _ 20 (λ z. omega arith) e in
-        let a₁ = passed-other (eqb (length ds) (p .n)) 19 0 _ 20 (λ z. omega arith) (a .1) in
-        let a₂ = failed-here (allFrom f 0 ss) 20 (lowestFrom f 0 ss) held (not-excess (allFrom (drawHeld p ds) 0 ss)) (a₁ .1) in
+        let held : Verdict = unless (allFrom (drawHeld p ds) 0 ss) drawAboveHeld (lowestFrom (drawHeld p ds) 0 ss) accept in
+        let a = passed-other (eqb (d .phase) sweeping) wrongPhase 0 _ drawAboveLimit (λ z. omega arith) e in
+        let a₁ = passed-other (eqb (length ds) (p .n)) drawCount 0 _ drawAboveLimit (λ z. omega arith) (a .1) in
+        let a₂ = failed-here (allFrom f 0 ss) drawAboveLimit (lowestFrom f 0 ss) held (not-excess (allFrom (drawHeld p ds) 0 ss)) (a₁ .1) in
         rw (a .2, a₁ .2, a₂ .1) (lowest-fails f (freeSlot p) ss (a₂ .0))
       where
-        not-excess : (t : Bool) → unless t 21 (lowestFrom (drawHeld p ds) 0 (d .slots)) accept .number ≢ 20
+        not-excess : (t : Bool) → unless t drawAboveHeld (lowestFrom (drawHeld p ds) 0 (d .slots)) accept .number ≢ drawAboveLimit
         not-excess true z = omega arith
         not-excess false z = omega arith
 
@@ -159,24 +160,24 @@ module _ {A : Type 0} (p : Supply A) (names : Named p) where
     Overdrawn i =
         (allFrom (drawAllowed p (mostDrawn p (d .slots)) ds) 0 (d .slots) ≡ true) × Lowest (drawHeld p ds) (freeSlot p) (d .slots) i
 
-    overdrawn-says : judged p d room (end ds) .number ≡ 21 → Overdrawn (judged p d room (end ds) .place)
+    overdrawn-says : judged p d room (end ds) .number ≡ drawAboveHeld → Overdrawn (judged p d room (end ds) .place)
     unfolding judged
     overdrawn-says e =
         let ss = d .slots in
         let f : ℕ → Slot A → Bool = drawAllowed p (mostDrawn p ss) ds in
         let g : ℕ → Slot A → Bool = drawHeld p ds in
-        let a = passed-other (eqb (d .phase) 1) 15 0 _ 21 (λ z. omega arith) e in
-        let a₁ = passed-other (eqb (length ds) (p .n)) 19 0 _ 21 (λ z. omega arith) (a .1) in
-        let a₂ = passed-other (allFrom f 0 ss) 20 (lowestFrom f 0 ss) _ 21 (λ z. omega arith) (a₁ .1) in
-        let a₃ = failed-here (allFrom g 0 ss) 21 (lowestFrom g 0 ss) accept (λ z. omega arith) (a₂ .1) in
+        let a = passed-other (eqb (d .phase) sweeping) wrongPhase 0 _ drawAboveHeld (λ z. omega arith) e in
+        let a₁ = passed-other (eqb (length ds) (p .n)) drawCount 0 _ drawAboveHeld (λ z. omega arith) (a .1) in
+        let a₂ = passed-other (allFrom f 0 ss) drawAboveLimit (lowestFrom f 0 ss) _ drawAboveHeld (λ z. omega arith) (a₁ .1) in
+        let a₃ = failed-here (allFrom g 0 ss) drawAboveHeld (lowestFrom g 0 ss) accept (λ z. omega arith) (a₂ .1) in
         rw (a .2, a₁ .2, a₂ .2, a₃ .1) (a₂ .0, lowest-fails g (freeSlot p) ss (a₃ .0))
 
     -- the place of 21 is the lowest slot whose draw is above what it holds
-    pub overdrawn-lowest : judged p d room (end ds) .number ≡ 21 → Lowest (drawHeld p ds) (freeSlot p) (d .slots) (judged p d room (end ds) .place)
+    pub overdrawn-lowest : judged p d room (end ds) .number ≡ drawAboveHeld → Lowest (drawHeld p ds) (freeSlot p) (d .slots) (judged p d room (end ds) .place)
     overdrawn-lowest e = overdrawn-says e .1
 
     -- and over a sound record it is a tail: a playing slot holds all that it may draw
-    pub overdrawn-drains : (ok : Lawful p) (o : Order A Q) → Sound p o d → judged p d room (end ds) .number ≡ 21
+    pub overdrawn-drains : (ok : Lawful p) (o : Order A Q) → Sound p o d → judged p d room (end ds) .number ≡ drawAboveHeld
         → at p (d .slots) (judged p d room (end ds) .place) .kind ≡ draining
     overdrawn-drains ok o h e = go (judged p d room (end ds) .place) (overdrawn-says e)
       where

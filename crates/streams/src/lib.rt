@@ -1,6 +1,9 @@
 // The formula of streams, the buffer and the leads, in 32 and 64 bits.
+use numbers::limits::MAX_STREAMS;
+use numbers::units::PARTS;
 ghost use mathlib.Core.Path.{_≡_};
 ghost use Prim.Native.Nat.{_+_, _-_, _*_, _≤_, _<_};
+ghost use Rattle.numbers.specs.Limits.{maxNumber, maxTime, maxStreams};
 ghost use Rattle.pacing.specs.Streams.{overhead, load, streams, bufferOf};
 ghost use Rattle.streams.specs.Ranges.{Ranges};
 
@@ -13,7 +16,7 @@ pub fn product(a: u32, b: u32) -> u64
 
 // The overhead of a sweep that fetches `count` blocks: count × hop, plus return.
 pub fn overhead(hop: u32, back: u32, count: u32) -> u32
-    requires { ⌜ overhead hop back count < 4294967296 ⌝ }
+    requires { ⌜ overhead hop back count ≤ maxNumber ⌝ }
     ensures { λ r. ⌜ r ≡ overhead hop back count ⌝ }
 {
     count * hop + back
@@ -21,7 +24,7 @@ pub fn overhead(hop: u32, back: u32, count: u32) -> u32
 
 // The left side of the formula of streams: c × (n × worst2 + 2 × overhead).
 pub fn load(rate: u32, worst2: u32, hop: u32, back: u32, n: u32) -> u64
-    requires { ⌜ (Ranges worst2 hop back) × (n ≤ 256) ⌝ }
+    requires { ⌜ (Ranges worst2 hop back) × (n ≤ maxStreams) ⌝ }
     ensures { λ r. ⌜ r ≡ load rate worst2 (overhead hop back) n ⌝ }
 {
     product(rate, n * worst2 + 2 * overhead(hop, back, n))
@@ -32,8 +35,8 @@ pub fn count_streams(rate: u32, worst2: u32, hop: u32, back: u32, bytes: u32) ->
     requires { ⌜ Ranges worst2 hop back ⌝ }
     ensures { λ r. ⌜ r ≡ streams rate worst2 (overhead hop back) bytes ⌝ }
 {
-    let room = product(2000000, bytes);
-    let mut n: u32 = 256;
+    let room = product(PARTS, bytes);
+    let mut n: u32 = MAX_STREAMS;
     loop {
         if n == 0 {
             break 0;
@@ -47,15 +50,16 @@ pub fn count_streams(rate: u32, worst2: u32, hop: u32, back: u32, bytes: u32) ->
 
 // The buffer: 3 × B plus c × n × margin / 2,000,000, rounded up.
 pub fn buffer_size(rate: u32, n: u32, margin: u32, bytes: u32) -> u32
-    requires { ⌜ (n ≤ 256) × (margin ≤ 8000000) × (bufferOf rate n margin bytes < 4294967296) ⌝ }
+    requires { ⌜ (n ≤ maxStreams) × (margin ≤ 2 * maxTime) × (bufferOf rate n margin bytes ≤ maxNumber) ⌝ }
     ensures { λ r. ⌜ r ≡ bufferOf rate n margin bytes ⌝ }
 {
-    3 * bytes + ((product(rate, n * margin) + 1999999) / 2000000) as u32
+    let parts = PARTS as u64;
+    3 * bytes + ((product(rate, n * margin) + (parts - 1)) / parts) as u32
 }
 
 // The lead of a block that takes `time`, in half microseconds.
 pub fn lead(time: u32, worst2: u32) -> u32
-    requires { ⌜ time ≤ 4000000 ⌝ }
+    requires { ⌜ time ≤ maxTime ⌝ }
     ensures { λ r. ⌜ r ≡ 2 * time - worst2 ⌝ }
 {
     let twice = 2 * time;

@@ -104,11 +104,11 @@ module _ (D : List ℕ) (y : Bytes D) (l : length D ≡ 3628) where
 
 -- ---- a list
 
-list-says : (xs : List StringCall) (D : List ℕ) (v : World) → Bytes D → length D ≡ 3628 → said D ≡ v .desk → said (stringsAfter D xs) ≡ after v (map lentOf xs) .desk
+list-says : (B : ℕ) (xs : List StringCall) (D : List ℕ) (v : World) → Bytes D → length D ≡ 3628 → said D ≡ v .desk → said (stringsAfter D xs) ≡ after B v (map lentOf xs) .desk
 unfolding stringsAfter after turn
-list-says [] D v y l e = e
-list-says (x ∷ xs) D v y l e =
-    list-says xs (stringTo D x (x .request)) (turn v (lentOf x)) (call-bytes D y l x (x .request)) (call-length D y l x (x .request))
+list-says B [] D v y l e = e
+list-says B (x ∷ xs) D v y l e =
+    list-says B xs (stringTo D x (x .request)) (turn B v (lentOf x)) (call-bytes D y l x (x .request)) (call-length D y l x (x .request))
     (call-says D y l x (x .request) ∙ ap (λ (d : Desk). called d (lentOf x) .desk) e)
 
 -- FROM AN ACCEPTED OPENING: the desk string says the desk of the list, and every list is safe
@@ -117,7 +117,7 @@ pub strings-safe : (P ps ls D : List ℕ) (xs : List StringCall) → Bytes D →
 strings-safe P ps ls D xs y n =
     let l = opened-right P ps ls D n in
     let t = opened-plan P ps ls (opened-right P ps ls D n .1) in (
-      list-says xs (openString P ps ls D) (opened (freshDesk (planIn (wordsOf P))))
+      list-says (planIn (wordsOf P) .figures .bytes) xs (openString P ps ls D) (opened (freshDesk (planIn (wordsOf P))))
           (rw (open-right P ps ls D (l .0)) (withWords-bytes D 0 (deskWords (openedFrom P ps ls .desk)) y))
           (ap length (open-right P ps ls D (l .0)) ∙ withWords-length D 0 (deskWords (openedFrom P ps ls .desk)) ∙ l .0)
           (open-back P ps ls D n),

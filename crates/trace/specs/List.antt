@@ -62,15 +62,17 @@ pub record World : Type 0 where
   pub desk : Desk
   pub book : List Line
 
--- `each call gets the desk that the last one left`; the book is fed the call, whether it was accepted, and the entries that it answered
-unfoldable pub turn : World → Lent → World
-turn v x =
-    let a = called (v .desk) x in
-    record { desk = a .desk; book = recorded (v .desk .plan .figures .bytes) (v .book) (moveOf (x .request)) (isAccepted (a .number)) (a .entries) }
+-- B is the opening's. Each call gets the desk that the last one left; the book is fed the call, whether it was accepted, and the entries
+-- that it answered, and reads nothing of the desk
+module _ (B : ℕ) where
+  unfoldable pub turn : World → Lent → World
+  turn v x =
+      let a = called (v .desk) x in
+      record { desk = a .desk; book = recorded B (v .book) (moveOf (x .request)) (isAccepted (a .number)) (a .entries) }
 
-unfoldable pub after : World → List Lent → World
-after v [] = v
-after v (x ∷ xs) = after (turn v x) xs
+  unfoldable pub after : World → List Lent → World
+  after v [] = v
+  after v (x ∷ xs) = after (turn v x) xs
 
 -- from an opening: `at the opening all are closed, 0 and unmarked`
 abbrev pub opened : Desk → World

@@ -110,6 +110,9 @@ module _ (p : Plan) where
   abbrev rules : C.Rules ℕ Queue (Given ℕ)
   rules = rulesOf p
 
+  abbrev B : ℕ
+  B = p .figures .bytes
+
   desk-plan : (s : Scheduler ℕ Queue) → deskOf p s .plan ≡ p
   unfolding deskOf
   desk-plan s = refl
@@ -121,24 +124,19 @@ module _ (p : Plan) where
     helds = length-map (s .slots) (λ x. x .buffered) ∙ sym (length-map (s .slots) (λ x. x .kind));
   }
 
-  bytes-of : (q : Plan) → q ≡ p → q .figures .bytes ≡ supplyOf p .B
-  unfolding supplyOf
-  bytes-of q e = ap (λ (x : Plan). x .figures .bytes) e
-
-  turn-same : (v : World) (u : C.State ℕ Queue) (x : Lent) → Same p v u → Same p (turn v x) (C.turn (supplyOf p) (orderOf p) rules u (givenOf p x))
-  unfolding turn C.turn C.refusals
+  turn-same : (v : World) (u : C.State ℕ Queue) (x : Lent) → Same p v u → Same p (turn B v x) (C.turn (supplyOf p) (orderOf p) rules u (givenOf p x))
+  unfolding turn C.turn C.refusals supplyOf
   turn-same v u x s =
       let r = by-rules p (v .desk) x (s .plan) in
       let g : Given ℕ = givenOf p x in
       let a : C.Answer ℕ Queue = ruled p (viewOf (v .desk)) g in
-      let b = bytes-of (v .desk .plan) (s .plan) in
       let l = s .book in
       let k : called (v .desk) x .number ≡ ruled p (u .scheduler) g .number = r .number ∙ ap (λ (w : Scheduler ℕ Queue). ruled p w g .number) (s .view) in
       let e : called (v .desk) x .entries ≡ ruled p (u .scheduler) g .entries = r .entries ∙ ap (λ (w : Scheduler ℕ Queue). ruled p w g .entries) (s .view) in
       record {
         plan = ap (λ (d : Desk). d .plan) (r .desk) ∙ desk-plan (a .scheduler);
         view = ap viewOf (r .desk) ∙ view-of-desk p (a .scheduler) ∙ ap (λ (w : Scheduler ℕ Queue). ruled p w g .scheduler) (s .view);
-        book = λ t. recorded (b t) (l t) (moveOf (x .request)) (isAccepted (k t)) (e t);
+        book = λ t. recorded (p .figures .bytes) (l t) (moveOf (x .request)) (isAccepted (k t)) (e t);
         wide = subst (λ (d : Desk). SameLength (supplyOf p) (d .kinds) (d .next) (d .held)) (sym (r .desk)) (desk-wide (a .scheduler));
       }
 
@@ -148,10 +146,10 @@ module _ (p : Plan) where
   abbrev afterRules : State → List Lent → State
   afterRules u xs = C.after (supplyOf p) (orderOf p) rules u (givensOf p xs)
 
-  after-same : (xs : List Lent) (v : World) (u : State) → Same p v u → Same p (after v xs) (afterRules u xs)
+  after-same : (xs : List Lent) (v : World) (u : State) → Same p v u → Same p (after B v xs) (afterRules u xs)
   unfolding after C.after givensOf
   after-same [] v u s = s
-  after-same (x ∷ xs) v u s = after-same xs (turn v x) _ (turn-same v u x s)
+  after-same (x ∷ xs) v u s = after-same xs (turn B v x) _ (turn-same v u x s)
 
   -- the opening
   fresh-same : Same p (opened (freshDesk p)) (C.opening (supplyOf p) (orderOf p))
@@ -175,7 +173,7 @@ IsBegin (ends draws) = ⊥
 module _ (p : Plan) where
   -- the desk and the book after a list from the opening
   abbrev pub worldAfter : List Lent → World
-  worldAfter xs = after (opened (freshDesk p)) xs
+  worldAfter xs = after (p .figures .bytes) (opened (freshDesk p)) xs
 
   abbrev pub kindAt : List Lent → ℕ → ℕ
   kindAt xs i = getD (worldAfter xs .desk .kinds) i 0

@@ -30,7 +30,9 @@ not-written-requires-2 c κs = search needs
 
 returns-2 : tie.Need-returns-2
 returns-2 c =
-    let w = write-short (c .before .before .before .before .before .before .args .figures) (c .before .before .before .before .before .before .args .out .now) (legal (c .before .before .before)) (let n = c .before .before .card-length .ensures in let t = c .before .if2 .taken in omega arith) in
+    let judged = c .before .before .before in
+    let a = judged .before .before .before .args in
+    let w = write-short (a .figures) (a .out .now) (legal judged) (let n = c .before .before .card-length .ensures in let t = c .before .if2 .taken in omega arith) in
     (c .not-written2 .ensures ∙ w .0, w .1)
 
 write-numbers-requires : tie.Need-write-numbers-requires
@@ -42,8 +44,11 @@ same-length c = search needs
 
 returns-3 : tie.Need-returns-3
 returns-3 c =
-    let n = c .before .before .before .before .before .card-length .ensures in
-    let w = write-fits (c .before .before .before .before .before .before .before .before .before .args .figures) (c .before .before .before .before .before .before .before .before .before .args .out .now) (legal (c .before .before .before .before .before .before)) (let t = c .before .before .before .before .if2 .left in omega arith) in
+    let sized = c .before .before .before .before in
+    let judged = sized .before .before in
+    let n = sized .before .card-length .ensures in
+    let a = judged .before .before .before .args in
+    let w = write-fits (a .figures) (a .out .now) (legal judged) (let t = sized .if2 .left in omega arith) in
     ((λ t. record { verdict = record { number = 0; place = 0 }; length = n t }) ∙ w .0, c .before .before .write-numbers .ensures ∙ w .1)
 
 pub write-card-spec : {M : Type 1} → statement M

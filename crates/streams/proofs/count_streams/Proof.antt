@@ -2,12 +2,13 @@ use Prim.Native.Nat.{_≤_}
 use mathlib.Core.Path.{_≡_, sym, _∙_}
 use native.Mathlib.Omega.{arith}
 use borrow.Author.Needs.{needs}
+use Rattle.numbers.specs.Limits.{maxStreams}
 use Rattle.pacing.specs.Streams.{overhead, load, streams, tried, tried-all, tried-hit, tried-down, tried-none}
 use Rattle.streams.proofs.count_streams.Statement.{statement}
 use Rattle.streams.proofs.count_streams.Tie as tie
 
 abbrev Inv-loop : tie.InvT-loop
-Inv-loop rate worst2 hop back bytes room n₀ n = (n ≤ 256) × (tried rate worst2 (overhead hop back) bytes n ≡ streams rate worst2 (overhead hop back) bytes)
+Inv-loop rate worst2 hop back bytes room n₀ n = (n ≤ maxStreams) × (tried rate worst2 (overhead hop back) bytes n ≡ streams rate worst2 (overhead hop back) bytes)
 
 abbrev μ-loop : tie.MeasureT-loop
 μ-loop rate worst2 hop back bytes room n₀ n = n

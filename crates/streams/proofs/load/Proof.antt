@@ -2,29 +2,30 @@ use Prim.Native.Nat.{ℕ, _+_, _*_, _≤_}
 use mathlib.Core.Path.{_∙_, ap}
 use native.Mathlib.Omega.{arith}
 use native.Mathlib.Nat.{mul-le-mul}
+use Rattle.numbers.specs.Limits.{maxTime, maxMove, maxStreams}
 use Rattle.pacing.specs.Streams.{overhead, load}
 use borrow.Author.Needs.{needs}
 use Rattle.streams.proofs.load.Statement.{statement}
 use Rattle.streams.proofs.load.Tie as tie
 
 mul-product : tie.Need-mul-product
-mul-product c = let p : c .args .n * c .args .worst2 ≤ 256 * 8000000 = mul-le-mul (c .pre .1) (c .pre .0 .pair) in omega arith
+mul-product c = let p : c .args .n * c .args .worst2 ≤ maxStreams * (2 * maxTime) = mul-le-mul (c .pre .1) (c .pre .0 .pair) in omega arith
 
 overhead-requires : tie.Need-overhead-requires
 unfolding overhead
-overhead-requires c κs = let p : c .args .n * c .args .hop ≤ 256 * 1000000 = mul-le-mul (c .pre .1) (c .pre .0 .hops) in omega (arith, c .pre .0 .backs)
+overhead-requires c κs = let p : c .args .n * c .args .hop ≤ maxStreams * maxMove = mul-le-mul (c .pre .1) (c .pre .0 .hops) in omega (arith, c .pre .0 .backs)
 
 mul-product-2 : tie.Need-mul-product-2
 unfolding overhead
 mul-product-2 c = let a = c .before .args in
-    let p : a .n * a .hop ≤ 256 * 1000000 = mul-le-mul (c .before .pre .1) (c .before .pre .0 .hops) in
+    let p : a .n * a .hop ≤ maxStreams * maxMove = mul-le-mul (c .before .pre .1) (c .before .pre .0 .hops) in
     omega (arith, c .before .pre .0 .backs, c .overhead .ensures)
 
 add-product : tie.Need-add-product
 unfolding overhead
 add-product c = let a = c .before .args in
-    let p : a .n * a .hop ≤ 256 * 1000000 = mul-le-mul (c .before .pre .1) (c .before .pre .0 .hops) in
-    let q : a .n * a .worst2 ≤ 256 * 8000000 = mul-le-mul (c .before .pre .1) (c .before .pre .0 .pair) in
+    let p : a .n * a .hop ≤ maxStreams * maxMove = mul-le-mul (c .before .pre .1) (c .before .pre .0 .hops) in
+    let q : a .n * a .worst2 ≤ maxStreams * (2 * maxTime) = mul-le-mul (c .before .pre .1) (c .before .pre .0 .pair) in
     omega (arith, c .before .pre .0 .backs, c .overhead .ensures)
 
 product-requires : tie.Need-product-requires

@@ -1,6 +1,8 @@
 use Prim.Native.Nat.{ℕ, _+_}
 use mathlib.Core.Path.{ap, _∙_}
 use Rattle.card.proofs.Laws.{by-rule}
+use Rattle.numbers.specs.Limits.{maxPositions}
+use Rattle.numbers.specs.Refusals.{wrongPositions, risingTime, blocksAbovePositions}
 use Rattle.card.specs.Ranges.{faultOf, thenAbove}
 use borrow.Author.Needs.{needs}
 use Rattle.card.proofs.fields.fault.Statement.{statement}
@@ -23,6 +25,9 @@ enum-told-3 c = search needs
 
 outside-requires-3 : tie.Need-outside-requires-3
 outside-requires-3 c κs = search needs
+
+cast-then-above : tie.Need-cast-then-above
+cast-then-above c = search needs
 
 add-then-above : tie.Need-add-then-above
 add-then-above c = search needs
@@ -64,15 +69,15 @@ returns-2 c = c .outside2 .ensures ∙ by-rule _ _ (c .before .enum-told2 .given
 
 returns-3 : tie.Need-returns-3
 unfolding faultOf
-returns-3 c = let a = c .before .before .before .before .args in c .then-above .ensures ∙ ap (λ (k : ℕ). thenAbove k 1048576 5 (a .bound + a .v)) (c .before .outside3 .ensures) ∙ by-rule _ _ (c .before .before .enum-told3 .given .1)
+returns-3 c = let a = c .before .before .before .before .args in c .then-above .ensures ∙ ap (λ (k : ℕ). thenAbove k maxPositions wrongPositions (a .bound + a .v)) (c .before .outside3 .ensures) ∙ by-rule _ _ (c .before .before .enum-told3 .given .1)
 
 returns-4 : tie.Need-returns-4
 unfolding faultOf
-returns-4 c = let a = c .before .before .before .before .args in c .then-above2 .ensures ∙ ap (λ (k : ℕ). thenAbove k (a .bound) 7 (a .v)) (c .before .outside4 .ensures) ∙ by-rule _ _ (c .before .before .enum-told4 .given .1)
+returns-4 c = let a = c .before .before .before .before .args in c .then-above2 .ensures ∙ ap (λ (k : ℕ). thenAbove k (a .bound) risingTime (a .v)) (c .before .outside4 .ensures) ∙ by-rule _ _ (c .before .before .enum-told4 .given .1)
 
 returns-5 : tie.Need-returns-5
 unfolding faultOf
-returns-5 c = let a = c .before .before .before .before .args in c .then-above3 .ensures ∙ ap (λ (k : ℕ). thenAbove k (a .bound) 9 (a .v)) (c .before .outside5 .ensures) ∙ by-rule _ _ (c .before .before .enum-told5 .given .1)
+returns-5 c = let a = c .before .before .before .before .args in c .then-above3 .ensures ∙ ap (λ (k : ℕ). thenAbove k (a .bound) blocksAbovePositions (a .v)) (c .before .outside5 .ensures) ∙ by-rule _ _ (c .before .before .enum-told5 .given .1)
 
 returns-6 : tie.Need-returns-6
 unfolding faultOf
@@ -88,6 +93,7 @@ fault-spec =
     outside-requires-2
     enum-told-3
     outside-requires-3
+    cast-then-above
     add-then-above
     then-above-requires
     enum-told-4

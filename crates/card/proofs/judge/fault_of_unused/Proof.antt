@@ -3,19 +3,24 @@ use Prim.Native.Nat.{_-_, _≤_}
 use mathlib.Core.Path.{_≡_, refl, ap, _∙_}
 use native.Mathlib.Omega.{arith}
 use borrow.Author.Needs.{needs}
+use Rattle.numbers.specs.Limits.{maxZones}
+use Rattle.numbers.specs.Refusals.{wrongZones}
 use Rattle.card.proofs.Laws.{unused-positions, unused-times, unused-more, unused-end}
 use Rattle.card.specs.Card.{zerosFrom}
 use Rattle.card.proofs.judge.fault_of_unused.Statement.{statement}
 use Rattle.card.proofs.judge.fault_of_unused.Tie as tie
 
 abbrev Inv-loop : tie.InvT-loop
-Inv-loop zones positions times i₀ i = (i ≤ 64) × (zerosFrom i positions times ≡ zerosFrom zones positions times)
+Inv-loop zones positions times i₀ i = (i ≤ maxZones) × (zerosFrom i positions times ≡ zerosFrom zones positions times)
 
 abbrev μ-loop : tie.MeasureT-loop
-μ-loop zones positions times i₀ i = 64 - i
+μ-loop zones positions times i₀ i = maxZones - i
 
 loop-holds : tie.Need-loop-holds Inv-loop μ-loop
 loop-holds c = (omega arith, refl)
+
+cast-loop : tie.Need-cast-loop Inv-loop μ-loop
+cast-loop c = search needs
 
 mul-if1 : tie.Need-mul-if1 Inv-loop μ-loop
 mul-if1 c = search needs
@@ -27,7 +32,7 @@ returns : tie.Need-returns Inv-loop μ-loop
 returns c =
     let l = c .before .before .before .loop in
     let a = c .before .before .before .before in
-    unused-positions (a .args .positions .now) (a .args .times .now) (l .i) (a .pre .1) (a .pre .2) (omega arith) (c .if1 .taken) ∙ ap (λ (t : Bool). cond t 0 4) (l .inv .1)
+    unused-positions (a .args .positions .now) (a .args .times .now) (l .i) (a .pre .1) (a .pre .2) (omega arith) (c .if1 .taken) ∙ ap (λ (t : Bool). cond t 0 wrongZones) (l .inv .1)
 
 mul-if2 : tie.Need-mul-if2 Inv-loop μ-loop
 mul-if2 c = search needs
@@ -39,7 +44,7 @@ returns-2 : tie.Need-returns-2 Inv-loop μ-loop
 returns-2 c =
     let l = c .before .before .before .before .before .loop in
     let a = c .before .before .before .before .before .before in
-    unused-times (a .args .positions .now) (a .args .times .now) (l .i) (a .pre .1) (a .pre .2) (omega arith) (c .before .before .if1 .left) (c .if2 .taken) ∙ ap (λ (t : Bool). cond t 0 4) (l .inv .1)
+    unused-times (a .args .positions .now) (a .args .times .now) (l .i) (a .pre .1) (a .pre .2) (omega arith) (c .before .before .if1 .left) (c .if2 .taken) ∙ ap (λ (t : Bool). cond t 0 wrongZones) (l .inv .1)
 
 add-i : tie.Need-add-i Inv-loop μ-loop
 add-i c = search needs
@@ -57,7 +62,7 @@ returns-3 : tie.Need-returns-3 Inv-loop μ-loop
 returns-3 c =
     let l = c .before .loop in
     let a = c .before .before in
-    unused-end (a .args .positions .now) (a .args .times .now) (l .i) (a .pre .1) (a .pre .2) (omega arith) ∙ ap (λ (t : Bool). cond t 0 4) (l .inv .1)
+    unused-end (a .args .positions .now) (a .args .times .now) (l .i) (a .pre .1) (a .pre .2) (omega arith) ∙ ap (λ (t : Bool). cond t 0 wrongZones) (l .inv .1)
 
 pub fault-of-unused-spec : {M : Type 1} → statement M
 fault-of-unused-spec =
@@ -66,6 +71,7 @@ fault-of-unused-spec =
     Inv-loop
     μ-loop
     loop-holds
+    cast-loop
     mul-if1
     element-copy-out-if1
     returns

@@ -2,15 +2,22 @@ use Prim.Native.Nat.{ℕ, _-_, _≤_}
 use mathlib.Core.Path.{_≡_, sym, ap, _∙_}
 use native.Mathlib.Omega.{arith}
 use borrow.Author.Needs.{needs}
+use Rattle.numbers.specs.Limits.{maxPositions, maxTime}
 use Rattle.card.specs.Laws.{positions-range}
 use Rattle.card.proofs.Laws.{zones-done, zones-few, zones-slow, zones-more}
+use Rattle.card.specs.declared.Figures.{Figures}
 use Rattle.card.specs.Card.{filmFault, zoneFaults}
 use Rattle.card.proofs.judge.fault_of_zones.Statement.{statement}
 use Rattle.card.proofs.judge.fault_of_zones.Tie as tie
 
+-- the zones before the i-th are judged
+record Judged (figures : Figures) (zones total before i : ℕ) : Type 0 where
+  within : i ≤ zones
+  few : total ≤ maxPositions
+  same : zoneFaults (zones - i) i figures total before ≡ zoneFaults zones 0 figures 0 maxTime
+
 abbrev Inv-loop : tie.InvT-loop
-Inv-loop figures zones total₀ before₀ i₀ total before i =
-    (i ≤ zones) × (total ≤ 1048576) × (zoneFaults (zones - i) i figures total before ≡ zoneFaults zones 0 figures 0 4000000)
+Inv-loop figures zones total₀ before₀ i₀ total before i = Judged figures zones total before i
 
 abbrev μ-loop : tie.MeasureT-loop
 μ-loop figures zones total₀ before₀ i₀ total before i = zones - i
@@ -22,7 +29,7 @@ loop-holds : tie.Need-loop-holds Inv-loop μ-loop
 loop-holds c =
     let f = c .args .t1 in
     let e : f .zones - 0 ≡ f .zones = omega arith in
-    (omega arith, omega arith, ap (λ (n : ℕ). zoneFaults n 0 f 0 4000000) e)
+    record { within = omega arith; few = omega arith; same = ap (λ (n : ℕ). zoneFaults n 0 f 0 maxTime) e }
 
 mul-positions : tie.Need-mul-positions Inv-loop μ-loop
 mul-positions c = search needs
@@ -40,7 +47,7 @@ fault-requires : tie.Need-fault-requires Inv-loop μ-loop
 fault-requires c κs = search needs
 
 returns : tie.Need-returns Inv-loop μ-loop
-returns c = let l = c .before .before .before .before .before .loop in zones-few _ _ _ _ _ (omega arith) (c .before .fault .ensures) (c .if1 .taken) ∙ l .inv .2
+returns c = let l = c .before .before .before .before .before .loop in zones-few _ _ _ _ _ (omega arith) (c .before .fault .ensures) (c .if1 .taken) ∙ l .inv .same
 
 fault-requires-2 : tie.Need-fault-requires-2 Inv-loop μ-loop
 fault-requires-2 c κs = search needs
@@ -48,7 +55,7 @@ fault-requires-2 c κs = search needs
 returns-2 : tie.Need-returns-2 Inv-loop μ-loop
 returns-2 c =
     let l = c .before .before .before .before .before .before .before .loop in
-    zones-slow _ _ _ _ _ (omega arith) (c .before .before .before .fault .ensures) (c .before .before .if1 .left) (c .before .fault2 .ensures) (c .if2 .taken) ∙ l .inv .2
+    zones-slow _ _ _ _ _ (omega arith) (c .before .before .before .fault .ensures) (c .before .before .if1 .left) (c .before .fault2 .ensures) (c .if2 .taken) ∙ l .inv .same
 
 add-total : tie.Need-add-total Inv-loop μ-loop
 add-total c = let h = positions-range _ _ (sym (c .before .before .before .fault .ensures) ∙ c .before .before .if1 .left) in omega arith
@@ -61,18 +68,19 @@ loop-less c = search needs
 
 loop-again : tie.Need-loop-again Inv-loop μ-loop
 loop-again c =
-    let l = c .before .before .before .before .before .before .before .loop in (
-      omega arith,
-      positions-range _ _ (sym (c .before .before .before .fault .ensures) ∙ c .before .before .if1 .left) .1,
-      zones-more _ _ _ _ _ _ (omega arith) (c .before .before .before .fault .ensures) (c .before .before .if1 .left) (c .before .fault2 .ensures) (c .if2 .left) ∙ l .inv .2,
-    )
+    let l = c .before .before .before .before .before .before .before .loop in
+    record {
+      within = omega arith;
+      few = positions-range _ _ (sym (c .before .before .before .fault .ensures) ∙ c .before .before .if1 .left) .1;
+      same = zones-more _ _ _ _ _ _ (omega arith) (c .before .before .before .fault .ensures) (c .before .before .if1 .left) (c .before .fault2 .ensures) (c .if2 .left) ∙ l .inv .same;
+    }
 
 fault-of-film-requires : tie.Need-fault-of-film-requires Inv-loop μ-loop
 fault-of-film-requires c κs = search needs
 
 returns-3 : tie.Need-returns-3 Inv-loop μ-loop
 unfolding filmFault
-returns-3 c = let l = c .before .before .loop in c .fault-of-film .ensures ∙ zones-done _ _ _ _ _ (omega arith) ∙ l .inv .2
+returns-3 c = let l = c .before .before .loop in c .fault-of-film .ensures ∙ zones-done _ _ _ _ _ (omega arith) ∙ l .inv .same
 
 pub fault-of-zones-spec : {M : Type 1} → statement M
 fault-of-zones-spec =

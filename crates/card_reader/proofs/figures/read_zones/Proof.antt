@@ -2,15 +2,22 @@ use Prim.Native.Nat.{ℕ, _-_, _≤_}
 use mathlib.Core.Path.{_≡_, ap₂, _∙_}
 use native.Mathlib.Omega.{arith}
 use borrow.Author.Needs.{needs}
+use mathlib.Core.List.{List}
+use Rattle.numbers.specs.Limits.{maxPositions, maxTime}
 use Rattle.card.specs.declared.Figures.{Figures}
 use Rattle.card_reader.proofs.Laws.{field-fits, film-stops, film-goes, read-done, read-few, read-slow, read-more}
 use Rattle.card.specs.Read.{zonesFrom, withZones}
 use Rattle.card_reader.proofs.figures.read_zones.Statement.{statement}
 use Rattle.card_reader.proofs.figures.read_zones.Tie as tie
 
+-- the zones before the i-th are read
+record Read (card : List ℕ) (start zones : ℕ) (f : Figures) (at total before i : ℕ) : Type 0 where
+  within : i ≤ zones
+  few : total ≤ maxPositions
+  same : zonesFrom (zones - i) card at i f total before ≡ zonesFrom zones card start 0 (withZones zones) 0 maxTime
+
 abbrev Inv-loop : tie.InvT-loop
-Inv-loop card start zones f₀ at₀ total₀ before₀ i₀ f at total before i =
-    (i ≤ zones) × (total ≤ 1048576) × (zonesFrom (zones - i) card at i f total before ≡ zonesFrom zones card start 0 (withZones zones) 0 4000000)
+Inv-loop card start zones f₀ at₀ total₀ before₀ i₀ f at total before i = Read card start zones f at total before i
 
 abbrev μ-loop : tie.MeasureT-loop
 μ-loop card start zones f₀ at₀ total₀ before₀ i₀ f at total before i = zones - i
@@ -22,7 +29,11 @@ loop-holds : tie.Need-loop-holds Inv-loop μ-loop
 loop-holds c =
     let a = c .before .before .args in
     let e : a .zones - 0 ≡ a .zones = omega arith in
-    (omega arith, omega arith, ap₂ (λ (n : ℕ) (f : Figures). zonesFrom n (a .card .now) (a .start) 0 f 0 4000000) e (c .with-zones .ensures))
+    record {
+      within = omega arith;
+      few = omega arith;
+      same = ap₂ (λ (n : ℕ) (f : Figures). zonesFrom n (a .card .now) (a .start) 0 f 0 maxTime) e (c .with-zones .ensures);
+    }
 
 read-field-requires : tie.Need-read-field-requires Inv-loop μ-loop
 read-field-requires c κs = search needs
@@ -39,7 +50,7 @@ refused-field-requires c κs = search needs
 returns : tie.Need-returns Inv-loop μ-loop
 returns c =
     let l = c .before .before .before .before .before .loop in
-    c .refused-field .ensures ∙ read-few _ (l .at) (l .i) (l .f) (l .total) (l .before) _ (c .before .before .before .read-field .ensures) (omega arith) _ (c .before .enum-told .given .1) ∙ l .inv .2
+    c .refused-field .ensures ∙ read-few _ (l .at) (l .i) (l .f) (l .total) (l .before) _ (c .before .before .before .read-field .ensures) (omega arith) _ (c .before .enum-told .given .1) ∙ l .inv .same
 
 read-field-requires-2 : tie.Need-read-field-requires-2 Inv-loop μ-loop
 read-field-requires-2 c κs = search needs
@@ -55,10 +66,11 @@ refused-field-requires-2 c κs = search needs
 
 returns-2 : tie.Need-returns-2 Inv-loop μ-loop
 returns-2 c =
-    let l = c .before .before .before .before .before .before .before .before .before .loop in
+    let positions = c .before .before .before .before .before in
+    let l = positions .before .before .before .before .loop in
     c .refused-field2 .ensures
-    ∙ read-slow _ (l .at) (l .i) (l .f) (l .total) (l .before) _ (c .before .before .before .before .before .before .before .read-field .ensures) (c .before .before .before .before .before .first .given .1) (c .before .before .before .read-field2 .ensures) (omega arith) _ (c .before .enum-told2 .given .1)
-    ∙ l .inv .2
+    ∙ read-slow _ (l .at) (l .i) (l .f) (l .total) (l .before) _ (positions .before .before .read-field .ensures) (positions .first .given .1) (c .before .before .before .read-field2 .ensures) (omega arith) _ (c .before .enum-told2 .given .1)
+    ∙ l .inv .same
 
 mul-f : tie.Need-mul-f Inv-loop μ-loop
 mul-f c = search needs
@@ -73,7 +85,9 @@ element-write-f-2 : tie.Need-element-write-f-2 Inv-loop μ-loop
 element-write-f-2 c = search needs
 
 add-total : tie.Need-add-total Inv-loop μ-loop
-add-total c = omega (arith, field-fits _ _ _ (c .before .before .before .before .before .before .before .read-field .ensures) (c .before .before .before .before .before .first .given .1))
+add-total c =
+    let positions = c .before .before .before .before .before in
+    omega (arith, field-fits _ _ _ (positions .before .before .read-field .ensures) (positions .first .given .1))
 
 add-i : tie.Need-add-i Inv-loop μ-loop
 add-i c = search needs
@@ -83,11 +97,13 @@ loop-less c = search needs
 
 loop-again : tie.Need-loop-again Inv-loop μ-loop
 loop-again c =
-    let l = c .before .before .before .before .before .before .before .before .before .loop in (
-      omega arith,
-      field-fits _ _ _ (c .before .before .before .before .before .before .before .read-field .ensures) (c .before .before .before .before .before .first .given .1),
-      read-more _ (l .at) (l .i) (l .f) (l .total) (l .before) _ (c .before .before .before .before .before .before .before .read-field .ensures) (c .before .before .before .before .before .first .given .1) (c .before .before .before .read-field2 .ensures) _ (omega arith) (c .before .second .given .1) ∙ l .inv .2,
-    )
+    let positions = c .before .before .before .before .before in
+    let l = positions .before .before .before .before .loop in
+    record {
+      within = omega arith;
+      few = field-fits _ _ _ (positions .before .before .read-field .ensures) (positions .first .given .1);
+      same = read-more _ (l .at) (l .i) (l .f) (l .total) (l .before) _ (positions .before .before .read-field .ensures) (positions .first .given .1) (c .before .before .before .read-field2 .ensures) _ (omega arith) (c .before .second .given .1) ∙ l .inv .same;
+    }
 
 read-film-requires : tie.Need-read-film-requires Inv-loop μ-loop
 read-film-requires c κs = search needs
@@ -108,13 +124,13 @@ returns-3 : tie.Need-returns-3 Inv-loop μ-loop
 returns-3 c =
     let l = c .before .before .before .before .before .before .loop in
     c .refused-card .ensures ∙ film-stops (l .f) (c .before .before .film .given .1) ∙ c .before .before .before .before .read-film .ensures (l .f)
-    ∙ read-done _ _ _ _ _ _ _ (omega arith) ∙ l .inv .2
+    ∙ read-done _ _ _ _ _ _ _ (omega arith) ∙ l .inv .same
 
 returns-4 : tie.Need-returns-4 Inv-loop μ-loop
 returns-4 c =
     let l = c .before .before .before .before .before .before .loop in
     c .accepted-card .ensures ∙ film-goes (l .f) (c .before .before .film2 .given .1) ∙ c .before .before .before .before .read-film .ensures (l .f)
-    ∙ read-done _ _ _ _ _ _ _ (omega arith) ∙ l .inv .2
+    ∙ read-done _ _ _ _ _ _ _ (omega arith) ∙ l .inv .same
 
 pub read-zones-spec : {M : Type 1} → statement M
 read-zones-spec =

@@ -3,8 +3,8 @@ use borrow.Author.Needs.{needs}
 use Rattle.card_writer.proofs.Laws.{Writes, writes-start, writes-fits, writes-next, writes-done}
 use Rattle.card.specs.Card.{filmNumbers}
 use borrow.Author.Needs.{needs}
-use Rattle.card_writer.proofs.numbers.write_film.Statement.{statement}
-use Rattle.card_writer.proofs.numbers.write_film.Tie as tie
+use Rattle.card_writer.proofs.writing.write_film.Statement.{statement}
+use Rattle.card_writer.proofs.writing.write_film.Tie as tie
 
 so1 : (c : tie.After-write-number) → Writes (c .before .before .before .args .out .now) (c .before .before .before .args .start) (filmNumbers (c .before .before .before .args .figures)) (c .write-number .last .0) (c .write-number .result) (c .before .before .before .args .figures .bytes ∷ c .before .before .before .args .figures .rate ∷ c .before .before .before .args .figures .hop ∷ c .before .before .before .args .figures .back ∷ [])
 unfolding filmNumbers

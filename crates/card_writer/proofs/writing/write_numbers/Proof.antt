@@ -7,8 +7,8 @@ use borrow.Author.Needs.{needs}
 use Rattle.card_writer.proofs.Laws.{Writes, writes-start, writes-fits, writes-next}
 use Rattle.card.specs.Card.{cardOf, numbersOf, zoneNumbers, bytesOf}
 use borrow.Author.Needs.{needs}
-use Rattle.card_writer.proofs.numbers.write_numbers.Statement.{statement}
-use Rattle.card_writer.proofs.numbers.write_numbers.Tie as tie
+use Rattle.card_writer.proofs.writing.write_numbers.Statement.{statement}
+use Rattle.card_writer.proofs.writing.write_numbers.Tie as tie
 
 -- the card has room in the buffer
 room : (c : tie.Start) → 0 + length (bytesOf (numbersOf (c .args .figures))) ≤ length (c .args .out .now)

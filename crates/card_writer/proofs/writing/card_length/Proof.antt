@@ -6,8 +6,8 @@ use borrow.Author.Needs.{needs}
 use lib.ListN.{length}
 use Rattle.card_writer.proofs.Laws.{length-more, length-head, numbers-done}
 use Rattle.card.specs.Card.{cardOf, bytesOf, zoneNumbers}
-use Rattle.card_writer.proofs.numbers.card_length.Statement.{statement}
-use Rattle.card_writer.proofs.numbers.card_length.Tie as tie
+use Rattle.card_writer.proofs.writing.card_length.Statement.{statement}
+use Rattle.card_writer.proofs.writing.card_length.Tie as tie
 
 abbrev Inv-loop : tie.InvT-loop
 Inv-loop figures zones count₀ i₀ count i =

@@ -6,8 +6,8 @@ use borrow.Author.Needs.{needs}
 use lib.ListN.{length, getD}
 use Rattle.card_writer.proofs.Laws.{Writes, writes-start, writes-fits, writes-next, numbers-done, numbers-more}
 use Rattle.card.specs.Card.{bytesOf, zoneNumbers}
-use Rattle.card_writer.proofs.numbers.write_zones.Statement.{statement}
-use Rattle.card_writer.proofs.numbers.write_zones.Tie as tie
+use Rattle.card_writer.proofs.writing.write_zones.Statement.{statement}
+use Rattle.card_writer.proofs.writing.write_zones.Tie as tie
 
 abbrev Inv-loop : tie.InvT-loop
 Inv-loop out₀ start figures zones at₀ i₀ out at i =

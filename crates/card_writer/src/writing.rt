@@ -4,10 +4,12 @@ use card::Figures;
 use card::Verdict;
 use leb128::number_length;
 use leb128::write_number;
+use numbers::limits::CARD_KIND;
 ghost use mathlib.Core.Path.{_≡_};
 ghost use Prim.Native.Nat.{_+_, _≤_};
 ghost use lib.ListN.{length};
 ghost use Rattle.laws.specs.Overwrite.{overwrite};
+ghost use Rattle.numbers.specs.Limits.{maxZones};
 ghost use Rattle.card.specs.Card.{filmNumbers, zoneNumbers, bytesOf, cardOf, notWritten};
 
 // A card that is not written.
@@ -36,7 +38,7 @@ fn film_length(figures: Figures) -> usize
 
 // The bytes of a card.
 pub fn card_length(figures: Figures) -> usize
-    requires { ⌜ figures .zones ≤ 64 ⌝ }
+    requires { ⌜ figures .zones ≤ maxZones ⌝ }
     ensures { λ r. ⌜ r ≡ length (cardOf figures) ⌝ }
 {
     let zones = figures.zones as usize;
@@ -64,7 +66,7 @@ fn write_film(figures: Figures, out: &mut [u8], start: usize)
 
 // The zones and the film from an offset on.
 fn write_zones(figures: Figures, out: &mut [u8], start: usize)
-    requires { ⌜ (figures .zones ≤ 64) × (start + length (bytesOf (zoneNumbers (figures .zones) 0 figures)) ≤ length (now out)) ⌝ }
+    requires { ⌜ (figures .zones ≤ maxZones) × (start + length (bytesOf (zoneNumbers (figures .zones) 0 figures)) ≤ length (now out)) ⌝ }
     ensures { λ _. ⌜ now (out .exit) ≡ overwrite (now (out .entry)) start (bytesOf (zoneNumbers (figures .zones) 0 figures)) ⌝ }
 {
     let zones = figures.zones as usize;
@@ -80,10 +82,10 @@ fn write_zones(figures: Figures, out: &mut [u8], start: usize)
 
 // The whole card from the front of the buffer.
 pub fn write_numbers(figures: Figures, out: &mut [u8])
-    requires { ⌜ (figures .zones ≤ 64) × (length (cardOf figures) ≤ length (now out)) ⌝ }
+    requires { ⌜ (figures .zones ≤ maxZones) × (length (cardOf figures) ≤ length (now out)) ⌝ }
     ensures { λ _. ⌜ now (out .exit) ≡ overwrite (now (out .entry)) 0 (cardOf figures) ⌝ }
 {
-    let first = write_number(out, 0, 1);
+    let first = write_number(out, 0, CARD_KIND);
     let second = write_number(out, first, figures.zones);
     write_zones(figures, out, second);
 }

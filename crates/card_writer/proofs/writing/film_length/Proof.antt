@@ -1,8 +1,8 @@
 use native.Mathlib.Omega.{arith}
 use Rattle.card_writer.proofs.Laws.{length-film}
 use borrow.Author.Needs.{needs}
-use Rattle.card_writer.proofs.numbers.film_length.Statement.{statement}
-use Rattle.card_writer.proofs.numbers.film_length.Tie as tie
+use Rattle.card_writer.proofs.writing.film_length.Statement.{statement}
+use Rattle.card_writer.proofs.writing.film_length.Tie as tie
 
 number-length-requires : tie.Need-number-length-requires
 number-length-requires c κs = search needs

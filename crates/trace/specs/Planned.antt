@@ -1,0 +1,71 @@
+-- What the planner leaves can be opened: its plan and its lists pass the check, and the desk is that plan's with all slots free.
+-- Assumes nothing.
+use Prim.Native.Nat.{ℕ, zero, suc, _≤_, _<_}
+use mathlib.Core.Path.{_≡_, refl}
+use mathlib.Core.Bool.{Bool, true, false, cond, _||_}
+use mathlib.Core.List.{List}
+use native.Mathlib.Omega.{arith}
+use lib.ListN.{length}
+use lib.Dec.{ltb, eqb}
+use borrow.Author.Tests.{ltb-false, eqb-false}
+use Rattle.words.specs.Words.{Bytes, wordsOf, withWords}
+use Rattle.card.specs.declared.Figures.{Figures}
+use Rattle.card.specs.declared.CardRead.{CardRead}
+use Rattle.card.specs.Card.{Legal, judgeRecord}
+use Rattle.card.specs.Read.{readCard}
+use Rattle.round_trip.specs.Legality.{Wide, fault-legal}
+use Rattle.plan.specs.declared.Plan.{Plan}
+use Rattle.plan.specs.Plan.{streamsOf, planOf, positionsOf, leadsOf}
+use Rattle.plan.specs.Answer.{planFault, faultAfter, refusal, answer, planned, positionsAfter, leadsAfter, judged}
+use Rattle.plan.specs.Check.{plan-passes}
+use Rattle.plan.specs.Ways.{card-legal}
+use Rattle.desk.specs.Desk.{freshDesk, openDesk}
+
+-- a plan and two lists are opened, and all slots are free
+abbrev pub Opens : Plan → List ℕ → List ℕ → Type 0
+Opens p ps ls = (openDesk p ps ls .verdict .number ≡ 0) × (openDesk p ps ls .desk ≡ freshDesk p)
+
+-- the planner's answer, by its two numbers: accepted, it has the plan of the figures
+pub accepted-told : (r : CardRead) (j k : ℕ) → answer j k r .verdict .number ≡ 0 → (j ≡ 0) × (k ≡ 0) × (answer j k r .plan ≡ planOf (r .figures))
+unfolding refusal
+accepted-told r zero zero h = (refl, refl, refl)
+accepted-told r zero (suc k) h = absurd (omega arith)
+accepted-told r (suc j) k h = absurd (omega arith)
+
+-- neither 13 nor 12
+fault-none : (f : Figures) (np nl : ℕ) → planFault f np nl ≡ 0 → (f .blocks ≤ np) × (f .blocks ≤ nl) × (0 < streamsOf f)
+unfolding planFault
+fault-none f np nl e = go (ltb np (f .blocks)) refl (ltb nl (f .blocks)) refl (eqb (streamsOf f) 0) refl e
+  where
+    go : (s : Bool) → ltb np (f .blocks) ≡ s → (t : Bool) → ltb nl (f .blocks) ≡ t → (u : Bool) → eqb (streamsOf f) 0 ≡ u
+        → _≡_ {A = ℕ} (cond (s || t) 13 (cond u 12 0)) 0 → (f .blocks ≤ np) × (f .blocks ≤ nl) × (0 < streamsOf f)
+    go true a t b u c e = absurd (omega arith)
+    go false a true b u c e = absurd (omega arith)
+    go false a false b true c e = absurd (omega arith)
+    go false a false b false c e =
+        (ltb-false np (f .blocks) a, ltb-false nl (f .blocks) b, omega (arith, eqb-false (streamsOf f) 0 c))
+
+-- the plan of legal figures, with the lists in which it was written
+pub plan-opens : (f : Figures) → Legal f → (ps ls : List ℕ) → planFault f (length (wordsOf ps)) (length (wordsOf ls)) ≡ 0
+    → Opens (planOf f) (withWords ps 0 (positionsOf f)) (withWords ls 0 (leadsOf f))
+unfolding openDesk
+plan-opens f ok ps ls e =
+    let (lp, ll, fed) = fault-none f (length (wordsOf ps)) (length (wordsOf ls)) e in
+    rw (plan-passes f ok fed ps ls lp ll) (refl, refl)
+
+module _ (r : CardRead) (ps ls : List ℕ) (e : planned r ps ls .verdict .number ≡ 0) where
+  legal-opens : (r .verdict .number ≡ 0 → Legal (r .figures)) → Opens (planned r ps ls .plan) (positionsAfter r ps ls) (leadsAfter r ps ls)
+  unfolding planned positionsAfter leadsAfter
+  legal-opens legal =
+      let (j, k, p) = accepted-told r (r .verdict .number) (faultAfter r ps ls) e in
+      rw (p, j, k) (plan-opens (r .figures) (legal j) ps ls k)
+
+-- A CARD that was planned, and A RECORD
+pub card-opens : (s ps ls : List ℕ) → Bytes s → planned (readCard s) ps ls .verdict .number ≡ 0
+    → Opens (planned (readCard s) ps ls .plan) (positionsAfter (readCard s) ps ls) (leadsAfter (readCard s) ps ls)
+card-opens s ps ls y e = legal-opens (readCard s) ps ls e (card-legal s y (readCard s) refl)
+
+pub record-opens : (f : Figures) (ps ls : List ℕ) → Wide f → planned (judged f) ps ls .verdict .number ≡ 0
+    → Opens (planned (judged f) ps ls .plan) (positionsAfter (judged f) ps ls) (leadsAfter (judged f) ps ls)
+unfolding judged judgeRecord
+record-opens f ps ls w e = legal-opens (judged f) ps ls e (fault-legal f w)

@@ -1,0 +1,95 @@
+/*
+ * The stack that each call takes, against the numbers of filmdisk.h. Built without sanitizers, whose memcpy takes stack of its own.
+ * Arguments: names of tests to run alone.
+ */
+#include "host.h"
+#include "stack.h"
+
+static filmdisk_answer answer;
+
+static void call_plan(void)
+{
+    answer = filmdisk_plan(LENT(CARD), LENT(PLAN), LENT(POSITIONS), LENT(LEADS));
+}
+
+static void call_open(void)
+{
+    answer = filmdisk_open(LENT(PLAN), LENT(POSITIONS), LENT(LEADS), LENT(DESK));
+}
+
+static void call_join(void)
+{
+    answer = filmdisk_join(LENT(DESK), LENT(POSITIONS), LENT(LEADS), 0, 0);
+}
+
+static void call_leave(void)
+{
+    answer = filmdisk_leave(LENT(DESK), LENT(POSITIONS), LENT(LEADS), 0);
+}
+
+static void call_begin(void)
+{
+    answer = filmdisk_begin(LENT(DESK), LENT(POSITIONS), LENT(LEADS), LENT(FETCHES));
+}
+
+static void call_end(void)
+{
+    answer = filmdisk_end(LENT(DESK), LENT(POSITIONS), LENT(LEADS), LENT(DRAWS));
+}
+
+/* The accepted call takes no more than the header says, and not less than half of it. */
+static void expect_stack(void (*call)(void), size_t most)
+{
+    size_t bytes = stack_of(call);
+    expect(answer, 0, 0);
+    check(bytes <= most && bytes >= most / 2, "%zu bytes of stack; the header says at most %zu", bytes, most);
+}
+
+/* Each call is made once before it is measured, so that memcpy and its like have been found by the loader. */
+static void open_bench(void)
+{
+    open_desk(bench_film, BENCH_NUMBERS);
+}
+
+static void stack_of_plan(void)
+{
+    open_bench();
+    expect_stack(call_plan, FILMDISK_STACK_PLAN);
+}
+
+static void stack_of_open(void)
+{
+    open_bench();
+    expect_stack(call_open, FILMDISK_STACK_OPEN);
+}
+
+static void stack_of_join_and_leave(void)
+{
+    open_bench();
+    expect(host_join(0, 0), 0, 0);
+    expect(host_leave(0), 0, 0);
+    expect_stack(call_join, FILMDISK_STACK_JOIN);
+    expect_stack(call_leave, FILMDISK_STACK_LEAVE);
+}
+
+static void stack_of_begin_and_end(void)
+{
+    open_bench();
+    expect(host_join(0, 0), 0, 0);
+    expect(host_begin(), 0, 0);
+    expect(host_end(), 0, 0);
+    expect_stack(call_begin, FILMDISK_STACK_BEGIN);
+    expect_stack(call_end, FILMDISK_STACK_END);
+}
+
+static const test tests[] = {
+    TEST(stack_of_plan),
+    TEST(stack_of_open),
+    TEST(stack_of_join_and_leave),
+    TEST(stack_of_begin_and_end),
+};
+
+int main(int argc, char **argv)
+{
+    return run_tests(tests, COUNT(tests), argc, argv);
+}
