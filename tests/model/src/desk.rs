@@ -2,7 +2,7 @@
 //!
 //! A call answers the new desk; a refused one leaves the desk that it was given.
 
-use crate::plan::{is_plan, narrow, time, Plan, TWO_MILLION};
+use crate::plan::{is_plan, narrow, time, Plan, Showing, TWO_MILLION};
 use crate::refusal::{cause, refuse, Refusal};
 
 pub const SLOTS: usize = 256;
@@ -12,7 +12,7 @@ pub const FREE: u32 = 0;
 pub const ASKED: u32 = 1;
 pub const FILLING: u32 = 2;
 pub const PLAYING: u32 = 3;
-/// All its blocks fetched.
+/// All its blocks fetched; never so in a loop.
 pub const TAIL: u32 = 4;
 
 /// Phases of a desk: between sweeps, in one.
@@ -41,6 +41,11 @@ impl Desk {
             next: [0; SLOTS],
             held: [0; SLOTS],
         }
+    }
+
+    /// The showing that a sound desk's plan says.
+    pub fn showing(&self) -> Showing {
+        Showing::of(self.plan.showing).expect("the word of a sound record")
     }
 
     /// Slots below n, the ones in use.
@@ -102,7 +107,7 @@ fn slot_is_zero(desk: &Desk, slot: usize) -> bool {
     desk.kinds[slot] == 0 && desk.next[slot] == 0 && desk.held[slot] == 0
 }
 
-/// A slot's own part of soundness, all but the floor.
+/// A slot's own part of soundness, all but the floor, on the plan of its figures.
 fn slot_is_sound(desk: &Desk, slot: usize) -> bool {
     let blocks = desk.plan.figures.blocks;
     let (next, held) = (desk.next[slot], desk.held[slot]);
@@ -116,7 +121,7 @@ fn slot_is_sound(desk: &Desk, slot: usize) -> bool {
         FREE => slot_is_zero(desk, slot),
         ASKED => held == 0 && next < blocks,
         FILLING | PLAYING => next < blocks,
-        TAIL => held >= 1 && next == blocks,
+        TAIL => desk.showing() == Showing::Once && held >= 1 && next == blocks,
         _ => false,
     }
 }
@@ -255,7 +260,8 @@ pub fn sweep_bound(desk: &Desk) -> u32 {
     let mut bound = figures.ret as u128;
     for slot in desk.used_slots() {
         if is_fetched(desk, slot) {
-            bound += time(figures, desk.next[slot]) as u128 + figures.hop as u128;
+            let time = time(figures, desk.showing(), desk.next[slot]);
+            bound += time as u128 + figures.hop as u128;
         }
     }
     narrow(bound)
@@ -317,14 +323,17 @@ fn judge_draws(desk: &Desk, draws: &[u32]) -> Result<(), Refusal> {
 }
 
 /// One slot at the end of a sweep: loses its draw, gains its block; at N it becomes tail, and a
-/// tail that holds 0 becomes free.
+/// tail that holds 0 becomes free. In a loop the next block after the last is 0.
 fn end_slot(desk: &mut Desk, slot: usize, draw: u32, fetched: bool) {
     desk.held[slot] -= draw;
     if fetched {
         desk.held[slot] += desk.plan.figures.block_bytes;
         desk.next[slot] += 1;
         if desk.next[slot] == desk.plan.figures.blocks {
-            desk.kinds[slot] = TAIL;
+            match desk.showing() {
+                Showing::Once => desk.kinds[slot] = TAIL,
+                Showing::Loop => desk.next[slot] = 0,
+            }
         }
     }
     if desk.kinds[slot] == TAIL && desk.held[slot] == 0 {

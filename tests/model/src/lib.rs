@@ -1,9 +1,10 @@
 //! An executable model of the film-disk planner and its sweep desk, written from the words of its
-//! document ("01" in the comments) in the most direct form. It is the oracle of comparisons, and
-//! so it is never made quicker than the words.
+//! documents ("01" in the comments, "02" for later requests) in the most direct form. It is the
+//! oracle of comparisons, and so it is never made quicker than the words.
 //!
 //! - `card`: the figures, reading, judging and writing a card.
-//! - `plan`: laying, streams, leads, buffer; the plan of a card or a record.
+//! - `plan`: laying, streams, leads, buffer; the plan of a card or a record, shown once or as a
+//!   loop.
 //! - `desk`: soundness and the calls open, join, leave, begin and end.
 //! - `book`: lists of calls, the book of demand 3 and the checker of its claim.
 //! - `listing`: the text of the listing program. `text`: the card of a text of figures.
@@ -27,8 +28,11 @@ pub mod text;
 pub use book::{answer, check_claim, Answer, Book, Call, Row, Run, Step};
 pub use card::{card_bytes, judge_record, read_card, write_card, Figures};
 pub use desk::{begin, end, is_sound, join, leave, open, Begun, Desk, Entry, SLOTS};
-pub use listing::listing;
-pub use plan::{fill_lent, is_plan, plan_card, plan_record, Plan, Planned};
+pub use listing::{listing, loop_listing};
+pub use plan::{
+    fill_lent, is_plan, plan_card, plan_loop_card, plan_loop_record, plan_record, Plan, Planned,
+    Showing,
+};
 pub use refusal::{cause, Refusal};
 pub use rng::Rng;
 pub use text::{card_of_text, mkcard, TextRefusal};

@@ -1,6 +1,6 @@
-//! The listing program's text for a card.
+//! The listing program's text for a card, for one showing and for a loop.
 
-use crate::plan::{plan_card, times, Planned};
+use crate::plan::{plan_card, plan_loop_card, time_at, Planned};
 use crate::refusal::Refusal;
 use std::fmt::Write;
 
@@ -17,8 +17,8 @@ pub fn plan_text(planned: &Planned) -> String {
         writeln!(text, "{name} {figure}").unwrap();
     }
     text.push_str("block position time lead\n");
-    for (block, time) in times(&plan.figures).iter().enumerate() {
-        let (position, lead) = (planned.positions[block], planned.leads[block]);
+    for (block, (position, lead)) in planned.positions.iter().zip(&planned.leads).enumerate() {
+        let time = time_at(&plan.figures, *position);
         writeln!(text, "{block} {position} {time} {lead}").unwrap();
     }
     text
@@ -29,10 +29,19 @@ pub fn refusal_text(refusal: Refusal) -> String {
     format!("refused {} at {}\n", refusal.number, refusal.place)
 }
 
-/// What the listing program prints for its input, its lists being long enough.
-pub fn listing(card: &[u8]) -> String {
-    match plan_card(card, usize::MAX, usize::MAX) {
+fn answer_text(answer: Result<Planned, Refusal>) -> String {
+    match answer {
         Ok(planned) => plan_text(&planned),
         Err(refusal) => refusal_text(refusal),
     }
+}
+
+/// What the listing program prints for its input, its lists being long enough.
+pub fn listing(card: &[u8]) -> String {
+    answer_text(plan_card(card, usize::MAX, usize::MAX))
+}
+
+/// The same of the film as a loop.
+pub fn loop_listing(card: &[u8]) -> String {
+    answer_text(plan_loop_card(card, usize::MAX, usize::MAX))
 }

@@ -145,7 +145,7 @@ fn plausible_and_wrong() {
     let figures = bench_film();
     assert_eq!(streams(&figures, 2 * 22_270), Some(14));
     assert!(!fits(&figures, 2 * 22_270, 15));
-    let times = times(&figures);
+    let times = times(&figures, Showing::Once);
     assert_eq!(times[5] + times[0], 40_080);
-    assert_eq!(plan_of(&figures).unwrap().plan.worst2, 37_990);
+    assert_eq!(plan_of(&figures, Showing::Once).unwrap().plan.worst2, 37_990);
 }

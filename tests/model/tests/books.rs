@@ -3,7 +3,7 @@
 use film_disk_model::bench::bench_film;
 use film_disk_model::desk::{ASKED, FILLING, FREE, PLAYING, TAIL};
 use film_disk_model::rng::desks::{next_step, temper};
-use film_disk_model::rng::figures::{desk_plan, large_desk_plan};
+use film_disk_model::rng::figures::{desk_plan_for, large_desk_plan_for};
 use film_disk_model::*;
 
 /// What the lists of a test met.
@@ -19,6 +19,8 @@ struct Met {
     unfetched: usize,
     tails: usize,
     emptied: usize,
+    /// Slots that fetched the last block and go on with the first.
+    rounds: usize,
     full_desks: usize,
 }
 
@@ -45,13 +47,17 @@ impl Met {
                 self.ends += 1;
                 self.tails += count((PLAYING, TAIL)) + count((FILLING, TAIL));
                 self.emptied += count((TAIL, FREE));
+                let goes_round = |slot: &usize| before.next[*slot] > answer.desk.next[*slot];
+                let occupied = (0..SLOTS).filter(|&slot| answer.desk.kinds[slot] != FREE);
+                self.rounds += occupied.filter(goes_round).count();
             }
             _ => {}
         }
     }
 
-    /// Every turn of the rules is met at least so often.
-    fn check(&self, least: usize) {
+    /// Every turn of the rules is met at least so often: tails, which alone run dry, in one showing
+    /// only, rounds in a loop only.
+    fn check(&self, showing: Showing, least: usize) {
         for turn in [
             self.begins,
             self.ends,
@@ -59,15 +65,20 @@ impl Met {
             self.grants,
             self.plays,
             self.unfetched,
-            self.tails,
-            self.emptied,
             self.full_desks,
         ] {
             assert!(turn >= least, "{self:?}");
         }
-        for number in [0].into_iter().chain(13..=21) {
+        for number in [0].into_iter().chain(13..=20) {
             assert!(self.refused[number] >= least, "{self:?}");
         }
+        let ends_of_films = [self.tails, self.emptied, self.refused[21]];
+        let (met, unmet) = match showing {
+            Showing::Once => (&ends_of_films[..], &[self.rounds][..]),
+            Showing::Loop => (&[self.rounds][..], &ends_of_films[..]),
+        };
+        assert!(met.iter().all(|&turn| turn >= least), "{self:?}");
+        assert!(unmet.iter().all(|&turn| turn == 0), "{self:?}");
     }
 }
 
@@ -90,22 +101,24 @@ fn run_list(rng: &mut Rng, planned: &Planned, calls: usize, met: &mut Met) {
 
 #[test]
 fn claim_on_random_lists() {
-    let mut rng = Rng::new(31);
-    let mut met = Met::default();
-    for _ in 0..4000 {
-        let planned = desk_plan(&mut rng);
-        let calls = rng.pick(&[5, 20, 60, 150]);
-        run_list(&mut rng, &planned, calls, &mut met);
+    for showing in Showing::ALL {
+        let mut rng = Rng::new(31);
+        let mut met = Met::default();
+        for _ in 0..4000 {
+            let planned = desk_plan_for(&mut rng, showing);
+            let calls = rng.pick(&[5, 20, 60, 150]);
+            run_list(&mut rng, &planned, calls, &mut met);
+        }
+        met.check(showing, 100);
     }
-    met.check(100);
 }
 
 #[test]
 fn claim_on_long_films() {
     let mut rng = Rng::new(33);
     let mut met = Met::default();
-    for _ in 0..60 {
-        let planned = large_desk_plan(&mut rng);
+    for case in 0..120 {
+        let planned = large_desk_plan_for(&mut rng, Showing::ALL[case % 2]);
         run_list(&mut rng, &planned, 20, &mut met);
     }
     assert!(met.grants > 100, "{met:?}");
@@ -113,13 +126,15 @@ fn claim_on_long_films() {
 
 #[test]
 fn claim_on_the_bench_film() {
-    let planned = plan_record(&bench_film(), 6, 6).unwrap();
-    let mut rng = Rng::new(32);
-    let mut met = Met::default();
-    for _ in 0..300 {
-        run_list(&mut rng, &planned, 400, &mut met);
+    for made in [plan_record(&bench_film(), 6, 6), plan_loop_record(&bench_film(), 6, 6)] {
+        let planned = made.unwrap();
+        let mut rng = Rng::new(32);
+        let mut met = Met::default();
+        for _ in 0..300 {
+            run_list(&mut rng, &planned, 400, &mut met);
+        }
+        assert!(met.grants > 1000 && met.waits > 100, "{met:?}");
     }
-    assert!(met.grants > 1000 && met.waits > 100, "{met:?}");
 }
 
 /// The bench film with slot 0 played up to its second begin.

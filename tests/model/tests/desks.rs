@@ -6,7 +6,7 @@ use film_disk_model::desk::{
 };
 use film_disk_model::plan::{time, TWO_MILLION};
 use film_disk_model::rng::desks::{alter_plan, any_desk, any_step, sound_desk, spoiled_list};
-use film_disk_model::rng::figures::desk_plan;
+use film_disk_model::rng::figures::desk_plan_for;
 use film_disk_model::*;
 
 /// B of the bench film.
@@ -402,7 +402,7 @@ fn check_begin(planned: &Planned, before: &Desk, answer: &Answer) {
         assert!(is_fetched(desk, slot));
         assert_eq!(entry.block, desk.next[slot]);
         assert_eq!(entry.position, planned.positions[entry.block as usize]);
-        bound += time(figures, entry.block) + figures.hop;
+        bound += time(figures, desk.showing(), entry.block) + figures.hop;
     }
     assert_eq!(answer.bound, bound);
     let fetched = (0..SLOTS).filter(|&slot| is_fetched(desk, slot)).count();
@@ -426,8 +426,8 @@ fn check_kind_after_begin(before: &Desk, after: &Desk, slot: usize) {
 fn any_call_on_any_desk() {
     let mut rng = Rng::new(22);
     let mut met = [0; 22];
-    for _ in 0..1500 {
-        let planned = desk_plan(&mut rng);
+    for case in 0..3000 {
+        let planned = desk_plan_for(&mut rng, Showing::ALL[case % 2]);
         for _ in 0..20 {
             let (desk, step) = any_step(&mut rng, &planned);
             let Step { positions, leads, call } = step;
@@ -450,13 +450,14 @@ fn any_call_on_any_desk() {
     }
 }
 
-/// A playing slot holds all that it may draw, so a draw above held is met at tails only.
+/// A playing slot holds all that it may draw, so a draw above held is met at tails only, and in a
+/// loop not at all.
 #[test]
 fn only_tails_run_dry() {
     let mut rng = Rng::new(23);
     let mut dry = 0;
-    for _ in 0..20_000 {
-        let planned = desk_plan(&mut rng);
+    for case in 0..40_000 {
+        let planned = desk_plan_for(&mut rng, Showing::ALL[case % 2]);
         let desk = Desk { phase: SWEEPING, ..sound_desk(&mut rng, &planned) };
         assert!(sound(&planned, &desk));
         let limit = drawn_in(planned.plan.figures.rate, sweep_bound(&desk)) as u32;
@@ -465,6 +466,7 @@ fn only_tails_run_dry() {
         let answer = call(&planned, &desk, draws(n, &[(slot, limit)]));
         if answer.number == 21 {
             dry += 1;
+            assert_eq!(desk.showing(), Showing::Once);
             assert_eq!((desk.kinds[slot], answer.place), (TAIL, slot as u64));
         }
     }
@@ -476,8 +478,8 @@ fn only_tails_run_dry() {
 fn any_record_is_judged() {
     let mut rng = Rng::new(24);
     let mut counts = [0, 0];
-    for _ in 0..2000 {
-        let planned = desk_plan(&mut rng);
+    for case in 0..4000 {
+        let planned = desk_plan_for(&mut rng, Showing::ALL[case % 2]);
         for _ in 0..10 {
             let desk = any_desk(&mut rng, &planned);
             counts[sound(&planned, &desk) as usize] += 1;

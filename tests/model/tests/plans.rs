@@ -1,58 +1,73 @@
-//! Laying, streams, leads and buffers.
+//! Laying, streams, leads and buffers, for one showing and for loops.
 
 use film_disk_model::bench::{bench_film, figures_of};
 use film_disk_model::plan::{
-    fits, is_laying, lead, leads_backward, leads_by_runs, plan_of, streams, times, worst2,
-    worst_time,
+    fits, is_laying, lead, leads_backward, leads_by_runs, plan_of, plan_record_for, streams, times,
+    worst2, worst_time,
 };
 use film_disk_model::rng::desks::{alter_plan, longer_list, spoiled_list};
 use film_disk_model::rng::figures::{
-    any_figures, desk_plan, large_figures, small_figures, tight_figures,
+    any_figures, desk_plan_for, large_figures, small_figures, tight_figures,
 };
 use film_disk_model::*;
 
-/// 2 × time - worst2 added up over the run from b to before `end`.
-fn run_sum(times: &[u32], worst2: u32, b: usize, end: usize) -> i64 {
-    (b..end).map(|k| 2 * times[k] as i64 - worst2 as i64).sum()
+/// 2 × time - worst2 added up over the run of so many blocks from b, round the circle.
+fn run_sum(times: &[u32], worst2: u32, b: usize, length: usize) -> i64 {
+    (b..b + length).map(|k| 2 * times[k % times.len()] as i64 - worst2 as i64).sum()
 }
 
 /// The greatest sum over all runs from b, each added up by itself.
-fn lead_of_all_runs(times: &[u32], worst2: u32, b: usize) -> i64 {
-    (b..=times.len()).map(|end| run_sum(times, worst2, b, end)).max().unwrap()
+fn lead_of_all_runs(times: &[u32], showing: Showing, worst2: u32, b: usize) -> i64 {
+    let longest = match showing {
+        Showing::Once => times.len() - b,
+        Showing::Loop => times.len(),
+    };
+    (0..=longest).map(|length| run_sum(times, worst2, b, length)).max().unwrap()
 }
 
+/// For the worst2 of films, and for any: with a lower one a second round would add up to more.
 #[test]
 fn leads_are_greatest_run_sums() {
     let mut rng = Rng::new(11);
-    for _ in 0..2000 {
+    for case in 0..4000 {
+        let showing = Showing::ALL[case % 2];
         let figures = small_figures(&mut rng, 30);
-        let (times, worst2) = (times(&figures), worst2(&figures));
-        for b in 0..times.len() {
-            assert_eq!(lead(&times, worst2, b) as i64, lead_of_all_runs(&times, worst2, b));
+        let times = times(&figures, showing);
+        for worst2 in [worst2(&figures, showing), rng.spread(2, 8_000_000)] {
+            for b in 0..times.len() {
+                let greatest = lead_of_all_runs(&times, showing, worst2, b);
+                assert_eq!(lead(&times, showing, worst2, b) as i64, greatest);
+            }
+            assert_eq!(lead(&times, Showing::Once, worst2, times.len()), 0);
         }
-        assert_eq!(lead(&times, worst2, times.len()), 0);
     }
 }
 
-/// The one pass is the same as all runs, for the times of films and for any times and worst2.
+fn check_one_pass(times: &[u32], showing: Showing, worst2: u32) {
+    let by_runs = leads_by_runs(times, showing, worst2);
+    assert_eq!(by_runs, leads_backward(times, showing, worst2));
+}
+
+/// The one pass is the same as all runs, for the times of films and for any times; for any worst2
+/// too, but in a loop for one that no pair is above.
 #[test]
 fn one_pass_gives_the_same_leads() {
     let mut rng = Rng::new(12);
     for _ in 0..2000 {
         let times: Vec<u32> = (0..rng.below(40)).map(|_| rng.spread(1, 4_000_000)).collect();
-        let worst2 = rng.spread(2, 8_000_000);
-        assert_eq!(leads_by_runs(&times, worst2), leads_backward(&times, worst2));
+        check_one_pass(&times, Showing::Once, rng.spread(2, 8_000_000));
+        let next = times.iter().cycle().skip(1);
+        let greatest = times.iter().zip(next).map(|(one, next)| one + next).max().unwrap_or(2);
+        check_one_pass(&times, Showing::Loop, greatest);
+        check_one_pass(&times, Showing::Loop, greatest + rng.spread(1, 4_000_000));
     }
-    for _ in 0..40 {
-        let figures = Figures { blocks: 1000, ..large_figures(&mut rng) };
-        if judge_record(&figures).is_ok() {
-            let (times, worst2) = (times(&figures), worst2(&figures));
-            assert_eq!(leads_by_runs(&times, worst2), leads_backward(&times, worst2));
+    let mut films = vec![figures_of(&[(9000, 4_000_000), (7384, 123_457)], 16_384, 1, 1)];
+    films.extend((0..40).map(|_| Figures { blocks: 1000, ..large_figures(&mut rng) }));
+    for figures in films.iter().filter(|figures| judge_record(figures).is_ok()) {
+        for showing in Showing::ALL {
+            check_one_pass(&times(figures, showing), showing, worst2(figures, showing));
         }
     }
-    let figures = figures_of(&[(9000, 4_000_000), (7384, 123_457)], 16_384, 1, 1);
-    let (times, worst2) = (times(&figures), worst2(&figures));
-    assert_eq!(leads_by_runs(&times, worst2), leads_backward(&times, worst2));
 }
 
 /// Calls `look` with each laying of the blocks on the disk.
@@ -69,29 +84,33 @@ fn each_laying(figures: &Figures, laying: &mut Vec<u32>, look: &mut impl FnMut(&
     }
 }
 
-/// Its worst time is at least worst2, and with it no number above n meets the formula.
-fn check_laying(figures: &Figures, worst2: u32, n: u32, laying: &[u32]) {
-    assert!(is_laying(figures, laying));
-    let worst = worst_time(figures, laying);
-    assert!(worst >= worst2, "{figures:?} {laying:?}");
-    assert!((n + 1..=256).all(|more| !fits(figures, worst, more)), "{figures:?} {laying:?}");
+/// No laying's worst time is below worst2, and with none does a number above n meet the formula.
+fn check_all_layings(figures: &Figures, showing: Showing) {
+    let worst2 = worst2(figures, showing);
+    let n = streams(figures, worst2).unwrap_or(0);
+    each_laying(figures, &mut Vec::new(), &mut |laying| {
+        assert!(is_laying(figures, laying));
+        let worst = worst_time(figures, showing, laying);
+        assert!(worst >= worst2, "{figures:?} {laying:?}");
+        assert!((n + 1..=256).all(|more| !fits(figures, worst, more)), "{figures:?} {laying:?}");
+    });
 }
 
+/// Fifty small disks for each N up to 7.
 #[test]
 fn no_laying_is_better() {
     let mut rng = Rng::new(13);
-    let mut tried = 0;
-    while tried < 300 {
-        let figures = tight_figures(&mut rng, 6);
-        if figures.total_positions() > 7 {
-            continue;
+    for showing in Showing::ALL {
+        for blocks in 2..=7 {
+            let mut tried = 0;
+            while tried < 50 {
+                let figures = tight_figures(&mut rng, showing, 7);
+                if figures.total_positions() <= 7 && figures.blocks == blocks {
+                    check_all_layings(&figures, showing);
+                    tried += 1;
+                }
+            }
         }
-        tried += 1;
-        let worst2 = worst2(&figures);
-        let n = streams(&figures, worst2).unwrap_or(0);
-        each_laying(&figures, &mut Vec::new(), &mut |laying| {
-            check_laying(&figures, worst2, n, laying)
-        });
     }
 }
 
@@ -99,11 +118,13 @@ fn no_laying_is_better() {
 #[test]
 fn own_laying() {
     let mut rng = Rng::new(14);
-    for _ in 0..500 {
+    for case in 0..1000 {
+        let showing = Showing::ALL[case % 2];
         let figures = any_figures(&mut rng);
-        let Ok(planned) = plan_record(&figures, 16_384, 16_384) else { continue };
+        let made = plan_record_for(&figures, showing, 16_384, 16_384);
+        let Ok(planned) = made else { continue };
         assert!(is_laying(&figures, &planned.positions));
-        assert_eq!(worst_time(&figures, &planned.positions), planned.plan.worst2);
+        assert_eq!(worst_time(&figures, showing, &planned.positions), planned.plan.worst2);
         let lowest = figures.total_positions() - figures.blocks as u64;
         assert_eq!(planned.positions.iter().min().copied(), Some(lowest as u32));
     }
@@ -122,8 +143,8 @@ fn streams_at_the_edges() {
     let mut rng = Rng::new(15);
     let mut met = [0; 257];
     for _ in 0..20_000 {
-        let figures = tight_figures(&mut rng, 20);
-        let worst2 = worst2(&figures);
+        let figures = tight_figures(&mut rng, Showing::Once, 20);
+        let worst2 = worst2(&figures, Showing::Once);
         let n = streams(&figures, worst2).unwrap_or(0);
         assert_eq!(n as i128, streams_by_division(&figures, worst2).max(0));
         met[n as usize] += 1;
@@ -137,13 +158,16 @@ fn streams_at_the_edges() {
 #[test]
 fn equality_fits() {
     let figures = Figures { hop: 1, ret: 1, ..figures_of(&[(2, 1)], 2, 6, 2_000_000) };
-    assert_eq!(plan_of(&figures).unwrap().plan.streams, 1);
-    assert_eq!(plan_of(&Figures { block_bytes: 5, ..figures.clone() }), None);
+    let at = |block_bytes| {
+        let figures = Figures { block_bytes, ..figures.clone() };
+        plan_of(&figures, Showing::Once).map(|planned| planned.plan.streams)
+    };
+    assert_eq!(at(6), Some(1));
+    assert_eq!(at(5), None);
     let most = 256 * (2 + 2) + 2;
-    let at = |block_bytes| plan_of(&Figures { block_bytes, ..figures.clone() }).unwrap().plan;
-    assert_eq!(at(most - 1).streams, 255);
-    assert_eq!(at(most).streams, 256);
-    assert_eq!(at(most + 1000).streams, 256);
+    assert_eq!(at(most - 1), Some(255));
+    assert_eq!(at(most), Some(256));
+    assert_eq!(at(most + 1000), Some(256));
 }
 
 /// The greatest buffer, and the round bounds of accepted plans.
@@ -151,11 +175,13 @@ fn equality_fits() {
 fn greatest_figures() {
     let zones = [(1, 3_998_506), (1, 1)];
     let figures = Figures { hop: 1, ret: 1, ..figures_of(&zones, 2, 4_194_304, 9242) };
-    let plan = plan_of(&figures).unwrap().plan;
+    let plan = plan_of(&figures, Showing::Once).unwrap().plan;
     assert_eq!((plan.streams, plan.margin, plan.buffer), (227, 3_998_505, 16_777_212));
     let mut rng = Rng::new(16);
-    for _ in 0..5000 {
-        if let Some(Planned { plan, leads, .. }) = plan_of(&tight_figures(&mut rng, 20)) {
+    for case in 0..10_000 {
+        let showing = Showing::ALL[case % 2];
+        let figures = tight_figures(&mut rng, showing, 20);
+        if let Some(Planned { plan, leads, .. }) = plan_of(&figures, showing) {
             assert!(plan.buffer <= 4 * plan.figures.block_bytes);
             assert!(plan.margin < plan.worst2);
             assert_eq!(leads.iter().max(), Some(&plan.margin));
@@ -166,18 +192,19 @@ fn greatest_figures() {
 /// The margin's rounding is up, and only up to the next whole byte.
 #[test]
 fn buffer_is_rounded_up() {
-    let plan = plan_of(&bench_film()).unwrap().plan;
+    let plan = plan_of(&bench_film(), Showing::Once).unwrap().plan;
     let spare = 500_000 * 16 * 6550_u64;
     assert_eq!(plan.buffer as u64, 3 * 262_144 + spare / 2_000_000);
-    let plan = plan_of(&Figures { rate: 500_001, ..bench_film() }).unwrap().plan;
+    let figures = Figures { rate: 500_001, ..bench_film() };
+    let plan = plan_of(&figures, Showing::Once).unwrap().plan;
     assert_eq!((plan.streams, plan.buffer), (16, 812_633));
 }
 
 #[test]
 fn which_records_are_plans() {
     let mut rng = Rng::new(17);
-    for _ in 0..3000 {
-        let Planned { plan, positions, leads } = desk_plan(&mut rng);
+    for case in 0..6000 {
+        let Planned { plan, positions, leads } = desk_plan_for(&mut rng, Showing::ALL[case % 2]);
         assert!(is_plan(&plan, &positions, &leads));
         let longer = (longer_list(&mut rng, &positions), longer_list(&mut rng, &leads));
         assert!(is_plan(&plan, &longer.0, &longer.1));
@@ -186,8 +213,10 @@ fn which_records_are_plans() {
         let mut altered = plan.clone();
         alter_plan(&mut rng, &mut altered);
         let is = is_plan(&altered, &positions, &leads);
-        let made = plan_record(&altered.figures, positions.len(), leads.len());
-        assert_eq!(is, made == Ok(Planned { plan: altered, positions, leads }));
+        let made = Showing::of(altered.showing).map(|showing| {
+            plan_record_for(&altered.figures, showing, positions.len(), leads.len())
+        });
+        assert_eq!(is, made == Some(Ok(Planned { plan: altered, positions, leads })));
     }
     assert!(!is_plan(&Plan::zero(), &[], &[]));
 }

@@ -2,11 +2,11 @@
 
 use film_disk_model::bench::{barracuda, deskstar, figures_of};
 use film_disk_model::plan::{plan_of, times, worst2};
-use film_disk_model::Figures;
+use film_disk_model::{Figures, Showing};
 
 /// Streams, worst2, margin and buffer.
 fn summary(figures: &Figures) -> (u32, u32, u32, u32) {
-    let plan = plan_of(figures).expect("a stream that fits").plan;
+    let plan = plan_of(figures, Showing::Once).expect("a stream that fits").plan;
     (plan.streams, plan.worst2, plan.margin, plan.buffer)
 }
 
@@ -37,12 +37,13 @@ fn disk(bytes: u32, positions: u32, rates: &[u64]) -> Figures {
 
 /// The least B that feeds 12 streams, and the buffer with it.
 fn least_for_twelve(positions: u32, rates: &[u64]) -> (u32, u32) {
-    let feeds = |bytes: u32| match plan_of(&disk(bytes, positions, rates)) {
+    let planned = |bytes: u32| plan_of(&disk(bytes, positions, rates), Showing::Once);
+    let feeds = |bytes: u32| match planned(bytes) {
         Some(planned) => planned.plan.streams >= 12,
         None => false,
     };
     let bytes = (150_000..300_000).find(|&bytes| feeds(bytes)).expect("a block size");
-    (bytes, plan_of(&disk(bytes, positions, rates)).unwrap().plan.buffer)
+    (bytes, planned(bytes).unwrap().plan.buffer)
 }
 
 #[test]
@@ -62,8 +63,8 @@ fn six_zones_of_example_1() {
 #[test]
 fn times_two_two_one() {
     let figures = figures_of(&[(2, 2), (1, 1)], 3, 262_144, 500_000);
-    let planned = plan_of(&figures).unwrap();
+    let planned = plan_of(&figures, Showing::Once).unwrap();
     assert_eq!(planned.positions, [0, 2, 1]);
-    assert_eq!(times(&figures), [2, 1, 2]);
-    assert_eq!(worst2(&figures), 3);
+    assert_eq!(times(&figures, Showing::Once), [2, 1, 2]);
+    assert_eq!(worst2(&figures, Showing::Once), 3);
 }

@@ -1,6 +1,6 @@
 //! docs/LAYOUT.md: the model's records as byte strings, and back.
 
-use film_disk_model::{Desk, Entry, Figures, Plan, SLOTS};
+use film_disk_model::{Desk, Entry, Figures, Plan, Showing, SLOTS};
 
 pub const PLAN_BYTES: usize = 552;
 pub const DESK_BYTES: usize = 3628;
@@ -45,6 +45,7 @@ fn plan_in(words: &[u32]) -> Plan {
     };
     Plan {
         figures,
+        showing: Showing::Once.word(),
         streams: words[134],
         buffer: words[135],
         worst2: words[136],

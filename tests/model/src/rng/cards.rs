@@ -3,6 +3,7 @@
 use super::figures::{alter_figure, legal_figures, set_to_limit, small_figures, tight_figures};
 use super::Rng;
 use crate::card::{card_bytes, card_numbers, number_bytes, MAX_POSITIONS, MAX_ZONES};
+use crate::plan::Showing;
 
 /// The card of a legal record.
 pub fn legal_card(rng: &mut Rng) -> Vec<u8> {
@@ -158,7 +159,7 @@ fn noise(rng: &mut Rng) -> Vec<u8> {
 
 /// A card damaged in one way. Some come out legal, at the limit.
 pub fn damaged_card(rng: &mut Rng) -> Vec<u8> {
-    let figures = tight_figures(rng, 60);
+    let figures = tight_figures(rng, Showing::Once, 60);
     let numbers = card_numbers(&figures);
     let card = card_bytes(&figures);
     match rng.below(14) {

@@ -7,7 +7,7 @@ use crate::book::{answer, Call, Step};
 use crate::desk::{
     draw_limit, floor, sweep_bound, Desk, ASKED, FILLING, FREE, PLAYING, SLOTS, SWEEPING, TAIL,
 };
-use crate::plan::{Plan, Planned, TWO_MILLION};
+use crate::plan::{Plan, Planned, Showing, TWO_MILLION};
 
 /// How the draws of a list go, within what the slots may draw.
 #[derive(Clone, Copy, Debug)]
@@ -243,13 +243,17 @@ fn some_held(rng: &mut Rng, plan: &Plan, least: u32) -> u32 {
     held.clamp(least, plan.buffer)
 }
 
-/// A sound desk whether or not a list reaches it.
+/// A sound desk whether or not a list reaches it. A loop's has no tail.
 pub fn sound_desk(rng: &mut Rng, planned: &Planned) -> Desk {
     let mut desk = Desk::all_free(&planned.plan);
     let blocks = planned.plan.figures.blocks;
+    let kinds: &[u32] = match desk.showing() {
+        Showing::Once => &[FREE, ASKED, FILLING, FILLING, PLAYING, PLAYING, TAIL],
+        Showing::Loop => &[FREE, ASKED, FILLING, FILLING, PLAYING, PLAYING],
+    };
     desk.phase = rng.between(0, 1);
     for slot in desk.used_slots() {
-        desk.kinds[slot] = rng.pick(&[FREE, ASKED, FILLING, FILLING, PLAYING, PLAYING, TAIL]);
+        desk.kinds[slot] = rng.pick(kinds);
         desk.next[slot] = match desk.kinds[slot] {
             FREE => 0,
             TAIL => blocks,
@@ -275,6 +279,7 @@ pub fn alter_plan(rng: &mut Rng, plan: &mut Plan) {
         1 => &mut plan.buffer,
         2 => &mut plan.worst2,
         3 => &mut plan.margin,
+        4 => &mut plan.showing,
         _ => return alter_figure(rng, &mut plan.figures),
     };
     *figure = rng.other_than(*figure);

@@ -5,7 +5,7 @@ use crate::card::{
     Figures, MAX_BLOCKS, MAX_BLOCK_BYTES, MAX_HOP, MAX_POSITIONS, MAX_RATE, MAX_RETURN, MAX_TIME,
     MAX_ZONES, MIN_BLOCKS,
 };
-use crate::plan::{plan_of, worst2, Planned};
+use crate::plan::{plan_of, worst2, Planned, Showing};
 
 /// Times of the zones, never rising.
 fn zone_times(rng: &mut Rng, zones: usize) -> Vec<u32> {
@@ -104,8 +104,8 @@ fn tight_rate(rng: &mut Rng, need: u64, most: u32) -> u32 {
 }
 
 /// Sets c and B so that n streams just fit.
-pub fn tighten(rng: &mut Rng, figures: &mut Figures, n: u32) {
-    let each = worst2(figures) as u64 + 2 * figures.hop as u64;
+pub fn tighten(rng: &mut Rng, figures: &mut Figures, showing: Showing, n: u32) {
+    let each = worst2(figures, showing) as u64 + 2 * figures.hop as u64;
     let need = n as u64 * each + 2 * figures.ret as u64;
     let most = 2_000_000 * MAX_BLOCK_BYTES as u64 / need;
     figures.rate = tight_rate(rng, need, most.min(MAX_RATE as u64) as u32);
@@ -114,11 +114,11 @@ pub fn tighten(rng: &mut Rng, figures: &mut Figures, n: u32) {
 }
 
 /// Small figures where 1, 255, 256 or another number of streams just fits or just does not.
-pub fn tight_figures(rng: &mut Rng, limit: u32) -> Figures {
+pub fn tight_figures(rng: &mut Rng, showing: Showing, limit: u32) -> Figures {
     let mut figures = small_figures(rng, limit);
     let any = rng.between(1, 256);
     let n = rng.pick(&[1, 1, 2, 255, 256, any]);
-    tighten(rng, &mut figures, n);
+    tighten(rng, &mut figures, showing, n);
     if rng.once_in(2) && figures.block_bytes > 1 {
         figures.block_bytes -= 1;
     }
@@ -130,7 +130,7 @@ pub fn legal_figures(rng: &mut Rng) -> Figures {
     match rng.below(8) {
         0 => large_figures(rng),
         1..=3 => small_figures(rng, MAX_BLOCKS),
-        _ => tight_figures(rng, MAX_BLOCKS),
+        _ => tight_figures(rng, Showing::Once, MAX_BLOCKS),
     }
 }
 
@@ -145,7 +145,7 @@ fn set_great_return(rng: &mut Rng, figures: &mut Figures) {
 }
 
 /// A plan for desks: a short film, few streams or very many.
-pub fn desk_plan(rng: &mut Rng) -> Planned {
+pub fn desk_plan_for(rng: &mut Rng, showing: Showing) -> Planned {
     loop {
         let limit = rng.pick(&[2, 3, 5, 8, 12, 40]);
         let mut figures = small_figures(rng, limit);
@@ -153,19 +153,29 @@ pub fn desk_plan(rng: &mut Rng) -> Planned {
             set_great_return(rng, &mut figures);
         }
         let n = rng.pick(&[1, 2, 2, 3, 3, 4, 5, 6, 8, 12, 16, 20, 255, 256]);
-        tighten(rng, &mut figures, n);
-        if let Some(planned) = plan_of(&figures) {
+        tighten(rng, &mut figures, showing, n);
+        if let Some(planned) = plan_of(&figures, showing) {
             return planned;
         }
     }
 }
 
+/// The same for one showing.
+pub fn desk_plan(rng: &mut Rng) -> Planned {
+    desk_plan_for(rng, Showing::Once)
+}
+
 /// A plan for desks with a film of any length and zones of any size.
-pub fn large_desk_plan(rng: &mut Rng) -> Planned {
+pub fn large_desk_plan_for(rng: &mut Rng, showing: Showing) -> Planned {
     let mut figures = large_figures(rng);
     let n = rng.pick(&[1, 3, 20, 256]);
-    tighten(rng, &mut figures, n);
-    plan_of(&figures).expect("n streams fit")
+    tighten(rng, &mut figures, showing, n);
+    plan_of(&figures, showing).expect("n streams fit")
+}
+
+/// The same for one showing.
+pub fn large_desk_plan(rng: &mut Rng) -> Planned {
+    large_desk_plan_for(rng, Showing::Once)
 }
 
 /// Alters one figure, used or not.
