@@ -42,7 +42,7 @@ use Rattle.layout.specs.Layout.{planWords, deskWords, planIn, deskIn, planSize,
 use Rattle.layout.specs.RoundTrip.{PlanSized, plan-sized, DeskSized, desk-fit, desk-written}
 use Rattle.layout.specs.Legal.{legal-words}
 use Rattle.desk_strings.specs.Laws.{enough, said-sized, said-wide, right-answer, right-string}
-use Rattle.desk_strings.specs.Calls.{refusedBy, openedFrom, openAnswer, openString, said, answerBy, stringBy, joinAnswer, joinString, leaveAnswer, leaveString, endAnswer, endString, roomIn, begunAnswer, beginAnswer, beginString}
+use Rattle.desk_strings.specs.Calls.{openedFrom, openAnswer, openString, said, answerBy, stringBy, joinAnswer, joinString, leaveAnswer, leaveString, endAnswer, endString, roomIn, begunAnswer, beginAnswer, beginString}
 use Rattle.string_claims.specs.Kept.{open-number, open-right, open-other}
 
 -- ---- numbers of 32 bits
@@ -114,7 +114,7 @@ module _ (D ps ls : List ℕ) where
   -- the answer a has the number that the rules give, and accepts: the desk string has the right length, and so do the rules
   accepted-right : (room : ℕ) (call : Call ℕ) (a : FilmdiskAnswer) → a .number ≡ answerOf (said D) ps ls room call .number → answerBy D a .number ≡ 0
       → (length D ≡ deskSize) × (answerOf (said D) ps ls room call .number ≡ 0)
-  unfolding answerBy refusedBy verdictAnswer
+  unfolding answerBy verdictAnswer
   accepted-right room call a e n = by-cases (ℕ-discrete (length D) deskSize)
       (λ l. (l, sym e ∙ sym (ap (λ (x : FilmdiskAnswer). x .number) (right-answer D l a)) ∙ n))
       (λ o. wrong (rw (ne-eqb (length D) deskSize o) at n))

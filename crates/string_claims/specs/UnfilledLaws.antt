@@ -59,7 +59,7 @@ strings-past s p ps ls =
 -- ---- the fetch list, past the count: an entry has 12 bytes
 
 pub fetches-past : (D ps ls F : List ℕ) → SameFrom (12 * beginAnswer D ps ls F .count) F (fetchString D ps ls F)
-unfolding beginAnswer answerBy refusedBy verdictAnswer begunAnswer beginDesk fetchesOf fetchString fetchListAfter
+unfolding beginAnswer answerBy verdictAnswer begunAnswer beginDesk fetchesOf fetchString fetchListAfter
 fetches-past D ps ls F = go (eqb (length D) deskSize)
   where
     go : (t : Bool)
