@@ -3,7 +3,6 @@ use Prim.Native.Nat.{ℕ, _-_, _*_, _≤_, _<_}
 use mathlib.Core.Path.{_≡_}
 use mathlib.Core.List.{List}
 use lib.ListN.{length, getD}
-use Rattle.placement.specs.Placement.{place}
 use Rattle.placement.specs.Zones.{total, timeAt}
 
 -- the zones of a disk, whose positions are few enough in all
@@ -23,6 +22,6 @@ pub record Film (ps ts : List ℕ) (P N : ℕ) : Type 0 where
   pub some : 0 < N
   pub room : N ≤ P
 
--- the lead of block b as the code computes it, w being worst2
-abbrev pub leadAt : List ℕ → List ℕ → ℕ → ℕ → ℕ → ℕ → ℕ
-leadAt ps ts P N w b = 2 * timeAt ps ts (place P N b) - w
+-- the lead of block b as the code computes it, l being the laying and w worst2
+abbrev pub leadAt : List ℕ → List ℕ → (ℕ → ℕ) → ℕ → ℕ → ℕ
+leadAt ps ts l w b = 2 * timeAt ps ts (l b) - w
