@@ -122,6 +122,16 @@ late-odd N b u e h n = go (rank N b) (ranked N b)
     go r (late-falls d f) = absurd (omega arith)
     go r (late-rises d f) = refl
 
+-- no rank is N or more, past the last block neither
+pub rank-within : (N b : ℕ) → 0 < N → b ≤ N → rank N b < N
+rank-within N b some u = go (rank N b) (ranked N b)
+  where
+    go : (r : ℕ) → Ranked N b r → r < N
+    go r (early-falls d f) = omega arith
+    go r (early-rises d f) = omega arith
+    go r (late-falls d f) = omega arith
+    go r (late-rises d f) = omega arith
+
 -- past the last block comes the first one's position
 pub ring-round : (P N : ℕ) → 0 < N → ring P N N ≡ P - N
 unfolding ring

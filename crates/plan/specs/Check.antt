@@ -7,8 +7,9 @@ use mathlib.Core.List.{List}
 use native.Mathlib.Omega.{arith}
 use lib.ListN.{length, getD, take}
 use lib.Dec.{ltb, eqb}
-use borrow.Author.Tests.{ltb-true, eqb-true, lt-ltb, eq-eqb}
+use borrow.Author.Tests.{ltb-true, eqb-true, lt-ltb, eq-eqb, ne-eqb}
 use Rattle.laws.specs.Bools.{and-left, and-right, and-both}
+use Rattle.numbers.specs.Showings.{loopWord}
 use Rattle.card.specs.Card.{Legal, recordFault}
 use Rattle.round_trip.specs.Legality.{Wide, fault-legal, legal-fault}
 use Rattle.words.specs.Words.{Words, wordsOf, withWords}
@@ -95,6 +96,15 @@ pub showing-back : (x : Showing) → showingOf (wordOf x) ≡ x
 unfolding showingOf
 showing-back one = refl
 showing-back loop = refl
+
+-- the showing of a word, as code tests it
+pub shows-loop : (w : ℕ) → w ≡ loopWord → showingOf w ≡ loop
+unfolding showingOf
+shows-loop w e = rw (eq-eqb w loopWord e)
+
+pub shows-once : (w : ℕ) → (w ≡ loopWord → ⊥) → showingOf w ≡ one
+unfolding showingOf
+shows-once w e = rw (ne-eqb w loopWord e)
 
 same-numbers-self : (p : Plan) → sameNumbers p p ≡ true
 same-numbers-self p =

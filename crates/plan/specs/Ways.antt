@@ -8,12 +8,13 @@ use native.Mathlib.Omega.{arith}
 use lib.ListN.{length}
 use lib.Dec.{ltb}
 use borrow.Author.Tests.{lt-ltb, le-ltb, eq-eqb, ne-eqb}
+use Rattle.numbers.specs.Limits.{maxPositions}
 use Rattle.card.specs.declared.Figures.{Figures}
 use Rattle.card.specs.declared.CardRead.{CardRead}
 use Rattle.card.specs.declared.Verdict.{Verdict}
 use Rattle.card.specs.Card.{Legal, totalPositions, recordFault, judgeRecord}
 use Rattle.card.specs.Read.{readCard}
-use Rattle.round_trip.specs.Legality.{fault-legal}
+use Rattle.round_trip.specs.Legality.{Wide, fault-legal}
 use Rattle.round_trip.specs.RoundTrip.{read-card}
 use Rattle.placement.specs.Showing.{Showing, laying, worstOf}
 use Rattle.words.specs.Words.{Bytes, wordsOf, withWords}
@@ -52,6 +53,11 @@ module _ (x : Showing) (r : CardRead) (ps ls : List ℕ) where
   unfolding planned positionsAfter leadsAfter
   by-none e d = rw (e, d) (refl, refl, refl)
 
+-- the same outcome of equal figures in an equal showing
+pub outcome-same : {x y : Showing} {r s : CardRead} (ps ls : List ℕ) (a : Planned) (qs ms : List ℕ) → x ≡ y → r ≡ s → Outcome x r ps ls a qs ms → Outcome y s ps ls a qs ms
+outcome-same {x} {y} {r} {s} ps ls a qs ms e d o =
+    subst (λ (t : CardRead). Outcome y t ps ls a qs ms) d (subst (λ (z : Showing). Outcome z r ps ls a qs ms) e o)
+
 module _ (x : Showing) (f : Figures) (np nl : ℕ) where
   pub short-positions : np < f .blocks → planFault x f np nl ≡ 13
   unfolding planFault
@@ -88,6 +94,9 @@ module _ (f : Figures) (ok : Legal f) (t : ℕ) (e : t ≡ totalPositions f) whe
     room = omega (arith, ok .room);
   }
 
+  pub small-on : t ≤ maxPositions
+  small-on = omega (arith, ok .total)
+
   pub worst2-is : (x : Showing) → worstOf x (timeOn f) (laying x t (f .blocks)) (f .blocks) ≡ worst2Of x f
   unfolding worst2Of
   worst2-is x = ap (λ (n : ℕ). worstOf x (timeOn f) (laying x n (f .blocks)) (f .blocks)) e
@@ -119,6 +128,13 @@ module _ (f : Figures) (v : Verdict) (e : v ≡ judgeRecord f) where
   pub judged-is : _≡_ {A = CardRead} (record { verdict = v; figures = f }) (judged f)
   unfolding judged
   judged-is = λ i. record { verdict = e i; figures = f }
+
+-- an accepted record has legal figures
+pub judged-legal : (f : Figures) → Wide f → (r : CardRead) → r ≡ judged f → r .verdict .number ≡ 0 → Legal (r .figures)
+unfolding judged
+judged-legal f w r e n =
+    let c = sym (record-fault f (r .verdict) (ap (λ (t : CardRead). t .verdict) e)) ∙ n in
+    subst (λ (t : CardRead). Legal (t .figures)) (sym e) (fault-legal f w c)
 
 -- ---- has a plan the numbers of its figures
 
