@@ -17,6 +17,7 @@ use Rattle.placement.specs.Showing.{Showing, one, loop}
 use Rattle.pacing.specs.Film.{after, isPast}
 use Rattle.pacing.specs.Shown.{round-below}
 use Rattle.plan.specs.Plan.{showingOf, showingIn}
+use Rattle.plan.specs.Check.{shows-loop, shows-once}
 use Rattle.safety.specs.Supply.{Supply}
 use Rattle.safety.specs.Scheduler as S
 use Rattle.safety.specs.Scheduler.{freeSlot, at, leads, endedSlot, ended, mostDrawn}
@@ -42,12 +43,10 @@ goes-on loop N b h = omega (arith, round-next N b (omega arith))
 
 -- after it a loop goes back, by the plan's word
 pub goes-round : (w N b : ℕ) → w ≡ loopWord → b + 1 ≡ N → 0 ≡ after (showingOf w) N b
-unfolding showingOf
-goes-round w N b e h = rw e (omega (arith, round-last N b (omega arith)))
+goes-round w N b e h = rw (shows-loop w e) (omega (arith, round-last N b (omega arith)))
 
 pub goes-past : (w N b : ℕ) → (w ≡ loopWord → ⊥) → b + 1 ≡ after (showingOf w) N b
-unfolding showingOf
-goes-past w N b n = rw (ne-eqb w loopWord n) (omega arith)
+goes-past w N b n = rw (shows-once w n) (omega arith)
 
 -- in a loop the next block is never N
 past-is : (x : Showing) (N b : ℕ) → b < N → isPast x N (after x N b) ≡ eqb (after x N b) N

@@ -6,31 +6,19 @@ use mathlib.Core.Logic.{_≢_}
 use mathlib.Core.List.{List}
 use lib.ListN.{length}
 use borrow.Author.Tests.{eq-eqb, ne-eqb}
-use Rattle.numbers.specs.Showings.{loopWord}
 use Rattle.numbers.specs.Refusals.{tooShort}
 use Rattle.words.specs.Words.{withWords}
 use Rattle.card.specs.declared.CardRead.{CardRead}
 use Rattle.card.specs.Read.{readCard}
-use Rattle.placement.specs.Showing.{Showing, one, loop}
+use Rattle.placement.specs.Showing.{Showing}
 use Rattle.plan.specs.declared.Planned.{Planned}
-use Rattle.plan.specs.Plan.{showingOf, positionsOf, leadsOf}
+use Rattle.plan.specs.Plan.{positionsOf, leadsOf}
 use Rattle.plan.specs.Answer.{refusal, answer, filled, planned, positionsAfter, leadsAfter}
 use Rattle.plan.specs.Ways as plan
 use Rattle.layout.specs.Layout.{planWords, planSize}
 use Rattle.layout.specs.declared.FilmdiskAnswer.{FilmdiskAnswer}
 use Rattle.layout.specs.Answers.{verdictAnswer}
 use Rattle.plan_strings.specs.Calls.{planFaultOf, plannedOf, planFilled, planAnswer, planString, positionsString, leadsString}
-
--- ---- the planner's answer, by the word of a showing
-
-module _ (w : ℕ) (r : CardRead) (ps ls : List ℕ) (a : Planned) (qs ms : List ℕ) where
-  pub planned-loop : w ≡ loopWord → plan.Outcome loop r ps ls a qs ms → plan.Outcome (showingOf w) r ps ls a qs ms
-  unfolding showingOf
-  planned-loop e o = rw e o
-
-  pub planned-once : (w ≡ loopWord → ⊥) → plan.Outcome one r ps ls a qs ms → plan.Outcome (showingOf w) r ps ls a qs ms
-  unfolding showingOf
-  planned-once n o = rw (ne-eqb w loopWord n) o
 
 -- ---- a card without room for its plan
 
