@@ -236,12 +236,12 @@ static void set_showing(enum lent which)
     filmdisk_put_word(contents[which], FILMDISK_PLAN_SHOWING, value % 4 == 0 ? 1 - word(which, FILMDISK_PLAN_SHOWING) : value);
 }
 
-/* Makes a slot a tail, which no loop has. */
+/* Makes a slot a tail, which no loop has; at times with the next block of one that has gone round. */
 static void set_tail(void)
 {
     uint32_t slot = take(), held = take_number();
     filmdisk_put_word(contents[DESK], FILMDISK_DESK_KINDS + slot, FILMDISK_TAIL);
-    filmdisk_put_word(contents[DESK], FILMDISK_DESK_NEXT + slot, word(DESK, FILMDISK_PLAN_BLOCKS));
+    filmdisk_put_word(contents[DESK], FILMDISK_DESK_NEXT + slot, held % 8 == 0 ? 0 : word(DESK, FILMDISK_PLAN_BLOCKS));
     filmdisk_put_word(contents[DESK], FILMDISK_DESK_HELD + slot, held);
 }
 
