@@ -83,7 +83,7 @@ impl<'a> List<'a> {
     }
 
     /// The most times that a slot of a loop has got the whole film; 0 for one showing.
-    fn rounds(&self) -> u128 {
+    pub fn rounds(&self) -> u128 {
         let fetched = self.book.rows.iter().map(|row| row.fetched).max().unwrap_or(0);
         self.planned.plan.showing as u128 * fetched / self.planned.positions.len() as u128
     }
