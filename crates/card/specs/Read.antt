@@ -2,7 +2,7 @@
 use Prim.Native.Nat.{ℕ, zero, suc, _+_}
 use mathlib.Core.List.{List}
 use mathlib.Core.Bool.{cond}
-use lib.ListN.{length, set, replicate}
+use lib.ListN.{length, getD, set, replicate}
 use lib.Dec.{ltb}
 use Rattle.numbers.specs.Refusals.{cardEnds, numberForm, cardGoesOn}
 use Rattle.numbers.specs.Limits.{maxZones, maxTime, maxBytes, maxRate, maxMove}
@@ -100,12 +100,13 @@ filmFrom s at f total =
     thenField (fieldAt Measure maxMove s at₄) (λ ret at₅.
     cardEnd s at₅ (withFilm f n b c hop ret))))))
 
--- `left` more zones from the i-th on, at an offset; total is the positions so far, before the time of the zone before
+-- `left` more zones from the i-th on, at an offset; total is the positions so far, before the time of the zone before. The first
+-- zone's time is 0 in f while it is read, and no time is judged by it then
 unfoldable pub zonesFrom : ℕ → List ℕ → ℕ → ℕ → Figures → ℕ → ℕ → CardRead
 zonesFrom zero s at i f total before = filmFrom s at f total
 zonesFrom (suc left) s at i f total before =
     thenField (fieldAt Positions total s at) (λ p at₁.
-    thenField (fieldAt Time before s at₁) (λ t at₂.
+    thenField (fieldAt (Time (getD (f .times) 0 0)) before s at₁) (λ t at₂.
     zonesFrom left s at₂ (i + 1) (withZone f i p t) (total + p) t))
 
 -- the card (K3); the first zone's time is bounded by the greatest time alone

@@ -7,8 +7,10 @@ use numbers::limits::MAX_POSITIONS;
 use numbers::limits::MAX_TIME;
 use numbers::limits::MAX_ZONES;
 use numbers::limits::MIN_BLOCKS;
+use numbers::limits::TIMES_AS_FAST;
 use numbers::refusals::BLOCKS_ABOVE_POSITIONS;
 use numbers::refusals::CARD_ENDS;
+use numbers::refusals::HALF_DEAD_TIME;
 use numbers::refusals::NUMBER_FORM;
 use numbers::refusals::RISING_TIME;
 use numbers::refusals::WRONG_BLOCKS;
@@ -18,6 +20,7 @@ use numbers::refusals::WRONG_POSITIONS;
 use numbers::refusals::WRONG_TIME;
 use numbers::refusals::WRONG_ZONES;
 ghost use mathlib.Core.Path.{_≡_};
+ghost use Rattle.card.specs.declared.fields.Rule.the-variants.{Time};
 ghost use Rattle.card.specs.Ranges.{outside, thenAbove, faultOf};
 ghost use Rattle.card.specs.Read.{fieldAt, onNumber, onFault};
 
@@ -29,8 +32,9 @@ pub enum Rule {
     Zones,
     // A zone's positions; bound: the positions of the zones before it.
     Positions,
-    // A zone's time; bound: the time of the zone before it, the greatest time for the first.
-    Time,
+    // A zone's time, with the first zone's (0 where that one is still to be read); bound: the time of the zone before it, the greatest
+    // time for the first.
+    Time(u32),
     // N; bound: all positions.
     Blocks,
     // B, c, hop or return; bound: its greatest value.
@@ -69,6 +73,24 @@ fn then_above(fault: u32, most: u64, number: u32, v: u64) -> u32
     0
 }
 
+// The refusal of a zone's time: its range, then the time of the zone before, then the first zone's.
+fn fault_of_time(innermost: u32, before: u32, v: u32) -> u32
+    ensures { λ r. ⌜ r ≡ faultOf (Time innermost) before v ⌝ }
+{
+    let slow = outside(1, MAX_TIME, WRONG_TIME, v);
+    if slow != 0 {
+        return slow;
+    }
+    if before < v {
+        return RISING_TIME;
+    }
+    // A time in its range, times three, is a u32: law `thrice-fits`.
+    if TIMES_AS_FAST * v < innermost {
+        return HALF_DEAD_TIME;
+    }
+    0
+}
+
 // The refusal of the value v of a figure; 0 where it is in range.
 pub fn fault(rule: Rule, bound: u32, v: u32) -> u32
     ensures { λ r. ⌜ r ≡ faultOf rule bound v ⌝ }
@@ -82,12 +104,7 @@ pub fn fault(rule: Rule, bound: u32, v: u32) -> u32
             WRONG_POSITIONS,
             bound as u64 + v as u64,
         ),
-        Rule::Time => then_above(
-            outside(1, MAX_TIME, WRONG_TIME, v),
-            bound as u64,
-            RISING_TIME,
-            v as u64,
-        ),
+        Rule::Time(innermost) => fault_of_time(innermost, bound, v),
         Rule::Blocks => then_above(
             outside(MIN_BLOCKS, MAX_BLOCKS, WRONG_BLOCKS, v),
             bound as u64,

@@ -46,6 +46,7 @@ fn fault_of_zones(figures: Figures) -> u32
     ensures { λ r. ⌜ r ≡ zoneFaults (figures .zones) 0 figures 0 maxTime ⌝ }
 {
     let zones = figures.zones as usize;
+    let innermost = figures.times[0];
     let mut total: u32 = 0;
     let mut before: u32 = MAX_TIME;
     let mut i: usize = 0;
@@ -56,7 +57,7 @@ fn fault_of_zones(figures: Figures) -> u32
         if few != 0 {
             return few;
         }
-        let slow = fault(Rule::Time, before, time);
+        let slow = fault(Rule::Time(innermost), before, time);
         if slow != 0 {
             return slow;
         }

@@ -4,7 +4,7 @@ use Prim.Native.Nat.{ℕ, zero, suc, _+_, _≤_, _<_}
 use mathlib.Core.Path.{_≡_, refl, sym, ap, _∙_}
 use mathlib.Core.List.{List}
 use native.Mathlib.Omega.{arith}
-use lib.ListN.{length}
+use lib.ListN.{length, getD}
 use borrow.Author.Tests.{lt-ltb, le-ltb}
 use Rattle.numbers.specs.Limits.{maxZones, maxPositions}
 use Rattle.numbers.specs.Refusals.{cardGoesOn}
@@ -66,7 +66,7 @@ module _ (s : List ℕ) (at i : ℕ) (f : Figures) (total before : ℕ) where
         by zero h = absurd (omega arith)
         by (suc left) h = unfold zonesFrom in card-stops positions _ go e
 
-    module _ {p middle : ℕ} (read : F ≡ Value p middle) {G : Field} (time : G ≡ fieldAt Time before s middle) where
+    module _ {p middle : ℕ} (read : F ≡ Value p middle) {G : Field} (time : G ≡ fieldAt (Time (getD (f .times) 0 0)) before s middle) where
       pub read-slow : 0 < left → (go : ℕ → ℕ → CardRead) {k o : ℕ} → G ≡ Refused k o → thenField G go ≡ zonesFrom left s at i f total before
       read-slow h go e = by left h
         where

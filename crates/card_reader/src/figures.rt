@@ -132,7 +132,8 @@ pub fn read_zones(card: &[u8], start: usize, zones: u32) -> CardRead
         let Field::Value(positions, middle) = first else {
             return refused_field(first);
         };
-        let second = read_field(card, middle, Rule::Time, before);
+        let innermost = f.times[0];
+        let second = read_field(card, middle, Rule::Time(innermost), before);
         let Field::Value(time, next) = second else {
             return refused_field(second);
         };

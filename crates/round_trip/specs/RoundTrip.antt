@@ -1,17 +1,18 @@
 -- What is written is read back, and what is accepted is what would be written.
 -- Assumes nothing.
-use Prim.Native.Nat.{ℕ, zero, suc, _+_, _≤_, _<_}
+use Prim.Native.Nat.{ℕ, zero, suc, _+_, _*_, _≤_, _<_}
 use mathlib.Core.Path.{_≡_, refl, sym, ap, ap₂, _∙_, subst}
-use mathlib.Core.Logic.{_↔_}
+use mathlib.Core.Logic.{by-cases, _↔_}
 use mathlib.Core.List.{List, [], _∷_, _++_}
 use mathlib.Core.Bool.{Bool, true, false, cond}
 use native.Mathlib.Omega.{arith}
+use native.Mathlib.Decide.{ℕ-discrete}
 use lib.ListN.{length, getD, take, drop, length-append, length-drop, length-set, take-append-drop, drop-of-length-le}
 use lib.Seq.{length-take-le, drop-append-seam, drop-drop}
 use lib.Dec.{leb, ltb}
 use borrow.Author.Tests.{ltb-false, le-ltb, le-leb}
 use Rattle.laws.specs.Each.{zero-at}
-use Rattle.numbers.specs.Limits.{cardKind, noNumber, maxZones, maxTime, maxBytes, maxRate, maxMove}
+use Rattle.numbers.specs.Limits.{cardKind, noNumber, maxZones, maxTime, timesAsFast, maxBytes, maxRate, maxMove}
 use Rattle.numbers.specs.Refusals.{cardGoesOn}
 use Rattle.leb128.specs.declared.Number.{Number}
 use Rattle.leb128.specs.declared.Number.the-variants as number
@@ -26,9 +27,13 @@ use Rattle.card.specs.declared.fields.Field.the-variants.{Value, Refused}
 use Rattle.card.specs.Ranges.{first, faultOf}
 use Rattle.card.specs.Card.{Legal, filmFault, zoneFaults, recordFault, filmNumbers, zoneNumbers, numbersOf, bytesOf, cardOf, writeFault, writtenCard, bufferAfter}
 use Rattle.card.specs.Read.{onFault, onNumber, fieldAt, blankZones, blankFigures, accepted, refusedCard, thenField, withZones, withZone, withFilm, cardEnd, filmFrom, zonesFrom, readCard}
-use Rattle.card.specs.RangeLaws.{first-none, first-clear, kind-range, zones-range, positions-range, time-range, kind-legal, zones-legal}
+use Rattle.card.specs.RangeLaws.{first-none, first-clear, kind-range, zones-range, positions-range, time-range, kind-legal, zones-legal, time-legal}
 use Rattle.round_trip.specs.Entries.{Agree, agree-self, agree-all, agree-next, agree-back}
 use Rattle.round_trip.specs.Legality.{Wide, fault-judged, judged-fault, fault-film, fault-legal, legal-fault}
+
+-- a time that is not refused beside one first time is not refused beside another that it is not too fast for
+time-beside : (innermost other before v : ℕ) → other ≤ timesAsFast * v → faultOf (Time innermost) before v ≡ 0 → faultOf (Time other) before v ≡ 0
+time-beside innermost other before v h e = let r = time-range before v innermost e in time-legal before v other (r .0) (r .1) (r .2) h
 
 -- ---- what is written is read back
 
@@ -86,11 +91,12 @@ film-goes s at f g total a e =
     ∙ field-goes a₄ Measure maxMove _ (omega (arith, l .back)) (h .1)
     ∙ end-goes s _ _ (ahead-next a₄)
 
--- g has the zone count of f, and its entries but for `left` from the i-th on
+-- g has the zone count of f, and its entries but for `left` from the i-th on; its first time is 0 or that of f
 record Filled (i left : ℕ) (g f : Figures) : Type 0 where
   zones : g .zones ≡ f .zones
   positions : Agree i left (g .positions) (f .positions)
   times : Agree i left (g .times) (f .times)
+  innermost : getD (g .times) 0 0 ≤ getD (f .times) 0 0
 
 -- the zones from the i-th on are read, then the film
 zones-go : (s : List ℕ) (f : Figures) → Wide f → (left at i : ℕ) (g : Figures) (total before : ℕ) → i + left ≤ maxZones → Filled i left g f
@@ -111,16 +117,18 @@ zones-go s f w zero at i g total before b u a e = film-goes s at f g total a e �
     }
 zones-go s f w (suc left) at i g total before b u a e =
     let p = first-none (faultOf Positions total (getD (f .positions) i 0)) _ e in
-    let q = first-none (faultOf Time before (getD (f .times) i 0)) _ (p .1) in
+    let q = first-none (faultOf (Time (getD (f .times) 0 0)) before (getD (f .times) i 0)) _ (p .1) in
     let few = positions-range total (getD (f .positions) i 0) (p .0) in
-    let slow = time-range before (getD (f .times) i 0) (q .0) in
+    let slow = time-range before (getD (f .times) i 0) (getD (f .times) 0 0) (q .0) in
+    let times = agree-next i left (g .times) (f .times) (omega (arith, u .times .long)) (u .times) in
     let next : Filled (i + 1) left (withZone g i (getD (f .positions) i 0) (getD (f .times) i 0)) f = record {
       zones = u .zones;
       positions = agree-next i left (g .positions) (f .positions) (omega (arith, u .positions .long)) (u .positions);
-      times = agree-next i left (g .times) (f .times) (omega (arith, u .times .long)) (u .times);
+      times = times;
+      innermost = omega (arith, times .low 0 (omega arith));
     } in
     field-goes a Positions total _ (omega arith) (p .0)
-    ∙ field-goes (ahead-next a) Time before _ (omega arith) (q .0)
+    ∙ field-goes (ahead-next a) (Time (getD (g .times) 0 0)) before _ (omega arith) (time-beside (getD (f .times) 0 0) (getD (g .times) 0 0) before (getD (f .times) i 0) (omega (arith, u .innermost)) (q .0))
     ∙ zones-go s f w left _ (i + 1) _ _ _ (omega arith) next (ahead-next (ahead-next a)) (q .1)
 
 -- the entries of a record before any is read
@@ -142,6 +150,7 @@ card-read f w e =
       zones = refl;
       positions = record { long = blank-long ∙ sym (w .0); low = λ i h. absurd (omega arith); high = λ i h. blank-at i ∙ sym (j .unused i (omega arith) .0) };
       times = record { long = blank-long ∙ sym (w .1); low = λ i h. absurd (omega arith); high = λ i h. blank-at i ∙ sym (j .unused i (omega arith) .1) };
+      innermost = omega (arith, blank-at 0);
     } in
     field-goes a Kind 0 _ (omega arith) (kind-legal 0)
     ∙ field-goes (ahead-next a) Zones 0 _ (omega (arith, j .zones)) (zones-legal 0 (f .zones) (j .zones .0) (j .zones .1))
@@ -237,22 +246,28 @@ film-got s at i f total before y e =
 
 -- a zone in front of a rest is a rest with one zone more
 zone-rest : (left : ℕ) (s : List ℕ) (at i : ℕ) (f : Figures) (total before : ℕ) → i < maxZones → Wide f
-    → (p : Got Positions total s at) (t : Got Time before s (p .next))
+    → (p : Got Positions total s at) (t : Got (Time (getD (f .times) 0 0)) before s (p .next))
     → Rest left s (t .next) (i + 1) (withZone f i (p .value) (t .value)) (total + p .value) (t .value) → Rest (suc left) s at i f total before
 unfolding zonesFrom zoneFaults zoneNumbers
 zone-rest left s at i f total before b w p t r =
     by (agree-back i left (f .positions) (r .figures .positions) (omega arith) (p .value) (r .positions))
     (agree-back i left (f .times) (r .figures .times) (omega arith) (t .value) (r .times))
   where
+    -- the first time is the one that was read before, or this one
+    thrice : getD (r .figures .times) i 0 ≡ t .value → Agree i (suc left) (f .times) (r .figures .times) → getD (r .figures .times) 0 0 ≤ timesAsFast * t .value
+    thrice e a = by-cases (ℕ-discrete 0 i)
+        (λ n. omega (arith, subst (λ (k : ℕ). getD (r .figures .times) k 0 ≡ t .value) (sym n) e))
+        (λ n. omega (arith, a .low 0 (omega arith), time-range before (t .value) (getD (f .times) 0 0) (t .clear)))
+
     by : (getD (r .figures .positions) i 0 ≡ p .value) × Agree i (suc left) (f .positions) (r .figures .positions)
         → (getD (r .figures .times) i 0 ≡ t .value) × Agree i (suc left) (f .times) (r .figures .times) → Rest (suc left) s at i f total before
     by ps ts = record {
       figures = r .figures;
-      is = got-goes Positions total s at _ p ∙ got-goes Time before s (p .next) _ t ∙ r .is;
+      is = got-goes Positions total s at _ p ∙ got-goes (Time (getD (f .times) 0 0)) before s (p .next) _ t ∙ r .is;
       zones = r .zones;
       positions = ps .1;
       times = ts .1;
-      faults = rw (ps .0, ts .0) (first-clear (p .clear) (first-clear (t .clear) (r .faults)));
+      faults = rw (ps .0, ts .0) (first-clear (p .clear) (first-clear (time-beside _ _ before (t .value) (thrice (ts .0) (ts .1)) (t .clear)) (r .faults)));
       ahead = rw (ps .0, ts .0) (ahead-more (p .stands) (ahead-more (t .stands) (r .ahead)));
     }
 
@@ -263,7 +278,7 @@ unfolding zonesFrom
 zones-got zero s at i f total before y b w e = film-got s at i f total before y e
 zones-got (suc left) s at i f total before y b w e =
     accepted-field Positions total s at _ y e (λ p e₁.
-    accepted-field Time before s (p .next) _ y e₁ (λ t e₂.
+    accepted-field (Time (getD (f .times) 0 0)) before s (p .next) _ y e₁ (λ t e₂.
     zone-rest left s at i f total before (omega arith) w p t
     (zones-got left s (t .next) (i + 1) (withZone f i (p .value) (t .value)) (total + p .value) (t .value) y (omega arith)
     (length-set (f .positions) i (p .value) ∙ w .0, length-set (f .times) i (t .value) ∙ w .1) e₂)))

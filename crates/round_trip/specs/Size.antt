@@ -56,9 +56,9 @@ unfolding zoneFaults zoneNumbers
 zones-size zero i f total before e = film-size f total e
 zones-size (suc left) i f total before e =
     let p = first-none (faultOf Positions total (getD (f .positions) i 0)) _ e in
-    let q = first-none (faultOf Time before (getD (f .times) i 0)) _ (p .1) in
+    let q = first-none (faultOf (Time (getD (f .times) 0 0)) before (getD (f .times) i 0)) _ (p .1) in
     let few = positions-range total (getD (f .positions) i 0) (p .0) in
-    let slow = time-range before (getD (f .times) i 0) (q .0) in
+    let slow = time-range before (getD (f .times) i 0) (getD (f .times) 0 0) (q .0) in
     omega (
       arith,
       bytes-more 2 (getD (f .positions) i 0) (getD (f .times) i 0 ∷ zoneNumbers left (i + 1) f) (omega arith),

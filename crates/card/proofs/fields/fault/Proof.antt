@@ -2,7 +2,7 @@ use Prim.Native.Nat.{ℕ, _+_}
 use mathlib.Core.Path.{ap, _∙_}
 use Rattle.card.proofs.JudgeWays.{by-rule}
 use Rattle.numbers.specs.Limits.{maxPositions}
-use Rattle.numbers.specs.Refusals.{wrongPositions, risingTime, blocksAbovePositions}
+use Rattle.numbers.specs.Refusals.{wrongPositions, blocksAbovePositions}
 use Rattle.card.specs.Ranges.{faultOf, thenAbove}
 use borrow.Author.Needs.{needs}
 use Rattle.card.proofs.fields.fault.Statement.{statement}
@@ -35,6 +35,12 @@ add-then-above c = search needs
 then-above-requires : tie.Need-then-above-requires
 then-above-requires c κs = search needs
 
+enum-known-rule : tie.Need-enum-known-rule
+enum-known-rule c = search needs
+
+fault-of-time-requires : tie.Need-fault-of-time-requires
+fault-of-time-requires c κs = search needs
+
 enum-told-4 : tie.Need-enum-told-4
 enum-told-4 c = search needs
 
@@ -50,15 +56,6 @@ enum-told-5 c = search needs
 outside-requires-5 : tie.Need-outside-requires-5
 outside-requires-5 c κs = search needs
 
-then-above-requires-3 : tie.Need-then-above-requires-3
-then-above-requires-3 c κs = search needs
-
-enum-told-6 : tie.Need-enum-told-6
-enum-told-6 c = search needs
-
-outside-requires-6 : tie.Need-outside-requires-6
-outside-requires-6 c κs = search needs
-
 returns : tie.Need-returns
 unfolding faultOf
 returns c = c .outside .ensures ∙ by-rule _ _ (c .before .enum-told .given .1)
@@ -72,16 +69,15 @@ unfolding faultOf
 returns-3 c = let a = c .before .before .before .before .args in c .then-above .ensures ∙ ap (λ (k : ℕ). thenAbove k maxPositions wrongPositions (a .bound + a .v)) (c .before .outside3 .ensures) ∙ by-rule _ _ (c .before .before .enum-told3 .given .1)
 
 returns-4 : tie.Need-returns-4
-unfolding faultOf
-returns-4 c = let a = c .before .before .before .before .args in c .then-above2 .ensures ∙ ap (λ (k : ℕ). thenAbove k (a .bound) risingTime (a .v)) (c .before .outside4 .ensures) ∙ by-rule _ _ (c .before .before .enum-told4 .given .1)
+returns-4 c = c .fault-of-time .ensures ∙ by-rule _ _ (c .before .before .rule .given .1)
 
 returns-5 : tie.Need-returns-5
 unfolding faultOf
-returns-5 c = let a = c .before .before .before .before .args in c .then-above3 .ensures ∙ ap (λ (k : ℕ). thenAbove k (a .bound) blocksAbovePositions (a .v)) (c .before .outside5 .ensures) ∙ by-rule _ _ (c .before .before .enum-told5 .given .1)
+returns-5 c = let a = c .before .before .before .before .args in c .then-above2 .ensures ∙ ap (λ (k : ℕ). thenAbove k (a .bound) blocksAbovePositions (a .v)) (c .before .outside4 .ensures) ∙ by-rule _ _ (c .before .before .enum-told4 .given .1)
 
 returns-6 : tie.Need-returns-6
 unfolding faultOf
-returns-6 c = c .outside6 .ensures ∙ by-rule _ _ (c .before .enum-told6 .given .1)
+returns-6 c = c .outside5 .ensures ∙ by-rule _ _ (c .before .enum-told5 .given .1)
 
 pub fault-spec : {M : Type 1} → statement M
 fault-spec =
@@ -96,14 +92,13 @@ fault-spec =
     cast-then-above
     add-then-above
     then-above-requires
+    enum-known-rule
+    fault-of-time-requires
     enum-told-4
     outside-requires-4
     then-above-requires-2
     enum-told-5
     outside-requires-5
-    then-above-requires-3
-    enum-told-6
-    outside-requires-6
     returns
     returns-2
     returns-3

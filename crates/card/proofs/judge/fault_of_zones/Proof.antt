@@ -17,17 +17,20 @@ record Judged (figures : Figures) (zones total before i : ℕ) : Type 0 where
   same : zoneFaults (zones - i) i figures total before ≡ zoneFaults zones 0 figures 0 maxTime
 
 abbrev Inv-loop : tie.InvT-loop
-Inv-loop figures zones total₀ before₀ i₀ total before i = Judged figures zones total before i
+Inv-loop figures zones innermost total₀ before₀ i₀ total before i = Judged figures zones total before i
 
 abbrev μ-loop : tie.MeasureT-loop
-μ-loop figures zones total₀ before₀ i₀ total before i = zones - i
+μ-loop figures zones innermost total₀ before₀ i₀ total before i = zones - i
 
 cast-zones : tie.Need-cast-zones Inv-loop μ-loop
 cast-zones c = search needs
 
+element-copy-out-innermost : tie.Need-element-copy-out-innermost Inv-loop μ-loop
+element-copy-out-innermost c = search needs
+
 loop-holds : tie.Need-loop-holds Inv-loop μ-loop
 loop-holds c =
-    let f = c .args .t1 in
+    let f = c .before .args .t1 in
     let e : f .zones - 0 ≡ f .zones = omega arith in
     record { within = omega arith; few = omega arith; same = ap (λ (n : ℕ). zoneFaults n 0 f 0 maxTime) e }
 
@@ -89,6 +92,7 @@ fault-of-zones-spec =
     Inv-loop
     μ-loop
     cast-zones
+    element-copy-out-innermost
     loop-holds
     mul-positions
     element-copy-out-positions
