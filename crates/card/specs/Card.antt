@@ -15,7 +15,7 @@ use Rattle.card.specs.declared.CardWritten.{CardWritten}
 use Rattle.card.specs.declared.fields.Rule.the-variants.{Zones, Positions, Time, Blocks, Measure}
 use Rattle.card.specs.Ranges.{first, faultOf}
 
--- ---- legal figures: the table of ranges as plain facts (K4; document 02, T8.1)
+-- ---- legal figures: the table of ranges as plain facts (K4; document 02, T8.3)
 
 -- P, the positions of all zones
 unfoldable pub totalPositions : Figures → ℕ

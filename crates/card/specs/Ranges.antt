@@ -1,4 +1,4 @@
--- The ranges of a card's figures (K4), and the refusal of each (R3 to R10; 26, T8.1).
+-- The ranges of a card's figures (K4), and the refusal of each (R3 to R10; 26, T8.3).
 use Prim.Native.Nat.{ℕ, zero, suc, _+_, _*_}
 use mathlib.Core.Bool.{cond}
 use lib.Dec.{leb}
