@@ -9,17 +9,19 @@ use lib.ListN.{length, getD, drop, drop-of-length-le}
 use lib.Seq.{drop-cons}
 use lib.Dec.{leb, eqb}
 use borrow.Author.Tests.{le-leb, lt-leb, eq-eqb, ne-eqb}
+use Rattle.leb128.specs.declared.Number.{Number}
 use Rattle.leb128.specs.declared.Number.the-variants as number
 use Rattle.card.specs.declared.Figures.{Figures}
 use Rattle.card.specs.declared.fields.Rule.{Rule}
-use Rattle.card.specs.declared.fields.Rule.the-variants.{Positions, Time}
+use Rattle.card.specs.declared.fields.Rule.the-variants.{Positions}
+use Rattle.card.specs.declared.fields.Field.{Field}
 use Rattle.card.specs.declared.fields.Field.the-variants.{Value, Refused}
 use Rattle.laws.specs.Runs.{allBy}
 use Rattle.numbers.specs.Limits.{maxZones, maxTime, timesAsFast}
 use Rattle.numbers.specs.Refusals.{wrongZones, wrongTime, risingTime, halfDeadTime}
 use Rattle.card.specs.Card.{filmFault, zoneFaults, zerosFrom}
-use Rattle.card.specs.Ranges.{first, below, above, outside, thenAbove, thenBelow, faultOf}
-use Rattle.card.specs.Read.{onFault}
+use Rattle.card.specs.Ranges.{first, below, above, outside, thenAbove, thenBelow, faultOf, timeFault}
+use Rattle.card.specs.Read.{onFault, onNumber}
 
 -- ---- the first fault of two
 
@@ -74,20 +76,20 @@ module _ (fault most k v : ℕ) where
 
 -- a zone's time: 6, then 7, then 26
 module _ (innermost before v : ℕ) {k : ℕ} (judged : k ≡ outside 1 maxTime wrongTime v) where
-  pub time-outside : (k ≡ 0 → ⊥) → k ≡ faultOf (Time innermost) before v
-  unfolding faultOf thenBelow thenAbove
+  pub time-outside : (k ≡ 0 → ⊥) → k ≡ timeFault innermost before v
+  unfolding timeFault thenBelow thenAbove
   time-outside n = first-stops (first-stops judged _ n) _ n
 
-  pub time-rises : k ≡ 0 → before < v → risingTime ≡ faultOf (Time innermost) before v
-  unfolding faultOf thenBelow thenAbove above first
+  pub time-rises : k ≡ 0 → before < v → risingTime ≡ timeFault innermost before v
+  unfolding timeFault thenBelow thenAbove above first
   time-rises z h = rw (sym judged ∙ z, lt-leb v before h)
 
-  pub time-half-dead : k ≡ 0 → v ≤ before → timesAsFast * v < innermost → halfDeadTime ≡ faultOf (Time innermost) before v
-  unfolding faultOf thenBelow thenAbove below above first
+  pub time-half-dead : k ≡ 0 → v ≤ before → timesAsFast * v < innermost → halfDeadTime ≡ timeFault innermost before v
+  unfolding timeFault thenBelow thenAbove below above first
   time-half-dead z h l = rw (sym judged ∙ z, le-leb v before h, lt-leb innermost (timesAsFast * v) l)
 
-  pub time-good : k ≡ 0 → v ≤ before → innermost ≤ timesAsFast * v → 0 ≡ faultOf (Time innermost) before v
-  unfolding faultOf thenBelow thenAbove below above first
+  pub time-good : k ≡ 0 → v ≤ before → innermost ≤ timesAsFast * v → 0 ≡ timeFault innermost before v
+  unfolding timeFault thenBelow thenAbove below above first
   time-good z h l = rw (sym judged ∙ z, le-leb v before h, le-leb innermost (timesAsFast * v) l)
 
 -- the same rule, the same refusal
@@ -106,6 +108,12 @@ module _ (at v next : ℕ) where
   on-some zero n = absurd (n refl)
   on-some (suc k) n = refl
 
+-- a number whose form is right, and whose value is judged
+pub number-judged : (judge : ℕ → ℕ) (at : ℕ) {v next k : ℕ} {n : Number} {F : Field} → F ≡ onFault k at v next → k ≡ judge v → n ≡ number.Value v next
+    → F ≡ onNumber judge at n
+unfolding onNumber
+number-judged judge at {v} {next} f e h = f ∙ ap (λ (j : ℕ). onFault j at v next) e ∙ ap (onNumber judge at) (sym h)
+
 -- ---- the judge
 
 module _ (f : Figures) (i total before : ℕ) where
@@ -120,13 +128,13 @@ module _ (f : Figures) (i total before : ℕ) where
   zones-few (suc left) p e n = first-stops e _ n
 
   pub zones-slow : (left : ℕ) → 0 < left → {j k : ℕ} → j ≡ faultOf Positions total (getD (f .positions) i 0) → j ≡ 0
-      → k ≡ faultOf (Time (getD (f .times) 0 0)) before (getD (f .times) i 0) → (k ≡ 0 → ⊥) → k ≡ zoneFaults left i f total before
+      → k ≡ timeFault (getD (f .times) 0 0) before (getD (f .times) i 0) → (k ≡ 0 → ⊥) → k ≡ zoneFaults left i f total before
   unfolding zoneFaults
   zones-slow zero p d z e n = absurd (omega arith)
   zones-slow (suc left) p d z e n = first-stops e _ n ∙ first-goes d _ z
 
   pub zones-more : (left k : ℕ) → left ≡ k + 1 → {j l : ℕ} → j ≡ faultOf Positions total (getD (f .positions) i 0) → j ≡ 0
-      → l ≡ faultOf (Time (getD (f .times) 0 0)) before (getD (f .times) i 0) → l ≡ 0
+      → l ≡ timeFault (getD (f .times) 0 0) before (getD (f .times) i 0) → l ≡ 0
       → zoneFaults k (i + 1) f (total + getD (f .positions) i 0) (getD (f .times) i 0) ≡ zoneFaults left i f total before
   unfolding zoneFaults
   zones-more zero k h d z e y = absurd (omega arith)

@@ -12,8 +12,8 @@ use Rattle.leb128.specs.Number.{groups}
 use Rattle.card.specs.declared.Figures.{Figures}
 use Rattle.card.specs.declared.Verdict.{Verdict}
 use Rattle.card.specs.declared.CardWritten.{CardWritten}
-use Rattle.card.specs.declared.fields.Rule.the-variants.{Zones, Positions, Time, Blocks, Measure}
-use Rattle.card.specs.Ranges.{first, faultOf}
+use Rattle.card.specs.declared.fields.Rule.the-variants.{Zones, Positions, Blocks, Measure}
+use Rattle.card.specs.Ranges.{first, faultOf, timeFault}
 
 -- ---- legal figures: the table of ranges as plain facts (K4; document 02, T8.3)
 
@@ -55,7 +55,7 @@ unfoldable pub zoneFaults : ℕ → ℕ → Figures → ℕ → ℕ → ℕ
 zoneFaults zero i f total before = filmFault f total
 zoneFaults (suc left) i f total before =
     first (faultOf Positions total (getD (f .positions) i 0))
-    (first (faultOf (Time (getD (f .times) 0 0)) before (getD (f .times) i 0))
+    (first (timeFault (getD (f .times) 0 0) before (getD (f .times) i 0))
     (zoneFaults left (i + 1) f (total + getD (f .positions) i 0) (getD (f .times) i 0)))
 
 -- positions and times are zero from the i-th on

@@ -9,9 +9,9 @@ use borrow.Author.Tests.{leb-true, le-leb}
 use Rattle.numbers.specs.Limits.{cardKind, maxNumber, maxZones, maxPositions, maxTime, timesAsFast, minBlocks, maxBlocks}
 use Rattle.numbers.specs.Refusals.{wrongKind, wrongZones, wrongPositions, wrongTime, risingTime, wrongBlocks, blocksAbovePositions, wrongMeasure, halfDeadTime}
 use Rattle.card.specs.declared.Figures.{Figures}
-use Rattle.card.specs.declared.fields.Rule.the-variants.{Kind, Zones, Positions, Time, Blocks, Measure}
+use Rattle.card.specs.declared.fields.Rule.the-variants.{Kind, Zones, Positions, Blocks, Measure}
 use Rattle.card.specs.Card.{recordFault}
-use Rattle.card.specs.Ranges.{first, below, above, outside, thenAbove, thenBelow, faultOf}
+use Rattle.card.specs.Ranges.{first, below, above, outside, thenAbove, thenBelow, faultOf, timeFault}
 
 -- no fault of two is no fault of either
 pub first-none : (j k : ℕ) → first j k ≡ 0 → (j ≡ 0) × (k ≡ 0)
@@ -72,8 +72,8 @@ module _ (bound v : ℕ) where
       let h = first-none (outside 1 maxNumber wrongPositions v) (above maxPositions wrongPositions (bound + v)) e in
       (outside-range 1 maxNumber wrongPositions v (omega arith) (h .0) .0, above-range maxPositions wrongPositions (bound + v) (omega arith) (h .1))
 
-  pub time-range : (innermost : ℕ) → faultOf (Time innermost) bound v ≡ 0 → (1 ≤ v) × (v ≤ maxTime) × (v ≤ bound) × (innermost ≤ timesAsFast * v)
-  unfolding faultOf thenAbove thenBelow
+  pub time-range : (innermost : ℕ) → timeFault innermost bound v ≡ 0 → (1 ≤ v) × (v ≤ maxTime) × (v ≤ bound) × (innermost ≤ timesAsFast * v)
+  unfolding timeFault thenAbove thenBelow
   time-range innermost e =
       let d = first-none (thenAbove (outside 1 maxTime wrongTime v) bound risingTime v) (below innermost halfDeadTime (timesAsFast * v)) e in
       let h = first-none (outside 1 maxTime wrongTime v) (above bound risingTime v) (d .0) in
@@ -99,8 +99,8 @@ module _ (bound v : ℕ) where
   unfolding faultOf thenAbove
   positions-legal l h = first-clear (range-outside 1 maxNumber wrongPositions v l (omega arith)) (range-above maxPositions wrongPositions (bound + v) h)
 
-  pub time-legal : (innermost : ℕ) → 1 ≤ v → v ≤ maxTime → v ≤ bound → innermost ≤ timesAsFast * v → faultOf (Time innermost) bound v ≡ 0
-  unfolding faultOf thenAbove thenBelow
+  pub time-legal : (innermost : ℕ) → 1 ≤ v → v ≤ maxTime → v ≤ bound → innermost ≤ timesAsFast * v → timeFault innermost bound v ≡ 0
+  unfolding timeFault thenAbove thenBelow
   time-legal innermost l h b a =
       first-clear (first-clear (range-outside 1 maxTime wrongTime v l h) (range-above bound risingTime v b)) (range-below innermost halfDeadTime (timesAsFast * v) a)
 

@@ -2,6 +2,7 @@
 use crate::Figures;
 use crate::fields::Rule;
 use crate::fields::fault;
+use crate::fields::fault_of_time;
 use numbers::limits::MAX_BYTES;
 use numbers::limits::MAX_MOVE;
 use numbers::limits::MAX_RATE;
@@ -57,7 +58,7 @@ fn fault_of_zones(figures: Figures) -> u32
         if few != 0 {
             return few;
         }
-        let slow = fault(Rule::Time(innermost), before, time);
+        let slow = fault_of_time(innermost, before, time);
         if slow != 0 {
             return slow;
         }

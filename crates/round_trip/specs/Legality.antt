@@ -16,8 +16,8 @@ use Rattle.laws.specs.Runs.{allBy, all-at, sumBy}
 use Rattle.numbers.specs.Limits.{maxZones, maxPositions, maxTime, timesAsFast, minBlocks, maxBlocks, maxBytes, maxRate, maxMove}
 use Rattle.card.specs.declared.Figures.{Figures}
 use Rattle.card.specs.declared.Verdict.{Verdict}
-use Rattle.card.specs.declared.fields.Rule.the-variants.{Zones, Positions, Time, Blocks, Measure}
-use Rattle.card.specs.Ranges.{faultOf}
+use Rattle.card.specs.declared.fields.Rule.the-variants.{Zones, Positions, Blocks, Measure}
+use Rattle.card.specs.Ranges.{faultOf, timeFault}
 use Rattle.card.specs.Card.{Legal, totalPositions, filmFault, zoneFaults, zerosFrom, unusedZero, recordFault, judgeRecord}
 use Rattle.card.specs.Read.{accepted}
 use Rattle.card.specs.RangeLaws.{first-none, first-clear, zones-range, positions-range, time-range, blocks-range, measure-range, zones-legal, positions-legal, time-legal, blocks-legal, measure-legal}
@@ -109,7 +109,7 @@ fault-zones-legal zero i f total before w t e =
     }
 fault-zones-legal (suc left) i f total before w t e =
     let p = first-none (faultOf Positions total (getD (f .positions) i 0)) _ e in
-    let q = first-none (faultOf (Time (getD (f .times) 0 0)) before (getD (f .times) i 0)) _ (p .1) in
+    let q = first-none (timeFault (getD (f .times) 0 0) before (getD (f .times) i 0)) _ (p .1) in
     let few = positions-range total (getD (f .positions) i 0) (p .0) in
     let slow = time-range before (getD (f .times) i 0) (getD (f .times) 0 0) (q .0) in
     let later = fault-zones-legal left (i + 1) f (total + getD (f .positions) i 0) (getD (f .times) i 0) (omega arith) (few .1) (q .1) in

@@ -35,12 +35,6 @@ add-then-above c = search needs
 then-above-requires : tie.Need-then-above-requires
 then-above-requires c κs = search needs
 
-enum-known-rule : tie.Need-enum-known-rule
-enum-known-rule c = search needs
-
-fault-of-time-requires : tie.Need-fault-of-time-requires
-fault-of-time-requires c κs = search needs
-
 enum-told-4 : tie.Need-enum-told-4
 enum-told-4 c = search needs
 
@@ -69,15 +63,12 @@ unfolding faultOf
 returns-3 c = let a = c .before .before .before .before .args in c .then-above .ensures ∙ ap (λ (k : ℕ). thenAbove k maxPositions wrongPositions (a .bound + a .v)) (c .before .outside3 .ensures) ∙ by-rule _ _ (c .before .before .enum-told3 .given .1)
 
 returns-4 : tie.Need-returns-4
-returns-4 c = c .fault-of-time .ensures ∙ by-rule _ _ (c .before .before .rule .given .1)
+unfolding faultOf
+returns-4 c = let a = c .before .before .before .before .args in c .then-above2 .ensures ∙ ap (λ (k : ℕ). thenAbove k (a .bound) blocksAbovePositions (a .v)) (c .before .outside4 .ensures) ∙ by-rule _ _ (c .before .before .enum-told4 .given .1)
 
 returns-5 : tie.Need-returns-5
 unfolding faultOf
-returns-5 c = let a = c .before .before .before .before .args in c .then-above2 .ensures ∙ ap (λ (k : ℕ). thenAbove k (a .bound) blocksAbovePositions (a .v)) (c .before .outside4 .ensures) ∙ by-rule _ _ (c .before .before .enum-told4 .given .1)
-
-returns-6 : tie.Need-returns-6
-unfolding faultOf
-returns-6 c = c .outside5 .ensures ∙ by-rule _ _ (c .before .enum-told5 .given .1)
+returns-5 c = c .outside5 .ensures ∙ by-rule _ _ (c .before .enum-told5 .given .1)
 
 pub fault-spec : {M : Type 1} → statement M
 fault-spec =
@@ -92,8 +83,6 @@ fault-spec =
     cast-then-above
     add-then-above
     then-above-requires
-    enum-known-rule
-    fault-of-time-requires
     enum-told-4
     outside-requires-4
     then-above-requires-2
@@ -103,5 +92,4 @@ fault-spec =
     returns-2
     returns-3
     returns-4
-    returns-5
-    returns-6)
+    returns-5)

@@ -52,13 +52,13 @@ fault-requires c κs = search needs
 returns : tie.Need-returns Inv-loop μ-loop
 returns c = let l = c .before .before .before .before .before .loop in zones-few _ _ _ _ _ (omega arith) (c .before .fault .ensures) (c .if1 .taken) ∙ l .inv .same
 
-fault-requires-2 : tie.Need-fault-requires-2 Inv-loop μ-loop
-fault-requires-2 c κs = search needs
+fault-of-time-requires : tie.Need-fault-of-time-requires Inv-loop μ-loop
+fault-of-time-requires c κs = search needs
 
 returns-2 : tie.Need-returns-2 Inv-loop μ-loop
 returns-2 c =
     let l = c .before .before .before .before .before .before .before .loop in
-    zones-slow _ _ _ _ _ (omega arith) (c .before .before .before .fault .ensures) (c .before .before .if1 .left) (c .before .fault2 .ensures) (c .if2 .taken) ∙ l .inv .same
+    zones-slow _ _ _ _ _ (omega arith) (c .before .before .before .fault .ensures) (c .before .before .if1 .left) (c .before .fault-of-time .ensures) (c .if2 .taken) ∙ l .inv .same
 
 add-total : tie.Need-add-total Inv-loop μ-loop
 add-total c = let h = positions-range _ _ (sym (c .before .before .before .fault .ensures) ∙ c .before .before .if1 .left) in omega arith
@@ -75,7 +75,7 @@ loop-again c =
     record {
       within = omega arith;
       few = positions-range _ _ (sym (c .before .before .before .fault .ensures) ∙ c .before .before .if1 .left) .1;
-      same = zones-more _ _ _ _ _ _ (omega arith) (c .before .before .before .fault .ensures) (c .before .before .if1 .left) (c .before .fault2 .ensures) (c .if2 .left) ∙ l .inv .same;
+      same = zones-more _ _ _ _ _ _ (omega arith) (c .before .before .before .fault .ensures) (c .before .before .if1 .left) (c .before .fault-of-time .ensures) (c .if2 .left) ∙ l .inv .same;
     }
 
 fault-of-film-requires : tie.Need-fault-of-film-requires Inv-loop μ-loop
@@ -100,7 +100,7 @@ fault-of-zones-spec =
     element-copy-out-time
     fault-requires
     returns
-    fault-requires-2
+    fault-of-time-requires
     returns-2
     add-total
     add-i

@@ -55,8 +55,8 @@ returns c =
 element-copy-out-innermost : tie.Need-element-copy-out-innermost Inv-loop μ-loop
 element-copy-out-innermost c = search needs
 
-read-field-requires-2 : tie.Need-read-field-requires-2 Inv-loop μ-loop
-read-field-requires-2 c κs = search needs
+read-time-requires : tie.Need-read-time-requires Inv-loop μ-loop
+read-time-requires c κs = search needs
 
 enum-known-second : tie.Need-enum-known-second Inv-loop μ-loop
 enum-known-second c = search needs
@@ -72,7 +72,7 @@ returns-2 c =
     let positions = c .before .before .before .before .before .before in
     let l = positions .before .before .before .before .loop in
     c .refused-field2 .ensures
-    ∙ read-slow _ (l .at) (l .i) (l .f) (l .total) (l .before) _ (positions .before .before .read-field .ensures) (positions .first .given .1) (c .before .before .before .read-field2 .ensures) (omega arith) _ (c .before .enum-told2 .given .1)
+    ∙ read-slow _ (l .at) (l .i) (l .f) (l .total) (l .before) _ (positions .before .before .read-field .ensures) (positions .first .given .1) (c .before .before .before .read-time .ensures) (omega arith) _ (c .before .enum-told2 .given .1)
     ∙ l .inv .same
 
 mul-f : tie.Need-mul-f Inv-loop μ-loop
@@ -105,7 +105,7 @@ loop-again c =
     record {
       within = omega arith;
       few = field-fits _ _ _ (positions .before .before .read-field .ensures) (positions .first .given .1);
-      same = read-more _ (l .at) (l .i) (l .f) (l .total) (l .before) _ (positions .before .before .read-field .ensures) (positions .first .given .1) (c .before .before .before .read-field2 .ensures) _ (omega arith) (c .before .second .given .1) ∙ l .inv .same;
+      same = read-more _ (l .at) (l .i) (l .f) (l .total) (l .before) _ (positions .before .before .read-field .ensures) (positions .first .given .1) (c .before .before .before .read-time .ensures) _ (omega arith) (c .before .second .given .1) ∙ l .inv .same;
     }
 
 read-film-requires : tie.Need-read-film-requires Inv-loop μ-loop
@@ -149,7 +149,7 @@ read-zones-spec =
     refused-field-requires
     returns
     element-copy-out-innermost
-    read-field-requires-2
+    read-time-requires
     enum-known-second
     enum-told-2
     refused-field-requires-2
