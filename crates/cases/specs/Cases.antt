@@ -3,7 +3,7 @@ use Prim.Native.Nat.{ℕ}
 use mathlib.Core.Path.{_≡_, refl}
 use mathlib.Core.List.{List, [], _∷_}
 use Rattle.leb128.specs.Number.{groupsFrom, groups, continuing, joined, judged, numberIn, numberAt}
-use Rattle.card.specs.Ranges.{first, below, above, outside, thenAbove, faultOf}
+use Rattle.card.specs.Ranges.{first, below, above, outside, thenAbove, thenBelow, faultOf, timeFault}
 use Rattle.card.specs.Read.{onFault, onNumber, fieldAt, blankZones, blankFigures, accepted, refusedCard, thenField, cardEnd, filmFrom, zonesFrom, readCard}
 use Rattle.card.specs.Card.{filmNumbers, zoneNumbers, numbersOf, bytesOf, cardOf}
 use Rattle.card.specs.declared.CardRead.{CardRead}
@@ -81,7 +81,7 @@ pub record Cases : Type 0 where
   pub desk : Story
 
 pub cases : Cases
-unfolding groupsFrom groups continuing joined judged numberIn numberAt first below above outside thenAbove faultOf onFault onNumber fieldAt blankZones blankFigures refusedCard thenField cardEnd filmFrom zonesFrom readCard filmNumbers zoneNumbers numbersOf bytesOf cardOf entries film totalPositions sumBy greatestOf greatest wordsOf place worstTime timeAt run span lead overhead load streams bufferOf slowest margin worst2Of streamsOf marginOf bufferSize planOf blankPlan row positionsOf leadsOf planFault refusal planned
+unfolding groupsFrom groups continuing joined judged numberIn numberAt first below above outside thenAbove thenBelow faultOf timeFault onFault onNumber fieldAt blankZones blankFigures refusedCard thenField cardEnd filmFrom zonesFrom readCard filmNumbers zoneNumbers numbersOf bytesOf cardOf entries film totalPositions sumBy greatestOf greatest wordsOf place worstTime timeAt run span lead overhead load streams bufferOf slowest margin worst2Of streamsOf marginOf bufferSize planOf blankPlan row positionsOf leadsOf planFault refusal planned
 cases = record {
   number-300 = refl;
   number-22270 = refl;

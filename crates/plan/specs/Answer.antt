@@ -48,7 +48,7 @@ positionsAfter r ps ls = filled (r .verdict .number) (faultAfter r ps ls) ps (po
 unfoldable pub leadsAfter : CardRead → List ℕ → List ℕ → List ℕ
 leadsAfter r ps ls = filled (r .verdict .number) (faultAfter r ps ls) ls (leadsOf (r .figures))
 
--- a record's figures, judged: 4 to 10, offset 0
+-- a record's figures, judged: 4 to 10 and 26, offset 0
 unfoldable pub judged : Figures → CardRead
 judged f = record { verdict = judgeRecord f; figures = f }
 

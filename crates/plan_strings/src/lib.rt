@@ -29,7 +29,7 @@ fn unwritten(card: &[u8]) -> FilmdiskAnswer
     })
 }
 
-// Plans a card: 1 to 11, then 13, then 12.
+// Plans a card: 1 to 11 and 26, then 13, then 12.
 pub fn plan(card: &[u8], plan: &mut [u8], positions: &mut [u8], leads: &mut [u8]) -> FilmdiskAnswer
     ensures { λ r. ⌜ (r ≡ planAnswer (now (card .entry)) (now (plan .entry)) (now (positions .entry)) (now (leads .entry)))
         × (now (plan .exit) ≡ planString (now (card .entry)) (now (plan .entry)) (now (positions .entry)) (now (leads .entry)))

@@ -18,7 +18,7 @@ ghost use mathlib.Core.Path.{_≡_};
 ghost use Rattle.card.specs.Read.{readCard};
 ghost use Rattle.plan.specs.Answer.{planned, positionsAfter, leadsAfter, judged, hasNumbers, isPlan};
 
-// Plans a card: 1 to 11 as the reader gives them, then 13, then 12. A refusal leaves both lists.
+// Plans a card: 1 to 11 and 26 as the reader gives them, then 13, then 12. A refusal leaves both lists.
 pub fn plan_card(card: &[u8], positions: &mut [u8], leads: &mut [u8]) -> Planned
     ensures { λ r. ⌜ (r ≡ planned (readCard (now (card .entry))) (now (positions .entry)) (now (leads .entry)))
         × (now (positions .exit) ≡ positionsAfter (readCard (now (card .entry))) (now (positions .entry)) (now (leads .entry)))
@@ -27,7 +27,7 @@ pub fn plan_card(card: &[u8], positions: &mut [u8], leads: &mut [u8]) -> Planned
     plan_figures(card_reader::read_card(card), positions, leads)
 }
 
-// Plans a record of figures: 4 to 10, then 13, then 12, place 0. A refusal leaves both lists.
+// Plans a record of figures: 4 to 10 and 26, then 13, then 12, place 0. A refusal leaves both lists.
 pub fn plan_record(figures: Figures, positions: &mut [u8], leads: &mut [u8]) -> Planned
     ensures { λ r. ⌜ (r ≡ planned (judged figures) (now (positions .entry)) (now (leads .entry)))
         × (now (positions .exit) ≡ positionsAfter (judged figures) (now (positions .entry)) (now (leads .entry)))

@@ -48,8 +48,8 @@ pub fn every_list_of_strings_safe()
         → (length (stringsAfter P (openString P ps ls D) xs .desk) ≡ deskSize) × Safe (planIn (wordsOf P)) (onString P (openString P ps ls D)) xs) ⌝ }
 {}
 
-// What the plan call leaves in the plan string and the lists: accepted, the plan of the card's figures; after 1 to 12 zeros; after 13, and where it has
-// another length, what it held. A refused call leaves both lists.
+// What the plan call leaves in the plan string and the lists: accepted, the plan of the card's figures; after 1 to 12 and 26 zeros; after 13, and where
+// it has another length, what it held. A refused call leaves both lists.
 pub fn plan_call_leaves()
     ensures accepted { λ _. ⌜ ((s p ps ls : List ℕ) → Bytes s → planAnswer s p ps ls .number ≡ 0 → planIn (wordsOf (planString s p ps ls)) ≡ planOf (readCard s .figures)) ⌝ }
     ensures cleared { λ _. ⌜ ((s p ps ls : List ℕ) → length p ≡ planSize → (planAnswer s p ps ls .number ≡ 13 → ⊥) → (planAnswer s p ps ls .number ≡ 0 → ⊥) → planString s p ps ls ≡ zeroBytes planSize) ⌝ }

@@ -16,14 +16,14 @@ fn run(comparison: &str, arguments: &[&str]) -> (String, Option<i32>) {
 #[test]
 fn own_listing_passes() {
     let (text, status) = run(LISTING_CASES, &[LISTING, "5", "300"]);
-    assert_eq!(text, "seed 5\n317 passed, 0 failed\n");
+    assert_eq!(text, "seed 5\n321 passed, 0 failed\n");
     assert_eq!(status, Some(0));
 }
 
 #[test]
 fn own_mkcard_passes() {
     let (text, status) = run(MKCARD_CASES, &[MKCARD, "5", "300"]);
-    assert_eq!(text, "seed 5\n380 passed, 0 failed\n");
+    assert_eq!(text, "seed 5\n384 passed, 0 failed\n");
     assert_eq!(status, Some(0));
 }
 
@@ -34,7 +34,7 @@ fn silent_program_fails() {
     assert!(text.starts_with("seed 5\ninput 01 06 01 FE AD 01 "), "{text}");
     assert!(text.contains("line 1: expected \"streams 16\\n\", got nothing\n"), "{text}");
     assert!(text.contains("usage: listing_cases LISTING SEED COUNT\n"), "{text}");
-    assert!(text.ends_with("\n0 passed, 20 failed\n"), "{text}");
+    assert!(text.ends_with("\n0 passed, 24 failed\n"), "{text}");
     assert_eq!(status, Some(1));
 }
 
@@ -43,7 +43,7 @@ fn silent_program_fails() {
 fn other_program_fails() {
     let (text, status) = run(MKCARD_CASES, &[LISTING, "5", "3"]);
     assert!(text.contains("input \"1 6 1 22270 "), "{text}");
-    assert!(text.ends_with("\n0 passed, 83 failed\n"), "{text}");
+    assert!(text.ends_with("\n0 passed, 87 failed\n"), "{text}");
     assert_eq!(status, Some(1));
 }
 
