@@ -6,8 +6,8 @@
  *
  * Films: a plan is for one showing or for a loop, by its planner call; a word of the plan says which, and all calls on its desk go by it.
  *
- * Refused calls leave all that they were lent as it was, but for two: a plan call that is refused by 1 to 12 fills a plan string of the
- * right length with zeros, and an opening that is refused by 14 a desk string of the right length.
+ * Refused calls leave all that they were lent as it was, but for two: a plan call that is refused by 1 to 12 or 26 fills a plan string
+ * of the right length with zeros, and an opening that is refused by 14 a desk string of the right length.
  *
  * Threads: the library has no globals and keeps nothing between calls, so calls on different strings may run at once. A string that is
  * only read, such as the lists of several desks, may be lent to several calls at a time.
@@ -122,7 +122,8 @@ enum filmdisk_number {
     FILMDISK_REFUSED_NO_SUCH_BLOCK = 18,
     FILMDISK_REFUSED_DRAW_COUNT = 19,
     FILMDISK_REFUSED_DRAW_ABOVE_LIMIT = 20, /* 20 and 21, place: lowest such slot */
-    FILMDISK_REFUSED_DRAW_ABOVE_HELD = 21
+    FILMDISK_REFUSED_DRAW_ABOVE_HELD = 21,
+    FILMDISK_REFUSED_ZONE_TIME_HALF_DEAD = 26 /* place: offset of the number in the card */
 };
 
 /* The answer of every call. Refused: number and place, the rest 0. Accepted: number and place 0. */
@@ -160,6 +161,8 @@ static inline const char *filmdisk_meaning(uint32_t number)
         "draw above what the slot may draw",
         "draw above held"
     };
+    if (number == FILMDISK_REFUSED_ZONE_TIME_HALF_DEAD)
+        return "zone time, times three, below the first zone's time";
     return number < sizeof meanings / sizeof meanings[0] ? meanings[number] : "no such number";
 }
 
@@ -225,7 +228,7 @@ static inline filmdisk_fetch filmdisk_fetch_at(const uint8_t *fetches, size_t in
     return fetch;
 }
 
-/* Plans a card for one showing: writes the plan and the first N entries of both lists. Refusals 1 to 11, then 13, then 12. */
+/* Plans a card for one showing: writes the plan and the first N entries of both lists. Refusals 1 to 11 and 26, then 13, then 12. */
 filmdisk_answer filmdisk_plan(const uint8_t *card, size_t card_len,
                               uint8_t *plan, size_t plan_len,
                               uint8_t *positions, size_t positions_len,

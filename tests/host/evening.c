@@ -379,6 +379,19 @@ static void refusal_12(void)
     }
 }
 
+/* Three times a zone's time against the first zone's, 22270. */
+static void refusal_26(void)
+{
+    uint32_t numbers[BENCH_NUMBERS];
+    refuse_with(BENCH_ZONE_TIME(1), 3, FILMDISK_REFUSED_ZONE_TIME_HALF_DEAD);
+    refuse_with(BENCH_ZONE_TIME(5), 7423, FILMDISK_REFUSED_ZONE_TIME_HALF_DEAD);
+    memcpy(numbers, bench_film, sizeof numbers);
+    numbers[BENCH_ZONE_TIME(5)] = 7424;
+    lend_bench();
+    lend_card(numbers, BENCH_NUMBERS);
+    expect(host_plan(), 0, 0);
+}
+
 /* Refusals of lengths. */
 
 /* The bench film's plan, with one string of another length. */
@@ -500,6 +513,19 @@ static void refusal_14_of_lengths(void)
     }
     bench_desk();
     resize(PLAN, FILMDISK_PLAN_BYTES + 1);
+    expect_opening_refused();
+}
+
+/* A zone of which the film has no block counts too: a plan with a time that is 26 on a card is none. */
+static void refusal_14_of_half_dead_zone(void)
+{
+    static const uint32_t numbers[] = {1, 2, 1, 47160, 2, 15720, 2, 262144, 500000, 12670, 15000};
+    lend_bench();
+    lend_card(numbers, COUNT(numbers));
+    expect(host_plan(), 0, 0);
+    lend_noise(DESK, FILMDISK_DESK_BYTES);
+    expect(host_open(), 0, 0);
+    put(PLAN, FILMDISK_PLAN_TIMES, 47161);
     expect_opening_refused();
 }
 
@@ -795,8 +821,12 @@ static void a_meaning_for_each_number(void)
     for (uint32_t number = 0; number <= FILMDISK_REFUSED_DRAW_ABOVE_HELD; number++)
         for (uint32_t other = 0; other < number; other++)
             check(strcmp(filmdisk_meaning(number), filmdisk_meaning(other)) != 0, "%u and %u mean the same", other, number);
-    check(strcmp(filmdisk_meaning(FILMDISK_REFUSED_DRAW_ABOVE_HELD), "draw above held") == 0, "21 is the last");
-    check(strcmp(filmdisk_meaning(22), "no such number") == 0, "22 is none");
+    check(strcmp(filmdisk_meaning(FILMDISK_REFUSED_DRAW_ABOVE_HELD), "draw above held") == 0, "21 is the last of document 01");
+    check(strcmp(filmdisk_meaning(FILMDISK_REFUSED_ZONE_TIME_HALF_DEAD), "zone time, times three, below the first zone's time") == 0,
+          "26 is a zone time");
+    for (uint32_t number = FILMDISK_REFUSED_DRAW_ABOVE_HELD + 1; number <= FILMDISK_REFUSED_ZONE_TIME_HALF_DEAD + 1; number++)
+        if (number != FILMDISK_REFUSED_ZONE_TIME_HALF_DEAD)
+            check(strcmp(filmdisk_meaning(number), "no such number") == 0, "%u is none", number);
 }
 
 static const test tests[] = {
@@ -820,11 +850,13 @@ static const test tests[] = {
     TEST(refusal_10),
     TEST(refusal_11),
     TEST(refusal_12),
+    TEST(refusal_26),
     TEST(refusal_13_of_plan),
     TEST(refusal_13_of_open),
     TEST(refusal_13_of_begin),
     TEST(refusal_14_of_open),
     TEST(refusal_14_of_lengths),
+    TEST(refusal_14_of_half_dead_zone),
     TEST(refusal_14_of_desks),
     TEST(refusal_14_of_desk_strings),
     TEST(refusal_15),

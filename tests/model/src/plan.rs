@@ -275,8 +275,8 @@ fn plan_judged(
     }
 }
 
-/// The plan of a record for a showing, with the lengths of the two lent lists: 4 to 10, 13, 12,
-/// each at 0.
+/// The plan of a record for a showing, with the lengths of the two lent lists: 4 to 10 and 26, 13,
+/// 12, each at 0.
 pub fn plan_record_for(
     figures: &Figures,
     showing: Showing,
@@ -294,8 +294,8 @@ pub fn plan_record(figures: &Figures, positions: usize, leads: usize) -> Result<
     plan_record_for(figures, Showing::Once, positions, leads)
 }
 
-/// The plan of a card for a showing, with the lengths of the two lent lists: 1 to 11 with offset,
-/// 13, 12.
+/// The plan of a card for a showing, with the lengths of the two lent lists: 1 to 11 and 26 with
+/// offset, 13, 12.
 pub fn plan_card_for(
     card: &[u8],
     showing: Showing,

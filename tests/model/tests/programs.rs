@@ -42,7 +42,7 @@ fn arguments_of_listing() {
 #[test]
 fn own_mkcard_passes() {
     let (text, status) = run(MKCARD_CASES, &[MKCARD, "5", "300"]);
-    assert_eq!(text, "seed 5\n380 passed, 0 failed\n");
+    assert_eq!(text, "seed 5\n384 passed, 0 failed\n");
     assert_eq!(status, Some(0));
 }
 
@@ -62,7 +62,7 @@ fn silent_program_fails() {
 fn other_program_fails() {
     let (text, status) = run(MKCARD_CASES, &[LISTING, "5", "3"]);
     assert!(text.contains("input \"1 6 1 22270 "), "{text}");
-    assert!(text.ends_with("\n0 passed, 83 failed\n"), "{text}");
+    assert!(text.ends_with("\n0 passed, 87 failed\n"), "{text}");
     assert_eq!(status, Some(1));
 }
 

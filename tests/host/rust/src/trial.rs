@@ -5,8 +5,8 @@ use crate::expected::expected;
 use crate::library::{Lending, Library};
 use film_disk_model::Rng;
 
-/// Numbers of answers, 0 to 21.
-const NUMBERS: usize = 22;
+/// Numbers of answers, 0 to 26.
+const NUMBERS: usize = 27;
 /// A slot of some loop must go round so many times.
 const MANY_ROUNDS: u128 = 5;
 
@@ -80,7 +80,7 @@ impl Trial {
     /// The numbers that each sort of call can answer and that no call was answered; and loops, if
     /// none went round often enough.
     pub fn missing(&self) -> Vec<String> {
-        let plan: Vec<usize> = (0..=13).collect();
+        let plan: Vec<usize> = (0..=13).chain([26]).collect();
         let answers: [&[usize]; SORTS.len()] = [
             &plan,
             &plan,

@@ -10,7 +10,7 @@ use film_disk_model::Rng;
 use std::process::ExitCode;
 
 /// Short texts at the edges of the form.
-const SHORT_TEXTS: [&str; 22] = [
+const SHORT_TEXTS: [&str; 26] = [
     "",
     "\n",
     "#",
@@ -30,6 +30,10 @@ const SHORT_TEXTS: [&str; 22] = [
     "1 6\n1\n0\n",
     "1 6 0\n1",
     "1 6 1 x",
+    "1 6 1 22270 1\n3",
+    "1 6 1 22270\n1 7423 x",
+    "1 6 1 22269\n1 7423 x",
+    "1 6 1 22268\n1 7423 x",
     "1 4294967295",
     "1 4294967296",
     "\u{feff}1 6",
