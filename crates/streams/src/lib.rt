@@ -1,4 +1,9 @@
 // The formula of streams, the buffer and the leads, in 32 and 64 bits.
+mod halves; // the products of halves
+
+use crate::halves::lower;
+use crate::halves::times_half;
+use crate::halves::upper;
 use numbers::limits::MAX_STREAMS;
 use numbers::units::PARTS;
 ghost use mathlib.Core.Path.{_≡_};
@@ -11,7 +16,7 @@ ghost use Rattle.streams.specs.Ranges.{Ranges};
 pub fn product(a: u32, b: u32) -> u64
     ensures { λ r. ⌜ r ≡ a * b ⌝ }
 {
-    a as u64 * b as u64
+    (times_half(a, upper(b)) << 16) + times_half(a, lower(b))
 }
 
 // The overhead of a sweep that fetches `count` blocks: count × hop, plus return.
