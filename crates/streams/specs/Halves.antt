@@ -19,13 +19,10 @@ product-halves a b =
     let whole : a / half * half + a % half ≡ a = omega arith in
     parts ∙ ap (λ (x : ℕ). x * b) whole
 
+-- the same by the names of the halves and of their products
+pub product-parts : (a b upper lower high low : ℕ) → upper ≡ a / half → lower ≡ a % half → high ≡ upper * b → low ≡ lower * b → high * half + low ≡ a * b
+product-parts a b upper lower high low u l h k = rw (h, k, u, l) (product-halves a b)
+
 -- numbers of 32 bits have a product of 64
 pub product-fits : (a b : ℕ) → a ≤ maxNumber → b ≤ maxNumber → a * b < 2 ^ 64
 product-fits a b h k = omega (arith, mul-le-mul h k)
-
--- the same in 64 bits, as the code adds them up: a shift loses nothing, since the product fits
-pub product-shifted : (a b u l x y : ℕ) → a ≤ maxNumber → b ≤ maxNumber → u ≡ a / half → l ≡ a % half → x ≡ u * b → y ≡ l * b
-    → x * half % 2 ^ 64 + y ≡ a * b
-product-shifted a b u l x y h k upper lower high low =
-    let parts : u * b * half + l * b ≡ a * b = rw (upper, lower) (product-halves a b) in
-    omega (arith, product-fits a b h k)

@@ -6,7 +6,6 @@ use crate::layout::{
 };
 use film_disk_model::desk::{floor, ASKED, BETWEEN, FILLING, PLAYING};
 use film_disk_model::plan::TWO_MILLION;
-use film_disk_model::rng::cards::any_card;
 use film_disk_model::rng::desks::{alter_plan, any_step, longer_list, sound_desk, spoiled_list};
 use film_disk_model::rng::figures::{desk_plan, large_desk_plan};
 use film_disk_model::{read_card, Desk, Planned, Rng, Step};
@@ -96,10 +95,10 @@ fn written_list(rng: &mut Rng, blocks: usize) -> Vec<u8> {
     bytes
 }
 
-/// Any card.
-pub fn plan_case(rng: &mut Rng) -> (Call, Strings) {
+/// A plan call of a card.
+pub fn plan_case(rng: &mut Rng, card: Vec<u8>) -> (Call, Strings) {
     let mut strings = Strings::default();
-    strings[CARD] = any_card(rng);
+    strings[CARD] = card;
     let blocks = match read_card(&strings[CARD]) {
         Ok(figures) => figures.blocks as usize,
         Err(_) => 1 + rng.below(10),
@@ -130,8 +129,7 @@ fn some_list(rng: &mut Rng, list: &[u32]) -> Vec<u8> {
 }
 
 /// An opening, of the plan of its figures or of another record.
-pub fn open_case(rng: &mut Rng) -> (Call, Strings) {
-    let planned = some_plan(rng);
+pub fn open_case(rng: &mut Rng, planned: &Planned) -> (Call, Strings) {
     let mut plan = planned.plan.clone();
     if rng.once_in(5) {
         alter_plan(rng, &mut plan);
@@ -168,9 +166,8 @@ pub fn step_strings(rng: &mut Rng, desk: Vec<u8>, step: &Step, damaged: usize) -
 }
 
 /// Any call on any desk: sound, reached or not, corrupted, noise.
-pub fn desk_case(rng: &mut Rng) -> (Call, Strings) {
-    let planned = some_plan(rng);
-    let (desk, step) = any_step(rng, &planned);
+pub fn desk_case(rng: &mut Rng, planned: &Planned) -> (Call, Strings) {
+    let (desk, step) = any_step(rng, planned);
     let desk = read_string(rng, desk_bytes(&desk));
     step_strings(rng, desk, &step, 20)
 }
@@ -187,16 +184,15 @@ fn some_level(rng: &mut Rng, planned: &Planned, desk: &Desk) -> u32 {
 
 /// A call, mostly a begin, on a desk whose slots hold just what decides: the floor with and without grants, or a byte beside it;
 /// or the greatest that a block is still fetched on.
-pub fn edge_case(rng: &mut Rng) -> (Call, Strings) {
-    let planned = some_plan(rng);
-    let (_, mut step) = any_step(rng, &planned);
-    let mut desk = sound_desk(rng, &planned);
+pub fn edge_case(rng: &mut Rng, planned: &Planned) -> (Call, Strings) {
+    let (_, mut step) = any_step(rng, planned);
+    let mut desk = sound_desk(rng, planned);
     if !rng.once_in(4) {
         desk.phase = BETWEEN;
         step.call = film_disk_model::Call::Begin { fetch_list: planned.plan.streams as usize };
     }
     let room = planned.plan.buffer - planned.plan.figures.block_bytes;
-    let level = if rng.once_in(6) { room } else { some_level(rng, &planned, &desk) };
+    let level = if rng.once_in(6) { room } else { some_level(rng, planned, &desk) };
     let held = level + rng.pick(&[0, 0, 1]) - rng.once_in(3) as u32;
     for slot in desk.used_slots() {
         if matches!(desk.kinds[slot], FILLING | PLAYING) && !rng.once_in(4) {

@@ -1,6 +1,6 @@
 use native.Mathlib.Omega.{arith}
 use borrow.Author.Needs.{needs}
-use Rattle.streams.specs.Halves.{product-shifted, product-fits}
+use Rattle.streams.specs.Halves.{product-parts, product-fits}
 use Rattle.streams.proofs.halves.times_half.Statement.{statement}
 use Rattle.streams.proofs.halves.times_half.Tie as tie
 
@@ -19,7 +19,9 @@ times-requires-2 c κs = search needs
 returns : tie.Need-returns
 returns c =
     let a = c .before .before .before .before .args in
-    product-shifted (a .a) (a .b) _ _ _ _ (omega arith) (omega arith) (c .before .before .before .upper .ensures .0) (c .before .lower .ensures .0) (c .before .before .times .ensures) (c .times2 .ensures)
+    let parts = product-parts (a .a) (a .b) _ _ _ _ (c .before .before .before .upper .ensures .0) (c .before .lower .ensures .0)
+    (c .before .before .times .ensures) (c .times2 .ensures) in
+    omega (arith, product-fits (a .a) (a .b) (omega arith) (omega arith))
 
 add-result : tie.Need-add-result
 add-result c = let a = c .before .before .before .before .args in omega (arith, returns c, product-fits (a .a) (a .b) (omega arith) (omega arith))
