@@ -1,9 +1,7 @@
 //! The cards of the greatest values reach them.
 
 use film_disk_model::plan::{plan_of, worst2, Showing};
-use film_disk_model::rng::borders::{
-    greatest_bound, greatest_buffer, greatest_leads, greatest_load, greatest_rate,
-};
+use film_disk_model::rng::borders::{greatest_bound, greatest_leads, greatest_load, greatest_rate};
 use film_disk_model::{Figures, Planned};
 
 fn planned(figures: Figures) -> Planned {
@@ -24,13 +22,6 @@ fn bound() {
     let plan = planned(greatest_bound()).plan;
     let fetch = plan.figures.times[0] + plan.figures.hop;
     assert_eq!(plan.streams * fetch + plan.figures.ret, 1_281_000_000);
-}
-
-#[test]
-fn buffer() {
-    let plan = planned(greatest_buffer()).plan;
-    let shares = plan.figures.rate as u64 * plan.streams as u64 * plan.margin as u64;
-    assert_eq!((shares, plan.buffer), (8_388_599_588_670, 16_777_212));
 }
 
 #[test]

@@ -4,7 +4,7 @@ use super::figures::small_figures;
 use super::Rng;
 use crate::bench::figures_of;
 use crate::card::{Figures, MAX_BLOCK_BYTES, MAX_HOP, MAX_RATE, MAX_RETURN, MAX_TIME};
-use crate::plan::{plan_of, worst2, Planned, Showing};
+use crate::plan::{plan_record, worst2, Planned, Showing};
 
 /// One zone or two, N 2, the greatest B; rate, and hop and return alike.
 fn two_blocks(zones: &[(u32, u32)], rate: u32, moves: u32) -> Figures {
@@ -51,12 +51,14 @@ fn border(rng: &mut Rng, greatest: u32) -> u32 {
 }
 
 /// Legal figures of a short film with such times, rates and the like.
-pub fn border_figures(rng: &mut Rng) -> Figures {
+fn border_figures(rng: &mut Rng) -> Figures {
     let limit = rng.pick(&[2, 3, 5, 8, 12, 40]);
     let mut figures = small_figures(rng, limit);
     let zones = figures.zones as usize;
+    let most = border(rng, MAX_TIME);
+    let least = if rng.once_in(2) { 1 } else { most.div_ceil(3) };
     for time in &mut figures.times[..zones] {
-        *time = border(rng, MAX_TIME);
+        *time = border(rng, most).max(least);
     }
     figures.times[..zones].sort_unstable_by(|one, other| other.cmp(one));
     figures.block_bytes = border(rng, MAX_BLOCK_BYTES);
@@ -66,16 +68,14 @@ pub fn border_figures(rng: &mut Rng) -> Figures {
     figures
 }
 
-/// Sets c and B so that n streams fit, c at such a number and B often just enough; as they are where no c does.
+/// Sets c and B so that n streams fit, c at such a number and B often just enough.
 fn fit(rng: &mut Rng, figures: &mut Figures, n: u32) {
     let each = worst2(figures, Showing::Once) as u64 + 2 * figures.hop as u64;
     let need = n as u64 * each + 2 * figures.ret as u64;
     let most = 2_000_000 * MAX_BLOCK_BYTES as u64 / need;
-    if most > 0 {
-        figures.rate = border(rng, most.min(MAX_RATE as u64) as u32);
-        let least = (figures.rate as u64 * need).div_ceil(2_000_000) as u32;
-        figures.block_bytes = if rng.once_in(2) { least } else { figures.block_bytes.max(least) };
-    }
+    figures.rate = border(rng, most.min(MAX_RATE as u64) as u32);
+    let least = (figures.rate as u64 * need).div_ceil(2_000_000) as u32;
+    figures.block_bytes = if rng.once_in(2) { least } else { figures.block_bytes.max(least) };
 }
 
 /// Any figures of these.
@@ -94,7 +94,9 @@ pub fn any_border_figures(rng: &mut Rng) -> Figures {
 /// A plan of such figures.
 pub fn border_plan(rng: &mut Rng) -> Planned {
     loop {
-        if let Some(planned) = plan_of(&any_border_figures(rng), Showing::Once) {
+        let figures = any_border_figures(rng);
+        let blocks = figures.blocks as usize;
+        if let Ok(planned) = plan_record(&figures, blocks, blocks) {
             return planned;
         }
     }
