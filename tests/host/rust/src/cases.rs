@@ -6,9 +6,11 @@ use crate::layout::{
 };
 use film_disk_model::desk::{floor, ASKED, BETWEEN, FILLING, PLAYING};
 use film_disk_model::plan::TWO_MILLION;
+use film_disk_model::rng::borders::{border_card, border_plan_for};
+use film_disk_model::rng::cards::any_card;
 use film_disk_model::rng::desks::{alter_plan, any_step, longer_list, sound_desk, spoiled_list};
 use film_disk_model::rng::figures::{desk_plan, large_desk_plan};
-use film_disk_model::{read_card, Desk, Planned, Rng, Step};
+use film_disk_model::{read_card, Desk, Planned, Rng, Showing, Step};
 
 /// Bytes of no meaning.
 pub fn noise(rng: &mut Rng, length: usize) -> Vec<u8> {
@@ -95,10 +97,10 @@ fn written_list(rng: &mut Rng, blocks: usize) -> Vec<u8> {
     bytes
 }
 
-/// A plan call of a card.
-pub fn plan_case(rng: &mut Rng, card: Vec<u8>) -> (Call, Strings) {
+/// Any card.
+pub fn plan_case(rng: &mut Rng) -> (Call, Strings) {
     let mut strings = Strings::default();
-    strings[CARD] = card;
+    strings[CARD] = if rng.once_in(4) { border_card(rng) } else { any_card(rng) };
     let blocks = match read_card(&strings[CARD]) {
         Ok(figures) => figures.blocks as usize,
         Err(_) => 1 + rng.below(10),
@@ -109,12 +111,12 @@ pub fn plan_case(rng: &mut Rng, card: Vec<u8>) -> (Call, Strings) {
     (Call::Plan, strings)
 }
 
-/// A plan for a desk; rarely a great one.
+/// A plan for a desk; rarely a great one, often one whose products are great or carry.
 pub fn some_plan(rng: &mut Rng) -> Planned {
-    if rng.once_in(40) {
-        large_desk_plan(rng)
-    } else {
-        desk_plan(rng)
+    match rng.below(40) {
+        0 => large_desk_plan(rng),
+        1..=10 => border_plan_for(rng, Showing::Once),
+        _ => desk_plan(rng),
     }
 }
 
@@ -129,7 +131,8 @@ fn some_list(rng: &mut Rng, list: &[u32]) -> Vec<u8> {
 }
 
 /// An opening, of the plan of its figures or of another record.
-pub fn open_case(rng: &mut Rng, planned: &Planned) -> (Call, Strings) {
+pub fn open_case(rng: &mut Rng) -> (Call, Strings) {
+    let planned = some_plan(rng);
     let mut plan = planned.plan.clone();
     if rng.once_in(5) {
         alter_plan(rng, &mut plan);
@@ -166,8 +169,9 @@ pub fn step_strings(rng: &mut Rng, desk: Vec<u8>, step: &Step, damaged: usize) -
 }
 
 /// Any call on any desk: sound, reached or not, corrupted, noise.
-pub fn desk_case(rng: &mut Rng, planned: &Planned) -> (Call, Strings) {
-    let (desk, step) = any_step(rng, planned);
+pub fn desk_case(rng: &mut Rng) -> (Call, Strings) {
+    let planned = some_plan(rng);
+    let (desk, step) = any_step(rng, &planned);
     let desk = read_string(rng, desk_bytes(&desk));
     step_strings(rng, desk, &step, 20)
 }
@@ -184,15 +188,16 @@ fn some_level(rng: &mut Rng, planned: &Planned, desk: &Desk) -> u32 {
 
 /// A call, mostly a begin, on a desk whose slots hold just what decides: the floor with and without grants, or a byte beside it;
 /// or the greatest that a block is still fetched on.
-pub fn edge_case(rng: &mut Rng, planned: &Planned) -> (Call, Strings) {
-    let (_, mut step) = any_step(rng, planned);
-    let mut desk = sound_desk(rng, planned);
+pub fn edge_case(rng: &mut Rng) -> (Call, Strings) {
+    let planned = some_plan(rng);
+    let (_, mut step) = any_step(rng, &planned);
+    let mut desk = sound_desk(rng, &planned);
     if !rng.once_in(4) {
         desk.phase = BETWEEN;
         step.call = film_disk_model::Call::Begin { fetch_list: planned.plan.streams as usize };
     }
     let room = planned.plan.buffer - planned.plan.figures.block_bytes;
-    let level = if rng.once_in(6) { room } else { some_level(rng, planned, &desk) };
+    let level = if rng.once_in(6) { room } else { some_level(rng, &planned, &desk) };
     let held = level + rng.pick(&[0, 0, 1]) - rng.once_in(3) as u32;
     for slot in desk.used_slots() {
         if matches!(desk.kinds[slot], FILLING | PLAYING) && !rng.once_in(4) {

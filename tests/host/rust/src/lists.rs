@@ -2,7 +2,7 @@
 //! checked after each.
 
 use crate::call::{Call, Outcome, Strings, CARD, DESK, FETCHES, LEADS, PLAN, POSITIONS};
-use crate::cases::{noise, step_strings};
+use crate::cases::{noise, some_plan, step_strings};
 use crate::expected::model_call;
 use crate::layout::{read_desk, read_fetches, DESK_BYTES, ENTRY_BYTES, PLAN_BYTES};
 use crate::trial::Trial;
@@ -56,11 +56,12 @@ impl List<'_> {
     }
 }
 
-pub fn list_case(rng: &mut Rng, trial: &mut Trial, planned: &Planned) -> Result<(), String> {
-    let desk = open_desk(rng, trial, planned)?;
+pub fn list_case(rng: &mut Rng, trial: &mut Trial) -> Result<(), String> {
+    let planned = some_plan(rng);
+    let desk = open_desk(rng, trial, &planned)?;
     let book = Book::new(planned.plan.figures.block_bytes);
     let rules = Desk::all_free(&planned.plan);
-    let mut list = List { planned, temper: temper(rng), desk, rules, book };
+    let mut list = List { planned: &planned, temper: temper(rng), desk, rules, book };
     let most = if planned.positions.len() > 256 { 20 } else { rng.pick(&[10, 40, 150, 400]) };
     for number in 0..most {
         list.call(rng, trial).map_err(|words| format!("call {number} of the list: {words}"))?;

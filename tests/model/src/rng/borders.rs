@@ -3,8 +3,8 @@
 use super::figures::small_figures;
 use super::Rng;
 use crate::bench::figures_of;
-use crate::card::{Figures, MAX_BLOCK_BYTES, MAX_HOP, MAX_RATE, MAX_RETURN, MAX_TIME};
-use crate::plan::{plan_record, worst2, Planned, Showing};
+use crate::card::{card_bytes, Figures, MAX_BLOCK_BYTES, MAX_HOP, MAX_RATE, MAX_RETURN, MAX_TIME};
+use crate::plan::{plan_record_for, worst2, Planned, Showing};
 
 /// One zone or two, N 2, the greatest B; rate, and hop and return alike.
 fn two_blocks(zones: &[(u32, u32)], rate: u32, moves: u32) -> Figures {
@@ -69,8 +69,8 @@ fn border_figures(rng: &mut Rng) -> Figures {
 }
 
 /// Sets c and B so that n streams fit, c at such a number and B often just enough.
-fn fit(rng: &mut Rng, figures: &mut Figures, n: u32) {
-    let each = worst2(figures, Showing::Once) as u64 + 2 * figures.hop as u64;
+fn fit(rng: &mut Rng, figures: &mut Figures, showing: Showing, n: u32) {
+    let each = worst2(figures, showing) as u64 + 2 * figures.hop as u64;
     let need = n as u64 * each + 2 * figures.ret as u64;
     let most = 2_000_000 * MAX_BLOCK_BYTES as u64 / need;
     figures.rate = border(rng, most.min(MAX_RATE as u64) as u32);
@@ -78,25 +78,30 @@ fn fit(rng: &mut Rng, figures: &mut Figures, n: u32) {
     figures.block_bytes = if rng.once_in(2) { least } else { figures.block_bytes.max(least) };
 }
 
-/// Any figures of these.
-pub fn any_border_figures(rng: &mut Rng) -> Figures {
+/// Any figures of these; most feed a stream.
+fn any_figures(rng: &mut Rng, showing: Showing) -> Figures {
     if rng.once_in(4) {
         return greatest_figures(rng);
     }
     let mut figures = border_figures(rng);
     if !rng.once_in(4) {
         let n = rng.pick(&[1, 2, 3, 16, 255, 256]);
-        fit(rng, &mut figures, n);
+        fit(rng, &mut figures, showing, n);
     }
     figures
 }
 
+/// A card of such figures.
+pub fn border_card(rng: &mut Rng) -> Vec<u8> {
+    card_bytes(&any_figures(rng, Showing::Once))
+}
+
 /// A plan of such figures.
-pub fn border_plan(rng: &mut Rng) -> Planned {
+pub fn border_plan_for(rng: &mut Rng, showing: Showing) -> Planned {
     loop {
-        let figures = any_border_figures(rng);
+        let figures = any_figures(rng, showing);
         let blocks = figures.blocks as usize;
-        if let Ok(planned) = plan_record(&figures, blocks, blocks) {
+        if let Ok(planned) = plan_record_for(&figures, showing, blocks, blocks) {
             return planned;
         }
     }
