@@ -1,18 +1,18 @@
--- A number of 32 bits in halves of 16 bits, and a product from the products of its halves. Assumes nothing.
+-- A number of 32 bits in halves of 16 bits, and a product from the products of its halves (02, ticket 4: T4.2, T4.3). Assumes nothing.
 use Prim.Native.Nat.{ℕ, _+_, _*_, _/_, _%_, _^_, _≤_, _<_}
 use mathlib.Core.Path.{_≡_, ap, _∙_}
 use native.Mathlib.Omega.{arith}
 use native.Mathlib.Nat.{mul-le-mul}
 use Rattle.numbers.specs.Limits.{maxNumber}
 
--- what one of the upper half counts
+-- what one in the upper half stands for
 abbrev pub half : ℕ
 half = 65536
 
 abbrev pub maxHalf : ℕ
 maxHalf = 65535
 
--- THE PRODUCT IS MADE OF THOSE OF THE HALVES
+-- THE EXACT PRODUCT FROM THOSE OF THE HALVES
 pub product-halves : (a b : ℕ) → a / half * b * half + a % half * b ≡ a * b
 product-halves a b =
     let parts : a / half * b * half + a % half * b ≡ (a / half * half + a % half) * b = omega arith in

@@ -12,7 +12,7 @@ ghost use Rattle.numbers.specs.Limits.{maxNumber, maxTime, maxStreams};
 ghost use Rattle.pacing.specs.Streams.{overhead, load, streams, bufferOf};
 ghost use Rattle.streams.specs.Ranges.{Ranges};
 
-// The product of two numbers of 32 bits. Every product of a rate and a time goes through it.
+// The product of two numbers of 32 bits, made of products of their halves. Every product that may pass 32 bits goes through it.
 pub fn product(a: u32, b: u32) -> u64
     ensures { λ r. ⌜ r ≡ a * b ⌝ }
 {
