@@ -305,10 +305,7 @@ pub fn worst_pair<'a>(
 {
     let last = blocks - 1;
     let mut walk = set_out(sizes);
-    let mut worst = Pair {
-        time: 0,
-        first: 0,
-    };
+    let mut worst = Pair { time: 0, first: 0 };
     let mut b: u32 = 0;
     while b < last {
         walk = walk_on(sizes, times, showing, total, blocks, walk, b);
