@@ -1,7 +1,6 @@
 use mathlib.Core.Path.{sym}
 use lib.Seq.{length-take-le}
 use borrow.Author.Needs.{needs}
-use borrow.Author.Needs.{needs}
 use Rattle.plan_cases.proofs.plan_film.Statement.{statement}
 use Rattle.plan_cases.proofs.plan_film.Tie as tie
 
@@ -10,6 +9,9 @@ fill-requires c κs = search needs
 
 fill-requires-2 : tie.Need-fill-requires-2
 fill-requires-2 c κs = search needs
+
+is-record-requires : tie.Need-is-record-requires
+is-record-requires c κs = search needs
 
 read-record-requires : tie.Need-read-record-requires
 read-record-requires c κs = search needs
@@ -65,6 +67,7 @@ plan-film-spec =
     (tie.spec
     fill-requires
     fill-requires-2
+    is-record-requires
     read-record-requires
     plan-record-requires
     print-answer-requires
