@@ -37,6 +37,10 @@ abbrev pub pairsOf : Showing → ℕ → ℕ
 pairsOf one N = N - 1
 pairsOf loop N = N
 
+pub some-pairs : (x : Showing) (N : ℕ) → 1 < N → (0 < pairsOf x N) × (pairsOf x N ≤ N)
+some-pairs one N h = omega arith
+some-pairs loop N h = omega arith
+
 -- what the pair of block b takes
 abbrev pub pairTime : Showing → (ℕ → ℕ) → (ℕ → ℕ) → ℕ → ℕ → ℕ
 pairTime x τ l N b = τ (l b) + τ (l (after x N b))

@@ -14,7 +14,7 @@ use Rattle.numbers.specs.Refusals.{noStream}
 use Rattle.card.specs.declared.Figures.{Figures}
 use Rattle.card.specs.Card.{Legal}
 use Rattle.placement.specs.Circle.{round}
-use Rattle.placement.specs.Showing.{Showing, one, loop, worstAt, pairsOf, worst-pair}
+use Rattle.placement.specs.Showing.{Showing, one, loop, worstAt, pairsOf, some-pairs, worst-pair}
 use Rattle.pacing.specs.Film.{row, longestRun, shown}
 use Rattle.pacing.specs.Shown.{round-below}
 use Rattle.pacing.specs.Lead.{lead-above, lead-attained, lead-only}
@@ -51,10 +51,6 @@ run-in loop N time position j b h u = (u, loop-in N time position j b h)
 in-run : (x : Showing) (N : ℕ) (time position : ℕ → ℕ) (j b : ℕ) → Starts x N b → j ≤ longestRun x N b → row (shown x N time position) j b ≡ true → IsRun x N b j
 in-run one N time position j b h u r = once-out N time position j b h r
 in-run loop N time position j b h u r = u
-
-some-pair : (x : Showing) (N : ℕ) → 1 < N → 0 < pairsOf x N
-some-pair one N h = omega arith
-some-pair loop N h = omega arith
 
 module _ (x : Showing) (f : Figures) where
   -- ---- lead
@@ -123,7 +119,7 @@ module _ (x : Showing) (f : Figures) where
   pub pair-earliest : Legal f → EarliestPair x f (worstAtOf x f)
   unfolding worstAtOf worstAt
   pair-earliest ok =
-      let e = earliest-is (pairOf x f) (pairsOf x (f .blocks)) (some-pair x (f .blocks) (omega (arith, ok .blocks))) in
+      let e = earliest-is (pairOf x f) (pairsOf x (f .blocks)) (some-pairs x (f .blocks) (omega (arith, ok .blocks)) .0) in
       record { pair = e .below; worst = omega (arith, e .reached, worst-is); first = λ a u. omega (arith, e .first a u, worst-is) }
 
   -- and no other is
