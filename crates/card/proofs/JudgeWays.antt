@@ -1,6 +1,6 @@
 -- Each way that the code of a figure and of the judge can take.
 -- Assumes nothing.
-use Prim.Native.Nat.{ℕ, zero, suc, _+_, _≤_, _<_}
+use Prim.Native.Nat.{ℕ, zero, suc, _+_, _*_, _≤_, _<_}
 use mathlib.Core.Path.{_≡_, refl, sym, ap, _∙_}
 use mathlib.Core.Bool.{Bool, true, false, cond, _&&_}
 use mathlib.Core.List.{List}
@@ -9,17 +9,34 @@ use lib.ListN.{length, getD, drop, drop-of-length-le}
 use lib.Seq.{drop-cons}
 use lib.Dec.{leb, eqb}
 use borrow.Author.Tests.{le-leb, lt-leb, eq-eqb, ne-eqb}
+use Rattle.leb128.specs.declared.Number.{Number}
 use Rattle.leb128.specs.declared.Number.the-variants as number
 use Rattle.card.specs.declared.Figures.{Figures}
 use Rattle.card.specs.declared.fields.Rule.{Rule}
-use Rattle.card.specs.declared.fields.Rule.the-variants.{Positions, Time}
+use Rattle.card.specs.declared.fields.Rule.the-variants.{Positions}
+use Rattle.card.specs.declared.fields.Field.{Field}
 use Rattle.card.specs.declared.fields.Field.the-variants.{Value, Refused}
 use Rattle.laws.specs.Runs.{allBy}
-use Rattle.numbers.specs.Limits.{maxZones}
-use Rattle.numbers.specs.Refusals.{wrongZones}
+use Rattle.numbers.specs.Limits.{maxZones, maxTime, timesAsFast}
+use Rattle.numbers.specs.Refusals.{wrongZones, wrongTime, risingTime, halfDeadTime}
 use Rattle.card.specs.Card.{filmFault, zoneFaults, zerosFrom}
-use Rattle.card.specs.Ranges.{first, below, above, outside, thenAbove, faultOf}
-use Rattle.card.specs.Read.{onFault}
+use Rattle.card.specs.Ranges.{first, below, above, outside, thenAbove, thenBelow, faultOf, timeFault}
+use Rattle.card.specs.Read.{onFault, onNumber}
+
+-- ---- the first fault of two
+
+module _ {k k′ : ℕ} (same : k ≡ k′) (later : ℕ) where
+  pub first-stops : (k ≡ 0 → ⊥) → k ≡ first k′ later
+  unfolding first
+  first-stops n = go k′ same
+    where
+      go : (j : ℕ) → k ≡ j → k ≡ first j later
+      go zero e = absurd (n e)
+      go (suc j) e = e
+
+  pub first-goes : k ≡ 0 → later ≡ first k′ later
+  unfolding first
+  first-goes z = rw (sym same ∙ z)
 
 -- ---- ranges
 
@@ -57,6 +74,24 @@ module _ (fault most k v : ℕ) where
   unfolding thenAbove above first
   then-none e h = rw (e, le-leb v most h)
 
+-- a zone's time: 6, then 7, then 26
+module _ (innermost before v : ℕ) {k : ℕ} (judged : k ≡ outside 1 maxTime wrongTime v) where
+  pub time-outside : (k ≡ 0 → ⊥) → k ≡ timeFault innermost before v
+  unfolding timeFault thenBelow thenAbove
+  time-outside n = first-stops (first-stops judged _ n) _ n
+
+  pub time-rises : k ≡ 0 → before < v → risingTime ≡ timeFault innermost before v
+  unfolding timeFault thenBelow thenAbove above first
+  time-rises z h = rw (sym judged ∙ z, lt-leb v before h)
+
+  pub time-half-dead : k ≡ 0 → v ≤ before → timesAsFast * v < innermost → halfDeadTime ≡ timeFault innermost before v
+  unfolding timeFault thenBelow thenAbove below above first
+  time-half-dead z h l = rw (sym judged ∙ z, le-leb v before h, lt-leb innermost (timesAsFast * v) l)
+
+  pub time-good : k ≡ 0 → v ≤ before → innermost ≤ timesAsFast * v → 0 ≡ timeFault innermost before v
+  unfolding timeFault thenBelow thenAbove below above first
+  time-good z h l = rw (sym judged ∙ z, le-leb v before h, le-leb innermost (timesAsFast * v) l)
+
 -- the same rule, the same refusal
 pub by-rule : (b v : ℕ) {r r′ : Rule} → r ≡ r′ → faultOf r′ b v ≡ faultOf r b v
 by-rule b v e = ap (λ (x : Rule). faultOf x b v) (sym e)
@@ -73,20 +108,13 @@ module _ (at v next : ℕ) where
   on-some zero n = absurd (n refl)
   on-some (suc k) n = refl
 
+-- a number whose form is right, and whose value is judged
+pub number-judged : (judge : ℕ → ℕ) (at : ℕ) {v next k : ℕ} {n : Number} {F : Field} → F ≡ onFault k at v next → k ≡ judge v → n ≡ number.Value v next
+    → F ≡ onNumber judge at n
+unfolding onNumber
+number-judged judge at {v} {next} f e h = f ∙ ap (λ (j : ℕ). onFault j at v next) e ∙ ap (onNumber judge at) (sym h)
+
 -- ---- the judge
-
-module _ {k k′ : ℕ} (same : k ≡ k′) (later : ℕ) where
-  pub first-stops : (k ≡ 0 → ⊥) → k ≡ first k′ later
-  unfolding first
-  first-stops n = go k′ same
-    where
-      go : (j : ℕ) → k ≡ j → k ≡ first j later
-      go zero e = absurd (n e)
-      go (suc j) e = e
-
-  pub first-goes : k ≡ 0 → later ≡ first k′ later
-  unfolding first
-  first-goes z = rw (sym same ∙ z)
 
 module _ (f : Figures) (i total before : ℕ) where
   pub zones-done : (left : ℕ) → left ≤ 0 → filmFault f total ≡ zoneFaults left i f total before
@@ -100,13 +128,13 @@ module _ (f : Figures) (i total before : ℕ) where
   zones-few (suc left) p e n = first-stops e _ n
 
   pub zones-slow : (left : ℕ) → 0 < left → {j k : ℕ} → j ≡ faultOf Positions total (getD (f .positions) i 0) → j ≡ 0
-      → k ≡ faultOf Time before (getD (f .times) i 0) → (k ≡ 0 → ⊥) → k ≡ zoneFaults left i f total before
+      → k ≡ timeFault (getD (f .times) 0 0) before (getD (f .times) i 0) → (k ≡ 0 → ⊥) → k ≡ zoneFaults left i f total before
   unfolding zoneFaults
   zones-slow zero p d z e n = absurd (omega arith)
   zones-slow (suc left) p d z e n = first-stops e _ n ∙ first-goes d _ z
 
   pub zones-more : (left k : ℕ) → left ≡ k + 1 → {j l : ℕ} → j ≡ faultOf Positions total (getD (f .positions) i 0) → j ≡ 0
-      → l ≡ faultOf Time before (getD (f .times) i 0) → l ≡ 0
+      → l ≡ timeFault (getD (f .times) 0 0) before (getD (f .times) i 0) → l ≡ 0
       → zoneFaults k (i + 1) f (total + getD (f .positions) i 0) (getD (f .times) i 0) ≡ zoneFaults left i f total before
   unfolding zoneFaults
   zones-more zero k h d z e y = absurd (omega arith)

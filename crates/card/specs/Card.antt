@@ -1,21 +1,21 @@
 -- The figures of a record, their judge (R23), and the card that is made of them (K3).
-use Prim.Native.Nat.{ℕ, zero, suc, _+_, _≤_, _<_}
+use Prim.Native.Nat.{ℕ, zero, suc, _+_, _*_, _≤_, _<_}
 use mathlib.Core.Path.{_≡_}
 use mathlib.Core.List.{List, [], _∷_, _++_}
 use mathlib.Core.Bool.{Bool, cond, _&&_}
 use lib.ListN.{length, getD, take, drop}
 use lib.Dec.{leb, eqb}
 use Rattle.laws.specs.Runs.{allBy, sumBy}
-use Rattle.numbers.specs.Limits.{cardKind, maxZones, maxPositions, maxTime, minBlocks, maxBlocks, maxBytes, maxRate, maxMove}
+use Rattle.numbers.specs.Limits.{cardKind, maxZones, maxPositions, maxTime, timesAsFast, minBlocks, maxBlocks, maxBytes, maxRate, maxMove}
 use Rattle.numbers.specs.Refusals.{wrongZones, tooShort}
 use Rattle.leb128.specs.Number.{groups}
 use Rattle.card.specs.declared.Figures.{Figures}
 use Rattle.card.specs.declared.Verdict.{Verdict}
 use Rattle.card.specs.declared.CardWritten.{CardWritten}
-use Rattle.card.specs.declared.fields.Rule.the-variants.{Zones, Positions, Time, Blocks, Measure}
-use Rattle.card.specs.Ranges.{first, faultOf}
+use Rattle.card.specs.declared.fields.Rule.the-variants.{Zones, Positions, Blocks, Measure}
+use Rattle.card.specs.Ranges.{first, faultOf, timeFault}
 
--- ---- legal figures: the table of ranges as plain facts (K4)
+-- ---- legal figures: the table of ranges as plain facts (K4; document 02, T8.3)
 
 -- P, the positions of all zones
 unfoldable pub totalPositions : Figures → ℕ
@@ -31,6 +31,8 @@ pub record Legal (f : Figures) : Type 0 where
   pub times : (i : ℕ) → i < f .zones → (1 ≤ getD (f .times) i 0) × (getD (f .times) i 0 ≤ maxTime)
   -- never above the zone before
   pub falling : (i : ℕ) → suc i < f .zones → getD (f .times) (suc i) 0 ≤ getD (f .times) i 0
+  -- times three, never below the first zone
+  pub thrice : (i : ℕ) → i < f .zones → getD (f .times) 0 0 ≤ timesAsFast * getD (f .times) i 0
   pub blocks : (minBlocks ≤ f .blocks) × (f .blocks ≤ maxBlocks)
   pub room : f .blocks ≤ totalPositions f
   pub bytes : (1 ≤ f .bytes) × (f .bytes ≤ maxBytes)
@@ -38,7 +40,7 @@ pub record Legal (f : Figures) : Type 0 where
   pub hop : (1 ≤ f .hop) × (f .hop ≤ maxMove)
   pub back : (1 ≤ f .back) × (f .back ≤ maxMove)
 
--- ---- the judge of a record: 4 to 10 in the card's order
+-- ---- the judge of a record: 4 to 10 in the card's order, 26 right after 7
 
 -- the film's figures: N, B, c, hop, return; total is P
 unfoldable pub filmFault : Figures → ℕ → ℕ
@@ -53,7 +55,7 @@ unfoldable pub zoneFaults : ℕ → ℕ → Figures → ℕ → ℕ → ℕ
 zoneFaults zero i f total before = filmFault f total
 zoneFaults (suc left) i f total before =
     first (faultOf Positions total (getD (f .positions) i 0))
-    (first (faultOf Time before (getD (f .times) i 0))
+    (first (timeFault (getD (f .times) 0 0) before (getD (f .times) i 0))
     (zoneFaults left (i + 1) f (total + getD (f .positions) i 0) (getD (f .times) i 0)))
 
 -- positions and times are zero from the i-th on

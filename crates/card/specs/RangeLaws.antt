@@ -1,17 +1,17 @@
 -- Laws of the ranges: a figure is not refused just where it is in its range.
 -- Assumes nothing.
-use Prim.Native.Nat.{ℕ, zero, suc, _+_, _≤_, _<_}
+use Prim.Native.Nat.{ℕ, zero, suc, _+_, _*_, _≤_, _<_}
 use mathlib.Core.Path.{_≡_, refl}
 use mathlib.Core.Bool.{Bool, true, false, cond}
 use native.Mathlib.Omega.{arith}
 use lib.Dec.{leb}
 use borrow.Author.Tests.{leb-true, le-leb}
-use Rattle.numbers.specs.Limits.{cardKind, maxNumber, maxZones, maxPositions, maxTime, minBlocks, maxBlocks}
-use Rattle.numbers.specs.Refusals.{wrongKind, wrongZones, wrongPositions, wrongTime, risingTime, wrongBlocks, blocksAbovePositions, wrongMeasure}
+use Rattle.numbers.specs.Limits.{cardKind, maxNumber, maxZones, maxPositions, maxTime, timesAsFast, minBlocks, maxBlocks}
+use Rattle.numbers.specs.Refusals.{wrongKind, wrongZones, wrongPositions, wrongTime, risingTime, wrongBlocks, blocksAbovePositions, wrongMeasure, halfDeadTime}
 use Rattle.card.specs.declared.Figures.{Figures}
-use Rattle.card.specs.declared.fields.Rule.the-variants.{Kind, Zones, Positions, Time, Blocks, Measure}
+use Rattle.card.specs.declared.fields.Rule.the-variants.{Kind, Zones, Positions, Blocks, Measure}
 use Rattle.card.specs.Card.{recordFault}
-use Rattle.card.specs.Ranges.{first, below, above, outside, thenAbove, faultOf}
+use Rattle.card.specs.Ranges.{first, below, above, outside, thenAbove, thenBelow, faultOf, timeFault}
 
 -- no fault of two is no fault of either
 pub first-none : (j k : ℕ) → first j k ≡ 0 → (j ≡ 0) × (k ≡ 0)
@@ -35,17 +35,27 @@ pub range-above : (most k v : ℕ) → v ≤ most → above most k v ≡ 0
 unfolding above
 range-above most k v h = rw (le-leb v most h)
 
-pub outside-range : (least most k v : ℕ) → 0 < k → outside least most k v ≡ 0 → (least ≤ v) × (v ≤ most)
-unfolding outside below
-outside-range least most k v p e = go (leb least v) refl e
+pub below-range : (least k v : ℕ) → 0 < k → below least k v ≡ 0 → least ≤ v
+unfolding below
+below-range least k v p e = go (leb least v) refl e
   where
-    go : (t : Bool) → leb least v ≡ t → first (cond t 0 k) (above most k v) ≡ 0 → (least ≤ v) × (v ≤ most)
-    go true q e = (leb-true least v q, above-range most k v p (first-none 0 (above most k v) e .1))
-    go false q e = absurd (omega (arith, first-none k (above most k v) e .0))
+    go : (t : Bool) → leb least v ≡ t → cond t 0 k ≡ 0 → least ≤ v
+    go true q e = leb-true least v q
+    go false q e = absurd (omega arith)
+
+pub range-below : (least k v : ℕ) → least ≤ v → below least k v ≡ 0
+unfolding below
+range-below least k v h = rw (le-leb least v h)
+
+pub outside-range : (least most k v : ℕ) → 0 < k → outside least most k v ≡ 0 → (least ≤ v) × (v ≤ most)
+unfolding outside
+outside-range least most k v p e =
+    let h = first-none (below least k v) (above most k v) e in
+    (below-range least k v p (h .0), above-range most k v p (h .1))
 
 pub range-outside : (least most k v : ℕ) → least ≤ v → v ≤ most → outside least most k v ≡ 0
-unfolding outside below
-range-outside least most k v l h = rw (le-leb least v l) (first-clear refl (range-above most k v h))
+unfolding outside
+range-outside least most k v l h = first-clear (range-below least k v l) (range-above most k v h)
 
 module _ (bound v : ℕ) where
   pub kind-range : faultOf Kind bound v ≡ 0 → v ≡ cardKind
@@ -62,12 +72,13 @@ module _ (bound v : ℕ) where
       let h = first-none (outside 1 maxNumber wrongPositions v) (above maxPositions wrongPositions (bound + v)) e in
       (outside-range 1 maxNumber wrongPositions v (omega arith) (h .0) .0, above-range maxPositions wrongPositions (bound + v) (omega arith) (h .1))
 
-  pub time-range : faultOf Time bound v ≡ 0 → (1 ≤ v) × (v ≤ maxTime) × (v ≤ bound)
-  unfolding faultOf thenAbove
-  time-range e =
-      let h = first-none (outside 1 maxTime wrongTime v) (above bound risingTime v) e in
+  pub time-range : (innermost : ℕ) → timeFault innermost bound v ≡ 0 → (1 ≤ v) × (v ≤ maxTime) × (v ≤ bound) × (innermost ≤ timesAsFast * v)
+  unfolding timeFault thenAbove thenBelow
+  time-range innermost e =
+      let d = first-none (thenAbove (outside 1 maxTime wrongTime v) bound risingTime v) (below innermost halfDeadTime (timesAsFast * v)) e in
+      let h = first-none (outside 1 maxTime wrongTime v) (above bound risingTime v) (d .0) in
       let r = outside-range 1 maxTime wrongTime v (omega arith) (h .0) in
-      (r .0, r .1, above-range bound risingTime v (omega arith) (h .1))
+      (r .0, r .1, above-range bound risingTime v (omega arith) (h .1), below-range innermost halfDeadTime (timesAsFast * v) (omega arith) (d .1))
 
   pub blocks-range : faultOf Blocks bound v ≡ 0 → (minBlocks ≤ v) × (v ≤ maxBlocks) × (v ≤ bound)
   unfolding faultOf thenAbove
@@ -88,9 +99,10 @@ module _ (bound v : ℕ) where
   unfolding faultOf thenAbove
   positions-legal l h = first-clear (range-outside 1 maxNumber wrongPositions v l (omega arith)) (range-above maxPositions wrongPositions (bound + v) h)
 
-  pub time-legal : 1 ≤ v → v ≤ maxTime → v ≤ bound → faultOf Time bound v ≡ 0
-  unfolding faultOf thenAbove
-  time-legal l h b = first-clear (range-outside 1 maxTime wrongTime v l h) (range-above bound risingTime v b)
+  pub time-legal : (innermost : ℕ) → 1 ≤ v → v ≤ maxTime → v ≤ bound → innermost ≤ timesAsFast * v → timeFault innermost bound v ≡ 0
+  unfolding timeFault thenAbove thenBelow
+  time-legal innermost l h b a =
+      first-clear (first-clear (range-outside 1 maxTime wrongTime v l h) (range-above bound risingTime v b)) (range-below innermost halfDeadTime (timesAsFast * v) a)
 
   pub blocks-legal : minBlocks ≤ v → v ≤ maxBlocks → v ≤ bound → faultOf Blocks bound v ≡ 0
   unfolding faultOf thenAbove
@@ -99,6 +111,10 @@ module _ (bound v : ℕ) where
   pub measure-legal : 1 ≤ v → v ≤ bound → faultOf Measure bound v ≡ 0
   unfolding faultOf
   measure-legal l h = range-outside 1 bound wrongMeasure v l h
+
+-- three times a time that is in its range is a number of 32 bits
+pub thrice-fits : (v : ℕ) → v ≤ maxTime → timesAsFast * v ≤ maxNumber
+thrice-fits v h = omega arith
 
 pub kind-legal : (bound : ℕ) → faultOf Kind bound cardKind ≡ 0
 unfolding faultOf

@@ -1,11 +1,11 @@
--- The ranges of a card's figures (K4), and the refusal of each (R3 to R10).
-use Prim.Native.Nat.{ℕ, zero, suc, _+_}
+-- The ranges of a card's figures (K4), and the refusal of each (R3 to R10; 26, T8.3).
+use Prim.Native.Nat.{ℕ, zero, suc, _+_, _*_}
 use mathlib.Core.Bool.{cond}
 use lib.Dec.{leb}
-use Rattle.numbers.specs.Limits.{cardKind, maxNumber, maxZones, maxPositions, maxTime, minBlocks, maxBlocks}
-use Rattle.numbers.specs.Refusals.{wrongKind, wrongZones, wrongPositions, wrongTime, risingTime, wrongBlocks, blocksAbovePositions, wrongMeasure}
+use Rattle.numbers.specs.Limits.{cardKind, maxNumber, maxZones, maxPositions, maxTime, timesAsFast, minBlocks, maxBlocks}
+use Rattle.numbers.specs.Refusals.{wrongKind, wrongZones, wrongPositions, wrongTime, risingTime, wrongBlocks, blocksAbovePositions, wrongMeasure, halfDeadTime}
 use Rattle.card.specs.declared.fields.Rule.{Rule}
-use Rattle.card.specs.declared.fields.Rule.the-variants.{Kind, Zones, Positions, Time, Blocks, Measure}
+use Rattle.card.specs.declared.fields.Rule.the-variants.{Kind, Zones, Positions, Blocks, Measure}
 
 -- the first fault of two; 0 is none
 unfoldable pub first : ℕ → ℕ → ℕ
@@ -25,12 +25,19 @@ outside least most k v = first (below least k v) (above most k v)
 unfoldable pub thenAbove : ℕ → ℕ → ℕ → ℕ → ℕ
 thenAbove fault most k v = first fault (above most k v)
 
--- the refusal of the value v of a figure, 0 where it is in range. The bound is the total of positions so far, the time of the
--- zone before, P, or the greatest value of B, c, hop or return
+unfoldable pub thenBelow : ℕ → ℕ → ℕ → ℕ → ℕ
+thenBelow fault least k v = first fault (below least k v)
+
+-- the refusal of the value v of a figure, 0 where it is in range. The bound is the total of positions so far, P, or the greatest value of
+-- B, c, hop or return
 unfoldable pub faultOf : Rule → ℕ → ℕ → ℕ
 faultOf Kind bound v = outside cardKind cardKind wrongKind v
 faultOf Zones bound v = outside 1 maxZones wrongZones v
 faultOf Positions total v = thenAbove (outside 1 maxNumber wrongPositions v) maxPositions wrongPositions (total + v)
-faultOf Time before v = thenAbove (outside 1 maxTime wrongTime v) before risingTime v
 faultOf Blocks total v = thenAbove (outside minBlocks maxBlocks wrongBlocks v) total blocksAbovePositions v
 faultOf Measure most v = outside 1 most wrongMeasure v
+
+-- the refusal of a zone's time, 0 where it is legal: out of range, then above the time of the zone before, then, times three, below
+-- the first zone's
+unfoldable pub timeFault : ℕ → ℕ → ℕ → ℕ
+timeFault innermost before v = thenBelow (thenAbove (outside 1 maxTime wrongTime v) before risingTime v) innermost halfDeadTime (timesAsFast * v)

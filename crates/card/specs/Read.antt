@@ -2,7 +2,7 @@
 use Prim.Native.Nat.{ℕ, zero, suc, _+_}
 use mathlib.Core.List.{List}
 use mathlib.Core.Bool.{cond}
-use lib.ListN.{length, set, replicate}
+use lib.ListN.{length, getD, set, replicate}
 use lib.Dec.{ltb}
 use Rattle.numbers.specs.Refusals.{cardEnds, numberForm, cardGoesOn}
 use Rattle.numbers.specs.Limits.{maxZones, maxTime, maxBytes, maxRate, maxMove}
@@ -12,11 +12,10 @@ use Rattle.leb128.specs.Number.{numberAt}
 use Rattle.card.specs.declared.Figures.{Figures}
 use Rattle.card.specs.declared.Verdict.{Verdict}
 use Rattle.card.specs.declared.CardRead.{CardRead}
-use Rattle.card.specs.declared.fields.Rule.{Rule}
-use Rattle.card.specs.declared.fields.Rule.the-variants.{Kind, Zones, Positions, Time, Blocks, Measure}
+use Rattle.card.specs.declared.fields.Rule.the-variants.{Kind, Zones, Positions, Blocks, Measure}
 use Rattle.card.specs.declared.fields.Field.{Field}
 use Rattle.card.specs.declared.fields.Field.the-variants.{Value, Refused}
-use Rattle.card.specs.Ranges.{faultOf}
+use Rattle.card.specs.Ranges.{faultOf, timeFault}
 
 -- ---- one figure
 
@@ -31,9 +30,9 @@ onNumber judge at (number.Value v next) = onFault (judge v) at v next
 onNumber judge at (number.CutOff size) = Refused cardEnds size
 onNumber judge at (number.Malformed start) = Refused numberForm start
 
--- the figure at an offset of the card s
-unfoldable pub fieldAt : Rule → ℕ → List ℕ → ℕ → Field
-fieldAt rule bound s at = onNumber (faultOf rule bound) at (numberAt s at)
+-- the figure at an offset of the card s, with the refusal of each value
+unfoldable pub fieldAt : (ℕ → ℕ) → List ℕ → ℕ → Field
+fieldAt judge s at = onNumber judge at (numberAt s at)
 
 -- ---- the answer
 
@@ -93,24 +92,25 @@ cardEnd s at f = cond (ltb at (length s)) (refusedCard cardGoesOn at) (record { 
 -- the film's figures from an offset on: N, B, c, hop, return; total is P
 unfoldable pub filmFrom : List ℕ → ℕ → Figures → ℕ → CardRead
 filmFrom s at f total =
-    thenField (fieldAt Blocks total s at) (λ n at₁.
-    thenField (fieldAt Measure maxBytes s at₁) (λ b at₂.
-    thenField (fieldAt Measure maxRate s at₂) (λ c at₃.
-    thenField (fieldAt Measure maxMove s at₃) (λ hop at₄.
-    thenField (fieldAt Measure maxMove s at₄) (λ ret at₅.
+    thenField (fieldAt (faultOf Blocks total) s at) (λ n at₁.
+    thenField (fieldAt (faultOf Measure maxBytes) s at₁) (λ b at₂.
+    thenField (fieldAt (faultOf Measure maxRate) s at₂) (λ c at₃.
+    thenField (fieldAt (faultOf Measure maxMove) s at₃) (λ hop at₄.
+    thenField (fieldAt (faultOf Measure maxMove) s at₄) (λ ret at₅.
     cardEnd s at₅ (withFilm f n b c hop ret))))))
 
--- `left` more zones from the i-th on, at an offset; total is the positions so far, before the time of the zone before
+-- `left` more zones from the i-th on, at an offset; total is the positions so far, before the time of the zone before. The first
+-- zone's time is 0 in f while it is read, and no time is judged by it then
 unfoldable pub zonesFrom : ℕ → List ℕ → ℕ → ℕ → Figures → ℕ → ℕ → CardRead
 zonesFrom zero s at i f total before = filmFrom s at f total
 zonesFrom (suc left) s at i f total before =
-    thenField (fieldAt Positions total s at) (λ p at₁.
-    thenField (fieldAt Time before s at₁) (λ t at₂.
+    thenField (fieldAt (faultOf Positions total) s at) (λ p at₁.
+    thenField (fieldAt (timeFault (getD (f .times) 0 0) before) s at₁) (λ t at₂.
     zonesFrom left s at₂ (i + 1) (withZone f i p t) (total + p) t))
 
 -- the card (K3); the first zone's time is bounded by the greatest time alone
 unfoldable pub readCard : List ℕ → CardRead
 readCard s =
-    thenField (fieldAt Kind 0 s 0) (λ kind at₁.
-    thenField (fieldAt Zones 0 s at₁) (λ z at₂.
+    thenField (fieldAt (faultOf Kind 0) s 0) (λ kind at₁.
+    thenField (fieldAt (faultOf Zones 0) s at₁) (λ z at₂.
     zonesFrom z s at₂ 0 (withZones z) 0 maxTime))

@@ -7,8 +7,10 @@ use numbers::limits::MAX_POSITIONS;
 use numbers::limits::MAX_TIME;
 use numbers::limits::MAX_ZONES;
 use numbers::limits::MIN_BLOCKS;
+use numbers::limits::TIMES_AS_FAST;
 use numbers::refusals::BLOCKS_ABOVE_POSITIONS;
 use numbers::refusals::CARD_ENDS;
+use numbers::refusals::HALF_DEAD_TIME;
 use numbers::refusals::NUMBER_FORM;
 use numbers::refusals::RISING_TIME;
 use numbers::refusals::WRONG_BLOCKS;
@@ -18,7 +20,7 @@ use numbers::refusals::WRONG_POSITIONS;
 use numbers::refusals::WRONG_TIME;
 use numbers::refusals::WRONG_ZONES;
 ghost use mathlib.Core.Path.{_≡_};
-ghost use Rattle.card.specs.Ranges.{outside, thenAbove, faultOf};
+ghost use Rattle.card.specs.Ranges.{outside, thenAbove, faultOf, timeFault};
 ghost use Rattle.card.specs.Read.{fieldAt, onNumber, onFault};
 
 // Which figure is judged, and what its bound is.
@@ -29,8 +31,6 @@ pub enum Rule {
     Zones,
     // A zone's positions; bound: the positions of the zones before it.
     Positions,
-    // A zone's time; bound: the time of the zone before it, the greatest time for the first.
-    Time,
     // N; bound: all positions.
     Blocks,
     // B, c, hop or return; bound: its greatest value.
@@ -69,6 +69,25 @@ fn then_above(fault: u32, most: u64, number: u32, v: u64) -> u32
     0
 }
 
+// The refusal of a zone's time v: its range, then the time of the zone before (the greatest time for the first), then the first zone's
+// (0 where that one is still to be read).
+pub fn fault_of_time(innermost: u32, before: u32, v: u32) -> u32
+    ensures { λ r. ⌜ r ≡ timeFault innermost before v ⌝ }
+{
+    let slow = outside(1, MAX_TIME, WRONG_TIME, v);
+    if slow != 0 {
+        return slow;
+    }
+    if before < v {
+        return RISING_TIME;
+    }
+    // A time in its range, times three, is a u32: law `thrice-fits`.
+    if TIMES_AS_FAST * v < innermost {
+        return HALF_DEAD_TIME;
+    }
+    0
+}
+
 // The refusal of the value v of a figure; 0 where it is in range.
 pub fn fault(rule: Rule, bound: u32, v: u32) -> u32
     ensures { λ r. ⌜ r ≡ faultOf rule bound v ⌝ }
@@ -82,12 +101,6 @@ pub fn fault(rule: Rule, bound: u32, v: u32) -> u32
             WRONG_POSITIONS,
             bound as u64 + v as u64,
         ),
-        Rule::Time => then_above(
-            outside(1, MAX_TIME, WRONG_TIME, v),
-            bound as u64,
-            RISING_TIME,
-            v as u64,
-        ),
         Rule::Blocks => then_above(
             outside(MIN_BLOCKS, MAX_BLOCKS, WRONG_BLOCKS, v),
             bound as u64,
@@ -98,11 +111,10 @@ pub fn fault(rule: Rule, bound: u32, v: u32) -> u32
     }
 }
 
-// A figure whose form is right: its range.
-fn judged(rule: Rule, bound: u32, v: u32, at: usize, next: usize) -> Field
-    ensures { λ r. ⌜ r ≡ onFault (faultOf rule bound v) at v next ⌝ }
+// A figure whose form is right: its refusal, or its value.
+fn judged(number: u32, v: u32, at: usize, next: usize) -> Field
+    ensures { λ r. ⌜ r ≡ onFault number at v next ⌝ }
 {
-    let number = fault(rule, bound, v);
     if number == 0 {
         Field::Value(v, next)
     } else {
@@ -115,7 +127,18 @@ fn field_of(rule: Rule, bound: u32, at: usize, n: Number) -> Field
     ensures { λ r. ⌜ r ≡ onNumber (faultOf rule bound) at n ⌝ }
 {
     match n {
-        Number::Value(v, next) => judged(rule, bound, v, at, next),
+        Number::Value(v, next) => judged(fault(rule, bound, v), v, at, next),
+        Number::CutOff(size) => Field::Refused(CARD_ENDS, size),
+        Number::Malformed(start) => Field::Refused(NUMBER_FORM, start),
+    }
+}
+
+// What a number says of a zone's time.
+fn time_of(innermost: u32, before: u32, at: usize, n: Number) -> Field
+    ensures { λ r. ⌜ r ≡ onNumber (timeFault innermost before) at n ⌝ }
+{
+    match n {
+        Number::Value(v, next) => judged(fault_of_time(innermost, before, v), v, at, next),
         Number::CutOff(size) => Field::Refused(CARD_ENDS, size),
         Number::Malformed(start) => Field::Refused(NUMBER_FORM, start),
     }
@@ -123,7 +146,14 @@ fn field_of(rule: Rule, bound: u32, at: usize, n: Number) -> Field
 
 // The figure at an offset of a card.
 pub fn read_field(card: &[u8], at: usize, rule: Rule, bound: u32) -> Field
-    ensures { λ r. ⌜ r ≡ fieldAt rule bound (now (card .entry)) at ⌝ }
+    ensures { λ r. ⌜ r ≡ fieldAt (faultOf rule bound) (now (card .entry)) at ⌝ }
 {
     field_of(rule, bound, at, leb128::read_number(card, at))
+}
+
+// The zone's time at an offset of a card.
+pub fn read_time(card: &[u8], at: usize, innermost: u32, before: u32) -> Field
+    ensures { λ r. ⌜ r ≡ fieldAt (timeFault innermost before) (now (card .entry)) at ⌝ }
+{
+    time_of(innermost, before, at, leb128::read_number(card, at))
 }

@@ -2,6 +2,7 @@
 use crate::Figures;
 use crate::fields::Rule;
 use crate::fields::fault;
+use crate::fields::fault_of_time;
 use numbers::limits::MAX_BYTES;
 use numbers::limits::MAX_MOVE;
 use numbers::limits::MAX_RATE;
@@ -46,6 +47,7 @@ fn fault_of_zones(figures: Figures) -> u32
     ensures { λ r. ⌜ r ≡ zoneFaults (figures .zones) 0 figures 0 maxTime ⌝ }
 {
     let zones = figures.zones as usize;
+    let innermost = figures.times[0];
     let mut total: u32 = 0;
     let mut before: u32 = MAX_TIME;
     let mut i: usize = 0;
@@ -56,7 +58,7 @@ fn fault_of_zones(figures: Figures) -> u32
         if few != 0 {
             return few;
         }
-        let slow = fault(Rule::Time, before, time);
+        let slow = fault_of_time(innermost, before, time);
         if slow != 0 {
             return slow;
         }

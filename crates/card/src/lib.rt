@@ -24,7 +24,7 @@ pub struct Figures {
     pub back: u32,
 }
 
-// Document 01's refusal number and what is returned with it; 0 and 0 where the call is accepted.
+// The refusal number of document 01 or 02 and what is returned with it; 0 and 0 where the call is accepted.
 pub struct Verdict {
     pub number: u32,
     pub place: usize,
@@ -42,7 +42,7 @@ pub struct CardWritten {
     pub length: usize,
 }
 
-// Judges a record of figures: refusals 4 to 10, offset 0.
+// Judges a record of figures: refusals 4 to 10, and 26 right after 7, offset 0.
 pub fn judge_figures(figures: Figures) -> Verdict
     ensures { λ r. ⌜ r ≡ judgeRecord figures ⌝ }
 {

@@ -1,4 +1,4 @@
-// Runs the card cases of document 01, cards damaged for each of the refusals 1 to 11, records and the writer. Standard input has a
+// Runs the card cases of document 01, cards damaged for each of the refusals 1 to 11 and 26, records and the writer. Standard input has a
 // case on each line: its name, which has no colon, then a colon, a letter for what is done, and what it is done to.
 //
 //     NAME: c CARD           reads a card, its bytes in hexadecimal

@@ -4,7 +4,7 @@ use Prim.Native.Nat.{ℕ, zero, suc, _+_, _≤_, _<_}
 use mathlib.Core.Path.{_≡_, refl, sym, ap, _∙_}
 use mathlib.Core.List.{List}
 use native.Mathlib.Omega.{arith}
-use lib.ListN.{length}
+use lib.ListN.{length, getD}
 use borrow.Author.Tests.{lt-ltb, le-ltb}
 use Rattle.numbers.specs.Limits.{maxZones, maxPositions}
 use Rattle.numbers.specs.Refusals.{cardGoesOn}
@@ -13,12 +13,11 @@ use Rattle.leb128.specs.declared.Number.the-variants as number
 use Rattle.leb128.specs.Number.{numberAt}
 use Rattle.card.specs.declared.Figures.{Figures}
 use Rattle.card.specs.declared.CardRead.{CardRead}
-use Rattle.card.specs.declared.fields.Rule.{Rule}
-use Rattle.card.specs.declared.fields.Rule.the-variants.{Zones, Positions, Time}
+use Rattle.card.specs.declared.fields.Rule.the-variants.{Zones, Positions}
 use Rattle.card.specs.declared.fields.Field.{Field}
 use Rattle.card.specs.declared.fields.Field.the-variants.{Value, Refused}
 use Rattle.card.specs.RangeLaws.{positions-range, zones-range}
-use Rattle.card.specs.Ranges.{faultOf}
+use Rattle.card.specs.Ranges.{faultOf, timeFault}
 use Rattle.card.specs.Read.{onFault, onNumber, fieldAt, thenField, refusedCard, cardEnd, filmFrom, zonesFrom, withZone, withFilm}
 use Rattle.card_reader.specs.declared.figures.Film.{Film}
 use Rattle.card_reader.specs.declared.figures.Film.the-variants as film
@@ -58,7 +57,7 @@ module _ (s : List ℕ) (at i : ℕ) (f : Figures) (total before : ℕ) where
   read-done zero h = refl
   read-done (suc left) h = absurd (omega arith)
 
-  module _ (left : ℕ) {F : Field} (positions : F ≡ fieldAt Positions total s at) where
+  module _ (left : ℕ) {F : Field} (positions : F ≡ fieldAt (faultOf Positions total) s at) where
     pub read-few : 0 < left → (go : ℕ → ℕ → CardRead) {k o : ℕ} → F ≡ Refused k o → thenField F go ≡ zonesFrom left s at i f total before
     read-few h go e = by left h
       where
@@ -66,7 +65,7 @@ module _ (s : List ℕ) (at i : ℕ) (f : Figures) (total before : ℕ) where
         by zero h = absurd (omega arith)
         by (suc left) h = unfold zonesFrom in card-stops positions _ go e
 
-    module _ {p middle : ℕ} (read : F ≡ Value p middle) {G : Field} (time : G ≡ fieldAt Time before s middle) where
+    module _ {p middle : ℕ} (read : F ≡ Value p middle) {G : Field} (time : G ≡ fieldAt (timeFault (getD (f .times) 0 0) before) s middle) where
       pub read-slow : 0 < left → (go : ℕ → ℕ → CardRead) {k o : ℕ} → G ≡ Refused k o → thenField G go ≡ zonesFrom left s at i f total before
       read-slow h go e = by left h
         where
@@ -85,21 +84,21 @@ module _ (s : List ℕ) (at i : ℕ) (f : Figures) (total before : ℕ) where
               ap (λ (x : ℕ). zonesFrom x s next (i + 1) (withZone f i p t) (total + p) t) q ∙ (unfold zonesFrom in card-goes time _ e ∙ card-goes positions _ read)
 
 -- the value of a figure that is read is not refused
-pub field-judged : (rule : Rule) (bound : ℕ) (s : List ℕ) (at : ℕ) {v next : ℕ} {F : Field} → F ≡ fieldAt rule bound s at → F ≡ Value v next → faultOf rule bound v ≡ 0
+pub field-judged : (judge : ℕ → ℕ) (s : List ℕ) (at : ℕ) {v next : ℕ} {F : Field} → F ≡ fieldAt judge s at → F ≡ Value v next → judge v ≡ 0
 unfolding fieldAt onNumber onFault
-field-judged rule bound s at {v} {next} e h = go (numberAt s at) (sym e ∙ h)
+field-judged judge s at {v} {next} e h = go (numberAt s at) (sym e ∙ h)
   where
-    on : (k w m : ℕ) → faultOf rule bound w ≡ k → onFault k at w m ≡ Value v next → faultOf rule bound v ≡ 0
+    on : (k w m : ℕ) → judge w ≡ k → onFault k at w m ≡ Value v next → judge v ≡ 0
     on zero w m q e = let same : w ≡ v = cc in rw same at q
     on (suc k) w m q e = absurd (let z : _≡_ {A = ℕ} 0 1 = cc in omega arith)
 
-    go : (n : Number) → onNumber (faultOf rule bound) at n ≡ Value v next → faultOf rule bound v ≡ 0
-    go (number.Value w m) e = on (faultOf rule bound w) w m refl e
+    go : (n : Number) → onNumber judge at n ≡ Value v next → judge v ≡ 0
+    go (number.Value w m) e = on (judge w) w m refl e
     go (number.CutOff size) e = absurd (let z : _≡_ {A = ℕ} 0 1 = cc in omega arith)
     go (number.Malformed start) e = absurd (let z : _≡_ {A = ℕ} 0 1 = cc in omega arith)
 
-pub field-fits : (total : ℕ) (s : List ℕ) (at : ℕ) {v next : ℕ} {F : Field} → F ≡ fieldAt Positions total s at → F ≡ Value v next → total + v ≤ maxPositions
-field-fits total s at e h = positions-range total _ (field-judged Positions total s at e h) .1
+pub field-fits : (total : ℕ) (s : List ℕ) (at : ℕ) {v next : ℕ} {F : Field} → F ≡ fieldAt (faultOf Positions total) s at → F ≡ Value v next → total + v ≤ maxPositions
+field-fits total s at e h = positions-range total _ (field-judged (faultOf Positions total) s at e h) .1
 
-pub zones-bound : (bound : ℕ) (s : List ℕ) (at : ℕ) {v next : ℕ} {F : Field} → F ≡ fieldAt Zones bound s at → F ≡ Value v next → v ≤ maxZones
-zones-bound bound s at e h = zones-range bound _ (field-judged Zones bound s at e h) .1
+pub zones-bound : (bound : ℕ) (s : List ℕ) (at : ℕ) {v next : ℕ} {F : Field} → F ≡ fieldAt (faultOf Zones bound) s at → F ≡ Value v next → v ≤ maxZones
+zones-bound bound s at e h = zones-range bound _ (field-judged (faultOf Zones bound) s at e h) .1

@@ -5,6 +5,7 @@ use card::Verdict;
 use card::fields::Field;
 use card::fields::Rule;
 use card::fields::read_field;
+use card::fields::read_time;
 use numbers::limits::MAX_BYTES;
 use numbers::limits::MAX_MOVE;
 use numbers::limits::MAX_RATE;
@@ -132,7 +133,8 @@ pub fn read_zones(card: &[u8], start: usize, zones: u32) -> CardRead
         let Field::Value(positions, middle) = first else {
             return refused_field(first);
         };
-        let second = read_field(card, middle, Rule::Time, before);
+        let innermost = f.times[0];
+        let second = read_time(card, middle, innermost, before);
         let Field::Value(time, next) = second else {
             return refused_field(second);
         };

@@ -8,7 +8,7 @@ use card::fields::read_field;
 ghost use mathlib.Core.Path.{_≡_};
 ghost use Rattle.card.specs.Read.{readCard};
 
-// Reads a card: refusals 1 to 11.
+// Reads a card: refusals 1 to 11, and 26 right after 7.
 pub fn read_card(card: &[u8]) -> CardRead
     ensures { λ r. ⌜ r ≡ readCard (now (card .entry)) ⌝ }
 {

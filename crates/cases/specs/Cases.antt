@@ -4,7 +4,7 @@ use Prim.Native.Nat.{ℕ}
 use mathlib.Core.Path.{_≡_, refl}
 use mathlib.Core.List.{List, [], _∷_}
 use Rattle.leb128.specs.Number.{groupsFrom, groups, continuing, joined, judged, numberIn, numberAt}
-use Rattle.card.specs.Ranges.{first, below, above, outside, thenAbove, faultOf}
+use Rattle.card.specs.Ranges.{first, below, above, outside, thenAbove, thenBelow, faultOf, timeFault}
 use Rattle.card.specs.Read.{onFault, onNumber, fieldAt, blankZones, blankFigures, accepted, refusedCard, thenField, cardEnd, filmFrom, zonesFrom, readCard}
 use Rattle.card.specs.Card.{filmNumbers, zoneNumbers, numbersOf, bytesOf, cardOf}
 use Rattle.card.specs.declared.CardRead.{CardRead}
@@ -30,7 +30,7 @@ use Rattle.cases.specs.Bench.{entries, film, sixOnes, bench, alike}
 abbrev pub Refuses : List ℕ → ℕ → ℕ → Type 0
 Refuses s number offset = (readCard s .verdict .number ≡ number) × (readCard s .verdict .place ≡ offset)
 
--- the plan of figures in a showing: streams, buffer, worst2, worstat (M3) and margin
+-- the plan of figures in a showing: streams, buffer, worst2, worstat (T2.3) and margin
 abbrev pub Plans : Showing → Figures → ℕ → ℕ → ℕ → ℕ → ℕ → Type 0
 Plans x f streams buffer worst2 worstat margin =
     _≡_ {A = Plan} (planOf x f) (record { figures = f; streams = streams; buffer = buffer; worst2 = worst2; margin = margin; showing = wordOf x; worstat = worstat })
@@ -80,7 +80,7 @@ pub record Cases : Type 0 where
   -- one zone, 2 positions of 20000, N 2: B 23835 gives 1 stream, 23834 gives 12
   pub one-stream : (answered (alike 2 23835) ≡ 0) × (streamsOf one (alike 2 23835) ≡ 1)
   pub no-stream : answered (alike 2 23834) ≡ 12
-  -- document 02: the one-zone case has the same worst2 and leads as a loop (L10)
+  -- document 02: the one-zone case has the same worst2 and leads as a loop (T7.10)
   pub three-loop-worst2 : worst2Of loop (alike 3 262144) ≡ worst2Of one (alike 3 262144)
   pub three-loop-leads : leadsOf loop (alike 3 262144) ≡ leadsOf one (alike 3 262144)
   -- the bench film as a loop: the last block and the first are its worst pair
@@ -91,7 +91,7 @@ pub record Cases : Type 0 where
   pub desk : Story
 
 pub cases : Cases
-unfolding groupsFrom groups continuing joined judged numberIn numberAt first below above outside thenAbove faultOf onFault onNumber fieldAt blankZones blankFigures refusedCard thenField cardEnd filmFrom zonesFrom readCard filmNumbers zoneNumbers numbersOf bytesOf cardOf entries film totalPositions sumBy greatestOf greatest wordsOf place worstTime round falls rank ring worstRound timeAt run span lead overhead load streams bufferOf slowest margin firstReaching earliestOf worstAt worst2Of worstAtOf streamsOf marginOf bufferSize planOf blankPlan row positionsOf leadsOf planFault refusal planned
+unfolding groupsFrom groups continuing joined judged numberIn numberAt first below above outside thenAbove thenBelow faultOf timeFault onFault onNumber fieldAt blankZones blankFigures refusedCard thenField cardEnd filmFrom zonesFrom readCard filmNumbers zoneNumbers numbersOf bytesOf cardOf entries film totalPositions sumBy greatestOf greatest wordsOf place worstTime round falls rank ring worstRound timeAt run span lead overhead load streams bufferOf slowest margin firstReaching earliestOf worstAt worst2Of worstAtOf streamsOf marginOf bufferSize planOf blankPlan row positionsOf leadsOf planFault refusal planned
 cases = record {
   number-300 = refl;
   number-22270 = refl;

@@ -33,7 +33,7 @@ ratesOf p = record {
   buffer = p .buffer;
 }
 
--- what a plan record tells the desk: its figures' film as it is laid for the showing that it names (L7), with these rates
+-- what a plan record tells the desk: its figures' film as it is laid for the showing that it names (T7.7), with these rates
 unfoldable pub supplyOf : Plan → Supply ℕ
 supplyOf p = supplied (filmOf (showingIn p) (p .figures)) (worst2Of (showingIn p) (p .figures)) (ratesOf p)
 

@@ -1,4 +1,4 @@
--- Where the film of a plan record ends, by the word that says which showing it is: a loop has no end (L8).
+-- Where the film of a plan record ends, by the word that says which showing it is: a loop has no end (T7.8).
 -- Assumes nothing.
 use Prim.Native.Nat.{ℕ}
 use mathlib.Core.Path.{_≡_, refl}

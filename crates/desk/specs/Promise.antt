@@ -42,7 +42,7 @@ supply-named p = record {
 pub order-orderly : (p : Plan) → Orderly (supplyOf p) (orderOf p)
 order-orderly p = bySlot-orderly (supplyOf p)
 
--- THE PLANNER'S PROMISE: the supply of the plan of legal figures is lawful, in either showing (L9)
+-- THE PLANNER'S PROMISE: the supply of the plan of legal figures is lawful, in either showing (T7.9)
 pub plan-lawful : (x : Showing) (f : Figures) → Legal f → 0 < streamsOf x f → Lawful (supplyOf (planOf x f))
 unfolding supplyOf planOf bufferOf
 plan-lawful x f legal some =

@@ -21,9 +21,9 @@ Drawn d draws = let s = supplyOf (d .plan) in Allowed s (orderOf (d .plan)) (vie
 -- what an end is told of a supply: how the film of N blocks goes on in its showing x, B, and the buffer less B
 pub record Film (p : Supply ℕ) (x : Showing) (N bytes room : ℕ) : Type 0 where
   pub start : p .none ≡ 0
-  -- `its next block rises by one`; in a loop 0 follows the last (L1)
+  -- `its next block rises by one`; in a loop 0 follows the last (T7.1)
   pub next : (b : ℕ) → p .next b ≡ after x N b
-  -- `reaches N`, which no block of a loop does (L8)
+  -- `reaches N`, which no block of a loop does (T7.8)
   pub past : (b : ℕ) → b < N → p .isEnd (p .next b) ≡ eqb (p .next b) N
   pub some : 0 < p .B
   pub size : p .B ≡ bytes

@@ -9,6 +9,7 @@ use crate::scan::read_text;
 use libc::STDERR_FILENO;
 use libc::STDIN_FILENO;
 use libc::STDOUT_FILENO;
+use numbers::refusals::HALF_DEAD_TIME;
 
 fn say(text: &[u8]) {
     io::write_all(STDERR_FILENO, text);
@@ -33,8 +34,12 @@ fn say_line(text: &[u8], n: u32) {
     }
 }
 
-// Says document 01's cause of a refusal, 1 to 11.
+// Says the cause of a refusal, 1 to 11 of document 01 or 26 of document 02.
 fn say_cause(number: u32) {
+    if number == HALF_DEAD_TIME {
+        say(b"zone time, times three, below the first zone's time\n");
+        return;
+    }
     say_line(
         b"text ends too early\n\
         not a decimal number, or above 4,294,967,295\n\

@@ -12,7 +12,7 @@ ghost use Rattle.leb128.specs.Number.{groups};
 ghost use Rattle.card.specs.Card.{bytesOf};
 ghost use Rattle.mkcard.specs.Scan.{capped, numbersIn, lineOf, cardOfWords, made, textOf, Spelled, cardOfText};
 
-// Document 01's number and the line of the text, or 0 and the length of the card.
+// The refusal's number and the line of the text, or 0 and the length of the card.
 pub struct Made {
     pub number: u32,
     pub line: u64,

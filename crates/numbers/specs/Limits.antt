@@ -1,4 +1,4 @@
--- The limits of document 01's table of ranges, and of the desk.
+-- The limits of document 01's table of ranges, and of the desk; what document 02 adds to them.
 use Prim.Native.Nat.{ℕ}
 
 -- the kind of a card
@@ -23,6 +23,10 @@ maxPositions = 1048576
 -- the time of a zone, in microseconds
 abbrev pub maxTime : ℕ
 maxTime = 4000000
+
+-- no zone is over so many times as fast as the first (document 02, ticket 8)
+abbrev pub timesAsFast : ℕ
+timesAsFast = 3
 
 -- N, the blocks of a film
 abbrev pub minBlocks : ℕ

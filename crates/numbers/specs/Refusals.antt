@@ -1,4 +1,4 @@
--- Document 01's refusal numbers.
+-- Document 01's refusal numbers, and those that document 02 adds.
 use Prim.Native.Nat.{ℕ}
 
 -- card ends too early
@@ -84,3 +84,7 @@ drawAboveLimit = 20
 -- draw above held
 abbrev pub drawAboveHeld : ℕ
 drawAboveHeld = 21
+
+-- zone time, times three, below the first zone's (document 02, ticket 8)
+abbrev pub halfDeadTime : ℕ
+halfDeadTime = 26

@@ -16,6 +16,9 @@ pub const MAX_POSITIONS: u32 = 1048576;
 // The time of a zone, in microseconds.
 pub const MAX_TIME: u32 = 4000000;
 
+// No zone is over so many times as fast as the first.
+pub const TIMES_AS_FAST: u32 = 3;
+
 // N, the blocks of a film.
 pub const MIN_BLOCKS: u32 = 2;
 

@@ -1,4 +1,4 @@
-// Why a call is turned down; document 01's table has the causes in full.
+// Why a call is turned down; document 01's table has the causes in full, and document 02 what it adds to them.
 pub const ACCEPTED: u32 = 0;
 
 // Cards.
@@ -45,3 +45,6 @@ pub const DRAW_COUNT: u32 = 19;
 pub const DRAW_ABOVE_LIMIT: u32 = 20;
 
 pub const DRAW_ABOVE_HELD: u32 = 21;
+
+// Cards, by document 02.
+pub const HALF_DEAD_TIME: u32 = 26;

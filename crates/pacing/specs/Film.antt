@@ -64,12 +64,12 @@ module _ {A : Type 0} (film : Film A) where
 
 -- ---- the showings
 
--- past the last block: a loop has no end (L8)
+-- past the last block: a loop has no end (T7.8)
 abbrev pub isPast : Showing → ℕ → ℕ → Bool
 isPast one N b = eqb b N
 isPast loop N b = false
 
--- the most blocks of a run that starts at b: to the film's end, or once round (L6)
+-- the most blocks of a run that starts at b: to the film's end, or once round (T7.6)
 abbrev pub longestRun : Showing → ℕ → ℕ → ℕ
 longestRun one N b = N - b
 longestRun loop N b = N

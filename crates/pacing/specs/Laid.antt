@@ -76,7 +76,7 @@ pub margin-quick : (x : Showing) (P N : ℕ) → N ≤ P → 0 < N → (τ : ℕ
 unfolding margin slowest
 margin-quick x P N np some τ falls = rw (slowest-first x P N np τ falls some)
 
--- with any laying's worst time in place of worst2 no number above streams meets the formula (P10, L4)
+-- with any laying's worst time in place of worst2 no number above streams meets the formula (P10, T7.4)
 pub no-laying-feeds-more : (x : Showing) (P N : ℕ) → N ≤ P → 1 < N → (τ : ℕ → ℕ) → Falling P τ → (l : ℕ → ℕ) → Laying P N l
     → (c : ℕ) (over : ℕ → ℕ) (B n : ℕ) → streams c (worstOf x τ (laying x P N) N) over B < n → n ≤ maxStreams → parts * B < load c (worstOf x τ l N) over n
 no-laying-feeds-more x P N np two τ falls l lay c over B n m u =

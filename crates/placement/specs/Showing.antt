@@ -11,23 +11,23 @@ use Rattle.placement.specs.Best.{place-laying, place-high, placement-bes
 use Rattle.placement.specs.Circle.{round, ring, worstRound}
 use Rattle.placement.specs.CircleBest.{ring-laying, ring-high, ring-first, circle-best}
 
--- one showing, or a film that goes round and round (L1)
+-- one showing, or a film that goes round and round (T7.1)
 pub data Showing : Type 0 where
   one loop : Showing
 
--- the position of block b of N on P positions, of which it takes the N highest: `laying x P N b` (P1, L3)
+-- the position of block b of N on P positions, of which it takes the N highest: `laying x P N b` (P1, T7.3)
 abbrev pub laying : Showing → ℕ → ℕ → ℕ → ℕ
 laying one = place
 laying loop = ring
 
--- the worst time of a laying (P10, L2): of two successive blocks the most; in a loop the first follows the last
+-- the worst time of a laying (P10, T7.2): of two successive blocks the most; in a loop the first follows the last
 abbrev pub worstOf : Showing → (ℕ → ℕ) → (ℕ → ℕ) → ℕ → ℕ
 worstOf one = worstTime
 worstOf loop = worstRound
 
 -- ---- the worst pair (document 02, ticket 2)
 
--- the block after b of N (L1): in a loop the last is followed by the first
+-- the block after b of N (T7.1): in a loop the last is followed by the first
 abbrev pub after : Showing → ℕ → ℕ → ℕ
 after one N = suc
 after loop N = round N
@@ -45,7 +45,7 @@ some-pairs loop N h = omega arith
 abbrev pub pairTime : Showing → (ℕ → ℕ) → (ℕ → ℕ) → ℕ → ℕ → ℕ
 pairTime x τ l N b = τ (l b) + τ (l (after x N b))
 
--- the first block of the worst pair, the earliest where several are equal (M1)
+-- the first block of the worst pair, the earliest where several are equal (T2.1)
 unfoldable pub worstAt : Showing → (ℕ → ℕ) → (ℕ → ℕ) → ℕ → ℕ
 worstAt x τ l N = earliestOf (pairTime x τ l N) (pairsOf x N)
 
@@ -81,7 +81,7 @@ module _ (x : Showing) (P N : ℕ) (np : N ≤ P) (τ : ℕ → ℕ) (falls : Fa
       (greatestOf-least (λ b. τ (laying x P N b)) N _ (λ b u. falls (P - N) (laying x P N b) (laying-high x P N b np u) (laying-lays x P N np .into b u)))
       (rw (laying-first x P N) at (greatestOf-above (λ b. τ (laying x P N b)) N 0 some))
 
--- NO LAYING HAS A SMALLER WORST TIME (P10, L4)
+-- NO LAYING HAS A SMALLER WORST TIME (P10, T7.4)
 pub laying-best : (x : Showing) (P N : ℕ) → N ≤ P → 1 < N → (τ : ℕ → ℕ) → Falling P τ → (l : ℕ → ℕ) → Laying P N l
     → worstOf x τ (laying x P N) N ≤ worstOf x τ l N
 laying-best one P N np two τ falls l lay = placement-best P N np τ falls l lay

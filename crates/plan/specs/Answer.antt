@@ -49,7 +49,7 @@ positionsAfter x r ps ls = filled (r .verdict .number) (faultAfter x r ps ls) ps
 unfoldable pub leadsAfter : Showing → CardRead → List ℕ → List ℕ → List ℕ
 leadsAfter x r ps ls = filled (r .verdict .number) (faultAfter x r ps ls) ls (leadsOf x (r .figures))
 
--- a record's figures, judged: 4 to 10, offset 0
+-- a record's figures, judged: 4 to 10 and 26, offset 0
 unfoldable pub judged : Figures → CardRead
 judged f = record { verdict = judgeRecord f; figures = f }
 
@@ -61,7 +61,7 @@ begins [] ws = true
 begins (v ∷ vs) [] = false
 begins (v ∷ vs) (w ∷ ws) = eqb w v && begins vs ws
 
--- two plans have the same streams, buffer, worst2, margin, showing (L7) and worstat (M2)
+-- two plans have the same streams, buffer, worst2, margin, showing (T7.7) and worstat (T2.2)
 abbrev pub sameNumbers : Plan → Plan → Bool
 sameNumbers p q =
     eqb (p .streams) (q .streams)

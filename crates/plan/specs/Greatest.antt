@@ -10,7 +10,7 @@ use Rattle.plan.specs.Plan.{timeOf, worst2Of, filmOf}
 
 -- ---- runs
 
--- j blocks in a row from b on are a run: up to the film's end, or in a loop once round, N blocks (L6)
+-- j blocks in a row from b on are a run: up to the film's end, or in a loop once round, N blocks (T7.6)
 abbrev pub IsRun : Showing → ℕ → ℕ → ℕ → Type 0
 IsRun one N b j = b + j ≤ N
 IsRun loop N b j = j ≤ N
@@ -48,7 +48,7 @@ module _ (x : Showing) (f : Figures) where
     pub feeds : Feeds n
     pub most : (k : ℕ) → n < k → k ≤ maxStreams → TooMany k
 
-  -- ---- M1: the worst pair
+  -- ---- T2.1: the worst pair
 
   -- what block b and the one after it take
   abbrev pub pairOf : ℕ → ℕ

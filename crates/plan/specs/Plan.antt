@@ -1,5 +1,5 @@
 -- The plan of figures in either showing: document 01's terms of 'Laying the film', each over the record of a card, with what document 02's
--- loop (L1 to L7) makes of them.
+-- loop (T7.1 to T7.7) makes of them.
 use Prim.Native.Nat.{ℕ, zero, suc}
 use mathlib.Core.Bool.{cond}
 use mathlib.Core.List.{List, [], _∷_}
@@ -15,7 +15,7 @@ use Rattle.pacing.specs.Streams.{overhead, streams, bufferOf}
 use Rattle.pacing.specs.Laid.{laidFilm, slowest, margin}
 use Rattle.plan.specs.declared.Plan.{Plan}
 
--- ---- which showing it is (L7)
+-- ---- which showing it is (T7.7)
 
 -- the word that stands for a showing in a plan record
 abbrev pub wordOf : Showing → ℕ
@@ -36,7 +36,7 @@ showingIn p = showingOf (p .showing)
 abbrev pub timeOn : Figures → ℕ → ℕ
 timeOn f = timeAt (f .positions) (f .times)
 
--- the position of block b (P1, L3)
+-- the position of block b (P1, T7.3)
 abbrev pub placeOf : Showing → Figures → ℕ → ℕ
 placeOf x f = laying x (totalPositions f) (f .blocks)
 
@@ -44,11 +44,11 @@ placeOf x f = laying x (totalPositions f) (f .blocks)
 abbrev pub timeOf : Showing → Figures → ℕ → ℕ
 timeOf x f b = timeOn f (placeOf x f b)
 
--- worst2 (P3, L2)
+-- worst2 (P3, T7.2)
 unfoldable pub worst2Of : Showing → Figures → ℕ
 worst2Of x f = worstOf x (timeOn f) (placeOf x f) (f .blocks)
 
--- worstat: the first block of the worst pair, the earliest where several are equal (M1)
+-- worstat: the first block of the worst pair, the earliest where several are equal (T2.1)
 unfoldable pub worstAtOf : Showing → Figures → ℕ
 worstAtOf x f = worstAt x (timeOn f) (placeOf x f) (f .blocks)
 
@@ -56,7 +56,7 @@ worstAtOf x f = worstAt x (timeOn f) (placeOf x f) (f .blocks)
 abbrev pub overOf : Figures → ℕ → ℕ
 overOf f = overhead (f .hop) (f .back)
 
--- streams (P4, L5); 0 where not even one fits
+-- streams (P4, T7.5); 0 where not even one fits
 unfoldable pub streamsOf : Showing → Figures → ℕ
 streamsOf x f = streams (f .rate) (worst2Of x f) (overOf f) (f .bytes)
 
@@ -64,7 +64,7 @@ streamsOf x f = streams (f .rate) (worst2Of x f) (overOf f) (f .bytes)
 unfoldable pub slowestOf : Showing → Figures → ℕ
 slowestOf x f = slowest (timeOn f) (placeOf x f) (f .blocks)
 
--- margin (P5, L5)
+-- margin (P5, T7.5)
 unfoldable pub marginOf : Showing → Figures → ℕ
 marginOf x f = margin x (timeOn f) (placeOf x f) (f .blocks)
 
@@ -72,15 +72,15 @@ marginOf x f = margin x (timeOn f) (placeOf x f) (f .blocks)
 abbrev pub filmOf : Showing → Figures → Film ℕ
 filmOf x f = laidFilm x (timeOn f) (placeOf x f) (f .blocks)
 
--- lead(b) (P6, L6)
+-- lead(b) (P6, T7.6)
 abbrev pub leadOf : Showing → Figures → ℕ → ℕ
 leadOf x f = lead (filmOf x f) (worst2Of x f)
 
--- buffer (P7, L5)
+-- buffer (P7, T7.5)
 unfoldable pub bufferSize : Showing → Figures → ℕ
 bufferSize x f = bufferOf (f .rate) (streamsOf x f) (marginOf x f) (f .bytes)
 
--- the plan record (P9, L7, M2)
+-- the plan record (P9, T7.7, T2.2)
 unfoldable pub planOf : Showing → Figures → Plan
 planOf x f = record { figures = f; streams = streamsOf x f; buffer = bufferSize x f; worst2 = worst2Of x f; margin = marginOf x f; showing = wordOf x; worstat = worstAtOf x f }
 

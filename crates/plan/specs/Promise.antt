@@ -110,7 +110,7 @@ promise x f ok some = record {
 -- ---- the best placement
 
 module _ (x : Showing) (f : Figures) (ok : Legal f) (l : ℕ → ℕ) (lay : Laying (totalPositions f) (f .blocks) l) where
-  -- no laying has a smaller worst time (P10, L4)
+  -- no laying has a smaller worst time (P10, T7.4)
   pub best-time : worst2Of x f ≤ worstOf x (timeOn f) l (f .blocks)
   unfolding worst2Of
   best-time = laying-best x (totalPositions f) (f .blocks) (ok .room) (omega (arith, ok .blocks)) (timeOn f) (legal-falling f ok) l lay

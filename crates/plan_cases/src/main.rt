@@ -135,6 +135,17 @@ fn plan_card(letter: u8, card: &[u8], positions: &mut [u8], leads: &mut [u8]) ->
     planner::plan_card(card, positions, leads)
 }
 
+// Plans the card that stands from `start` on.
+fn plan_bytes(text: &[u8], letter: u8, start: usize, positions: &mut [u8], leads: &mut [u8]) {
+    let mut card = io::buffer();
+    let n = read_bytes(text, start, &mut card);
+    print_answer(
+        plan_card(letter, &card[..n], positions, leads),
+        positions,
+        leads,
+    );
+}
+
 // Plans the record or the card that stands from `start` on, with lists of a pattern.
 fn plan_film(text: &[u8], letter: u8, start: usize, positions: &mut [u8], leads: &mut [u8]) {
     fill(positions);
@@ -147,13 +158,7 @@ fn plan_film(text: &[u8], letter: u8, start: usize, positions: &mut [u8], leads:
         );
         return;
     }
-    let mut card = io::buffer();
-    let n = read_bytes(text, start, &mut card);
-    print_answer(
-        plan_card(letter, &card[..n], positions, leads),
-        positions,
-        leads,
-    );
+    plan_bytes(text, letter, start, positions, leads);
 }
 
 // Does what the letter says to what stands from `start` on, with these lists.

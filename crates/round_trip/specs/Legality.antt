@@ -1,6 +1,6 @@
 -- The judge of a record refuses nothing just where the figures are legal.
 -- Assumes nothing.
-use Prim.Native.Nat.{ℕ, zero, suc, _+_, _-_, _≤_, _<_}
+use Prim.Native.Nat.{ℕ, zero, suc, _+_, _*_, _-_, _≤_, _<_}
 use mathlib.Core.Path.{_≡_, refl, sym, ap, _∙_, subst}
 use mathlib.Core.Logic.{by-cases, _↔_}
 use mathlib.Core.List.{List, [], _∷_}
@@ -13,11 +13,11 @@ use lib.Dec.{eqb}
 use borrow.Author.Tests.{eqb-true, eq-eqb}
 use Rattle.laws.specs.Bools.{and-left, and-right, and-both}
 use Rattle.laws.specs.Runs.{allBy, all-at, sumBy}
-use Rattle.numbers.specs.Limits.{maxZones, maxPositions, maxTime, minBlocks, maxBlocks, maxBytes, maxRate, maxMove}
+use Rattle.numbers.specs.Limits.{maxZones, maxPositions, maxTime, timesAsFast, minBlocks, maxBlocks, maxBytes, maxRate, maxMove}
 use Rattle.card.specs.declared.Figures.{Figures}
 use Rattle.card.specs.declared.Verdict.{Verdict}
-use Rattle.card.specs.declared.fields.Rule.the-variants.{Zones, Positions, Time, Blocks, Measure}
-use Rattle.card.specs.Ranges.{faultOf}
+use Rattle.card.specs.declared.fields.Rule.the-variants.{Zones, Positions, Blocks, Measure}
+use Rattle.card.specs.Ranges.{faultOf, timeFault}
 use Rattle.card.specs.Card.{Legal, totalPositions, filmFault, zoneFaults, zerosFrom, unusedZero, recordFault, judgeRecord}
 use Rattle.card.specs.Read.{accepted}
 use Rattle.card.specs.RangeLaws.{first-none, first-clear, zones-range, positions-range, time-range, blocks-range, measure-range, zones-legal, positions-legal, time-legal, blocks-legal, measure-legal}
@@ -84,6 +84,7 @@ record ZonesLegal (left i : ℕ) (f : Figures) (total before : ℕ) : Type 0 whe
   times : (j : ℕ) → i ≤ j → j < i + left → (1 ≤ getD (f .times) j 0) × (getD (f .times) j 0 ≤ maxTime)
   start : 0 < left → getD (f .times) i 0 ≤ before
   falling : (j : ℕ) → i ≤ j → suc j < i + left → getD (f .times) (suc j) 0 ≤ getD (f .times) j 0
+  thrice : (j : ℕ) → i ≤ j → j < i + left → getD (f .times) 0 0 ≤ timesAsFast * getD (f .times) j 0
   sum : total + sumFrom left i f ≤ maxPositions
   film : FilmLegal f (total + sumFrom left i f)
 
@@ -102,14 +103,15 @@ fault-zones-legal zero i f total before w t e =
       times = λ j l h. absurd (omega arith);
       start = λ h. absurd (omega arith);
       falling = λ j l h. absurd (omega arith);
+      thrice = λ j l h. absurd (omega arith);
       sum = omega arith;
       film = fault-film f (total + sumFrom 0 i f) (rw sum e);
     }
 fault-zones-legal (suc left) i f total before w t e =
     let p = first-none (faultOf Positions total (getD (f .positions) i 0)) _ e in
-    let q = first-none (faultOf Time before (getD (f .times) i 0)) _ (p .1) in
+    let q = first-none (timeFault (getD (f .times) 0 0) before (getD (f .times) i 0)) _ (p .1) in
     let few = positions-range total (getD (f .positions) i 0) (p .0) in
-    let slow = time-range before (getD (f .times) i 0) (q .0) in
+    let slow = time-range before (getD (f .times) i 0) (getD (f .times) 0 0) (q .0) in
     let later = fault-zones-legal left (i + 1) f (total + getD (f .positions) i 0) (getD (f .times) i 0) (omega arith) (few .1) (q .1) in
     let next : i + 1 ≡ suc i = omega arith in
     let sum : total + sumFrom (suc left) i f ≡ total + getD (f .positions) i 0 + sumFrom left (i + 1) f = omega (arith, sum-here left i f (omega arith)) in
@@ -120,6 +122,7 @@ fault-zones-legal (suc left) i f total before w t e =
       falling = λ j l h. by-cases (ℕ-discrete i j)
           (λ n. subst (λ (k : ℕ). getD (f .times) (suc k) 0 ≤ getD (f .times) k 0) n (rw (sym next) (later .start (omega arith))))
           (λ n. later .falling j (omega arith) (omega arith));
+      thrice = from-here (λ j. getD (f .times) 0 0 ≤ timesAsFast * getD (f .times) j 0) i left (slow .3) (later .thrice);
       sum = omega (arith, later .sum);
       film = rw sum (later .film);
     }
@@ -140,11 +143,12 @@ zones-legal-fault (suc left) i f total before w l =
       times = λ j m h. l .times j (omega arith) (omega arith);
       start = λ h. rw next (l .falling i (omega arith) (omega arith));
       falling = λ j m h. l .falling j (omega arith) (omega arith);
+      thrice = λ j m h. l .thrice j (omega arith) (omega arith);
       sum = omega (arith, l .sum);
       film = rw (sym sum) (l .film);
     } in
     first-clear (positions-legal total (getD (f .positions) i 0) (l .positions i (omega arith) (omega arith)) (omega (arith, l .sum)))
-    (first-clear (time-legal before (getD (f .times) i 0) (times .0) (times .1) (l .start (omega arith)))
+    (first-clear (time-legal before (getD (f .times) i 0) (getD (f .times) 0 0) (times .0) (times .1) (l .start (omega arith)) (l .thrice i (omega arith) (omega arith)))
     (zones-legal-fault left (i + 1) f (total + getD (f .positions) i 0) (getD (f .times) i 0) (omega arith) later))
 
 -- ---- the unused zones
@@ -225,6 +229,7 @@ fault-legal f w e =
       total = omega (arith, l .sum, sum-total f);
       times = λ i h. l .times i (omega arith) (omega arith);
       falling = λ i h. l .falling i (omega arith) (omega arith);
+      thrice = λ i h. l .thrice i (omega arith) (omega arith);
       blocks = l .film .blocks;
       room = omega (arith, l .film .room, sum-total f);
       bytes = l .film .bytes;
@@ -249,6 +254,7 @@ legal-fault f l =
       times = λ j m h. l .times j (omega arith);
       start = λ h. l .times 0 h .1;
       falling = λ j m h. l .falling j (omega arith);
+      thrice = λ j m h. l .thrice j (omega arith);
       sum = omega (arith, l .total, sum-total f);
       film = film;
     } in

@@ -1,17 +1,18 @@
 -- What is written is read back, and what is accepted is what would be written.
 -- Assumes nothing.
-use Prim.Native.Nat.{ℕ, zero, suc, _+_, _≤_, _<_}
+use Prim.Native.Nat.{ℕ, zero, suc, _+_, _*_, _≤_, _<_}
 use mathlib.Core.Path.{_≡_, refl, sym, ap, ap₂, _∙_, subst}
-use mathlib.Core.Logic.{_↔_}
+use mathlib.Core.Logic.{by-cases, _↔_}
 use mathlib.Core.List.{List, [], _∷_, _++_}
 use mathlib.Core.Bool.{Bool, true, false, cond}
 use native.Mathlib.Omega.{arith}
+use native.Mathlib.Decide.{ℕ-discrete}
 use lib.ListN.{length, getD, take, drop, length-append, length-drop, length-set, take-append-drop, drop-of-length-le}
 use lib.Seq.{length-take-le, drop-append-seam, drop-drop}
 use lib.Dec.{leb, ltb}
 use borrow.Author.Tests.{ltb-false, le-ltb, le-leb}
 use Rattle.laws.specs.Each.{zero-at}
-use Rattle.numbers.specs.Limits.{cardKind, noNumber, maxZones, maxTime, maxBytes, maxRate, maxMove}
+use Rattle.numbers.specs.Limits.{cardKind, noNumber, maxZones, maxTime, timesAsFast, maxBytes, maxRate, maxMove}
 use Rattle.numbers.specs.Refusals.{cardGoesOn}
 use Rattle.leb128.specs.declared.Number.{Number}
 use Rattle.leb128.specs.declared.Number.the-variants as number
@@ -19,16 +20,19 @@ use Rattle.leb128.specs.Number.{Bytes, groups, numberAt}
 use Rattle.leb128.specs.NumberLaws.{Stands, written-read, read-written}
 use Rattle.card.specs.declared.Figures.{Figures}
 use Rattle.card.specs.declared.CardRead.{CardRead}
-use Rattle.card.specs.declared.fields.Rule.{Rule}
-use Rattle.card.specs.declared.fields.Rule.the-variants.{Kind, Zones, Positions, Time, Blocks, Measure}
+use Rattle.card.specs.declared.fields.Rule.the-variants.{Kind, Zones, Positions, Blocks, Measure}
 use Rattle.card.specs.declared.fields.Field.{Field}
 use Rattle.card.specs.declared.fields.Field.the-variants.{Value, Refused}
-use Rattle.card.specs.Ranges.{first, faultOf}
+use Rattle.card.specs.Ranges.{first, faultOf, timeFault}
 use Rattle.card.specs.Card.{Legal, filmFault, zoneFaults, recordFault, filmNumbers, zoneNumbers, numbersOf, bytesOf, cardOf, writeFault, writtenCard, bufferAfter}
 use Rattle.card.specs.Read.{onFault, onNumber, fieldAt, blankZones, blankFigures, accepted, refusedCard, thenField, withZones, withZone, withFilm, cardEnd, filmFrom, zonesFrom, readCard}
-use Rattle.card.specs.RangeLaws.{first-none, first-clear, kind-range, zones-range, positions-range, time-range, kind-legal, zones-legal}
+use Rattle.card.specs.RangeLaws.{first-none, first-clear, kind-range, zones-range, positions-range, time-range, kind-legal, zones-legal, time-legal}
 use Rattle.round_trip.specs.Entries.{Agree, agree-self, agree-all, agree-next, agree-back}
 use Rattle.round_trip.specs.Legality.{Wide, fault-judged, judged-fault, fault-film, fault-legal, legal-fault}
+
+-- a time that is not refused beside one first time is not refused beside another that it is not too fast for
+time-beside : (innermost other before v : ℕ) → other ≤ timesAsFast * v → timeFault innermost before v ≡ 0 → timeFault other before v ≡ 0
+time-beside innermost other before v h e = let r = time-range before v innermost e in time-legal before v other (r .0) (r .1) (r .2) h
 
 -- ---- what is written is read back
 
@@ -55,10 +59,10 @@ module _ {s : List ℕ} {at v : ℕ} {vs : List ℕ} (a : Ahead s at (v ∷ vs))
       rw front at (rw whole at (written-read (take at s) (bytesOf vs) v h))
 
   -- a figure in its range is read, and the card goes on
-  field-goes : (rule : Rule) (bound : ℕ) (go : ℕ → ℕ → CardRead) → v < noNumber → faultOf rule bound v ≡ 0
-      → thenField (fieldAt rule bound s at) go ≡ go v (at + length (groups v))
+  field-goes : (judge : ℕ → ℕ) (go : ℕ → ℕ → CardRead) → v < noNumber → judge v ≡ 0
+      → thenField (fieldAt judge s at) go ≡ go v (at + length (groups v))
   unfolding fieldAt onNumber onFault thenField
-  field-goes rule bound go h e = rw (number-ahead h, e)
+  field-goes judge go h e = rw (number-ahead h, e)
 
 -- no byte is left over
 end-goes : (s : List ℕ) (at : ℕ) (f : Figures) → Ahead s at [] → cardEnd s at f ≡ record { verdict = accepted; figures = f }
@@ -79,18 +83,19 @@ film-goes s at f g total a e =
     let a₂ = ahead-next a₁ in
     let a₃ = ahead-next a₂ in
     let a₄ = ahead-next a₃ in
-    field-goes a Blocks total _ (omega (arith, l .blocks)) (n .0)
-    ∙ field-goes a₁ Measure maxBytes _ (omega (arith, l .bytes)) (b .0)
-    ∙ field-goes a₂ Measure maxRate _ (omega (arith, l .rate)) (c .0)
-    ∙ field-goes a₃ Measure maxMove _ (omega (arith, l .hop)) (h .0)
-    ∙ field-goes a₄ Measure maxMove _ (omega (arith, l .back)) (h .1)
+    field-goes a (faultOf Blocks total) _ (omega (arith, l .blocks)) (n .0)
+    ∙ field-goes a₁ (faultOf Measure maxBytes) _ (omega (arith, l .bytes)) (b .0)
+    ∙ field-goes a₂ (faultOf Measure maxRate) _ (omega (arith, l .rate)) (c .0)
+    ∙ field-goes a₃ (faultOf Measure maxMove) _ (omega (arith, l .hop)) (h .0)
+    ∙ field-goes a₄ (faultOf Measure maxMove) _ (omega (arith, l .back)) (h .1)
     ∙ end-goes s _ _ (ahead-next a₄)
 
--- g has the zone count of f, and its entries but for `left` from the i-th on
+-- g has the zone count of f, and its entries but for `left` from the i-th on; its first time is 0 or that of f
 record Filled (i left : ℕ) (g f : Figures) : Type 0 where
   zones : g .zones ≡ f .zones
   positions : Agree i left (g .positions) (f .positions)
   times : Agree i left (g .times) (f .times)
+  innermost : getD (g .times) 0 0 ≤ getD (f .times) 0 0
 
 -- the zones from the i-th on are read, then the film
 zones-go : (s : List ℕ) (f : Figures) → Wide f → (left at i : ℕ) (g : Figures) (total before : ℕ) → i + left ≤ maxZones → Filled i left g f
@@ -111,16 +116,18 @@ zones-go s f w zero at i g total before b u a e = film-goes s at f g total a e �
     }
 zones-go s f w (suc left) at i g total before b u a e =
     let p = first-none (faultOf Positions total (getD (f .positions) i 0)) _ e in
-    let q = first-none (faultOf Time before (getD (f .times) i 0)) _ (p .1) in
+    let q = first-none (timeFault (getD (f .times) 0 0) before (getD (f .times) i 0)) _ (p .1) in
     let few = positions-range total (getD (f .positions) i 0) (p .0) in
-    let slow = time-range before (getD (f .times) i 0) (q .0) in
+    let slow = time-range before (getD (f .times) i 0) (getD (f .times) 0 0) (q .0) in
+    let times = agree-next i left (g .times) (f .times) (omega (arith, u .times .long)) (u .times) in
     let next : Filled (i + 1) left (withZone g i (getD (f .positions) i 0) (getD (f .times) i 0)) f = record {
       zones = u .zones;
       positions = agree-next i left (g .positions) (f .positions) (omega (arith, u .positions .long)) (u .positions);
-      times = agree-next i left (g .times) (f .times) (omega (arith, u .times .long)) (u .times);
+      times = times;
+      innermost = omega (arith, times .low 0 (omega arith));
     } in
-    field-goes a Positions total _ (omega arith) (p .0)
-    ∙ field-goes (ahead-next a) Time before _ (omega arith) (q .0)
+    field-goes a (faultOf Positions total) _ (omega arith) (p .0)
+    ∙ field-goes (ahead-next a) (timeFault (getD (g .times) 0 0) before) _ (omega arith) (time-beside (getD (f .times) 0 0) (getD (g .times) 0 0) before (getD (f .times) i 0) (omega (arith, u .innermost)) (q .0))
     ∙ zones-go s f w left _ (i + 1) _ _ _ (omega arith) next (ahead-next (ahead-next a)) (q .1)
 
 -- the entries of a record before any is read
@@ -142,38 +149,39 @@ card-read f w e =
       zones = refl;
       positions = record { long = blank-long ∙ sym (w .0); low = λ i h. absurd (omega arith); high = λ i h. blank-at i ∙ sym (j .unused i (omega arith) .0) };
       times = record { long = blank-long ∙ sym (w .1); low = λ i h. absurd (omega arith); high = λ i h. blank-at i ∙ sym (j .unused i (omega arith) .1) };
+      innermost = omega (arith, blank-at 0);
     } in
-    field-goes a Kind 0 _ (omega arith) (kind-legal 0)
-    ∙ field-goes (ahead-next a) Zones 0 _ (omega (arith, j .zones)) (zones-legal 0 (f .zones) (j .zones .0) (j .zones .1))
+    field-goes a (faultOf Kind 0) _ (omega arith) (kind-legal 0)
+    ∙ field-goes (ahead-next a) (faultOf Zones 0) _ (omega (arith, j .zones)) (zones-legal 0 (f .zones) (j .zones .0) (j .zones .1))
     ∙ zones-go (cardOf f) f w (f .zones) _ 0 _ 0 maxTime (omega (arith, j .zones)) u (ahead-next (ahead-next a)) (j .faults)
 
 -- ---- what is accepted is what would be written
 
 -- the figure at an offset of s: its value in its range, and its bytes
-record Got (rule : Rule) (bound : ℕ) (s : List ℕ) (at : ℕ) : Type 0 where
+record Got (judge : ℕ → ℕ) (s : List ℕ) (at : ℕ) : Type 0 where
   value : ℕ
   next : ℕ
-  reads : fieldAt rule bound s at ≡ Value value next
-  clear : faultOf rule bound value ≡ 0
+  reads : fieldAt judge s at ≡ Value value next
+  clear : judge value ≡ 0
   stands : Stands s at value next
 
-module _ (rule : Rule) (bound : ℕ) (s : List ℕ) (at : ℕ) (go : ℕ → ℕ → CardRead) where
-  got-goes : (g : Got rule bound s at) → thenField (fieldAt rule bound s at) go ≡ go (g .value) (g .next)
+module _ (judge : ℕ → ℕ) (s : List ℕ) (at : ℕ) (go : ℕ → ℕ → CardRead) where
+  got-goes : (g : Got judge s at) → thenField (fieldAt judge s at) go ≡ go (g .value) (g .next)
   unfolding thenField
   got-goes g = rw (g .reads)
 
   -- an accepted card has the figure and goes on after it
-  accepted-field : {A : Type 0} → Bytes s → thenField (fieldAt rule bound s at) go .verdict .number ≡ 0
-      → ((g : Got rule bound s at) → go (g .value) (g .next) .verdict .number ≡ 0 → A) → A
+  accepted-field : {A : Type 0} → Bytes s → thenField (fieldAt judge s at) go .verdict .number ≡ 0
+      → ((g : Got judge s at) → go (g .value) (g .next) .verdict .number ≡ 0 → A) → A
   unfolding fieldAt onNumber onFault thenField refusedCard
   accepted-field {A} y e on = by (numberAt s at) refl e
     where
-      judged : (v next : ℕ) → numberAt s at ≡ number.Value v next → (k : ℕ) → faultOf rule bound v ≡ k → thenField (onFault k at v next) go .verdict .number ≡ 0 → A
+      judged : (v next : ℕ) → numberAt s at ≡ number.Value v next → (k : ℕ) → judge v ≡ k → thenField (onFault k at v next) go .verdict .number ≡ 0 → A
       judged v next n zero q e = on (record { value = v; next = next; reads = rw (n, q); clear = q; stands = read-written s at v next y n }) e
       judged v next n (suc k) q e = absurd (omega arith)
 
-      by : (n : Number) → numberAt s at ≡ n → thenField (onNumber (faultOf rule bound) at n) go .verdict .number ≡ 0 → A
-      by (number.Value v next) n e = judged v next n (faultOf rule bound v) refl e
+      by : (n : Number) → numberAt s at ≡ n → thenField (onNumber judge at n) go .verdict .number ≡ 0 → A
+      by (number.Value v next) n e = judged v next n (judge v) refl e
       by (number.CutOff size) n e = absurd (omega arith)
       by (number.Malformed start) n e = absurd (omega arith)
 
@@ -204,7 +212,7 @@ ahead-more {v = v} n a = record { inside = omega (arith, n .after, n .inside); b
 
 -- the film's five figures and the end are a rest with no zones
 film-rest : (s : List ℕ) (at i : ℕ) (f : Figures) (total before : ℕ)
-    (n : Got Blocks total s at) (b : Got Measure maxBytes s (n .next)) (c : Got Measure maxRate s (b .next)) (h : Got Measure maxMove s (c .next)) (r : Got Measure maxMove s (h .next))
+    (n : Got (faultOf Blocks total) s at) (b : Got (faultOf Measure maxBytes) s (n .next)) (c : Got (faultOf Measure maxRate) s (b .next)) (h : Got (faultOf Measure maxMove) s (c .next)) (r : Got (faultOf Measure maxMove) s (h .next))
     → cardEnd s (r .next) (withFilm f (n .value) (b .value) (c .value) (h .value) (r .value)) .verdict .number ≡ 0 → Rest zero s at i f total before
 unfolding filmFrom zonesFrom zoneFaults zoneNumbers filmFault filmNumbers
 film-rest s at i f total before n b c h r e = by (end-got s (r .next) g (r .stands .inside) e)
@@ -215,8 +223,8 @@ film-rest s at i f total before n b c h r e = by (end-got s (r .next) g (r .stan
     by : (cardEnd s (r .next) g ≡ record { verdict = accepted; figures = g }) × Ahead s (r .next) [] → Rest zero s at i f total before
     by end = record {
       figures = g;
-      is = got-goes Blocks total s at _ n ∙ got-goes Measure maxBytes s (n .next) _ b ∙ got-goes Measure maxRate s (b .next) _ c
-          ∙ got-goes Measure maxMove s (c .next) _ h ∙ got-goes Measure maxMove s (h .next) _ r ∙ end .0;
+      is = got-goes (faultOf Blocks total) s at _ n ∙ got-goes (faultOf Measure maxBytes) s (n .next) _ b ∙ got-goes (faultOf Measure maxRate) s (b .next) _ c
+          ∙ got-goes (faultOf Measure maxMove) s (c .next) _ h ∙ got-goes (faultOf Measure maxMove) s (h .next) _ r ∙ end .0;
       zones = refl;
       positions = agree-self i (f .positions);
       times = agree-self i (f .times);
@@ -228,31 +236,37 @@ film-rest s at i f total before n b c h r e = by (end-got s (r .next) g (r .stan
 film-got : (s : List ℕ) (at i : ℕ) (f : Figures) (total before : ℕ) → Bytes s → filmFrom s at f total .verdict .number ≡ 0 → Rest zero s at i f total before
 unfolding filmFrom
 film-got s at i f total before y e =
-    accepted-field Blocks total s at _ y e (λ n e₁.
-    accepted-field Measure maxBytes s (n .next) _ y e₁ (λ b e₂.
-    accepted-field Measure maxRate s (b .next) _ y e₂ (λ c e₃.
-    accepted-field Measure maxMove s (c .next) _ y e₃ (λ h e₄.
-    accepted-field Measure maxMove s (h .next) _ y e₄ (λ r e₅.
+    accepted-field (faultOf Blocks total) s at _ y e (λ n e₁.
+    accepted-field (faultOf Measure maxBytes) s (n .next) _ y e₁ (λ b e₂.
+    accepted-field (faultOf Measure maxRate) s (b .next) _ y e₂ (λ c e₃.
+    accepted-field (faultOf Measure maxMove) s (c .next) _ y e₃ (λ h e₄.
+    accepted-field (faultOf Measure maxMove) s (h .next) _ y e₄ (λ r e₅.
     film-rest s at i f total before n b c h r e₅)))))
 
 -- a zone in front of a rest is a rest with one zone more
 zone-rest : (left : ℕ) (s : List ℕ) (at i : ℕ) (f : Figures) (total before : ℕ) → i < maxZones → Wide f
-    → (p : Got Positions total s at) (t : Got Time before s (p .next))
+    → (p : Got (faultOf Positions total) s at) (t : Got (timeFault (getD (f .times) 0 0) before) s (p .next))
     → Rest left s (t .next) (i + 1) (withZone f i (p .value) (t .value)) (total + p .value) (t .value) → Rest (suc left) s at i f total before
 unfolding zonesFrom zoneFaults zoneNumbers
 zone-rest left s at i f total before b w p t r =
     by (agree-back i left (f .positions) (r .figures .positions) (omega arith) (p .value) (r .positions))
     (agree-back i left (f .times) (r .figures .times) (omega arith) (t .value) (r .times))
   where
+    -- the first time is the one that was read before, or this one
+    thrice : getD (r .figures .times) i 0 ≡ t .value → Agree i (suc left) (f .times) (r .figures .times) → getD (r .figures .times) 0 0 ≤ timesAsFast * t .value
+    thrice e a = by-cases (ℕ-discrete 0 i)
+        (λ n. omega (arith, subst (λ (k : ℕ). getD (r .figures .times) k 0 ≡ t .value) (sym n) e))
+        (λ n. omega (arith, a .low 0 (omega arith), time-range before (t .value) (getD (f .times) 0 0) (t .clear)))
+
     by : (getD (r .figures .positions) i 0 ≡ p .value) × Agree i (suc left) (f .positions) (r .figures .positions)
         → (getD (r .figures .times) i 0 ≡ t .value) × Agree i (suc left) (f .times) (r .figures .times) → Rest (suc left) s at i f total before
     by ps ts = record {
       figures = r .figures;
-      is = got-goes Positions total s at _ p ∙ got-goes Time before s (p .next) _ t ∙ r .is;
+      is = got-goes (faultOf Positions total) s at _ p ∙ got-goes (timeFault (getD (f .times) 0 0) before) s (p .next) _ t ∙ r .is;
       zones = r .zones;
       positions = ps .1;
       times = ts .1;
-      faults = rw (ps .0, ts .0) (first-clear (p .clear) (first-clear (t .clear) (r .faults)));
+      faults = rw (ps .0, ts .0) (first-clear (p .clear) (first-clear (time-beside _ _ before (t .value) (thrice (ts .0) (ts .1)) (t .clear)) (r .faults)));
       ahead = rw (ps .0, ts .0) (ahead-more (p .stands) (ahead-more (t .stands) (r .ahead)));
     }
 
@@ -262,8 +276,8 @@ zones-got : (left : ℕ) (s : List ℕ) (at i : ℕ) (f : Figures) (total before
 unfolding zonesFrom
 zones-got zero s at i f total before y b w e = film-got s at i f total before y e
 zones-got (suc left) s at i f total before y b w e =
-    accepted-field Positions total s at _ y e (λ p e₁.
-    accepted-field Time before s (p .next) _ y e₁ (λ t e₂.
+    accepted-field (faultOf Positions total) s at _ y e (λ p e₁.
+    accepted-field (timeFault (getD (f .times) 0 0) before) s (p .next) _ y e₁ (λ t e₂.
     zone-rest left s at i f total before (omega arith) w p t
     (zones-got left s (t .next) (i + 1) (withZone f i (p .value) (t .value)) (total + p .value) (t .value) y (omega arith)
     (length-set (f .positions) i (p .value) ∙ w .0, length-set (f .times) i (t .value) ∙ w .1) e₂)))
@@ -285,7 +299,7 @@ unfolding cardOf numbersOf
 ahead-whole s f kind zones one e a = a .bytes ∙ ap₂ (λ (k z : ℕ). bytesOf (k ∷ z ∷ zoneNumbers z 0 f)) one e
 
 -- kind, zone count and the rest are the whole card
-accepted-rest : (s : List ℕ) (k : Got Kind 0 s 0) (z : Got Zones 0 s (k .next)) → k .value ≡ cardKind → (1 ≤ z .value) × (z .value ≤ maxZones)
+accepted-rest : (s : List ℕ) (k : Got (faultOf Kind 0) s 0) (z : Got (faultOf Zones 0) s (k .next)) → k .value ≡ cardKind → (1 ≤ z .value) × (z .value ≤ maxZones)
     → (r : Rest (z .value) s (z .next) 0 (withZones (z .value)) 0 maxTime) → AcceptedWith s (r .figures)
 unfolding readCard
 accepted-rest s k z one few r = record {
@@ -296,22 +310,22 @@ accepted-rest s k z one few r = record {
     faults = subst (λ (n : ℕ). zoneFaults n 0 (r .figures) 0 maxTime ≡ 0) (sym (r .zones)) (r .faults);
   });
   same = ahead-whole s (r .figures) (k .value) (z .value) one (sym (r .zones)) (ahead-more (k .stands) (ahead-more (z .stands) (r .ahead)));
-  whole = got-goes Kind 0 s 0 _ k ∙ got-goes Zones 0 s (k .next) _ z ∙ r .is;
+  whole = got-goes (faultOf Kind 0) s 0 _ k ∙ got-goes (faultOf Zones 0) s (k .next) _ z ∙ r .is;
 }
 
 -- AN ACCEPTED CARD IS THE CARD OF ITS FIGURES
 pub read-card : (s : List ℕ) → Bytes s → readCard s .verdict .number ≡ 0 → AcceptedCard s
 unfolding readCard
 read-card s y e =
-    accepted-field Kind 0 s 0 _ y e (λ k e₁.
-    accepted-field Zones 0 s (k .next) _ y e₁ (λ z e₂.
+    accepted-field (faultOf Kind 0) s 0 _ y e (λ k e₁.
+    accepted-field (faultOf Zones 0) s (k .next) _ y e₁ (λ z e₂.
     by k z (zones-range 0 (z .value) (z .clear)) e₂))
   where
     -- the figures found are those of the answer
     answered : {g : Figures} → AcceptedWith s g → AcceptedCard s
     answered a = subst (AcceptedWith s) (ap (λ (x : CardRead). x .figures) (sym (a .whole))) a
 
-    by : (k : Got Kind 0 s 0) (z : Got Zones 0 s (k .next)) → (1 ≤ z .value) × (z .value ≤ maxZones)
+    by : (k : Got (faultOf Kind 0) s 0) (z : Got (faultOf Zones 0) s (k .next)) → (1 ≤ z .value) × (z .value ≤ maxZones)
         → zonesFrom (z .value) s (z .next) 0 (withZones (z .value)) 0 maxTime .verdict .number ≡ 0 → AcceptedCard s
     by k z few e = answered (accepted-rest s k z (kind-range 0 (k .value) (k .clear)) few
         (zones-got (z .value) s (z .next) 0 (withZones (z .value)) 0 maxTime y (omega arith) (blank-long, blank-long) e))

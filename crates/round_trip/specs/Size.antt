@@ -12,8 +12,8 @@ use borrow.Author.Tests.{ltb-false}
 use Rattle.numbers.specs.Limits.{maxTime}
 use Rattle.leb128.specs.Number.{groupsFrom, groups}
 use Rattle.card.specs.declared.Figures.{Figures}
-use Rattle.card.specs.declared.fields.Rule.the-variants.{Positions, Time}
-use Rattle.card.specs.Ranges.{faultOf}
+use Rattle.card.specs.declared.fields.Rule.the-variants.{Positions}
+use Rattle.card.specs.Ranges.{faultOf, timeFault}
 use Rattle.card.specs.Card.{Legal, filmFault, zoneFaults, filmNumbers, zoneNumbers, numbersOf, bytesOf, cardOf}
 use Rattle.card.specs.RangeLaws.{first-none, positions-range, time-range}
 use Rattle.round_trip.specs.Legality.{fault-film, fault-judged, legal-fault}
@@ -56,9 +56,9 @@ unfolding zoneFaults zoneNumbers
 zones-size zero i f total before e = film-size f total e
 zones-size (suc left) i f total before e =
     let p = first-none (faultOf Positions total (getD (f .positions) i 0)) _ e in
-    let q = first-none (faultOf Time before (getD (f .times) i 0)) _ (p .1) in
+    let q = first-none (timeFault (getD (f .times) 0 0) before (getD (f .times) i 0)) _ (p .1) in
     let few = positions-range total (getD (f .positions) i 0) (p .0) in
-    let slow = time-range before (getD (f .times) i 0) (q .0) in
+    let slow = time-range before (getD (f .times) i 0) (getD (f .times) 0 0) (q .0) in
     omega (
       arith,
       bytes-more 2 (getD (f .positions) i 0) (getD (f .times) i 0 ∷ zoneNumbers left (i + 1) f) (omega arith),

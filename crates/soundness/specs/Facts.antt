@@ -39,7 +39,7 @@ pub record Tells (r : Bool) (P : Type 0) : Type 0 where
 
 -- a slot's kind k, next block x and held bytes h, but for the low-water mark: `each kind is 0 to 4, free slots .. are zero, asked slots
 -- hold 0, next is below N for kinds 1 to 3 and N for tail, tail holds 1 or more, no slot holds above the buffer`. In a loop, which the plan's
--- word w tells, none is tail (L8)
+-- word w tells, none is tail (T7.8)
 pub record Tidy (w N buffer k x h : ℕ) : Type 0 where
   pub kinds : k ≤ draining
   pub zeros : k ≡ free → (x ≡ 0) × (h ≡ 0)

@@ -75,7 +75,7 @@ module _ (x : Showing) (s p ps ls : List ℕ) where
     unfolding planAnswer verdictAnswer planString planFilled
     written = rw (eq-eqb (length p) planSize l, ne-eqb (plannedOf x (readCard s) p ps ls .verdict .number) tooShort n)
 
-    -- after 1 to 12 it is all zero
+    -- after 1 to 12 and 26 it is all zero
     pub plan-cleared : (numberOf x s p ps ls ≡ 0 → ⊥) → planString x s p ps ls ≡ zeroBytes planSize
     unfolding planAnswer verdictAnswer plannedOf
     plan-cleared h =

@@ -50,8 +50,8 @@ pub fn every_list_of_strings_safe()
         → (length (stringsAfter P (openString P ps ls D) xs .desk) ≡ deskSize) × Safe (planIn (wordsOf P)) (onString P (openString P ps ls D)) xs) ⌝ }
 {}
 
-// What the plan call of either showing leaves in the plan string and the lists: accepted, the plan of the card's figures; after 1 to 12 zeros;
-// after 13, and where it has another length, what it held. A refused call leaves both lists.
+// What the plan call of either showing leaves in the plan string and the lists: accepted, the plan of the card's figures; after 1 to 12 and 26
+// zeros; after 13, and where it has another length, what it held. A refused call leaves both lists.
 pub fn plan_call_leaves()
     ensures accepted { λ _. ⌜ ((x : Showing) (s p ps ls : List ℕ) → Bytes s → planAnswer x s p ps ls .number ≡ 0 → planIn (wordsOf (planString x s p ps ls)) ≡ planOf x (readCard s .figures)) ⌝ }
     ensures cleared { λ _. ⌜ ((x : Showing) (s p ps ls : List ℕ) → length p ≡ planSize → (planAnswer x s p ps ls .number ≡ 13 → ⊥) → (planAnswer x s p ps ls .number ≡ 0 → ⊥) → planString x s p ps ls ≡ zeroBytes planSize) ⌝ }

@@ -41,6 +41,14 @@ pub fn bench_zero_time() -> Figures {
     figures
 }
 
+/// The bench film with other times of the first and the last zone.
+pub fn bench_times(first: u32, last: u32) -> Figures {
+    let mut figures = bench_film();
+    figures.times[0] = first;
+    figures.times[5] = last;
+    figures
+}
+
 /// One zone, 3 positions of 20000, N 3.
 pub fn three_alike() -> Figures {
     figures_of(&[(3, 20_000)], 3, 262_144, 500_000)
@@ -76,6 +84,10 @@ pub fn fixed_cards() -> Vec<Vec<u8>> {
     let records = [
         bench_film(),
         bench_zero_time(),
+        bench_times(22_270, 3),
+        bench_times(22_270, 7423),
+        bench_times(22_269, 7423),
+        bench_times(22_268, 7423),
         bench_bytes(260_820),
         bench_bytes(260_819),
         bench_blocks(5),

@@ -8,6 +8,8 @@ pub const MAX_ZONES: u32 = 64;
 /// Greatest total P of all zones' positions.
 pub const MAX_POSITIONS: u32 = 1_048_576;
 pub const MAX_TIME: u32 = 4_000_000;
+/// A zone time, times this, is not below the first zone's (02, ticket 8).
+pub const TIMES_AS_FAST: u32 = 3;
 pub const MIN_BLOCKS: u32 = 2;
 pub const MAX_BLOCKS: u32 = 16_384;
 pub const MAX_BLOCK_BYTES: u32 = 4_194_304;
@@ -135,15 +137,19 @@ fn judge_positions(count: u32, total: u64) -> Result<(), u32> {
     Ok(())
 }
 
-/// A zone's time, after the time of the zone before if there is one.
-fn judge_time(time: u32, before: Option<u32>) -> Result<(), u32> {
+/// A zone's time, after the times of the zones before it: its range, then the last of these, then
+/// the first.
+fn judge_time(time: u32, before: &[u32]) -> Result<(), u32> {
     if !(1..=MAX_TIME).contains(&time) {
         return Err(cause::TIME);
     }
-    match before {
-        Some(before) if time > before => Err(cause::TIME_RISES),
-        _ => Ok(()),
+    if before.last().is_some_and(|&last| time > last) {
+        return Err(cause::TIME_RISES);
     }
+    if before.first().is_some_and(|&first| time * TIMES_AS_FAST < first) {
+        return Err(cause::HALF_DEAD);
+    }
+    Ok(())
 }
 
 /// N, on a disk of `total` positions.
@@ -165,15 +171,6 @@ fn judge_other(value: u32, greatest: u32) -> Result<(), u32> {
     Ok(())
 }
 
-/// The time of the zone before `zone`.
-fn time_before(figures: &Figures, zone: usize) -> Option<u32> {
-    if zone == 0 {
-        None
-    } else {
-        Some(figures.times[zone - 1])
-    }
-}
-
 /// Is each zone entry past the zone count zero?
 fn unused_zones_zero(figures: &Figures) -> bool {
     let used = figures.zones as usize;
@@ -181,7 +178,7 @@ fn unused_zones_zero(figures: &Figures) -> bool {
         && figures.times[used..].iter().all(|&time| time == 0)
 }
 
-/// Judges figures given as a record: 4 to 10 in the order of the card, zone by zone.
+/// Judges figures given as a record: 4 to 10 and 26 in the order of the card, zone by zone.
 pub fn judge_record(figures: &Figures) -> Result<(), u32> {
     judge_zone_count(figures.zones)?;
     if !unused_zones_zero(figures) {
@@ -190,7 +187,7 @@ pub fn judge_record(figures: &Figures) -> Result<(), u32> {
     let mut total = 0;
     for zone in 0..figures.zones as usize {
         judge_positions(figures.positions[zone], total)?;
-        judge_time(figures.times[zone], time_before(figures, zone))?;
+        judge_time(figures.times[zone], &figures.times[..zone])?;
         total += figures.positions[zone] as u64;
     }
     judge_blocks(figures.blocks, total)?;
@@ -227,7 +224,7 @@ impl Reader<'_> {
     }
 }
 
-/// Reads a card number by number; the first fault ends it: 1 to 11.
+/// Reads a card number by number; the first fault ends it: 1 to 11, and 26.
 pub fn read_card(card: &[u8]) -> Result<Figures, Refusal> {
     let mut reader = Reader { card, offset: 0 };
     let mut figures = Figures::zero();
@@ -237,8 +234,7 @@ pub fn read_card(card: &[u8]) -> Result<Figures, Refusal> {
     for zone in 0..figures.zones as usize {
         figures.positions[zone] = reader.field(|count| judge_positions(count, total))?;
         total += figures.positions[zone] as u64;
-        let before = time_before(&figures, zone);
-        figures.times[zone] = reader.field(|time| judge_time(time, before))?;
+        figures.times[zone] = reader.field(|time| judge_time(time, &figures.times[..zone]))?;
     }
     figures.blocks = reader.field(|blocks| judge_blocks(blocks, total))?;
     figures.block_bytes = reader.field(|bytes| judge_other(bytes, MAX_BLOCK_BYTES))?;
@@ -265,8 +261,8 @@ pub fn card_bytes(figures: &Figures) -> Vec<u8> {
     card_numbers(figures).into_iter().flat_map(number_bytes).collect()
 }
 
-/// Writes the card of a record and answers its length: 4 to 10, then 13, each with place 0. Bytes
-/// past the card keep their contents; a refusal writes none.
+/// Writes the card of a record and answers its length: 4 to 10 and 26, then 13, each with place 0.
+/// Bytes past the card keep their contents; a refusal writes none.
 pub fn write_card(figures: &Figures, lent: &mut [u8]) -> Result<usize, Refusal> {
     if let Err(number) = judge_record(figures) {
         return refuse(number, 0);

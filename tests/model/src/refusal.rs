@@ -1,4 +1,4 @@
-//! A call turned down: 01's number of the cause and the place that goes with it.
+//! A call turned down: 01's or 02's number of the cause and the place that goes with it.
 
 /// Number and offset of a card, number and slot of a desk call. Place 0 where only the number is
 /// returned.
@@ -8,7 +8,7 @@ pub struct Refusal {
     pub place: u64,
 }
 
-/// The causes by 01's numbers.
+/// The causes by 01's numbers, and 02's from 22 on.
 pub mod cause {
     pub const ENDS_EARLY: u32 = 1;
     pub const BAD_NUMBER: u32 = 2;
@@ -31,6 +31,7 @@ pub mod cause {
     pub const DRAW_LIST: u32 = 19;
     pub const DRAW_ABOVE_LIMIT: u32 = 20;
     pub const DRAW_ABOVE_HELD: u32 = 21;
+    pub const HALF_DEAD: u32 = 26;
 }
 
 /// The answer of a refused call.

@@ -9,7 +9,7 @@ struct Word {
     line: usize,
 }
 
-/// A text turned down: 01's number and the line.
+/// A text turned down: the refusal's number and the line.
 #[derive(Clone, Copy, Debug, PartialEq, Eq)]
 pub struct TextRefusal {
     pub number: u32,
@@ -74,7 +74,7 @@ pub fn card_of_text(text: &[u8]) -> Result<Vec<u8>, TextRefusal> {
     }
 }
 
-/// 01's meaning of a number, in the words of a text.
+/// The meaning of a number, in the words of a text.
 fn meaning(number: u32) -> &'static str {
     match number {
         1 => "text ends too early",
@@ -87,6 +87,7 @@ fn meaning(number: u32) -> &'static str {
         8 => "film blocks out of range",
         9 => "film blocks above positions",
         10 => "block bytes, rate, hop or return out of range",
+        cause::HALF_DEAD => "zone time, times three, below the first zone's time",
         _ => "numbers left over",
     }
 }

@@ -112,8 +112,40 @@ fn order_of_the_faults() {
     assert_eq!(refusal(&card(&[1, 2, 1, 9, 1, 4_000_001])), (6, 5));
     assert_eq!(refusal(&card(&[1, 2, 1, 9, 1, 10])), (7, 5));
     assert_eq!(refusal(&card(&[1, 2, 1, 9, 1, 9, 2, 1, 1, 1, 1])), (0, 0));
+    // 0, times three, is below any time, but out of range: 6. Too fast, then a zone that rises: 26 at
+    // the first of them.
+    assert_eq!(refusal(&card(&[1, 2, 1, 9, 1, 0])), (6, 5));
+    assert_eq!(refusal(&card(&[1, 3, 1, 9, 1, 2, 1, 3])), (26, 5));
+    assert_eq!(refusal(&card(&[1, 3, 1, 9, 1, 10, 1, 2])), (7, 5));
     // Out of range and above P: 8.
     assert_eq!(refusal(&card(&[1, 1, 2, 1, 16_385])), (8, 4));
+}
+
+/// Three times a zone's time against the first zone's, not against the one before: one below, the
+/// same and one above, from the least times to the greatest.
+#[test]
+fn third_of_the_first_time() {
+    for time in [1, 2, 3, 100, 1_333_333] {
+        let last = |first, between| {
+            let numbers = [1, 3, 1, first, 1, between, 1, time, 2, 1, 1, 1, 1];
+            let offset = card(&numbers[..7]).len() as u64;
+            let (number, place) = refusal(&card(&numbers));
+            let figures = figures_of(&[(1, first), (1, between), (1, time)], 2, 1, 1);
+            assert_eq!(judge_record(&figures).err().unwrap_or(0), number);
+            assert!(number == 0 || place == offset);
+            number
+        };
+        for between in [time, 2 * time] {
+            assert_eq!(last(3 * time - 1, between), 0);
+            assert_eq!(last(3 * time, between), 0);
+            assert_eq!(last(3 * time + 1, 3 * time), 26);
+        }
+    }
+    // No first zone is too fast, and a drive that fails is found at its zone.
+    assert_eq!(refusal(&card(&[1, 1, 2, 1, 2, 1, 1, 1, 1])), (0, 0));
+    assert_eq!(refusal(&card(&[1, 2, 1, 22_270, 1, 3])), (26, 7));
+    assert_eq!(refusal(&card(&[1, 2, 1, 22_270, 1, 7423])), (26, 7));
+    assert_eq!(refusal(&card(&[1, 2, 1, 22_270, 1, 7424])), (1, 9));
 }
 
 /// 11 goes before 13, and 13 before 12, each with place 0.
@@ -240,8 +272,8 @@ fn legal_cards_are_accepted() {
 }
 
 /// How often each refusal is met in so many tries.
-fn tally(tries: usize, mut number: impl FnMut() -> u32) -> [usize; 22] {
-    let mut counts = [0; 22];
+fn tally(tries: usize, mut number: impl FnMut() -> u32) -> [usize; 27] {
+    let mut counts = [0; 27];
     for _ in 0..tries {
         counts[number() as usize] += 1;
     }
@@ -252,19 +284,19 @@ fn tally(tries: usize, mut number: impl FnMut() -> u32) -> [usize; 22] {
 fn damaged_cards_meet_each_refusal() {
     let mut rng = Rng::new(6);
     let counts = tally(50_000, || refusal(&damaged_card(&mut rng)).0);
-    for number in 1..=11 {
+    for number in (1..=11).chain([26]) {
         assert!(counts[number] > 500, "refusal {number}: {counts:?}");
     }
 }
 
-/// The cards of the listing comparison: accepted ones, and each refusal up to 12.
+/// The cards of the listing comparison: accepted ones, each refusal up to 12, and 26.
 #[test]
 fn any_cards_meet_each_answer() {
     let mut rng = Rng::new(9);
     let planned = |card: &[u8]| plan_card(card, 16_384, 16_384);
     let counts =
         tally(5000, || planned(&any_card(&mut rng)).map_or_else(|refusal| refusal.number, |_| 0));
-    for number in 0..=12 {
+    for number in (0..=12).chain([26]) {
         assert!(counts[number] > 50, "refusal {number}: {counts:?}");
     }
     assert!(counts[0] > 1000, "{counts:?}");
@@ -274,7 +306,7 @@ fn any_cards_meet_each_answer() {
 fn records_meet_each_refusal() {
     let mut rng = Rng::new(7);
     let counts = tally(50_000, || judge_record(&any_figures(&mut rng)).err().unwrap_or(0));
-    for number in [0, 4, 5, 6, 7, 8, 9, 10] {
+    for number in [0, 4, 5, 6, 7, 8, 9, 10, 26] {
         assert!(counts[number] > 300, "refusal {number}: {counts:?}");
     }
 }

@@ -147,7 +147,7 @@ fn closed_forms() {
 #[test]
 fn refusals_of_cards() {
     let mut rng = Rng::new(42);
-    let mut met = [0; 14];
+    let mut met = [0; 27];
     for _ in 0..20_000 {
         let card = any_card(&mut rng);
         let blocks = read_card(&card).map_or(2, |figures| figures.blocks as usize);
@@ -164,7 +164,7 @@ fn refusals_of_cards() {
             assert_eq!(record, plan_loop_card(&card, positions, leads));
         }
     }
-    assert!(met.iter().all(|&count| count > 20), "{met:?}");
+    assert!(met[..14].iter().chain([&met[26]]).all(|&count| count > 20), "{met:?}");
 }
 
 #[test]

@@ -170,20 +170,23 @@ fn equality_fits() {
     assert_eq!(at(most + 1000), Some(256));
 }
 
-/// The greatest buffer, and the round bounds of accepted plans.
+/// The greatest buffer, and the round bounds of accepted plans. The greatest of document 01 alone is
+/// of a card that document 02 refuses by 26.
 #[test]
 fn greatest_figures() {
-    let zones = [(1, 3_998_506), (1, 1)];
-    let figures = Figures { hop: 1, ret: 1, ..figures_of(&zones, 2, 4_194_304, 9242) };
-    let plan = plan_of(&figures, Showing::Once).unwrap().plan;
-    assert_eq!((plan.streams, plan.margin, plan.buffer), (227, 3_998_505, 16_777_212));
+    let zones = [(1, 3_999_012), (1, 1_333_004)];
+    let figures = Figures { hop: 1, ret: 1, ..figures_of(&zones, 2, 4_194_304, 8692) };
+    let plan = plan_record(&figures, 2, 2).unwrap().plan;
+    assert_eq!((plan.streams, plan.margin, plan.buffer), (181, 2_666_008, 14_680_064));
+    let figures = figures_of(&[(1, 3_998_506), (1, 1)], 2, 4_194_304, 9242);
+    assert_eq!(plan_record(&figures, 2, 2), Err(Refusal { number: 26, place: 0 }));
     let mut rng = Rng::new(16);
     for case in 0..10_000 {
         let showing = Showing::ALL[case % 2];
         let figures = tight_figures(&mut rng, showing, 20);
         if let Some(Planned { plan, leads, .. }) = plan_of(&figures, showing) {
             assert!(plan.buffer <= 4 * plan.figures.block_bytes);
-            assert!(plan.margin < plan.worst2);
+            assert!(2 * plan.margin <= plan.worst2);
             assert_eq!(leads.iter().max(), Some(&plan.margin));
         }
     }

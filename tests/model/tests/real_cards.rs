@@ -2,12 +2,30 @@
 
 use film_disk_model::bench::{barracuda, deskstar, figures_of};
 use film_disk_model::plan::{plan_of, times, worst2};
-use film_disk_model::{Figures, Showing};
+use film_disk_model::{judge_record, Figures, Showing};
+
+/// The rates of example 1's six zones, in Mbit a second.
+const EXAMPLE_1: [u64; 6] = [60, 65, 70, 75, 80, 85];
 
 /// Streams, worst2, margin and buffer.
 fn summary(figures: &Figures) -> (u32, u32, u32, u32) {
     let plan = plan_of(figures, Showing::Once).expect("a stream that fits").plan;
     (plan.streams, plan.worst2, plan.margin, plan.buffer)
+}
+
+/// Each keeps to the ranges: no outer zone is over three times as fast as the innermost.
+#[test]
+fn real_cards_are_legal() {
+    for figures in [
+        barracuda(8871),
+        barracuda(3600),
+        deskstar(),
+        disk(286_921, 2, &[60]),
+        disk(180_659, 1, &EXAMPLE_1),
+        figures_of(&[(2, 2), (1, 1)], 3, 262_144, 500_000),
+    ] {
+        assert_eq!(judge_record(&figures), Ok(()));
+    }
 }
 
 #[test]
@@ -55,7 +73,7 @@ fn triple_buffering_of_one_zone() {
 
 #[test]
 fn six_zones_of_example_1() {
-    let (bytes, buffer) = least_for_twelve(1, &[60, 65, 70, 75, 80, 85]);
+    let (bytes, buffer) = least_for_twelve(1, &EXAMPLE_1);
     assert_eq!(bytes, 180_659);
     assert_eq!((buffer as f64 / 102.4).round(), 5500.0); // 550.0 kB
 }

@@ -1,6 +1,8 @@
 //! Cards: legal ones and damaged ones, so that each refusal is met often.
 
-use super::figures::{alter_figure, legal_figures, set_to_limit, small_figures, tight_figures};
+use super::figures::{
+    alter_figure, legal_figures, set_to_limit, set_to_third, small_figures, tight_figures,
+};
 use super::Rng;
 use crate::card::{card_bytes, card_numbers, number_bytes, MAX_POSITIONS, MAX_ZONES};
 use crate::plan::Showing;
@@ -119,6 +121,13 @@ fn rising_times(rng: &mut Rng) -> Vec<u8> {
     card_bytes(&figures)
 }
 
+/// A zone about three times as fast as the first.
+fn half_dead_times(rng: &mut Rng) -> Vec<u8> {
+    let mut figures = small_figures(rng, 50);
+    set_to_third(rng, &mut figures);
+    card_bytes(&figures)
+}
+
 /// As many blocks as positions, or one more.
 fn full_film(rng: &mut Rng) -> Vec<u8> {
     let mut figures = small_figures(rng, 50);
@@ -159,10 +168,11 @@ fn noise(rng: &mut Rng) -> Vec<u8> {
 
 /// A card damaged in one way. Some come out legal, at the limit.
 pub fn damaged_card(rng: &mut Rng) -> Vec<u8> {
-    let figures = tight_figures(rng, Showing::Once, 60);
+    let showing = rng.pick(&Showing::ALL);
+    let figures = tight_figures(rng, showing, 60);
     let numbers = card_numbers(&figures);
     let card = card_bytes(&figures);
-    match rng.below(14) {
+    match rng.below(15) {
         0 => cut_off(rng, &card),
         1 | 2 => flip(rng, card),
         3 | 4 => bad_form(rng, &numbers),
@@ -173,6 +183,7 @@ pub fn damaged_card(rng: &mut Rng) -> Vec<u8> {
         10 => full_film(rng),
         11 => full_disk(rng),
         12 => many_zones(rng),
+        13 => half_dead_times(rng),
         _ => noise(rng),
     }
 }

@@ -3,11 +3,11 @@
 use super::Rng;
 use crate::card::{
     Figures, MAX_BLOCKS, MAX_BLOCK_BYTES, MAX_HOP, MAX_POSITIONS, MAX_RATE, MAX_RETURN, MAX_TIME,
-    MAX_ZONES, MIN_BLOCKS,
+    MAX_ZONES, MIN_BLOCKS, TIMES_AS_FAST,
 };
 use crate::plan::{plan_of, worst2, Planned, Showing};
 
-/// Times of the zones, never rising.
+/// Times of the zones, never rising; one below a third of the first is raised to it.
 fn zone_times(rng: &mut Rng, zones: usize) -> Vec<u32> {
     let mut times: Vec<u32> = match rng.below(5) {
         0 => vec![rng.spread(1, MAX_TIME); zones],
@@ -17,7 +17,8 @@ fn zone_times(rng: &mut Rng, zones: usize) -> Vec<u32> {
         _ => (0..zones).map(|_| rng.spread(1, MAX_TIME)).collect(),
     };
     times.sort_unstable_by(|one, other| other.cmp(one));
-    times
+    let third = times[0].div_ceil(TIMES_AS_FAST);
+    times.iter().map(|&time| time.max(third)).collect()
 }
 
 /// Puts zones with these positions into the figures, at least two positions together.
@@ -130,7 +131,10 @@ pub fn legal_figures(rng: &mut Rng) -> Figures {
     match rng.below(8) {
         0 => large_figures(rng),
         1..=3 => small_figures(rng, MAX_BLOCKS),
-        _ => tight_figures(rng, Showing::Once, MAX_BLOCKS),
+        _ => {
+            let showing = rng.pick(&Showing::ALL);
+            tight_figures(rng, showing, MAX_BLOCKS)
+        }
     }
 }
 
@@ -160,22 +164,12 @@ pub fn desk_plan_for(rng: &mut Rng, showing: Showing) -> Planned {
     }
 }
 
-/// The same for one showing.
-pub fn desk_plan(rng: &mut Rng) -> Planned {
-    desk_plan_for(rng, Showing::Once)
-}
-
 /// A plan for desks with a film of any length and zones of any size.
 pub fn large_desk_plan_for(rng: &mut Rng, showing: Showing) -> Planned {
     let mut figures = large_figures(rng);
     let n = rng.pick(&[1, 3, 20, 256]);
     tighten(rng, &mut figures, showing, n);
     plan_of(&figures, showing).expect("n streams fit")
-}
-
-/// The same for one showing.
-pub fn large_desk_plan(rng: &mut Rng) -> Planned {
-    large_desk_plan_for(rng, Showing::Once)
 }
 
 /// Alters one figure, used or not.
@@ -213,6 +207,21 @@ pub fn set_to_limit(rng: &mut Rng, figures: &mut Figures) {
     *figure = rng.pick(&[0, 1, limit, limit + 1]);
 }
 
+/// Puts a zone's time to a third of the first or one below, three times it being one less, the same or
+/// one more than the first; no time rises.
+pub fn set_to_third(rng: &mut Rng, figures: &mut Figures) {
+    let zones = figures.zones as usize;
+    let third = figures.times[0].div_ceil(TIMES_AS_FAST).min(MAX_TIME / TIMES_AS_FAST);
+    figures.times[0] = third * TIMES_AS_FAST - 1 + rng.between(0, 2);
+    if zones > 1 {
+        let zone = 1 + rng.below(zones - 1);
+        figures.times[zone] = third - rng.below(third.min(2) as usize) as u32;
+    }
+    for zone in 1..zones {
+        figures.times[zone] = figures.times[zone].min(figures.times[zone - 1]);
+    }
+}
+
 /// A record of anything.
 pub fn random_figures(rng: &mut Rng) -> Figures {
     let mut figures = Figures::zero();
@@ -232,9 +241,13 @@ pub fn random_figures(rng: &mut Rng) -> Figures {
 /// A legal record, one or two figures altered, or anything.
 pub fn any_figures(rng: &mut Rng) -> Figures {
     let mut figures = legal_figures(rng);
-    match rng.below(12) {
+    match rng.below(13) {
         0 => random_figures(rng),
         1..=3 => figures,
+        12 => {
+            set_to_third(rng, &mut figures);
+            figures
+        }
         4..=7 => {
             set_to_limit(rng, &mut figures);
             figures

@@ -1,6 +1,6 @@
 //! Texts of figures: legal ones in every layout, and damaged ones.
 
-use super::figures::{alter_figure, legal_figures, set_to_limit, small_figures};
+use super::figures::{alter_figure, legal_figures, set_to_limit, set_to_third, small_figures};
 use super::Rng;
 use crate::bench::bench_film;
 use crate::card::{card_numbers, Figures, MAX_ZONES};
@@ -130,7 +130,7 @@ pub fn bench_words() -> Vec<String> {
 /// Any text: legal or damaged.
 pub fn any_text(rng: &mut Rng) -> Vec<u8> {
     let mut figures = if rng.once_in(2) { legal_figures(rng) } else { small_figures(rng, 60) };
-    match rng.below(10) {
+    match rng.below(11) {
         0 | 1 => laid_out(rng, &words_of(&figures)),
         2 => {
             set_to_limit(rng, &mut figures);
@@ -146,6 +146,10 @@ pub fn any_text(rng: &mut Rng) -> Vec<u8> {
             laid_out(rng, &words)
         }
         8 => many_words(rng),
+        9 => {
+            set_to_third(rng, &mut figures);
+            laid_out(rng, &words_of(&figures))
+        }
         _ => noise(rng),
     }
 }

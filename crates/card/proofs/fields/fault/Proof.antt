@@ -2,7 +2,7 @@ use Prim.Native.Nat.{ℕ, _+_}
 use mathlib.Core.Path.{ap, _∙_}
 use Rattle.card.proofs.JudgeWays.{by-rule}
 use Rattle.numbers.specs.Limits.{maxPositions}
-use Rattle.numbers.specs.Refusals.{wrongPositions, risingTime, blocksAbovePositions}
+use Rattle.numbers.specs.Refusals.{wrongPositions, blocksAbovePositions}
 use Rattle.card.specs.Ranges.{faultOf, thenAbove}
 use borrow.Author.Needs.{needs}
 use Rattle.card.proofs.fields.fault.Statement.{statement}
@@ -50,15 +50,6 @@ enum-told-5 c = search needs
 outside-requires-5 : tie.Need-outside-requires-5
 outside-requires-5 c κs = search needs
 
-then-above-requires-3 : tie.Need-then-above-requires-3
-then-above-requires-3 c κs = search needs
-
-enum-told-6 : tie.Need-enum-told-6
-enum-told-6 c = search needs
-
-outside-requires-6 : tie.Need-outside-requires-6
-outside-requires-6 c κs = search needs
-
 returns : tie.Need-returns
 unfolding faultOf
 returns c = c .outside .ensures ∙ by-rule _ _ (c .before .enum-told .given .1)
@@ -73,15 +64,11 @@ returns-3 c = let a = c .before .before .before .before .args in c .then-above .
 
 returns-4 : tie.Need-returns-4
 unfolding faultOf
-returns-4 c = let a = c .before .before .before .before .args in c .then-above2 .ensures ∙ ap (λ (k : ℕ). thenAbove k (a .bound) risingTime (a .v)) (c .before .outside4 .ensures) ∙ by-rule _ _ (c .before .before .enum-told4 .given .1)
+returns-4 c = let a = c .before .before .before .before .args in c .then-above2 .ensures ∙ ap (λ (k : ℕ). thenAbove k (a .bound) blocksAbovePositions (a .v)) (c .before .outside4 .ensures) ∙ by-rule _ _ (c .before .before .enum-told4 .given .1)
 
 returns-5 : tie.Need-returns-5
 unfolding faultOf
-returns-5 c = let a = c .before .before .before .before .args in c .then-above3 .ensures ∙ ap (λ (k : ℕ). thenAbove k (a .bound) blocksAbovePositions (a .v)) (c .before .outside5 .ensures) ∙ by-rule _ _ (c .before .before .enum-told5 .given .1)
-
-returns-6 : tie.Need-returns-6
-unfolding faultOf
-returns-6 c = c .outside6 .ensures ∙ by-rule _ _ (c .before .enum-told6 .given .1)
+returns-5 c = c .outside5 .ensures ∙ by-rule _ _ (c .before .enum-told5 .given .1)
 
 pub fault-spec : {M : Type 1} → statement M
 fault-spec =
@@ -101,12 +88,8 @@ fault-spec =
     then-above-requires-2
     enum-told-5
     outside-requires-5
-    then-above-requires-3
-    enum-told-6
-    outside-requires-6
     returns
     returns-2
     returns-3
     returns-4
-    returns-5
-    returns-6)
+    returns-5)

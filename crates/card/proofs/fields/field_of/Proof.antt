@@ -1,11 +1,15 @@
-use mathlib.Core.Path.{sym, ap, _∙_}
+use mathlib.Core.Path.{sym, ap}
 use Rattle.card.specs.Read.{onNumber}
+use Rattle.card.proofs.JudgeWays.{number-judged}
 use borrow.Author.Needs.{needs}
 use Rattle.card.proofs.fields.field_of.Statement.{statement}
 use Rattle.card.proofs.fields.field_of.Tie as tie
 
 enum-known-n : tie.Need-enum-known-n
 enum-known-n c = search needs
+
+fault-requires : tie.Need-fault-requires
+fault-requires c κs = search needs
 
 judged-requires : tie.Need-judged-requires
 judged-requires c κs = search needs
@@ -17,8 +21,7 @@ enum-known-n-3 : tie.Need-enum-known-n-3
 enum-known-n-3 c = search needs
 
 returns : tie.Need-returns
-unfolding onNumber
-returns c = c .judged .ensures ∙ ap (onNumber _ _) (sym (c .before .before .n .given .1))
+returns c = number-judged _ _ (c .judged .ensures) (c .before .fault .ensures) (c .before .before .before .n .given .1)
 
 returns-2 : tie.Need-returns-2
 unfolding onNumber
@@ -33,6 +36,7 @@ field-of-spec =
     tie.close
     (tie.spec
     enum-known-n
+    fault-requires
     judged-requires
     enum-known-n-2
     enum-known-n-3

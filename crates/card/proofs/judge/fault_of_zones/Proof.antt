@@ -17,17 +17,20 @@ record Judged (figures : Figures) (zones total before i : ℕ) : Type 0 where
   same : zoneFaults (zones - i) i figures total before ≡ zoneFaults zones 0 figures 0 maxTime
 
 abbrev Inv-loop : tie.InvT-loop
-Inv-loop figures zones total₀ before₀ i₀ total before i = Judged figures zones total before i
+Inv-loop figures zones innermost total₀ before₀ i₀ total before i = Judged figures zones total before i
 
 abbrev μ-loop : tie.MeasureT-loop
-μ-loop figures zones total₀ before₀ i₀ total before i = zones - i
+μ-loop figures zones innermost total₀ before₀ i₀ total before i = zones - i
 
 cast-zones : tie.Need-cast-zones Inv-loop μ-loop
 cast-zones c = search needs
 
+element-copy-out-innermost : tie.Need-element-copy-out-innermost Inv-loop μ-loop
+element-copy-out-innermost c = search needs
+
 loop-holds : tie.Need-loop-holds Inv-loop μ-loop
 loop-holds c =
-    let f = c .args .t1 in
+    let f = c .before .args .t1 in
     let e : f .zones - 0 ≡ f .zones = omega arith in
     record { within = omega arith; few = omega arith; same = ap (λ (n : ℕ). zoneFaults n 0 f 0 maxTime) e }
 
@@ -49,13 +52,13 @@ fault-requires c κs = search needs
 returns : tie.Need-returns Inv-loop μ-loop
 returns c = let l = c .before .before .before .before .before .loop in zones-few _ _ _ _ _ (omega arith) (c .before .fault .ensures) (c .if1 .taken) ∙ l .inv .same
 
-fault-requires-2 : tie.Need-fault-requires-2 Inv-loop μ-loop
-fault-requires-2 c κs = search needs
+fault-of-time-requires : tie.Need-fault-of-time-requires Inv-loop μ-loop
+fault-of-time-requires c κs = search needs
 
 returns-2 : tie.Need-returns-2 Inv-loop μ-loop
 returns-2 c =
     let l = c .before .before .before .before .before .before .before .loop in
-    zones-slow _ _ _ _ _ (omega arith) (c .before .before .before .fault .ensures) (c .before .before .if1 .left) (c .before .fault2 .ensures) (c .if2 .taken) ∙ l .inv .same
+    zones-slow _ _ _ _ _ (omega arith) (c .before .before .before .fault .ensures) (c .before .before .if1 .left) (c .before .fault-of-time .ensures) (c .if2 .taken) ∙ l .inv .same
 
 add-total : tie.Need-add-total Inv-loop μ-loop
 add-total c = let h = positions-range _ _ (sym (c .before .before .before .fault .ensures) ∙ c .before .before .if1 .left) in omega arith
@@ -72,7 +75,7 @@ loop-again c =
     record {
       within = omega arith;
       few = positions-range _ _ (sym (c .before .before .before .fault .ensures) ∙ c .before .before .if1 .left) .1;
-      same = zones-more _ _ _ _ _ _ (omega arith) (c .before .before .before .fault .ensures) (c .before .before .if1 .left) (c .before .fault2 .ensures) (c .if2 .left) ∙ l .inv .same;
+      same = zones-more _ _ _ _ _ _ (omega arith) (c .before .before .before .fault .ensures) (c .before .before .if1 .left) (c .before .fault-of-time .ensures) (c .if2 .left) ∙ l .inv .same;
     }
 
 fault-of-film-requires : tie.Need-fault-of-film-requires Inv-loop μ-loop
@@ -89,6 +92,7 @@ fault-of-zones-spec =
     Inv-loop
     μ-loop
     cast-zones
+    element-copy-out-innermost
     loop-holds
     mul-positions
     element-copy-out-positions
@@ -96,7 +100,7 @@ fault-of-zones-spec =
     element-copy-out-time
     fault-requires
     returns
-    fault-requires-2
+    fault-of-time-requires
     returns-2
     add-total
     add-i

@@ -52,8 +52,11 @@ returns c =
     let l = c .before .before .before .before .before .loop in
     c .refused-field .ensures ∙ read-few _ (l .at) (l .i) (l .f) (l .total) (l .before) _ (c .before .before .before .read-field .ensures) (omega arith) _ (c .before .enum-told .given .1) ∙ l .inv .same
 
-read-field-requires-2 : tie.Need-read-field-requires-2 Inv-loop μ-loop
-read-field-requires-2 c κs = search needs
+element-copy-out-innermost : tie.Need-element-copy-out-innermost Inv-loop μ-loop
+element-copy-out-innermost c = search needs
+
+read-time-requires : tie.Need-read-time-requires Inv-loop μ-loop
+read-time-requires c κs = search needs
 
 enum-known-second : tie.Need-enum-known-second Inv-loop μ-loop
 enum-known-second c = search needs
@@ -66,10 +69,10 @@ refused-field-requires-2 c κs = search needs
 
 returns-2 : tie.Need-returns-2 Inv-loop μ-loop
 returns-2 c =
-    let positions = c .before .before .before .before .before in
+    let positions = c .before .before .before .before .before .before in
     let l = positions .before .before .before .before .loop in
     c .refused-field2 .ensures
-    ∙ read-slow _ (l .at) (l .i) (l .f) (l .total) (l .before) _ (positions .before .before .read-field .ensures) (positions .first .given .1) (c .before .before .before .read-field2 .ensures) (omega arith) _ (c .before .enum-told2 .given .1)
+    ∙ read-slow _ (l .at) (l .i) (l .f) (l .total) (l .before) _ (positions .before .before .read-field .ensures) (positions .first .given .1) (c .before .before .before .read-time .ensures) (omega arith) _ (c .before .enum-told2 .given .1)
     ∙ l .inv .same
 
 mul-f : tie.Need-mul-f Inv-loop μ-loop
@@ -86,7 +89,7 @@ element-write-f-2 c = search needs
 
 add-total : tie.Need-add-total Inv-loop μ-loop
 add-total c =
-    let positions = c .before .before .before .before .before in
+    let positions = c .before .before .before .before .before .before in
     omega (arith, field-fits _ _ _ (positions .before .before .read-field .ensures) (positions .first .given .1))
 
 add-i : tie.Need-add-i Inv-loop μ-loop
@@ -97,12 +100,12 @@ loop-less c = search needs
 
 loop-again : tie.Need-loop-again Inv-loop μ-loop
 loop-again c =
-    let positions = c .before .before .before .before .before in
+    let positions = c .before .before .before .before .before .before in
     let l = positions .before .before .before .before .loop in
     record {
       within = omega arith;
       few = field-fits _ _ _ (positions .before .before .read-field .ensures) (positions .first .given .1);
-      same = read-more _ (l .at) (l .i) (l .f) (l .total) (l .before) _ (positions .before .before .read-field .ensures) (positions .first .given .1) (c .before .before .before .read-field2 .ensures) _ (omega arith) (c .before .second .given .1) ∙ l .inv .same;
+      same = read-more _ (l .at) (l .i) (l .f) (l .total) (l .before) _ (positions .before .before .read-field .ensures) (positions .first .given .1) (c .before .before .before .read-time .ensures) _ (omega arith) (c .before .second .given .1) ∙ l .inv .same;
     }
 
 read-film-requires : tie.Need-read-film-requires Inv-loop μ-loop
@@ -145,7 +148,8 @@ read-zones-spec =
     enum-told
     refused-field-requires
     returns
-    read-field-requires-2
+    element-copy-out-innermost
+    read-time-requires
     enum-known-second
     enum-told-2
     refused-field-requires-2
