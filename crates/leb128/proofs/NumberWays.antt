@@ -6,8 +6,9 @@ use mathlib.Core.Bool.{Bool, true, false, cond}
 use lib.Dec.{ltb}
 use mathlib.Core.List.{List, [], _∷_, _++_, append-assoc}
 use native.Mathlib.Omega.{arith}
-use native.Mathlib.Nat.{le-trans, mul-le-mul-left, pow-le-pow-right, le-of-eq, pow-succ', mul-assoc}
+use native.Mathlib.Nat.{pow-le-pow-right, pow-succ'}
 use lib.Arith.{digits-lt}
+use lib.Pow.{pow-add}
 use lib.ListN.{length, getD, set, take, drop, length-set}
 use lib.Seq.{set-split, take-suc-set, drop-set-lt, drop-drop}
 use borrow.Author.Tests.{lt-ltb, le-ltb, eq-eqb, ne-eqb}
@@ -62,27 +63,29 @@ module _ (s : List ℕ) (start at sum w : ℕ) where
       simp (lt-ltb _ _ h, le-ltb _ _ b) (ap (λ (n : ℕ). scan n s start (at + 1) (sum + getD s at 0 % 128 * w) (w * 128)) e)
 
 -- what the groups read so far leave: left more groups fit five in all, and their sum is below the next weight
-pub record Room (left w sum : ℕ) : Type 0 where
-  pub whole : w * 128 ^ left ≡ 128 ^ 5
-  pub below : sum < w
+pub record Room (left shift sum : ℕ) : Type 0 where
+  pub whole : shift + 7 * left ≡ 35
+  pub below : sum < 2 ^ shift
 
-pub room-weight : (left w sum : ℕ) → Room left w sum → 0 < left → w * 128 ≤ 128 ^ 5
-room-weight left w sum r p =
-    let h : w * 128 ^ 1 ≤ w * 128 ^ left = mul-le-mul-left w (pow-le-pow-right {n = 128} (omega arith) p) in
-    le-trans h (le-of-eq (r .whole))
+-- the weight of the group after one that stands `shift` bits up
+pub next-weight : (shift : ℕ) → 2 ^ (shift + 7) ≡ 2 ^ shift * 128
+next-weight shift = pow-add 2 shift 7
 
 -- one group more stays below the next weight
-pub room-group : (left w sum g : ℕ) → Room left w sum → g < 128 → sum + g * w < w * 128
-room-group left w sum g r h =
-    let d : g * w + sum < 128 * w = digits-lt h (r .below) in
+room-group : (left shift sum g : ℕ) → Room left shift sum → g < 128 → sum + g * 2 ^ shift < 2 ^ shift * 128
+room-group left shift sum g r h =
+    let d : g * 2 ^ shift + sum < 128 * 2 ^ shift = digits-lt h (r .below) in
     omega arith
 
-pub room-more : (left w sum g : ℕ) → 0 < left → Room left w sum → g < 128 → Room (left - 1) (w * 128) (sum + g * w)
-room-more zero w sum g p r h = absurd (omega arith)
-room-more (suc left) w sum g p r h =
-    let e : suc left - 1 ≡ left = omega arith in
-    let m : w * 128 * 128 ^ left ≡ 128 ^ 5 = mul-assoc w 128 (128 ^ left) ∙ ap (λ (n : ℕ). w * n) (sym (pow-succ' 128 left)) ∙ r .whole in
-    record { whole = ap (λ (n : ℕ). w * 128 * 128 ^ n) e ∙ m; below = room-group (suc left) w sum g r h }
+-- and within 64 bits
+pub room-sum : (left shift sum g : ℕ) → Room left shift sum → 0 < left → g < 128 → (shift < 64) × (sum + g * 2 ^ shift < 2 ^ 64)
+room-sum left shift sum g r p h =
+    let s : shift + 7 ≤ 35 = omega (arith, r .whole) in
+    let w : 2 ^ (shift + 7) ≤ 2 ^ 35 = pow-le-pow-right {n = 2} (omega arith) s in
+    omega (arith, r .whole, room-group left shift sum g r h, next-weight shift)
+
+pub room-more : (left shift sum g : ℕ) → Room left shift sum → 0 < left → g < 128 → Room (left - 1) (shift + 7) (sum + g * 2 ^ shift)
+room-more left shift sum g r p h = record { whole = omega (arith, r .whole); below = rw (next-weight shift) (room-group left shift sum g r h) }
 
 -- ---- the groups of what is left of a number
 

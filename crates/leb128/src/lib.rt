@@ -16,17 +16,17 @@ pub enum Number {
     Malformed(usize),
 }
 
-// The number that ends with the group b of the given weight.
-fn last_group(start: usize, at: usize, sum: u64, weight: u64, b: u64) -> Number
-    requires { ⌜ (start ≤ at) × (sum + b * weight < 2 ^ 64) × (at + 1 < 2 ^ 64) ⌝ }
-    ensures { λ r. ⌜ r ≡ judged start (at - start) b (sum + b * weight) ⌝ }
+// The number that ends with the group b, which stands `shift` bits up.
+fn last_group(start: usize, at: usize, sum: u64, shift: u64, b: u64) -> Number
+    requires { ⌜ (start ≤ at) × (shift < 64) × (sum + b * 2 ^ shift < 2 ^ 64) × (at + 1 < 2 ^ 64) ⌝ }
+    ensures { λ r. ⌜ r ≡ judged start (at - start) b (sum + b * 2 ^ shift) ⌝ }
 {
     if at != start {
         if b == 0 {
             return Number::Malformed(start);
         }
     }
-    let value = sum + b * weight;
+    let value = sum + (b << shift);
     if value < NO_NUMBER {
         Number::Value(value as u32, at + 1)
     } else {
@@ -39,7 +39,7 @@ pub fn read_number(s: &[u8], start: usize) -> Number
     ensures { λ r. ⌜ r ≡ numberAt (now (s .entry)) start ⌝ }
 {
     let mut sum: u64 = 0;
-    let mut weight: u64 = 1;
+    let mut shift: u64 = 0;
     let mut at = start;
     let mut left: u8 = 5;
     while 0 < left {
@@ -48,10 +48,10 @@ pub fn read_number(s: &[u8], start: usize) -> Number
         }
         let b = s[at] as u64;
         if b < 128 {
-            return last_group(start, at, sum, weight, b);
+            return last_group(start, at, sum, shift, b);
         }
-        sum += b % 128 * weight;
-        weight *= 128;
+        sum += (b % 128) << shift;
+        shift += 7;
         at += 1;
         left -= 1;
     }

@@ -1,4 +1,9 @@
 // The formula of streams, the buffer and the leads, in 32 and 64 bits.
+mod halves; // the products of halves
+
+use crate::halves::lower;
+use crate::halves::times_half;
+use crate::halves::upper;
 use numbers::limits::MAX_STREAMS;
 use numbers::units::PARTS;
 ghost use mathlib.Core.Path.{_≡_};
@@ -7,11 +12,11 @@ ghost use Rattle.numbers.specs.Limits.{maxNumber, maxTime, maxStreams};
 ghost use Rattle.pacing.specs.Streams.{overhead, load, streams, bufferOf};
 ghost use Rattle.streams.specs.Ranges.{Ranges};
 
-// The product of two numbers of 32 bits. Every product of a rate and a time goes through it.
+// The product of two numbers of 32 bits, made of products of their halves. Every product that may pass 32 bits goes through it.
 pub fn product(a: u32, b: u32) -> u64
     ensures { λ r. ⌜ r ≡ a * b ⌝ }
 {
-    a as u64 * b as u64
+    (times_half(a, upper(b)) << 16) + times_half(a, lower(b))
 }
 
 // The overhead of a sweep that fetches `count` blocks: count × hop, plus return.

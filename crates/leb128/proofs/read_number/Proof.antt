@@ -4,16 +4,16 @@ use native.Mathlib.Omega.{arith}
 use lib.ListN.{getD}
 use Rattle.leb128.specs.Number.{scan, numberAt}
 use Rattle.leb128.specs.NumberLaws.{scan-number}
-use Rattle.leb128.proofs.NumberWays.{Room, room-weight, room-group, room-more, scan-none, scan-short, scan-last, scan-more}
+use Rattle.leb128.proofs.NumberWays.{Room, next-weight, room-sum, room-more, scan-none, scan-short, scan-last, scan-more}
 use Rattle.leb128.proofs.read_number.Statement.{statement}
 use Rattle.leb128.proofs.read_number.Tie as tie
 
 abbrev Inv-loop : tie.InvT-loop
-Inv-loop s start sum₀ weight₀ at₀ left₀ sum weight at left =
-    (scan left s start at sum weight ≡ numberAt s start) × Room left weight sum × (start ≤ at)
+Inv-loop s start sum₀ shift₀ at₀ left₀ sum shift at left =
+    (scan left s start at sum (2 ^ shift) ≡ numberAt s start) × Room left shift sum × (start ≤ at)
 
 abbrev μ-loop : tie.MeasureT-loop
-μ-loop s start sum₀ weight₀ at₀ left₀ sum weight at left = left
+μ-loop s start sum₀ shift₀ at₀ left₀ sum shift at left = left
 
 loop-holds : tie.Need-loop-holds Inv-loop μ-loop
 loop-holds c = (scan-number _ _, record { whole = refl; below = omega arith }, omega arith)
@@ -31,8 +31,7 @@ cast-b c = omega (arith, c .shared-slice-known2 .given (c .before .before .befor
 last-group-requires : tie.Need-last-group-requires Inv-loop μ-loop
 last-group-requires c κs =
     let l = c .before .before .before .before .loop in
-    let g = room-group _ _ _ _ (l .inv .1) (c .if2 .taken) in
-    let w = room-weight _ _ _ (l .inv .1) (c .before .before .before .loop-test .taken) in
+    let g = room-sum _ _ _ _ (l .inv .1) (c .before .before .before .loop-test .taken) (c .if2 .taken) in
     omega arith
 
 returns-2 : tie.Need-returns-2 Inv-loop μ-loop
@@ -46,21 +45,19 @@ returns-2 c =
 digit : (c : tie.Else2 Inv-loop μ-loop) → getD (c .before .before .before .before .before .before .args .s .now) (c .before .before .before .before .loop .at) 0 % 128 < 128
 digit c = omega (arith, c .before .shared-slice-known2 .given (c .before .before .before .before .loop .at))
 
-group : (c : tie.Else2 Inv-loop μ-loop) → c .before .before .before .before .loop .sum + (getD (c .before .before .before .before .before .before .args .s .now) (c .before .before .before .before .loop .at) 0 % 128) * c .before .before .before .before .loop .weight < 2 ^ 36
-group c =
-    let l = c .before .before .before .before .loop in
-    let g = room-group _ _ _ _ (l .inv .1) (digit c) in
-    let w = room-weight _ _ _ (l .inv .1) (c .before .before .before .loop-test .taken) in
-    omega arith
+-- it stands where it fits
+fits : (c : tie.Else2 Inv-loop μ-loop) → let l = c .before .before .before .before .loop in
+    (l .shift < 64) × (l .sum + (getD (c .before .before .before .before .before .before .args .s .now) (l .at) 0 % 128) * 2 ^ l .shift < 2 ^ 64)
+fits c = room-sum _ _ _ _ (c .before .before .before .before .loop .inv .1) (c .before .before .before .loop-test .taken) (digit c)
 
-mul-sum : tie.Need-mul-sum Inv-loop μ-loop
-mul-sum c = let g = group c in omega arith
+shl-sum : tie.Need-shl-sum Inv-loop μ-loop
+shl-sum c = fits c .0
 
 add-sum : tie.Need-add-sum Inv-loop μ-loop
-add-sum c = let g = group c in omega arith
+add-sum c = let f = fits c in omega arith
 
-mul-weight : tie.Need-mul-weight Inv-loop μ-loop
-mul-weight c = omega (arith, room-weight _ _ _ (c .before .before .before .before .loop .inv .1) (c .before .before .before .loop-test .taken))
+add-shift : tie.Need-add-shift Inv-loop μ-loop
+add-shift c = let f = fits c in omega arith
 
 add-at : tie.Need-add-at Inv-loop μ-loop
 add-at c = omega arith
@@ -75,7 +72,10 @@ loop-again : tie.Need-loop-again Inv-loop μ-loop
 loop-again c =
     let l = c .before .before .before .before .loop in
     let t = c .before .before .before .loop-test .taken in
-    (sym (scan-more _ _ _ _ _ _ t (omega arith) (c .if2 .left)) ∙ l .inv .0, room-more _ _ _ _ t (l .inv .1) (digit c), omega arith)
+    let g = getD (c .before .before .before .before .before .before .args .s .now) (l .at) 0 % 128 in
+    let e : g * 2 ^ l .shift % 2 ^ 64 ≡ g * 2 ^ l .shift = let f = fits c in omega arith in
+    rw e
+    (rw (next-weight (l .shift)) (sym (scan-more _ _ _ _ _ _ t (omega arith) (c .if2 .left)) ∙ l .inv .0), room-more _ _ _ _ (l .inv .1) t (digit c), omega arith)
 
 returns-3 : tie.Need-returns-3 Inv-loop μ-loop
 returns-3 c =
@@ -93,9 +93,9 @@ read-number-spec =
     cast-b
     last-group-requires
     returns-2
-    mul-sum
+    shl-sum
     add-sum
-    mul-weight
+    add-shift
     add-at
     sub-left
     loop-less

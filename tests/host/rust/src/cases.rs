@@ -6,6 +6,7 @@ use crate::layout::{
 };
 use film_disk_model::desk::{floor, ASKED, BETWEEN, FILLING, PLAYING, TAIL};
 use film_disk_model::plan::TWO_MILLION;
+use film_disk_model::rng::borders::{border_card, border_plan_for};
 use film_disk_model::rng::cards::any_card;
 use film_disk_model::rng::desks::{alter_plan, any_step, longer_list, sound_desk, spoiled_list};
 use film_disk_model::rng::figures::{desk_plan_for, large_desk_plan_for};
@@ -99,7 +100,7 @@ fn written_list(rng: &mut Rng, blocks: usize) -> Vec<u8> {
 /// Any card, for one showing or as a loop.
 pub fn plan_case(rng: &mut Rng) -> (Call, Strings) {
     let mut strings = Strings::default();
-    strings[CARD] = any_card(rng);
+    strings[CARD] = if rng.once_in(4) { border_card(rng) } else { any_card(rng) };
     let blocks = match read_card(&strings[CARD]) {
         Ok(figures) => figures.blocks as usize,
         Err(_) => 1 + rng.below(10),
@@ -110,13 +111,13 @@ pub fn plan_case(rng: &mut Rng) -> (Call, Strings) {
     (Call::Plan(rng.pick(&Showing::ALL)), strings)
 }
 
-/// A plan for a desk, for one showing or a loop; rarely a great one.
+/// A plan for a desk, for one showing or a loop; rarely a great one, often one whose products are great or carry.
 pub fn some_plan(rng: &mut Rng) -> Planned {
     let showing = rng.pick(&Showing::ALL);
-    if rng.once_in(40) {
-        large_desk_plan_for(rng, showing)
-    } else {
-        desk_plan_for(rng, showing)
+    match rng.below(40) {
+        0 => large_desk_plan_for(rng, showing),
+        1..=10 => border_plan_for(rng, showing),
+        _ => desk_plan_for(rng, showing),
     }
 }
 

@@ -1,0 +1,109 @@
+//! Figures whose products are the greatest there are, or carry between the 16-bit halves of their numbers in every way.
+
+use super::figures::small_figures;
+use super::Rng;
+use crate::bench::figures_of;
+use crate::card::{card_bytes, Figures, MAX_BLOCK_BYTES, MAX_HOP, MAX_RATE, MAX_RETURN, MAX_TIME};
+use crate::plan::{plan_record_for, worst2, Planned, Showing};
+
+/// One zone or two, N 2, the greatest B; rate, and hop and return alike.
+fn two_blocks(zones: &[(u32, u32)], rate: u32, moves: u32) -> Figures {
+    let figures = figures_of(zones, 2, MAX_BLOCK_BYTES, rate);
+    Figures { hop: moves, ret: moves, ..figures }
+}
+
+/// The formula of streams is 25,620,000,000,000,000 at 256, and no stream fits.
+pub fn greatest_load() -> Figures {
+    two_blocks(&[(2, MAX_TIME)], MAX_RATE, MAX_HOP)
+}
+
+/// A sweep bound of 1,281,000,000.
+pub fn greatest_bound() -> Figures {
+    two_blocks(&[(2, MAX_TIME)], 3274, MAX_HOP)
+}
+
+/// The greatest buffer that 26 leaves, 14,680,064.
+pub fn greatest_buffer() -> Figures {
+    two_blocks(&[(1, 3_999_012), (1, 1_333_004)], 8692, 1)
+}
+
+/// The greatest lead that 26 leaves, 2,666,666, and 256 streams.
+pub fn greatest_leads() -> Figures {
+    two_blocks(&[(1, MAX_TIME), (1, 1_333_334)], 6143, 1)
+}
+
+/// The greatest rate, with 256 streams.
+pub fn greatest_rate() -> Figures {
+    two_blocks(&[(2, 1)], MAX_RATE, 1)
+}
+
+/// Figures that reach the greatest values of 01's formulas.
+fn greatest_figures(rng: &mut Rng) -> Figures {
+    rng.pick(&[greatest_load, greatest_bound, greatest_buffer, greatest_leads, greatest_rate])()
+}
+
+/// From 1 to `greatest`: an end, or a multiple of 65,536 or a number beside one.
+fn border(rng: &mut Rng, greatest: u32) -> u32 {
+    let multiple = rng.between(1, (greatest >> 16) + 1) << 16;
+    let beside = multiple - 1 + rng.between(0, 2);
+    let end = greatest.saturating_sub(rng.between(0, 1));
+    rng.pick(&[1, end, beside, beside, beside]).clamp(1, greatest)
+}
+
+/// Figures of a short film with such times, rates and the like. Half of them keep all times above a
+/// third of the greatest, and so are legal.
+fn border_figures(rng: &mut Rng) -> Figures {
+    let limit = rng.pick(&[2, 3, 5, 8, 12, 40]);
+    let mut figures = small_figures(rng, limit);
+    let zones = figures.zones as usize;
+    let most = border(rng, MAX_TIME);
+    let least = if rng.once_in(2) { 1 } else { most.div_ceil(3) };
+    for time in &mut figures.times[..zones] {
+        *time = border(rng, most).max(least);
+    }
+    figures.times[..zones].sort_unstable_by(|one, other| other.cmp(one));
+    figures.block_bytes = border(rng, MAX_BLOCK_BYTES);
+    figures.rate = border(rng, MAX_RATE);
+    figures.hop = border(rng, MAX_HOP);
+    figures.ret = border(rng, MAX_RETURN);
+    figures
+}
+
+/// Sets c and B so that n streams fit, c at such a number and B often just enough.
+fn fit(rng: &mut Rng, figures: &mut Figures, showing: Showing, n: u32) {
+    let each = worst2(figures, showing) as u64 + 2 * figures.hop as u64;
+    let need = n as u64 * each + 2 * figures.ret as u64;
+    let most = 2_000_000 * MAX_BLOCK_BYTES as u64 / need;
+    figures.rate = border(rng, most.min(MAX_RATE as u64) as u32);
+    let least = (figures.rate as u64 * need).div_ceil(2_000_000) as u32;
+    figures.block_bytes = if rng.once_in(2) { least } else { figures.block_bytes.max(least) };
+}
+
+/// Any figures of these; most feed a stream.
+fn any_figures(rng: &mut Rng, showing: Showing) -> Figures {
+    if rng.once_in(4) {
+        return greatest_figures(rng);
+    }
+    let mut figures = border_figures(rng);
+    if !rng.once_in(4) {
+        let n = rng.pick(&[1, 2, 3, 16, 255, 256]);
+        fit(rng, &mut figures, showing, n);
+    }
+    figures
+}
+
+/// A card of such figures.
+pub fn border_card(rng: &mut Rng) -> Vec<u8> {
+    card_bytes(&any_figures(rng, Showing::Once))
+}
+
+/// A plan of such figures.
+pub fn border_plan_for(rng: &mut Rng, showing: Showing) -> Planned {
+    loop {
+        let figures = any_figures(rng, showing);
+        let blocks = figures.blocks as usize;
+        if let Ok(planned) = plan_record_for(&figures, showing, blocks, blocks) {
+            return planned;
+        }
+    }
+}
