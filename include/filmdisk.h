@@ -75,10 +75,10 @@ enum filmdisk_fetch_word { FILMDISK_FETCH_POSITION, FILMDISK_FETCH_SLOT, FILMDIS
 /* Stack in bytes that a call takes below the caller's frame, at most. */
 #define FILMDISK_STACK_PLAN 3800
 #define FILMDISK_STACK_OPEN 8000
-#define FILMDISK_STACK_JOIN 9700
-#define FILMDISK_STACK_LEAVE 9700
-#define FILMDISK_STACK_BEGIN 24100
-#define FILMDISK_STACK_END 15900
+#define FILMDISK_STACK_JOIN 8700
+#define FILMDISK_STACK_LEAVE 8700
+#define FILMDISK_STACK_BEGIN 21100
+#define FILMDISK_STACK_END 12400
 
 /* The kind of a slot. */
 enum filmdisk_kind {
