@@ -7,7 +7,6 @@ use desk::blank_desk;
 use desk::fresh_desk;
 use desk::verdict;
 use desk::with_slot;
-use desk::zeros;
 use numbers::refusals::ACCEPTED;
 use numbers::refusals::NO_SUCH_BLOCK;
 use numbers::refusals::NO_SUCH_SLOT;
@@ -18,7 +17,7 @@ use numbers::slots::BETWEEN;
 use numbers::slots::FREE;
 use numbers::slots::WAITING;
 use plan::Plan;
-use soundness::test_record;
+use soundness::is_sound;
 ghost use mathlib.Core.Path.{_≡_};
 ghost use Rattle.desk.specs.Desk.{openDesk, joinDesk, leaveDesk};
 ghost use Rattle.desk.specs.View.{Wide};
@@ -50,9 +49,7 @@ fn judge_slot<'a>(
     ensures passed { λ r. ⌜ (r .number ≡ 0 → SlotPassed (recordOf plan phase (now (kinds .entry)) (now (next .entry)) (now (held .entry))) (now (positions .entry)) (now (leads .entry)) slot) ⌝ }
     ensures refused { λ r. ⌜ ((r .number ≡ 0 → ⊥) → SlotRefused (recordOf plan phase (now (kinds .entry)) (now (next .entry)) (now (held .entry))) (now (positions .entry)) (now (leads .entry)) slot r) ⌝ }
 {
-    let mut found = zeros();
-    let tested = test_record(plan, phase, kinds, next, held, positions, leads, &mut found);
-    if !tested.sound {
+    if !is_sound(plan, phase, kinds, next, held, positions, leads) {
         return verdict(NOT_SOUND, 0);
     }
     if phase != BETWEEN {

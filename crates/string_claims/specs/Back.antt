@@ -42,7 +42,7 @@ use Rattle.layout.specs.FieldLaws.{words-each}
 use Rattle.layout.specs.Layout.{planWords, deskWords, planIn, deskIn, planSize, deskSize}
 use Rattle.layout.specs.RoundTrip.{PlanSized, plan-sized, DeskSized, desk-fit, desk-written}
 use Rattle.layout.specs.Legal.{legal-words}
-use Rattle.desk_strings.specs.Laws.{enough, said-sized, said-wide, right-answer, right-string}
+use Rattle.desk_strings.specs.ByLength.{enough, said-sized, said-wide, right-answer, right-string}
 use Rattle.desk_strings.specs.Calls.{openedFrom, openAnswer, openString, said, answerBy, stringBy, joinAnswer, joinString, leaveAnswer, leaveString, endAnswer, endString, roomIn, begunAnswer, beginAnswer, beginString}
 use Rattle.string_claims.specs.Kept.{open-number, open-right, open-other}
 

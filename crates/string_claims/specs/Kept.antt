@@ -24,7 +24,7 @@ use Rattle.layout.specs.declared.FilmdiskAnswer.{FilmdiskAnswer}
 use Rattle.layout.specs.Answers.{verdictAnswer}
 use Rattle.layout.specs.Layout.{deskWords, planIn, zeroBytes, planSize, deskSize}
 use Rattle.layout.specs.RoundTrip.{desk-kept, desk-zero}
-use Rattle.desk_strings.specs.Laws.{enough, said-wide, right-answer, right-string, other-string}
+use Rattle.desk_strings.specs.ByLength.{enough, said-wide, right-answer, right-string, other-string}
 use Rattle.desk_strings.specs.Calls.{openedFrom, openVerdict, openAnswer, openString, said, answerBy, stringBy, joinAnswer, joinString, leaveAnswer, leaveString, endAnswer, endString, roomIn, begunAnswer, beginAnswer, beginString, fetchString}
 
 -- ---- a desk string D

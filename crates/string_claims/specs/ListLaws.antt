@@ -22,7 +22,7 @@ use Rattle.trace.specs.Opening.{checked-lawful}
 use Rattle.layout.specs.declared.FilmdiskAnswer.{FilmdiskAnswer}
 use Rattle.layout.specs.Answers.{verdictAnswer}
 use Rattle.layout.specs.Layout.{planIn, deskWords, deskSize}
-use Rattle.desk_strings.specs.Laws.{said-wide, right-answer, right-string}
+use Rattle.desk_strings.specs.ByLength.{said-wide, right-answer, right-string}
 use Rattle.desk_strings.specs.Calls.{openAnswer, openString, openedFrom, said, answerBy, stringBy, joinAnswer, joinString, leaveAnswer, leaveString, endAnswer, endString, roomIn, begunAnswer, beginAnswer, beginString}
 use Rattle.admission.specs.Refused.{refused-desk}
 use Rattle.string_claims.specs.Kept.{call-kept, open-right}
