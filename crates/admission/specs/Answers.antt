@@ -15,7 +15,7 @@ use Rattle.plan.specs.declared.Plan.{Plan}
 use Rattle.plan.specs.Answer.{isPlan}
 use Rattle.safety.specs.Scheduler.{Call, join, leave, joined, left}
 use Rattle.safety.specs.Order.{bySlot}
-use Rattle.safety.specs.Arrays.{slots-set}
+use Rattle.safety.specs.ArrayLaws.{slots-set}
 use Rattle.safety.specs.Refusals as refusals
 use Rattle.safety.specs.Calls as calls
 use Rattle.safety.specs.Lists.{answer-accepted, answer-refused}

@@ -6,7 +6,8 @@ use mathlib.Core.List.{List, [], _∷_, map}
 use lib.ListN.{length, getD, set, length-replicate, List·getD-map}
 use Rattle.numbers.specs.Limits.{maxStreams}
 use Rattle.safety.specs.Scheduler.{Slot, freeSlot, at}
-use Rattle.safety.specs.Arrays.{slotOf, length-slots, slot-at}
+use Rattle.safety.specs.Arrays.{slotOf}
+use Rattle.safety.specs.ArrayLaws.{length-slots, slot-at}
 use Rattle.desk.specs.declared.Desk.{Desk}
 use Rattle.desk.specs.Desk.{supplyOf, slotsIn, viewOf, deskOf, zeros}
 use Rattle.desk.specs.View.{Wide, same-length, desk-of-view}

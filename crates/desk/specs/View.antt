@@ -6,7 +6,7 @@ use lib.ListN.{length}
 use Rattle.numbers.specs.Limits.{maxStreams}
 use Rattle.plan.specs.declared.Plan.{Plan}
 use Rattle.safety.specs.Order.{Scheduler}
-use Rattle.safety.specs.Arrays.{SameLength, slots-back, kinds-of-slots, nexts-of-slots, helds-of-slots}
+use Rattle.safety.specs.ArrayLaws.{SameLength, slots-back, kinds-of-slots, nexts-of-slots, helds-of-slots}
 use Rattle.desk.specs.declared.Desk.{Desk}
 use Rattle.desk.specs.Desk.{supplyOf, Queue, viewOf, deskOf}
 

@@ -16,7 +16,8 @@ use Rattle.numbers.specs.Slots.{playing, draining}
 use Rattle.safety.specs.Supply.{Supply}
 use Rattle.safety.specs.Scheduler.{Slot, at, mostDrawn, drawLimit, end}
 use Rattle.safety.specs.Order.{Scheduler}
-use Rattle.safety.specs.Arrays.{slotOf, length-slots, slot-at}
+use Rattle.safety.specs.Arrays.{slotOf}
+use Rattle.safety.specs.ArrayLaws.{length-slots, slot-at}
 use Rattle.safety.specs.Refusals as R
 use Rattle.safety.specs.Refusals.{judged, drawAllowed}
 use Rattle.safety.specs.Rows.{end-length, end-excess, end-overdrawn, end-accepted}

@@ -21,7 +21,7 @@ use Rattle.plan.specs.Check.{shows-loop, shows-once}
 use Rattle.safety.specs.Supply.{Supply}
 use Rattle.safety.specs.Scheduler as S
 use Rattle.safety.specs.Scheduler.{freeSlot, at, leads, endedSlot, ended, mostDrawn}
-use Rattle.safety.specs.Sound.{Good, good-free}
+use Rattle.safety.specs.Facts.{Good, good-free}
 use Rattle.safety.specs.Refusals.{drawAllowed, drawHeld}
 use Rattle.safety.specs.Slots.{fetched-full, fetched-other}
 use Rattle.safety.specs.Turns.{ended-fetched, ended-last, ended-empty, ended-other, endedTo, endedTo-none, endedTo-at, endedTo-next, endedTo-rest}

@@ -11,7 +11,8 @@ use Rattle.numbers.specs.Slots.{playing}
 use Rattle.numbers.specs.Units.{parts}
 use Rattle.safety.specs.Supply.{Supply}
 use Rattle.safety.specs.Scheduler.{Slot, at}
-use Rattle.safety.specs.Arrays.{slotsOf, length-slots, slot-at}
+use Rattle.safety.specs.Arrays.{slotsOf}
+use Rattle.safety.specs.ArrayLaws.{length-slots, slot-at}
 use Rattle.safety.specs.Turns.{leastHeld, least-next, least-skip, least-rest}
 use Rattle.desk.specs.Shown.{Slots}
 

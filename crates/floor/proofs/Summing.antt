@@ -11,7 +11,8 @@ use Rattle.numbers.specs.Limits.{maxStreams}
 use Rattle.numbers.specs.Slots.{filling, playing}
 use Rattle.safety.specs.Supply.{Supply}
 use Rattle.safety.specs.Scheduler.{Slot, at, leads}
-use Rattle.safety.specs.Arrays.{slotsOf, length-slots, slot-at}
+use Rattle.safety.specs.Arrays.{slotsOf}
+use Rattle.safety.specs.ArrayLaws.{length-slots, slot-at}
 use Rattle.safety.specs.Turns.{leads-none, leads-next, leads-skip, leads-rest}
 use Rattle.desk.specs.Shown.{Slots}
 use Rattle.floor.specs.Floor.{mostLead, Listed, LeadsOf, Added}

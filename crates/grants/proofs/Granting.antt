@@ -18,7 +18,8 @@ use Rattle.numbers.specs.Limits.{maxBytes, maxRate}
 use Rattle.numbers.specs.Slots.{waiting, filling}
 use Rattle.numbers.specs.Units.{parts}
 use Rattle.safety.specs.Scheduler.{Slot, freeSlot, at, leads, lowWater, startedSlot, started, playersHold, fillingSlot, tries}
-use Rattle.safety.specs.Arrays.{slotOf, slotsOf, SameLength, length-slots, slot-at, slots-set-kind}
+use Rattle.safety.specs.Arrays.{slotOf, slotsOf}
+use Rattle.safety.specs.ArrayLaws.{SameLength, length-slots, slot-at, slots-set-kind}
 use Rattle.safety.specs.Turns.{startedTo, startedTo-none, startedTo-rest, least-holds}
 use Rattle.safety.specs.Turns.{tries-none, tries-past, tries-other, tries-waits, tries-granted, tries-rest}
 use Rattle.desk.specs.Shown.{Slots}

@@ -21,7 +21,7 @@ use Rattle.safety.specs.Scheduler.{Slot, Entry, Call, join, leave, begin
 use Rattle.safety.specs.Scheduler.{before, insert, sorted, entriesAt, lowWater, joined, left, isFetched, entriesFrom, entries}
 use Rattle.safety.specs.Scheduler.{leads, times, fetchCount, bound, sweptBy, releaseBy, released, endedSlot, ended, mostDrawn}
 use Rattle.safety.specs.Order.{Scheduler, Order}
-use Rattle.safety.specs.Sound.{Good, Sound}
+use Rattle.safety.specs.Facts.{Good, Sound}
 use Rattle.safety.specs.Orderly.{Kept, Orderly}
 use Rattle.safety.specs.Slots.{fetched-kind, fetched-other}
 use Rattle.safety.specs.Ledger.{Line, blank, lineAt, openedLine, closeBy, isNamed, markedLine, drawnLine, settledLine, recorded}

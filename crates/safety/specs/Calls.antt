@@ -94,10 +94,6 @@ module _ {A Q : Type 0} (p : Supply A) (o : Order A Q) where
       × (allFrom (drawAllowed p (mostDrawn p (d .slots)) ds) 0 (d .slots) ≡ true)
       × (allFrom (drawHeld p ds) 0 (d .slots) ≡ true)
 
-  -- all that safety relies on of the rules: they accept nothing else
-  pub record Strict {X : Type 0} (u : Rules A Q X) : Type 0 where
-    pub strict : (d : Scheduler A Q) (x : X) → u .verdict d x .number ≡ 0 → Allowed d (u .move x)
-
   unfoldable pub opening : State A Q
   opening = record { scheduler = opened p o; ledger = openedLedger }
 

@@ -15,7 +15,7 @@ use Rattle.safety.specs.Supply.{Supply}
 use Rattle.numbers.specs.Slots.{free, waiting, playing}
 use Rattle.safety.specs.Scheduler.{Slot, freeSlot, at, leads, lowWater, joined, left}
 use Rattle.safety.specs.Order.{Order}
-use Rattle.safety.specs.Sound.{Good}
+use Rattle.safety.specs.Facts.{Good}
 
 -- what a begin may do to a slot: its kind goes from 1 to 2, from 2 to 3, from 1 to 3, or stays
 pub record Kept {A : Type 0} (s t : Slot A) : Type 0 where

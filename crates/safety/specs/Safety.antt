@@ -22,7 +22,7 @@ use Rattle.safety.specs.Scheduler.{Slot, Call, join, leave, begin, end, 
 use Rattle.safety.specs.Scheduler.{reads, leadOf, leads, lowWater, joined, left, isFetched, timeOf, times, fetchCount, bound}
 use Rattle.safety.specs.Scheduler.{sweptBy, releaseBy, released, endedSlot, ended, mostDrawn, drawLimit}
 use Rattle.safety.specs.Order.{Scheduler, Order}
-use Rattle.safety.specs.Sound.{Good, good-block, good-free, FreeFrom, Sound}
+use Rattle.safety.specs.Facts.{Good, good-block, good-free, FreeFrom, Sound}
 use Rattle.safety.specs.Orderly.{Kept, kept-refl, SameWaiting, Floored, Orderly}
 use Rattle.safety.specs.Slots.{reads-kind, reading-lead, other-lead, fetched-other, fetched-kind, fetched-room, unfetched-full}
 use Rattle.safety.specs.Refusals.{drawAllowed, drawHeld}

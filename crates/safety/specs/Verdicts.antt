@@ -18,9 +18,11 @@ use Rattle.safety.specs.Supply.{Supply, Lawful, Named}
 use Rattle.numbers.specs.Slots.{free, playing, draining, between, sweeping}
 use Rattle.safety.specs.Scheduler.{Slot, Call, join, leave, begin, end, freeSlot, at, mostDrawn, drawLimit}
 use Rattle.safety.specs.Order.{Scheduler, Order}
-use Rattle.safety.specs.Sound.{sound, Sound}
+use Rattle.safety.specs.Sound.{sound}
+use Rattle.safety.specs.Facts.{Sound}
 use Rattle.safety.specs.Refusals.{Verdict, accept, unless, drawAllowed, drawHeld, judged, verdict}
-use Rattle.safety.specs.Calls.{Allowed, Strict, refusals}
+use Rattle.safety.specs.Calls.{Allowed, refusals}
+use Rattle.safety.specs.Strict.{Strict}
 use Rattle.safety.specs.Rows.{row-sound}
 use Rattle.safety.specs.Safety.{players-hold-draw}
 

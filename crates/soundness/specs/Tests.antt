@@ -17,7 +17,7 @@ use Rattle.plan.specs.Plan.{showingIn}
 use Rattle.safety.specs.Scheduler.{leads, lowWater}
 use Rattle.safety.specs.Order.{bySlot}
 use Rattle.safety.specs.Arrays.{slotOf}
-use Rattle.safety.specs.Sound.{Good, Sound, sound-of-good}
+use Rattle.safety.specs.Facts.{Good, Sound, sound-of-good}
 use Rattle.safety.specs.Turns.{sound-yes, sound-no, sound-at}
 use Rattle.desk.specs.declared.Desk.{Desk}
 use Rattle.desk.specs.Desk.{supplyOf, orderOf, slotsIn, viewOf}

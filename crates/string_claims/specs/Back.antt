@@ -23,8 +23,8 @@ use Rattle.plan.specs.Check.{checked, checked-legal}
 use Rattle.plan.specs.Legal.{buffer-small}
 use Rattle.safety.specs.Scheduler.{Slot, Call, join, leave, begin, end}
 use Rattle.safety.specs.Order.{Scheduler}
-use Rattle.safety.specs.Sound.{Good, Sound, sound-says}
-use Rattle.safety.specs.Arrays.{length-slots}
+use Rattle.safety.specs.Facts.{Good, Sound, sound-says}
+use Rattle.safety.specs.ArrayLaws.{length-slots}
 use Rattle.safety.specs.Calls as C
 use Rattle.safety.specs.Lists.{verdict-zero, answer-accepted}
 use Rattle.safety.specs.Verdicts.{accepted-was-sound}

@@ -10,12 +10,14 @@ use Rattle.numbers.specs.Units.{parts}
 use Rattle.safety.specs.Scheduler.{Slot, freeSlot, at, leads, lowWater, started, tries, begun, entries, bound}
 use Rattle.safety.specs.Order.{bySlot}
 use Rattle.safety.specs.Orderly.{Kept, kept-refl}
-use Rattle.safety.specs.Sound.{FreeFrom}
+use Rattle.safety.specs.Facts.{FreeFrom}
 use Rattle.safety.specs.Safety.{kept-free}
-use Rattle.safety.specs.BySlot.{started-kept, started-leads}
+use Rattle.safety.specs.BySlot.{started-kept}
+use Rattle.safety.specs.Turns.{started-leads}
 use Rattle.safety.specs.Calls.{accepted}
 use Rattle.safety.specs.Turns.{leastHeld}
-use Rattle.safety.specs.Arrays.{slotsOf, length-slots, slot-at, kinds-of-slots}
+use Rattle.safety.specs.Arrays.{slotsOf}
+use Rattle.safety.specs.ArrayLaws.{length-slots, slot-at, kinds-of-slots}
 use Rattle.desk.specs.declared.Desk.{Desk}
 use Rattle.desk.specs.declared.Fetches.{Fetches}
 use Rattle.desk.specs.declared.Gathered.{Gathered}

@@ -9,7 +9,7 @@ use Rattle.safety.specs.Order.{bySlot}
 use Rattle.safety.specs.Orderly.{Kept}
 use Rattle.safety.specs.BySlot.{begun-began}
 use Rattle.safety.specs.Calls.{accepted}
-use Rattle.safety.specs.Arrays.{nexts-of-slots, helds-of-slots}
+use Rattle.safety.specs.ArrayLaws.{nexts-of-slots, helds-of-slots}
 use Rattle.desk.specs.declared.Desk.{Desk}
 use Rattle.desk.specs.Desk.{supplyOf, slotsIn, viewOf, deskOf}
 use Rattle.desk.specs.View.{Wide, same-length}

@@ -18,7 +18,8 @@ use Rattle.plan.specs.Plan.{showingIn, placeOf}
 use Rattle.safety.specs.Supply.{Supply}
 use Rattle.safety.specs.Scheduler.{Slot, Entry, begin, at, entriesAt, reads, isFetched, entriesFrom, entries}
 use Rattle.safety.specs.Order.{Scheduler}
-use Rattle.safety.specs.Sorting.{before-says, rising-at, sameEntry, occurrences, sorted-keeps, entries-rise, entryOf}
+use Rattle.safety.specs.Sorting.{before-says, rising-at, sorted-keeps, entries-rise, entryOf}
+use Rattle.safety.specs.InOrder.{sameEntry, occurrences}
 use Rattle.safety.specs.Calls as C
 use Rattle.safety.specs.Lists.{verdict-zero, answer-accepted}
 use Rattle.desk.specs.declared.Desk.{Desk}
