@@ -13,13 +13,13 @@ use Rattle.numbers.specs.Refusals.{notSound, wrongPhase, noSuchSlot, slotState,
 use Rattle.numbers.specs.Slots.{free, waiting, between}
 use Rattle.plan.specs.declared.Plan.{Plan}
 use Rattle.plan.specs.Answer.{isPlan}
-use Rattle.safety.specs.Scheduler.{Call, join, leave, joined, left}
-use Rattle.safety.specs.Order.{bySlot}
-use Rattle.safety.specs.ArrayLaws.{slots-set}
-use Rattle.safety.specs.Refusals as refusals
-use Rattle.safety.specs.Calls as calls
+use Rattle.rules.specs.Scheduler.{Call, join, leave, joined, left}
+use Rattle.rules.specs.Order.{bySlot}
+use Rattle.turns.specs.ArrayLaws.{slots-set}
+use Rattle.rules.specs.Refusals as refusals
+use Rattle.rules.specs.Calls as calls
 use Rattle.safety.specs.Lists.{answer-accepted, answer-refused}
-use Rattle.safety.specs.Rows.{refuse, join-phase, join-slot, join-occupied, join-fault, join-accepted, leave-phase, leave-slot, leave-free, leave-accepted}
+use Rattle.turns.specs.Rows.{refuse, join-phase, join-slot, join-occupied, join-fault, join-accepted, leave-phase, leave-slot, leave-free, leave-accepted}
 use Rattle.desk.specs.declared.Desk.{Desk}
 use Rattle.desk.specs.declared.Answer.{Answer}
 use Rattle.desk.specs.Desk.{supplyOf, rulesOf, orderOf, slotsIn, viewOf, deskOf, freshDesk, blankDesk, verdict, openDesk, answerOf, answered, joinDesk, leaveDesk}

@@ -88,7 +88,7 @@ pub fn judge_join(desk: Desk, positions: &[u8], leads: &[u8], slot: u32, block: 
     verdict(ACCEPTED, 0)
 }
 
-// A free slot becomes asked (safety: waiting), with its start block: 14 to 18. A refused call answers the desk it was given.
+// A free slot becomes asked (rules: waiting), with its start block: 14 to 18. A refused call answers the desk it was given.
 pub fn join(desk: Desk, positions: &[u8], leads: &[u8], slot: u32, block: u32) -> Answer
     ensures { λ r. ⌜ r ≡ joinDesk desk (now (positions .entry)) (now (leads .entry)) slot block ⌝ }
 {

@@ -6,7 +6,7 @@ use mathlib.Core.List.{List, [], _∷_, map}
 use native.Mathlib.Omega.{arith}
 use lib.ListN.{length, getD, replicate, length-map, List·getD-append, List·getD-map}
 use Rattle.numbers.specs.Limits.{maxStreams}
-use Rattle.safety.specs.Scheduler.{Entry}
+use Rattle.rules.specs.Scheduler.{Entry}
 use Rattle.desk.specs.declared.Fetches.{Fetches}
 use Rattle.desk.specs.Desk.{fetchesOf, array}
 

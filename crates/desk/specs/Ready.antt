@@ -9,8 +9,8 @@ use Rattle.plan.specs.declared.Plan.{Plan}
 use Rattle.plan.specs.Plan.{showingIn, streamsOf, planOf}
 use Rattle.plan.specs.Legal.{streams-few, buffer-small}
 use Rattle.plan.specs.Promise.{buffer-formula}
-use Rattle.safety.specs.Supply.{Lawful}
-use Rattle.safety.specs.Facts.{Sound}
+use Rattle.rules.specs.Supply.{Lawful}
+use Rattle.turns.specs.Facts.{Sound}
 use Rattle.desk.specs.declared.Desk.{Desk}
 use Rattle.desk.specs.Desk.{supplyOf, orderOf, viewOf}
 use Rattle.desk.specs.View.{Wide, same-length}

@@ -6,10 +6,10 @@ use mathlib.Core.List.{List}
 use lib.ListN.{length, getD}
 use Rattle.numbers.specs.Limits.{maxPositions, maxTime, maxStreams}
 use Rattle.numbers.specs.Slots.{waiting, playing}
-use Rattle.safety.specs.Supply.{Supply}
-use Rattle.safety.specs.Arrays.{slotsOf}
-use Rattle.safety.specs.ArrayLaws.{SameLength}
-use Rattle.safety.specs.Facts.{FreeFrom}
+use Rattle.rules.specs.Supply.{Supply}
+use Rattle.rules.specs.Arrays.{slotsOf}
+use Rattle.turns.specs.ArrayLaws.{SameLength}
+use Rattle.turns.specs.Facts.{FreeFrom}
 use Rattle.desk.specs.declared.Gathered.{Gathered}
 
 -- 256 slots, of which those from n on are free

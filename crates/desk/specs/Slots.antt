@@ -5,9 +5,9 @@ use mathlib.Core.Path.{_≡_, refl, sym, ap, _∙_}
 use mathlib.Core.List.{List, [], _∷_, map}
 use lib.ListN.{length, getD, set, length-replicate, List·getD-map}
 use Rattle.numbers.specs.Limits.{maxStreams}
-use Rattle.safety.specs.Scheduler.{Slot, freeSlot, at}
-use Rattle.safety.specs.Arrays.{slotOf}
-use Rattle.safety.specs.ArrayLaws.{length-slots, slot-at}
+use Rattle.rules.specs.Scheduler.{Slot, freeSlot, at}
+use Rattle.rules.specs.Arrays.{slotOf}
+use Rattle.turns.specs.ArrayLaws.{length-slots, slot-at}
 use Rattle.desk.specs.declared.Desk.{Desk}
 use Rattle.desk.specs.Desk.{supplyOf, slotsIn, viewOf, deskOf, zeros}
 use Rattle.desk.specs.View.{Wide, same-length, desk-of-view}

@@ -9,7 +9,7 @@ use Rattle.numbers.specs.Units.{parts}
 use Rattle.pacing.specs.Film.{Film, Paced, lead}
 use Rattle.pacing.specs.Lead.{lead-closed, lead-law}
 use Rattle.pacing.specs.Streams.{load, bufferOf}
-use Rattle.safety.specs.Supply.{Supply, Lawful}
+use Rattle.rules.specs.Supply.{Supply, Lawful}
 
 -- what a plan says of its film beside the laying: B, c, the overhead of a sweep of so many blocks, the fetch entries of a block, n,
 -- margin and buffer

@@ -5,8 +5,8 @@ use mathlib.Core.Path.{_≡_, sym, _∙_}
 use lib.ListN.{length}
 use Rattle.numbers.specs.Limits.{maxStreams}
 use Rattle.plan.specs.declared.Plan.{Plan}
-use Rattle.safety.specs.Order.{Scheduler}
-use Rattle.safety.specs.ArrayLaws.{SameLength, slots-back, kinds-of-slots, nexts-of-slots, helds-of-slots}
+use Rattle.rules.specs.Order.{Scheduler}
+use Rattle.turns.specs.ArrayLaws.{SameLength, slots-back, kinds-of-slots, nexts-of-slots, helds-of-slots}
 use Rattle.desk.specs.declared.Desk.{Desk}
 use Rattle.desk.specs.Desk.{supplyOf, Queue, viewOf, deskOf}
 

@@ -9,11 +9,11 @@ use native.Mathlib.Decide.{decLe}
 use lib.ListN.{length, getD, take}
 use Rattle.numbers.specs.Limits.{maxStreams}
 use Rattle.numbers.specs.Slots.{filling, playing}
-use Rattle.safety.specs.Supply.{Supply}
-use Rattle.safety.specs.Scheduler.{Slot, at, leads}
-use Rattle.safety.specs.Arrays.{slotsOf}
-use Rattle.safety.specs.ArrayLaws.{length-slots, slot-at}
-use Rattle.safety.specs.Turns.{leads-none, leads-next, leads-skip, leads-rest}
+use Rattle.rules.specs.Supply.{Supply}
+use Rattle.rules.specs.Scheduler.{Slot, at, leads}
+use Rattle.rules.specs.Arrays.{slotsOf}
+use Rattle.turns.specs.ArrayLaws.{length-slots, slot-at}
+use Rattle.turns.specs.Turns.{leads-none, leads-next, leads-skip, leads-rest}
 use Rattle.desk.specs.Shown.{Slots}
 use Rattle.floor.specs.Floor.{mostLead, Listed, LeadsOf, Added}
 

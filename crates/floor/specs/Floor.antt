@@ -8,9 +8,9 @@ use Rattle.numbers.specs.Limits.{maxStreams}
 use Rattle.numbers.specs.Slots.{waiting, playing}
 use Rattle.numbers.specs.Units.{parts}
 use Rattle.plan.specs.declared.Plan.{Plan}
-use Rattle.safety.specs.Supply.{Supply}
-use Rattle.safety.specs.Scheduler.{leads, lowWater}
-use Rattle.safety.specs.Arrays.{slotsOf}
+use Rattle.rules.specs.Supply.{Supply}
+use Rattle.rules.specs.Scheduler.{leads, lowWater}
+use Rattle.rules.specs.Arrays.{slotsOf}
 use Rattle.desk.specs.declared.Desk.{Desk}
 use Rattle.desk.specs.Desk.{supplyOf, slotsIn}
 use Rattle.desk.specs.Shown.{Slots, OfNext}

@@ -1,4 +1,4 @@
-// The leads of slots, and the floor of document 01 (safety: the low-water mark) that they give.
+// The leads of slots, and the floor of document 01 (rules: the low-water mark) that they give.
 use numbers::slots::FILLING;
 use numbers::slots::PLAYING;
 use numbers::slots::WAITING;
@@ -13,9 +13,9 @@ ghost use Rattle.words.specs.Words.{wordsOf};
 ghost use Rattle.numbers.specs.Limits.{maxBytes, maxRate, maxStreams};
 ghost use Rattle.numbers.specs.Slots.{waiting, filling, playing};
 ghost use Rattle.numbers.specs.Units.{parts};
-ghost use Rattle.safety.specs.Supply.{Supply};
-ghost use Rattle.safety.specs.Arrays.{slotsOf};
-ghost use Rattle.safety.specs.Turns.{leastHeld};
+ghost use Rattle.rules.specs.Supply.{Supply};
+ghost use Rattle.rules.specs.Arrays.{slotsOf};
+ghost use Rattle.turns.specs.Turns.{leastHeld};
 ghost use Rattle.desk.specs.Shown.{Slots};
 ghost use Rattle.floor.specs.Floor.{ample, Listed, Added, Taken};
 

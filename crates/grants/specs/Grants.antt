@@ -5,12 +5,12 @@ use mathlib.Core.Path.{_≡_}
 use mathlib.Core.List.{List}
 use lib.ListN.{getD}
 use Rattle.numbers.specs.Limits.{maxStreams}
-use Rattle.safety.specs.Supply.{Supply}
+use Rattle.rules.specs.Supply.{Supply}
 use Rattle.numbers.specs.Slots.{waiting}
 use Rattle.numbers.specs.Units.{parts}
-use Rattle.safety.specs.Scheduler.{leads}
-use Rattle.safety.specs.Arrays.{slotsOf}
-use Rattle.safety.specs.Turns.{leastHeld}
+use Rattle.rules.specs.Scheduler.{leads}
+use Rattle.rules.specs.Arrays.{slotsOf}
+use Rattle.turns.specs.Turns.{leastHeld}
 use Rattle.floor.specs.Floor.{ample}
 
 -- B and c are the supply's, sum and level those of the slots, and ls has the lead of each asked slot's next block

@@ -12,13 +12,13 @@ use Rattle.laws.specs.Bools.{implies, implied, and-left, and-right}
 use Rattle.laws.specs.Runs.{allBy}
 use Rattle.laws.specs.Each.{Both, each-map, both-refl}
 use Rattle.numbers.specs.Units.{parts}
-use Rattle.safety.specs.Supply.{Supply}
+use Rattle.rules.specs.Supply.{Supply}
 use Rattle.numbers.specs.Slots.{waiting, filling, playing}
-use Rattle.safety.specs.Scheduler.{Slot, at, leads, lowWater, holds}
-use Rattle.safety.specs.Scheduler.{startBy, startedSlot, started, playersHold, grantable, granted, grantBy, tried, tries, begun}
-use Rattle.safety.specs.Order.{bySlot}
+use Rattle.rules.specs.Scheduler.{Slot, at, leads, lowWater, holds}
+use Rattle.rules.specs.Scheduler.{startBy, startedSlot, started, playersHold, grantable, granted, grantBy, tried, tries, begun}
+use Rattle.rules.specs.Order.{bySlot}
 use Rattle.safety.specs.Orderly.{Kept, kept-refl, Floored, Began, Orderly, began-then, began-none}
-use Rattle.safety.specs.Turns.{started-leads, granted-leads}
+use Rattle.turns.specs.Turns.{started-leads, granted-leads}
 
 module _ {A : Type 0} (p : Supply A) where
   -- ---- filling slots start to play

@@ -13,15 +13,15 @@ use lib.Seq.{getD-set-same, getD-set-other}
 use lib.Dec.{eqb}
 use borrow.Author.Tests.{eqb-true, eq-eqb, ne-eqb}
 use Rattle.laws.specs.Bools.{and-left}
-use Rattle.safety.specs.Supply.{Supply}
+use Rattle.rules.specs.Supply.{Supply}
 use Rattle.numbers.specs.Slots.{free, waiting, filling, playing, draining}
-use Rattle.safety.specs.Scheduler.{Slot, Call, join, leave, begin, end, freeSlot, waitingSlot, fillingSlot, at}
-use Rattle.safety.specs.Scheduler.{leads, lowWater, holds, joined, left, startBy, startedSlot, grantable, tries, begun, isFetched}
-use Rattle.safety.specs.Scheduler.{sweptBy, releaseBy, released, endedSlot}
-use Rattle.safety.specs.Order.{Scheduler, bySlot}
-use Rattle.safety.specs.Calls.{accepted}
-use Rattle.safety.specs.Turns.{started-at, started-length, started-leads, tries-none, tries-next, tries-past, tries-at, tried-leads, grantable-at, ended-at}
-use Rattle.safety.specs.Kinds.{startedAll, isGranted, leadsAt, begunKind, endedKind, kindAfter}
+use Rattle.rules.specs.Scheduler.{Slot, Call, join, leave, begin, end, freeSlot, waitingSlot, fillingSlot, at}
+use Rattle.rules.specs.Scheduler.{leads, lowWater, holds, joined, left, startBy, startedSlot, grantable, tries, begun, isFetched}
+use Rattle.rules.specs.Scheduler.{sweptBy, releaseBy, released, endedSlot}
+use Rattle.rules.specs.Order.{Scheduler, bySlot}
+use Rattle.rules.specs.Calls.{accepted}
+use Rattle.turns.specs.Turns.{started-at, started-length, started-leads, tries-none, tries-next, tries-past, tries-at, tried-leads, grantable-at, ended-at}
+use Rattle.rules.specs.Kinds.{startedAll, isGranted, leadsAt, begunKind, endedKind, kindAfter}
 
 module _ {A : Type 0} (p : Supply A) where
   -- ---- begin

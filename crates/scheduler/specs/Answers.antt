@@ -15,12 +15,12 @@ use Rattle.card.specs.declared.Verdict.{Verdict}
 use Rattle.words.specs.Words.{wordsOf}
 use Rattle.plan.specs.Answer.{isPlan}
 use Rattle.laws.specs.Places.{allFrom, lowestFrom}
-use Rattle.safety.specs.Scheduler.{Call, mostDrawn, begin, end}
-use Rattle.safety.specs.Refusals as refusals
-use Rattle.safety.specs.Calls as calls
+use Rattle.rules.specs.Scheduler.{Call, mostDrawn, begin, end}
+use Rattle.rules.specs.Refusals as refusals
+use Rattle.rules.specs.Calls as calls
 use Rattle.safety.specs.Lists.{answer-accepted, answer-refused}
 use Rattle.safety.specs.Verdicts.{refusals-strict}
-use Rattle.safety.specs.Rows.{refuse, begin-phase, begin-short, begin-accepted, end-phase}
+use Rattle.turns.specs.Rows.{refuse, begin-phase, begin-short, begin-accepted, end-phase}
 use Rattle.desk.specs.declared.Desk.{Desk}
 use Rattle.desk.specs.declared.Answer.{Answer}
 use Rattle.desk.specs.Desk.{supplyOf, rulesOf, orderOf, viewOf, deskOf, verdict, fetchesOf, answerOf, answered, beginDesk, endDesk}

@@ -9,11 +9,11 @@ use lib.ListN.{length}
 use Rattle.numbers.specs.Limits.{maxStreams}
 use Rattle.round_trip.specs.Legality as legality
 use Rattle.plan.specs.declared.Plan.{Plan}
-use Rattle.safety.specs.Scheduler.{Slot, begun, entries, fetchCount}
-use Rattle.safety.specs.Order.{bySlot}
-use Rattle.safety.specs.Calls.{accepted}
+use Rattle.rules.specs.Scheduler.{Slot, begun, entries, fetchCount}
+use Rattle.rules.specs.Order.{bySlot}
+use Rattle.rules.specs.Calls.{accepted}
 use Rattle.safety.specs.Safety.{kept-free, fetches-le}
-use Rattle.safety.specs.Sorting.{entries-length}
+use Rattle.turns.specs.Sorting.{entries-length}
 use Rattle.desk.specs.declared.Desk.{Desk}
 use Rattle.desk.specs.declared.Begun.{Begun}
 use Rattle.desk.specs.Promise.{order-orderly}

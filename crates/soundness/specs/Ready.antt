@@ -13,7 +13,7 @@ use Rattle.plan.specs.Plan.{showingIn, streamsOf, planOf}
 use Rattle.plan.specs.Answer.{isPlan}
 use Rattle.plan.specs.Check.{checked, checked-legal}
 use Rattle.plan.specs.Legal.{lead-small, streams-few}
-use Rattle.safety.specs.Facts.{sound-says}
+use Rattle.turns.specs.Facts.{sound-says}
 use Rattle.desk.specs.declared.Desk.{Desk}
 use Rattle.desk.specs.Desk.{supplyOf, orderOf, viewOf}
 use Rattle.desk.specs.View.{Wide}

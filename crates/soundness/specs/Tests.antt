@@ -1,4 +1,4 @@
--- The facts of a record and the rules' test of it (crate safety): each way that the test in code can take.
+-- The facts of a record and the rules' test of it (crate rules): each way that the test in code can take.
 -- Assumes nothing.
 use Prim.Native.Nat.{ℕ, _+_, _*_, _≤_, _<_}
 use mathlib.Core.Path.{_≡_, refl, sym, ap, _∙_, subst}
@@ -14,11 +14,11 @@ use Rattle.numbers.specs.Units.{parts}
 use Rattle.words.specs.Words.{wordsOf}
 use Rattle.plan.specs.declared.Plan.{Plan}
 use Rattle.plan.specs.Plan.{showingIn}
-use Rattle.safety.specs.Scheduler.{leads, lowWater}
-use Rattle.safety.specs.Order.{bySlot}
-use Rattle.safety.specs.Arrays.{slotOf}
-use Rattle.safety.specs.Facts.{Good, Sound, sound-of-good}
-use Rattle.safety.specs.Turns.{sound-yes, sound-no, sound-at}
+use Rattle.rules.specs.Scheduler.{leads, lowWater}
+use Rattle.rules.specs.Order.{bySlot}
+use Rattle.rules.specs.Arrays.{slotOf}
+use Rattle.turns.specs.Facts.{Good, Sound, sound-of-good}
+use Rattle.turns.specs.Turns.{sound-yes, sound-no, sound-at}
 use Rattle.desk.specs.declared.Desk.{Desk}
 use Rattle.desk.specs.Desk.{supplyOf, orderOf, slotsIn, viewOf}
 use Rattle.desk.specs.View.{Wide, same-length}

@@ -21,11 +21,11 @@ use Rattle.plan.specs.Plan.{showingIn, planOf}
 use Rattle.plan.specs.Answer.{isPlan}
 use Rattle.plan.specs.Check.{checked, checked-legal}
 use Rattle.plan.specs.Legal.{buffer-small}
-use Rattle.safety.specs.Scheduler.{Slot, Call, join, leave, begin, end}
-use Rattle.safety.specs.Order.{Scheduler}
-use Rattle.safety.specs.Facts.{Good, Sound, sound-says}
-use Rattle.safety.specs.ArrayLaws.{length-slots}
-use Rattle.safety.specs.Calls as C
+use Rattle.rules.specs.Scheduler.{Slot, Call, join, leave, begin, end}
+use Rattle.rules.specs.Order.{Scheduler}
+use Rattle.turns.specs.Facts.{Good, Sound, sound-says}
+use Rattle.turns.specs.ArrayLaws.{length-slots}
+use Rattle.rules.specs.Calls as C
 use Rattle.safety.specs.Lists.{verdict-zero, answer-accepted}
 use Rattle.safety.specs.Verdicts.{accepted-was-sound}
 use Rattle.safety.specs.Safety.{accepted-length}

@@ -18,9 +18,9 @@ use Rattle.plan.specs.declared.Plan.{Plan}
 use Rattle.plan.specs.Plan.{showingIn, placeOf, planOf}
 use Rattle.plan.specs.Check.{checked, checked-legal}
 use Rattle.plan.specs.Legal.{place-below, streams-few}
-use Rattle.safety.specs.Scheduler.{Entry, begin, freeSlot, at, leads}
-use Rattle.safety.specs.Order.{Scheduler}
-use Rattle.safety.specs.Facts.{Good, good-free, Sound}
+use Rattle.rules.specs.Scheduler.{Entry, begin, freeSlot, at, leads}
+use Rattle.rules.specs.Order.{Scheduler}
+use Rattle.turns.specs.Facts.{Good, good-free, Sound}
 use Rattle.admission.specs.Refused.{refused-same}
 use Rattle.desk.specs.declared.Desk.{Desk}
 use Rattle.desk.specs.Desk.{supplyOf, orderOf, Queue, deskOf, answerOf, fetchesOf, beginDesk, entriesOf, entryWords, fetchListAfter}

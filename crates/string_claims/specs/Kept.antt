@@ -15,7 +15,7 @@ use Rattle.words.specs.Words.{Bytes, wordsOf, withWords}
 use Rattle.card.specs.declared.Verdict.{Verdict}
 use Rattle.plan.specs.declared.Plan.{Plan}
 use Rattle.plan.specs.Answer.{isPlan}
-use Rattle.safety.specs.Scheduler.{Entry, Call, join, leave, begin, end}
+use Rattle.rules.specs.Scheduler.{Entry, Call, join, leave, begin, end}
 use Rattle.desk.specs.declared.Desk.{Desk}
 use Rattle.desk.specs.declared.Answer.{Answer}
 use Rattle.desk.specs.Desk.{deskOf, verdict, blankDesk, openBy, openDesk, answerOf, answered, joinDesk, leaveDesk, endDesk, beginDesk, entryWords, fetchListAfter}

@@ -10,9 +10,9 @@ use Rattle.words.specs.Words.{Bytes, wordsOf}
 use Rattle.words.specs.Laws.{withWords-length, withWords-bytes}
 use Rattle.plan.specs.declared.Plan.{Plan}
 use Rattle.plan.specs.Answer.{isPlan}
-use Rattle.safety.specs.Scheduler.{Entry, Call, join, leave, begin, end}
-use Rattle.safety.specs.Ledger.{openedLedger, recorded}
-use Rattle.safety.specs.Calls.{isAccepted}
+use Rattle.rules.specs.Scheduler.{Entry, Call, join, leave, begin, end}
+use Rattle.rules.specs.Ledger.{openedLedger, recorded}
+use Rattle.rules.specs.Calls.{isAccepted}
 use Rattle.desk.specs.declared.Desk.{Desk}
 use Rattle.desk.specs.Desk.{deskOf, freshDesk, answerOf, answered, joinDesk, leaveDesk, endDesk, beginDesk}
 use Rattle.trace.specs.List.{Request, joins, leaves, begins, ends, Lent, moveOf, World, Answered, answerTo, called, turn, after, opened}

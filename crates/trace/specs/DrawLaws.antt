@@ -13,11 +13,11 @@ use Rattle.laws.specs.Places.{Lowest}
 use Rattle.numbers.specs.Refusals.{notSound, drawAboveLimit, drawAboveHeld}
 use Rattle.words.specs.Words.{wordsOf}
 use Rattle.plan.specs.Answer.{isPlan}
-use Rattle.safety.specs.Scheduler.{Slot, end, freeSlot, at, mostDrawn}
-use Rattle.safety.specs.Sound.{sound}
-use Rattle.safety.specs.Refusals.{Verdict, unless, drawAllowed, drawHeld, judged, verdict}
+use Rattle.rules.specs.Scheduler.{Slot, end, freeSlot, at, mostDrawn}
+use Rattle.rules.specs.Sound.{sound}
+use Rattle.rules.specs.Refusals.{Verdict, unless, drawAllowed, drawHeld, judged, verdict}
 use Rattle.safety.specs.Verdicts.{excess-lowest, overdrawn-lowest}
-use Rattle.safety.specs.Calls as C
+use Rattle.rules.specs.Calls as C
 use Rattle.desk.specs.declared.Desk.{Desk}
 use Rattle.desk.specs.Desk.{supplyOf, orderOf, rulesOf, slotsIn, viewOf, answerOf, answered, endDesk}
 use Rattle.desk.specs.View.{Wide}

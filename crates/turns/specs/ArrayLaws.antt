@@ -6,9 +6,9 @@ use mathlib.Core.List.{List, [], _∷_, map}
 use native.Mathlib.Omega.{arith}
 use lib.ListN.{length, getD, set, drop}
 use lib.Seq.{set-getD}
-use Rattle.safety.specs.Supply.{Supply}
-use Rattle.safety.specs.Scheduler.{Slot, at}
-use Rattle.safety.specs.Arrays.{slotOf, slotsOf}
+use Rattle.rules.specs.Supply.{Supply}
+use Rattle.rules.specs.Scheduler.{Slot, at}
+use Rattle.rules.specs.Arrays.{slotOf, slotsOf}
 
 module _ {A : Type 0} (p : Supply A) where
   pub length-slots : (ks : List ℕ) (xs : List A) (hs : List ℕ) → length (slotsOf p ks xs hs) ≡ length ks

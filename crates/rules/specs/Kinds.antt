@@ -6,10 +6,10 @@ use mathlib.Core.List.{List}
 use lib.ListN.{getD}
 use lib.Dec.{eqb}
 use Rattle.numbers.specs.Slots.{free, waiting, filling, playing, draining}
-use Rattle.safety.specs.Supply.{Supply}
-use Rattle.safety.specs.Scheduler.{Slot, Call, join, leave, begin, end, at}
-use Rattle.safety.specs.Scheduler.{leads, lowWater, holds, started, playersHold, isFetched}
-use Rattle.safety.specs.Order.{Scheduler}
+use Rattle.rules.specs.Supply.{Supply}
+use Rattle.rules.specs.Scheduler.{Slot, Call, join, leave, begin, end, at}
+use Rattle.rules.specs.Scheduler.{leads, lowWater, holds, started, playersHold, isFetched}
+use Rattle.rules.specs.Order.{Scheduler}
 
 module _ {A : Type 0} (p : Supply A) where
   -- the slots after the first step of a begin: filling slots at the floor play

@@ -20,17 +20,17 @@ use Rattle.laws.specs.Sums.{sum-none, sum-next, sum-rest}
 use Rattle.laws.specs.Each.{each-at, each-by}
 use Rattle.laws.specs.Places.{mapFrom-at, mapFrom-map, mapTo-rest, allFrom, lowestFrom, all-passed, first-failed}
 use Rattle.numbers.specs.Units.{parts}
-use Rattle.safety.specs.Supply.{Supply, Named}
+use Rattle.rules.specs.Supply.{Supply, Named}
 use Rattle.numbers.specs.Slots.{free, waiting, filling, playing, draining}
-use Rattle.safety.specs.Scheduler.{Slot, freeSlot, at}
-use Rattle.safety.specs.Scheduler.{leadOf, leads, lowWater, holds, playingSlot, fillingSlot, startBy, startedSlot, started, playersHold}
-use Rattle.safety.specs.Scheduler.{grantable, granted, grantBy, tried, tries, isFetched, timeOf, times, fetchCount}
-use Rattle.safety.specs.Scheduler.{sweptBy, releaseBy, released, endedSlot, ended, drawLimit}
-use Rattle.safety.specs.Order.{Scheduler, Order}
-use Rattle.safety.specs.Sound.{soundSlot, sound}
-use Rattle.safety.specs.Facts.{Good, good-free, FreeFrom, Sound, good-of-sound, sound-says, says-sound}
-use Rattle.safety.specs.Refusals.{drawAllowed, drawHeld}
-use Rattle.safety.specs.Slots.{reading-lead, other-lead, fetched-yes, fetched-other, fetched-time, unfetched-time, holds-yes, holds-no}
+use Rattle.rules.specs.Scheduler.{Slot, freeSlot, at}
+use Rattle.rules.specs.Scheduler.{leadOf, leads, lowWater, holds, playingSlot, fillingSlot, startBy, startedSlot, started, playersHold}
+use Rattle.rules.specs.Scheduler.{grantable, granted, grantBy, tried, tries, isFetched, timeOf, times, fetchCount}
+use Rattle.rules.specs.Scheduler.{sweptBy, releaseBy, released, endedSlot, ended, drawLimit}
+use Rattle.rules.specs.Order.{Scheduler, Order}
+use Rattle.rules.specs.Sound.{soundSlot, sound}
+use Rattle.turns.specs.Facts.{Good, good-free, FreeFrom, Sound, good-of-sound, sound-says, says-sound}
+use Rattle.rules.specs.Refusals.{drawAllowed, drawHeld}
+use Rattle.turns.specs.Slots.{reading-lead, other-lead, fetched-yes, fetched-other, fetched-time, unfetched-time, holds-yes, holds-no}
 
 module _ {A : Type 0} (p : Supply A) where
   -- ---- leads, times and count: added up from slot 0

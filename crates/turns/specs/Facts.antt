@@ -14,10 +14,10 @@ use Rattle.laws.specs.Runs.{allBy}
 use Rattle.laws.specs.Each.{Each, each-map, each-at, each-of-all, all-of-each}
 use Rattle.numbers.specs.Slots.{free, waiting, playing, draining, sweeping}
 use Rattle.numbers.specs.Units.{parts}
-use Rattle.safety.specs.Supply.{Supply, Named}
-use Rattle.safety.specs.Scheduler.{Slot, freeSlot, at, leads, lowWater, holds}
-use Rattle.safety.specs.Order.{Scheduler, Order}
-use Rattle.safety.specs.Sound.{isZero, soundSlot, sound}
+use Rattle.rules.specs.Supply.{Supply, Named}
+use Rattle.rules.specs.Scheduler.{Slot, freeSlot, at, leads, lowWater, holds}
+use Rattle.rules.specs.Order.{Scheduler, Order}
+use Rattle.rules.specs.Sound.{isZero, soundSlot, sound}
 
 module _ {A : Type 0} (p : Supply A) where
   -- a slot, in the order of its test; some: a tail holds something

@@ -8,9 +8,9 @@ use lib.Dec.{leb, eqb}
 use Rattle.laws.specs.Bools.{implies}
 use Rattle.laws.specs.Runs.{allBy}
 use Rattle.numbers.specs.Slots.{free, waiting, playing, draining, sweeping}
-use Rattle.safety.specs.Supply.{Supply}
-use Rattle.safety.specs.Scheduler.{Slot, leads, lowWater, holds}
-use Rattle.safety.specs.Order.{Scheduler, Order}
+use Rattle.rules.specs.Supply.{Supply}
+use Rattle.rules.specs.Scheduler.{Slot, leads, lowWater, holds}
+use Rattle.rules.specs.Order.{Scheduler, Order}
 
 module _ {A : Type 0} (p : Supply A) where
   unfoldable pub isZero : Slot A → Bool
