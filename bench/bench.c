@@ -224,12 +224,18 @@ static void measure_joins(void)
     }
 }
 
-static void measure_sweep(const char *text, call *c, uint32_t phase, uint32_t blocks, uint32_t zones, uint32_t streams)
+/* A begin or an end of the film that was made. */
+static void measure_half(const char *text, call *c, uint32_t phase, uint32_t blocks, uint32_t zones, uint32_t streams)
 {
-    make_film(&input, blocks, zones, streams);
     make_players(&input, phase, streams);
     make_draws(&input, 1000);
     measure(c, true, FILMDISK_ACCEPTED, "%s, N %u, %u zones, %u streams", text, blocks, zones, streams);
+}
+
+static void measure_sweep(const char *text, call *c, uint32_t phase, uint32_t blocks, uint32_t zones, uint32_t streams)
+{
+    make_film(&input, blocks, zones, streams);
+    measure_half(text, c, phase, blocks, zones, streams);
 }
 
 static void measure_sweeps(void)
@@ -242,6 +248,24 @@ static void measure_sweeps(void)
     EACH(zones, zone_counts) {
         measure_sweep("begin", call_begin, FILMDISK_BETWEEN, 1000, *zones, 256);
         measure_sweep("end", call_end, FILMDISK_SWEEPING, 1000, *zones, 256);
+    }
+}
+
+/* The calls whose work depends on the showing: planning, the check behind 14, and ends, in which slots go round. */
+static void measure_loops(void)
+{
+    head("Loops (16 streams): planning; leave of a free slot, 17; open; begin and end, all slots playing and fetched for");
+    EACH(blocks, sizes) EACH(zones, zone_counts) {
+        make_loop(&input, *blocks, *zones, 16);
+        measure(call_plan_loop, false, FILMDISK_ACCEPTED, "plan, N %u, %u zones", *blocks, *zones);
+        make_players(&input, FILMDISK_BETWEEN, 15);
+        measure(call_leave, true, FILMDISK_REFUSED_SLOT_STATE, "leave, N %u, %u zones", *blocks, *zones);
+    }
+    EACH(blocks, sizes) {
+        make_loop(&input, *blocks, 7, 16);
+        measure(call_open, false, FILMDISK_ACCEPTED, "open, N %u, 7 zones", *blocks);
+        measure_half("begin", call_begin, FILMDISK_BETWEEN, *blocks, 7, 16);
+        measure_half("end", call_end, FILMDISK_SWEEPING, *blocks, 7, 16);
     }
 }
 
@@ -295,6 +319,7 @@ static void print_stacks(void)
     printf("\nStack of an accepted call, in bytes (N 1000, 64 zones, 256 streams)\n\n");
     printf("| Call | Library | C |\n|---|---|---|\n");
     print_stack("plan", call_plan, FILMDISK_BETWEEN, 0);
+    print_stack("plan_loop", call_plan_loop, FILMDISK_BETWEEN, 0);
     print_stack("open", call_open, FILMDISK_BETWEEN, 0);
     print_stack("join", call_join, FILMDISK_BETWEEN, 255);
     print_stack("leave", call_leave, FILMDISK_BETWEEN, 256);
@@ -312,6 +337,7 @@ int main(void)
     measure_checks();
     measure_joins();
     measure_sweeps();
+    measure_loops();
     measure_growth();
     print_stacks();
     printf("\n%d rows, %d above 1.1 x C\n", rows, missed);

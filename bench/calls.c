@@ -13,6 +13,12 @@ filmdisk_answer call_plan(const struct twin *t, const struct input *in, struct s
     return t->plan(in->card, in->card_len, s->plan, sizeof s->plan, s->positions, in->list_len, s->leads, in->list_len);
 }
 
+filmdisk_answer call_plan_loop(const struct twin *t, const struct input *in, struct strings *s, size_t i)
+{
+    (void)i;
+    return t->plan_loop(in->card, in->card_len, s->plan, sizeof s->plan, s->positions, in->list_len, s->leads, in->list_len);
+}
+
 filmdisk_answer call_open(const struct twin *t, const struct input *in, struct strings *s, size_t i)
 {
     return t->open(in->plan, sizeof in->plan, in->positions, in->list_len, in->leads, in->list_len, s->desks[i],

@@ -19,7 +19,7 @@ struct strings {
 
 /* A call of an implementation; one on a desk takes desk i. */
 typedef filmdisk_answer call(const struct twin *t, const struct input *in, struct strings *s, size_t i);
-call call_read, call_plan, call_open, call_join, call_leave, call_begin, call_end;
+call call_read, call_plan, call_plan_loop, call_open, call_join, call_leave, call_begin, call_end;
 
 /* The last of the used slots: join and leave are tried on it. */
 static inline uint32_t last_slot(const struct input *in)

@@ -36,24 +36,24 @@ static void put_card(struct input *in, uint32_t blocks, uint32_t zones, uint32_t
     put_number(in, RETURN);
 }
 
-static void plan_input(struct input *in)
+static void plan_input(struct input *in, uint32_t showing)
 {
-    filmdisk_answer a = plain_plan(in->card, in->card_len, in->plan, sizeof in->plan, in->positions,
-                                   sizeof in->positions, in->leads, sizeof in->leads);
+    filmdisk_answer a = (showing == FILMDISK_LOOP ? plain_plan_loop : plain_plan)(
+        in->card, in->card_len, in->plan, sizeof in->plan, in->positions, sizeof in->positions, in->leads, sizeof in->leads);
     if (a.number != FILMDISK_ACCEPTED) {
         fprintf(stderr, "bench: the film's card is refused: %s\n", filmdisk_meaning(a.number));
         exit(1);
     }
 }
 
-void make_film(struct input *in, uint32_t blocks, uint32_t zones, uint32_t streams)
+static void make_showing(struct input *in, uint32_t showing, uint32_t blocks, uint32_t zones, uint32_t streams)
 {
     put_card(in, blocks, zones, 1);
-    plan_input(in);
+    plan_input(in, showing);
     uint32_t worst2 = filmdisk_word(in->plan, FILMDISK_PLAN_WORST2);
     uint64_t load = (uint64_t)streams * worst2 + 2 * ((uint64_t)streams * HOP + RETURN);
     put_card(in, blocks, zones, (uint32_t)(UINT64_C(2000000) * BLOCK_BYTES / load));
-    plan_input(in);
+    plan_input(in, showing);
     if (filmdisk_word(in->plan, FILMDISK_PLAN_STREAMS) != streams) {
         fprintf(stderr, "bench: a film of %u blocks has not %u streams\n", blocks, streams);
         exit(1);
@@ -61,6 +61,16 @@ void make_film(struct input *in, uint32_t blocks, uint32_t zones, uint32_t strea
     in->list_len = (size_t)blocks * FILMDISK_ENTRY_BYTES;
     memcpy(in->desk, in->plan, sizeof in->plan);
     memset(in->desk + sizeof in->plan, 0, sizeof in->desk - sizeof in->plan);
+}
+
+void make_film(struct input *in, uint32_t blocks, uint32_t zones, uint32_t streams)
+{
+    make_showing(in, FILMDISK_ONCE, blocks, zones, streams);
+}
+
+void make_loop(struct input *in, uint32_t blocks, uint32_t zones, uint32_t streams)
+{
+    make_showing(in, FILMDISK_LOOP, blocks, zones, streams);
 }
 
 /* What a slot holds is the most with which a block is fetched for it; that is never below the floor. */

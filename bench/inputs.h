@@ -20,6 +20,9 @@ struct input {
 /* A film over all zones of a disk, its rate the greatest that feeds so many streams; its plan, lists and an open desk. */
 void make_film(struct input *in, uint32_t blocks, uint32_t zones, uint32_t streams);
 
+/* The same as a loop. */
+void make_loop(struct input *in, uint32_t blocks, uint32_t zones, uint32_t streams);
+
 /* A desk in a phase on which the slots from `first_free` on are free and the others play, each with room for a block. */
 void make_players(struct input *in, uint32_t phase, uint32_t first_free);
 

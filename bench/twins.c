@@ -9,7 +9,8 @@ DECLARE_TWIN(plain0)
 DECLARE_TWIN(plain1)
 DECLARE_TWIN(plain2)
 
-#define TWIN(prefix) { prefix##_plan, prefix##_open, prefix##_join, prefix##_leave, prefix##_begin, prefix##_end }
+#define TWIN(prefix) \
+    { prefix##_plan, prefix##_plan_loop, prefix##_open, prefix##_join, prefix##_leave, prefix##_begin, prefix##_end }
 
 const struct twin twins[TWINS][COPIES] = {
     { TWIN(library0), TWIN(library1), TWIN(library2) },

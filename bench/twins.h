@@ -14,6 +14,7 @@ enum { COPIES = 3 };
 
 struct twin {
     filmdisk_answer (*plan)(const uint8_t *, size_t, uint8_t *, size_t, uint8_t *, size_t, uint8_t *, size_t);
+    filmdisk_answer (*plan_loop)(const uint8_t *, size_t, uint8_t *, size_t, uint8_t *, size_t, uint8_t *, size_t);
     filmdisk_answer (*open)(const uint8_t *, size_t, const uint8_t *, size_t, const uint8_t *, size_t, uint8_t *, size_t);
     filmdisk_answer (*join)(uint8_t *, size_t, const uint8_t *, size_t, const uint8_t *, size_t, uint32_t, uint32_t);
     filmdisk_answer (*leave)(uint8_t *, size_t, const uint8_t *, size_t, const uint8_t *, size_t, uint32_t);

@@ -4,6 +4,8 @@
  * Strings: plans, desks, lists and entries are byte strings, each lent as a pointer and a length. Words have 32 bits, lowest byte
  * first. Strings lent to one call share no byte: that is the caller's duty, and nothing tests it. NULL with length 0 is an empty string.
  *
+ * Films: a plan is for one showing or for a loop, by its planner call; a word of the plan says which, and all calls on its desk go by it.
+ *
  * Refused calls leave all that they were lent as it was, but for two: a plan call that is refused by 1 to 12 or 26 fills a plan string
  * of the right length with zeros, and an opening that is refused by 14 a desk string of the right length.
  *
@@ -25,9 +27,9 @@
 extern "C" {
 #endif
 
-#define FILMDISK_VERSION "0.2.0"
+#define FILMDISK_VERSION "0.3.0"
 #define FILMDISK_VERSION_MAJOR 0
-#define FILMDISK_VERSION_MINOR 2
+#define FILMDISK_VERSION_MINOR 3
 #define FILMDISK_VERSION_PATCH 0
 
 /* Limits. */
@@ -50,6 +52,7 @@ enum filmdisk_plan_word {
     FILMDISK_PLAN_BUFFER,
     FILMDISK_PLAN_WORST2,
     FILMDISK_PLAN_MARGIN,
+    FILMDISK_PLAN_SHOWING,
     FILMDISK_PLAN_WORDS /* how many there are */
 };
 
@@ -67,18 +70,22 @@ enum filmdisk_fetch_word { FILMDISK_FETCH_POSITION, FILMDISK_FETCH_SLOT, FILMDIS
 
 /* Sizes in bytes. */
 #define FILMDISK_WORD_BYTES 4
-#define FILMDISK_PLAN_BYTES (FILMDISK_PLAN_WORDS * FILMDISK_WORD_BYTES)   /* 552 */
-#define FILMDISK_DESK_BYTES (FILMDISK_DESK_WORDS * FILMDISK_WORD_BYTES)   /* 3,628 */
+#define FILMDISK_PLAN_BYTES (FILMDISK_PLAN_WORDS * FILMDISK_WORD_BYTES)   /* 556 */
+#define FILMDISK_DESK_BYTES (FILMDISK_DESK_WORDS * FILMDISK_WORD_BYTES)   /* 3,632 */
 #define FILMDISK_ENTRY_BYTES FILMDISK_WORD_BYTES                          /* an entry of positions, leads or draws */
 #define FILMDISK_FETCH_BYTES (FILMDISK_FETCH_WORDS * FILMDISK_WORD_BYTES) /* an entry of the fetch list */
 
 /* Stack in bytes that a call takes below the caller's frame, at most. */
-#define FILMDISK_STACK_PLAN 3800
-#define FILMDISK_STACK_OPEN 8200
-#define FILMDISK_STACK_JOIN 9900
-#define FILMDISK_STACK_LEAVE 9900
+#define FILMDISK_STACK_PLAN 4800
+#define FILMDISK_STACK_PLAN_LOOP 4800
+#define FILMDISK_STACK_OPEN 8300
+#define FILMDISK_STACK_JOIN 10000
+#define FILMDISK_STACK_LEAVE 10000
 #define FILMDISK_STACK_BEGIN 24100
 #define FILMDISK_STACK_END 15900
+
+/* The showing of a plan: the film once through, or as a loop, whose last block is followed by the first. */
+enum filmdisk_showing { FILMDISK_ONCE = 0, FILMDISK_LOOP = 1 };
 
 /* The kind of a slot. */
 enum filmdisk_kind {
@@ -86,7 +93,7 @@ enum filmdisk_kind {
     FILMDISK_ASKED = 1,
     FILMDISK_FILLING = 2,
     FILMDISK_PLAYING = 3,
-    FILMDISK_TAIL = 4
+    FILMDISK_TAIL = 4 /* never on a loop's desk */
 };
 
 /* The phase of a desk. */
@@ -221,13 +228,19 @@ static inline filmdisk_fetch filmdisk_fetch_at(const uint8_t *fetches, size_t in
     return fetch;
 }
 
-/* Plans a card: writes the plan and the first N entries of both lists. Refusals 1 to 11 and 26, then 13, then 12. */
+/* Plans a card for one showing: writes the plan and the first N entries of both lists. Refusals 1 to 11 and 26, then 13, then 12. */
 filmdisk_answer filmdisk_plan(const uint8_t *card, size_t card_len,
                               uint8_t *plan, size_t plan_len,
                               uint8_t *positions, size_t positions_len,
                               uint8_t *leads, size_t leads_len);
 
-/* Opens a desk of a plan and its lists, between sweeps, all slots free: writes the whole desk. Refusals 14, 13. */
+/* Plans a card as a loop, for screens that play the film round and round; all else as above. Loops have a laying of their own. */
+filmdisk_answer filmdisk_plan_loop(const uint8_t *card, size_t card_len,
+                                   uint8_t *plan, size_t plan_len,
+                                   uint8_t *positions, size_t positions_len,
+                                   uint8_t *leads, size_t leads_len);
+
+/* Opens a desk of either plan and its lists, between sweeps, all slots free: writes the whole desk. Refusals 14, 13. */
 filmdisk_answer filmdisk_open(const uint8_t *plan, size_t plan_len,
                               const uint8_t *positions, size_t positions_len,
                               const uint8_t *leads, size_t leads_len,
@@ -251,7 +264,10 @@ filmdisk_answer filmdisk_begin(uint8_t *desk, size_t desk_len,
                                const uint8_t *leads, size_t leads_len,
                                uint8_t *fetches, size_t fetches_len);
 
-/* Ends a sweep, with the bytes that each of the n slots drew: alters the desk in place. Refusals 14, 15, 19, 20, 21. */
+/*
+ * Ends a sweep, with the bytes that each of the n slots drew: alters the desk in place. Refusals 14, 15, 19, 20, 21. After the last block
+ * of a film shown once a slot is tail, and free when it holds no more; in a loop its next block is 0, and it is free only by a leave.
+ */
 filmdisk_answer filmdisk_end(uint8_t *desk, size_t desk_len,
                              const uint8_t *positions, size_t positions_len,
                              const uint8_t *leads, size_t leads_len,

@@ -1,4 +1,5 @@
 /* The picture of an evening: what each room holds against the floor and the buffer size. */
+#include "chart.h"
 #include "desk_run.h"
 #include "pictures.h"
 #include "svg.h"
@@ -7,58 +8,6 @@ enum { WIDTH = 1000, HEIGHT = 930, LEFT = 140, RIGHT = 975, FIRST_STRIP = 112, S
 enum { DETAIL_TOP = 752, DETAIL_FOOT = 872, DETAIL_WIDE = 375 };
 
 static const char *const room_colours[ROOMS] = {"#0072b2", "#d98200", "#008f68", "#b8578f", "#4a5568", "#8c564b", "#6f4aa0", "#7a8b00"};
-
-/* A part of the run on paper: its seconds along x, its bytes along y. */
-struct frame {
-    double x, width, top, foot;
-    double from_time, to_time; /* microseconds */
-    double low, high;          /* bytes */
-};
-
-static double frame_x(const struct frame *frame, double time)
-{
-    return frame->x + frame->width * (time - frame->from_time) / (frame->to_time - frame->from_time);
-}
-
-static double frame_y(const struct frame *frame, double bytes)
-{
-    return frame->foot - (frame->foot - frame->top) * (bytes - frame->low) / (frame->high - frame->low);
-}
-
-/* A path that leaves out points on a straight line between their neighbours. */
-struct trail {
-    FILE *out;
-    int points;
-    double kept_x, kept_y, last_x, last_y;
-};
-
-static void trail_put(struct trail *trail, double x, double y)
-{
-    fprintf(trail->out, "%s%.1f %.1f", trail->points++ ? "L" : "M", x, y);
-    trail->kept_x = x;
-    trail->kept_y = y;
-}
-
-static void trail_to(struct trail *trail, double x, double y)
-{
-    if (trail->points == 0) {
-        trail_put(trail, x, y);
-    } else if (trail->last_x > trail->kept_x || trail->last_y != trail->kept_y) {
-        double along = x > trail->kept_x ? (trail->last_x - trail->kept_x) / (x - trail->kept_x) : 0;
-        double straight = trail->kept_y + along * (y - trail->kept_y);
-        double off = straight - trail->last_y;
-        if (off > 0.4 || off < -0.4 || x <= trail->kept_x)
-            trail_put(trail, trail->last_x, trail->last_y);
-    }
-    trail->last_x = x;
-    trail->last_y = y;
-}
-
-static void trail_end(struct trail *trail)
-{
-    if (trail->points)
-        trail_put(trail, trail->last_x, trail->last_y);
-}
 
 /* The floor as a step line. */
 static void draw_floor(FILE *out, const struct desk_run *run, const struct frame *frame)

@@ -112,26 +112,38 @@ uint32_t laid_time(const struct film *film, uint32_t block)
     return film->card.times[laid_zone(film, block)];
 }
 
+uint32_t pair_count(const struct film *film)
+{
+    return film->card.blocks - (filmdisk_word(film->plan, FILMDISK_PLAN_SHOWING) == FILMDISK_ONCE);
+}
+
+uint32_t pair_time(const struct film *film, uint32_t block)
+{
+    return laid_time(film, block) + laid_time(film, (block + 1) % film->card.blocks);
+}
+
 /* The formulas over the library's own laying must give the library's figures: the other plans use the same formulas. */
 static void compare_with_formulas(const struct film *film)
 {
     uint32_t worst2 = 0, greatest = 0;
     for (uint32_t b = 0; b < film->card.blocks; b++) {
-        uint32_t time = laid_time(film, b);
-        if (time > greatest)
-            greatest = time;
-        if (b > 0 && laid_time(film, b - 1) + time > worst2)
-            worst2 = laid_time(film, b - 1) + time;
+        if (laid_time(film, b) > greatest)
+            greatest = laid_time(film, b);
+        if (b < pair_count(film) && pair_time(film, b) > worst2)
+            worst2 = pair_time(film, b);
     }
     struct promise expected = promise_of(&film->card, worst2, greatest);
     must(memcmp(&expected, &film->promise, sizeof expected) == 0, "the library's figures are the formulas' over its laying");
 }
 
-void plan_film(struct film *film, const struct card *card)
+/* A planner call of the library. */
+typedef filmdisk_answer planner(const uint8_t *, size_t, uint8_t *, size_t, uint8_t *, size_t, uint8_t *, size_t);
+
+static void plan_by(planner *plan, struct film *film, const struct card *card)
 {
     uint8_t bytes[FILMDISK_MAX_CARD_BYTES];
-    filmdisk_answer answer = filmdisk_plan(bytes, write_card(bytes, card), film->plan, sizeof film->plan,
-                                           film->positions, sizeof film->positions, film->leads, sizeof film->leads);
+    filmdisk_answer answer = plan(bytes, write_card(bytes, card), film->plan, sizeof film->plan,
+                                  film->positions, sizeof film->positions, film->leads, sizeof film->leads);
     film->card = *card;
     film->promise = (struct promise){0, 0, 0, 0};
     if (answer.number == FILMDISK_REFUSED_NO_STREAM)
@@ -142,4 +154,14 @@ void plan_film(struct film *film, const struct card *card)
     film->promise.worst2 = filmdisk_word(film->plan, FILMDISK_PLAN_WORST2);
     film->promise.margin = filmdisk_word(film->plan, FILMDISK_PLAN_MARGIN);
     compare_with_formulas(film);
+}
+
+void plan_film(struct film *film, const struct card *card)
+{
+    plan_by(filmdisk_plan, film, card);
+}
+
+void plan_loop(struct film *film, const struct card *card)
+{
+    plan_by(filmdisk_plan_loop, film, card);
 }

@@ -39,12 +39,17 @@ void must(int holds, const char *fact);
 /* The zone of a position. */
 uint32_t zone_of(const struct card *card, uint32_t position);
 
-/* Plans by the library; streams 0 if not one fits. Its figures are compared with the formulas of promise_of. */
+/* Plans by the library, for one showing or as a loop; streams 0 if not one fits. Its figures are compared with the formulas of promise_of. */
 void plan_film(struct film *film, const struct card *card);
+void plan_loop(struct film *film, const struct card *card);
 
 /* The zone of block b as laid, and its time. */
 uint32_t laid_zone(const struct film *film, uint32_t block);
 uint32_t laid_time(const struct film *film, uint32_t block);
+
+/* The pairs of successive blocks, of which a loop has one more, and the time of the pair that starts at block b. */
+uint32_t pair_count(const struct film *film);
+uint32_t pair_time(const struct film *film, uint32_t block);
 
 /* Every block counted at the time of the disk's slowest zone. */
 struct promise slowest_promise(const struct card *card);

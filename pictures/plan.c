@@ -1,12 +1,10 @@
 /* The picture of a plan: the time of each block as laid, and of each two successive blocks, with worst2. */
+#include "chart.h"
 #include "film.h"
 #include "pictures.h"
 #include "svg.h"
 
 enum { WIDTH = 1000, HEIGHT = 700, LEFT = 80, RIGHT = 970, BARS_TOP = 146, BARS_FOOT = 350, PAIRS_TOP = 430, PAIRS_FOOT = 630 };
-
-/* From the slow inner zone, dark, to the quick outer one, light. */
-static const char *const zone_colours[] = {"#7f1d1d", "#c2410c", "#e08a1e", "#d9b92e", "#7fae4b", "#2f9e8f", "#3b82c4"};
 
 static double block_x(const struct film *film, double block)
 {
@@ -61,8 +59,8 @@ static void draw_pairs(FILE *out, const struct film *film)
     uint32_t slowest = 2 * film->card.times[0];
     svg_text(out, LEFT, PAIRS_TOP - 14, "head", "Time to read two successive blocks together");
     draw_scale(out, most, 100000, PAIRS_TOP, PAIRS_FOOT);
-    for (uint32_t b = 0; b + 1 < film->card.blocks; b++) {
-        uint32_t sum = laid_time(film, b) + laid_time(film, b + 1);
+    for (uint32_t b = 0; b < pair_count(film); b++) {
+        uint32_t sum = pair_time(film, b);
         must(sum <= film->promise.worst2, "no two successive blocks take more than worst2");
         double y = time_y(sum, most, PAIRS_TOP, PAIRS_FOOT);
         svg_rect(out, block_x(film, b + 0.5) + 3, y, block_x(film, 1) - LEFT - 6, PAIRS_FOOT - y, "pair", "#9db4c8");

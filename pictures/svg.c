@@ -54,6 +54,11 @@ void svg_line(FILE *out, double x1, double y1, double x2, double y2, const char 
     fprintf(out, "<line x1=\"%.1f\" y1=\"%.1f\" x2=\"%.1f\" y2=\"%.1f\" class=\"%s\"/>\n", x1, y1, x2, y2, class);
 }
 
+void svg_circle(FILE *out, double x, double y, double radius, const char *class)
+{
+    fprintf(out, "<circle cx=\"%.1f\" cy=\"%.1f\" r=\"%.1f\" class=\"%s\" fill=\"none\"/>\n", x, y, radius, class);
+}
+
 void svg_rect(FILE *out, double x, double y, double width, double height, const char *class, const char *colour)
 {
     fprintf(out, "<rect x=\"%.1f\" y=\"%.1f\" width=\"%.1f\" height=\"%.1f\" class=\"%s\"", x, y, width, height, class);

@@ -18,6 +18,8 @@ void svg_text(FILE *out, double x, double y, const char *class, const char *form
 void svg_coloured(FILE *out, double x, double y, const char *class, const char *colour, const char *text);
 
 void svg_line(FILE *out, double x1, double y1, double x2, double y2, const char *class);
+/* A circle without a filling. */
+void svg_circle(FILE *out, double x, double y, double radius, const char *class);
 void svg_rect(FILE *out, double x, double y, double width, double height, const char *class, const char *colour);
 
 /* A number with a comma between thousands. */

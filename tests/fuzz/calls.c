@@ -1,7 +1,7 @@
 /*
- * Fuzz target: the bytes of an input are read as a card and then as calls on its desk, with damage to strings between them. Each call
- * is made of the library and of its plain C twin (bench/plain.c); answers and strings must be the same. The twin is built with
- * coverage, which leads the fuzzer; the library's strings touch pages that may not be touched.
+ * Fuzz target: the bytes of an input are read as a card and then as calls on its desk, with damage to strings between them. The film is
+ * shown once or is a loop. Each call is made of the library and of its plain C twin (bench/plain.c); answers and strings must be the
+ * same. The twin is built with coverage, which leads the fuzzer; the library's strings touch pages that may not be touched.
  */
 #include "guarded.h"
 #include "plain.h"
@@ -16,7 +16,7 @@
 int LLVMFuzzerTestOneInput(const uint8_t *data, size_t size);
 
 enum lent { CARD, PLAN, POSITIONS, LEADS, DESK, FETCHES, DRAWS, STRINGS };
-enum sort { CALL_PLAN, CALL_OPEN, CALL_JOIN, CALL_LEAVE, CALL_BEGIN, CALL_END };
+enum sort { CALL_PLAN, CALL_PLAN_LOOP, CALL_OPEN, CALL_JOIN, CALL_LEAVE, CALL_BEGIN, CALL_END };
 
 struct call {
     enum sort sort;
@@ -27,6 +27,7 @@ struct call {
 /* What the library and its twin have alike. */
 struct interface {
     __typeof__(filmdisk_plan) *plan;
+    __typeof__(filmdisk_plan_loop) *plan_loop;
     __typeof__(filmdisk_open) *open;
     __typeof__(filmdisk_join) *join;
     __typeof__(filmdisk_leave) *leave;
@@ -34,9 +35,10 @@ struct interface {
     __typeof__(filmdisk_end) *end;
 };
 
-static const struct interface library = {filmdisk_plan,  filmdisk_open,  filmdisk_join,
-                                         filmdisk_leave, filmdisk_begin, filmdisk_end};
-static const struct interface twin = {plain_plan, plain_open, plain_join, plain_leave, plain_begin, plain_end};
+static const struct interface library = {filmdisk_plan,  filmdisk_plan_loop, filmdisk_open, filmdisk_join,
+                                         filmdisk_leave, filmdisk_begin,     filmdisk_end};
+static const struct interface twin = {plain_plan,  plain_plan_loop, plain_open, plain_join,
+                                      plain_leave, plain_begin,     plain_end};
 
 static uint8_t contents[STRINGS][MOST_BYTES];
 static size_t lengths[STRINGS];
@@ -70,6 +72,8 @@ static filmdisk_answer make(const struct interface *of, const struct call *call,
     switch (call->sort) {
     case CALL_PLAN:
         return of->plan(s[CARD], n[CARD], s[PLAN], n[PLAN], s[POSITIONS], n[POSITIONS], s[LEADS], n[LEADS]);
+    case CALL_PLAN_LOOP:
+        return of->plan_loop(s[CARD], n[CARD], s[PLAN], n[PLAN], s[POSITIONS], n[POSITIONS], s[LEADS], n[LEADS]);
     case CALL_OPEN:
         return of->open(s[PLAN], n[PLAN], s[POSITIONS], n[POSITIONS], s[LEADS], n[LEADS], s[DESK], n[DESK]);
     case CALL_JOIN:
@@ -147,15 +151,16 @@ static void take_card(void)
         contents[CARD][i] = (uint8_t)take();
 }
 
-/* The lengths for a plan: mostly enough for a short film, at times for any or none. */
-static void take_lengths(void)
+/* The lengths for a plan: mostly enough for a short film, at times for any or none. Answers the planner call. */
+static enum sort take_planner(void)
 {
     static const size_t entries[] = {64, 64, 64, FILMDISK_MAX_BLOCKS, 6, 5, 1, 0};
-    uint32_t choice = take();
+    uint32_t choice = take(), plan = take();
     set_noise(POSITIONS, entries[choice % 8] * FILMDISK_ENTRY_BYTES + choice / 64);
     set_noise(LEADS, entries[choice / 8 % 8] * FILMDISK_ENTRY_BYTES + choice / 64);
-    set_noise(PLAN, FILMDISK_PLAN_BYTES - (take() % 8 == 1));
+    set_noise(PLAN, FILMDISK_PLAN_BYTES - (plan % 8 == 1));
     set_noise(DESK, FILMDISK_DESK_BYTES - (take() % 8 == 1));
+    return plan / 8 % 2 == 0 ? CALL_PLAN : CALL_PLAN_LOOP;
 }
 
 static uint32_t word(enum lent which, size_t index)
@@ -175,13 +180,28 @@ static uint32_t choose_draw(uint32_t slot, uint32_t choice)
     return draws[choice % COUNT(draws)];
 }
 
-/* One choice for all slots but one. */
-static void end_sweep(void)
+static void begin_sweep(void)
 {
-    uint32_t all = take() % 5, one = take(), slot = take();
+    filmdisk_answer answer = call_both(CALL_BEGIN, 0, 0);
+    last_bound = answer.number == 0 ? answer.bound : last_bound;
+}
+
+/* One choice for all slots but one. */
+static void end_sweep(uint32_t all, uint32_t one, uint32_t slot)
+{
     for (uint32_t i = 0; i < FILMDISK_MAX_STREAMS; i++)
         filmdisk_put_word(contents[DRAWS], i, choose_draw(i, i == slot ? one : all));
     call_both(CALL_END, 0, 0);
+}
+
+/* Sweeps in a row, all slots drawing alike: short films end or go round. */
+static void run_sweeps(void)
+{
+    uint32_t all = take() % 5;
+    for (uint32_t sweeps = take() % 32; sweeps > 0; sweeps--) {
+        begin_sweep();
+        end_sweep(all, all, 0);
+    }
 }
 
 /* Takes some bytes off a string's end or adds some. */
@@ -209,6 +229,22 @@ static void damage(void)
         contents[which][at % lengths[which]] ^= change;
 }
 
+/* Sets the showing: turned over, or any word. */
+static void set_showing(enum lent which)
+{
+    uint32_t value = take_number();
+    filmdisk_put_word(contents[which], FILMDISK_PLAN_SHOWING, value % 4 == 0 ? 1 - word(which, FILMDISK_PLAN_SHOWING) : value);
+}
+
+/* Makes a slot a tail, which no loop has; at times with the next block of one that has gone round. */
+static void set_tail(void)
+{
+    uint32_t slot = take(), held = take_number();
+    filmdisk_put_word(contents[DESK], FILMDISK_DESK_KINDS + slot, FILMDISK_TAIL);
+    filmdisk_put_word(contents[DESK], FILMDISK_DESK_NEXT + slot, held % 8 == 0 ? 0 : word(DESK, FILMDISK_PLAN_BLOCKS));
+    filmdisk_put_word(contents[DESK], FILMDISK_DESK_HELD + slot, held);
+}
+
 /* Sets a word of a slot. */
 static void set_slot(void)
 {
@@ -222,9 +258,8 @@ static void set_slot(void)
 
 static void take_call(void)
 {
-    filmdisk_answer answer;
-    uint32_t slot;
-    switch (take() % 8) {
+    uint32_t slot, all, one;
+    switch (take() % 11) {
     case 0:
     case 1:
         slot = take_number();
@@ -235,17 +270,27 @@ static void take_call(void)
         break;
     case 3:
     case 4:
-        answer = call_both(CALL_BEGIN, 0, 0);
-        last_bound = answer.number == 0 ? answer.bound : last_bound;
+        begin_sweep();
         break;
     case 5:
-        end_sweep();
+        all = take() % 5;
+        one = take();
+        end_sweep(all, one, take());
         break;
     case 6:
         damage();
         break;
-    default:
+    case 7:
         set_slot();
+        break;
+    case 8:
+        run_sweeps();
+        break;
+    case 9:
+        set_showing(DESK);
+        break;
+    default:
+        set_tail();
     }
 }
 
@@ -269,14 +314,18 @@ int LLVMFuzzerTestOneInput(const uint8_t *data, size_t size)
     last_bound = 0;
     set_noise(FETCHES, 0);
     set_noise(DRAWS, 0);
-    take_lengths();
+    enum sort planner = take_planner();
     take_card();
-    if (call_both(CALL_PLAN, 0, 0).number != 0)
+    if (call_both(planner, 0, 0).number != 0)
         return 0;
     size_t list_bytes = (size_t)word(PLAN, FILMDISK_PLAN_BLOCKS) * FILMDISK_ENTRY_BYTES;
     lengths[POSITIONS] = lengths[LEADS] = list_bytes;
-    for (uint32_t more = take(); more >= 200; more = take())
-        damage();
+    for (uint32_t more = take(); more >= 200; more = take()) {
+        if (more < 240)
+            damage();
+        else if (lengths[PLAN] == FILMDISK_PLAN_BYTES)
+            set_showing(PLAN);
+    }
     if (call_both(CALL_OPEN, 0, 0).number == 0)
         run_desk();
     return 0;

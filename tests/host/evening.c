@@ -13,39 +13,13 @@
 #define RETURN 15000u
 #define NOBODY 0xFFFFFFFFu
 
-static void expect_slot(uint32_t slot, uint32_t its_kind, uint32_t its_next, uint32_t its_held)
-{
-    check(kind(slot) == its_kind && next(slot) == its_next && held(slot) == its_held,
-          "slot %u: expected kind %u, next %u, held %u; got %u, %u, %u", slot, its_kind, its_next, its_held, kind(slot), next(slot),
-          held(slot));
-}
-
-static void put_slot(uint32_t slot, uint32_t its_kind, uint32_t its_next, uint32_t its_held)
-{
-    put(DESK, FILMDISK_DESK_KINDS + slot, its_kind);
-    put(DESK, FILMDISK_DESK_NEXT + slot, its_next);
-    put(DESK, FILMDISK_DESK_HELD + slot, its_held);
-}
-
-static void expect_begun(filmdisk_answer answer, uint32_t count, uint32_t bound)
-{
-    expect(answer, 0, 0);
-    check(answer.count == count && answer.bound == bound, "expected count %u, bound %u; got %u, %u", count, bound, answer.count,
-          answer.bound);
-    check(word(DESK, FILMDISK_DESK_PHASE) == FILMDISK_SWEEPING, "the desk is in a sweep");
-}
-
-static void expect_fetch(size_t entry, uint32_t position, uint32_t slot, uint32_t block)
-{
-    const filmdisk_fetch got = fetch(entry);
-    check(got.position == position && got.slot == slot && got.block == block, "fetch %zu: expected %u, %u, %u; got %u, %u, %u", entry,
-          position, slot, block, got.position, got.slot, got.block);
-}
-
 static void bench_desk(void)
 {
-    open_desk(bench_film, BENCH_NUMBERS);
+    open_desk(host_plan, bench_film, BENCH_NUMBERS);
 }
+
+/* Both planner calls, which turn down the same cards and lengths. */
+static planner *const planners[] = {host_plan, host_plan_loop};
 
 /* All that a plan call is lent for the bench film, with noise where it writes. */
 static void lend_bench(void)
@@ -58,15 +32,9 @@ static void lend_bench(void)
 
 /* Plans. */
 
-static void expect_words(enum lent which, size_t first, const uint32_t *words, size_t count)
-{
-    for (size_t i = 0; i < count; i++)
-        check(word(which, first + i) == words[i], "word %zu: expected %u, got %u", first + i, words[i], word(which, first + i));
-}
-
 static void plan_of_the_bench_film(void)
 {
-    static const uint32_t others[] = {6, 262144, 500000, 12670, 15000, 16, 812632, 37990, 6550};
+    static const uint32_t others[] = {6, 262144, 500000, 12670, 15000, 16, 812632, 37990, 6550, FILMDISK_ONCE};
     static const uint32_t positions[] = {0, 5, 1, 4, 2, 3};
     static const uint32_t leads[] = {6550, 0, 3110, 0, 190, 0};
     uint32_t zones[1 + 2 * FILMDISK_MAX_ZONES] = {6};
@@ -272,14 +240,16 @@ static void an_evening(void)
 
 static void expect_card_refused(const uint8_t *card, size_t length, uint32_t number, size_t place)
 {
-    lend_bench();
-    lend(CARD, card, length);
-    expect(host_plan(), number, place);
-    /* Another plan string and no lists: the card is judged before them. */
-    lend_noise(PLAN, FILMDISK_PLAN_BYTES - 1);
-    lend_null(POSITIONS);
-    lend_null(LEADS);
-    expect(host_plan(), number, place);
+    for (size_t i = 0; i < COUNT(planners); i++) {
+        lend_bench();
+        lend(CARD, card, length);
+        expect(planners[i](), number, place);
+        /* Another plan string and no lists: the card is judged before them. */
+        lend_noise(PLAN, FILMDISK_PLAN_BYTES - 1);
+        lend_null(POSITIONS);
+        lend_null(LEADS);
+        expect(planners[i](), number, place);
+    }
 }
 
 /* The bench film with one number changed; the place is that number's. */
@@ -311,7 +281,8 @@ static void refusal_1(void)
         expect_card_refused(card, cut, FILMDISK_REFUSED_CARD_ENDS, cut);
     lend_bench();
     lend_null(CARD);
-    expect(host_plan(), FILMDISK_REFUSED_CARD_ENDS, 0);
+    for (size_t i = 0; i < COUNT(planners); i++)
+        expect(planners[i](), FILMDISK_REFUSED_CARD_ENDS, 0);
 }
 
 static void refusal_2(void)
@@ -393,17 +364,19 @@ static void refusal_11(void)
 
 static void refusal_12(void)
 {
-    uint32_t numbers[] = {1, 1, 2, 20000, 2, 23834, 500000, 12670, 15000};
-    lend_bench();
-    lend_card(numbers, COUNT(numbers));
-    expect(host_plan(), FILMDISK_REFUSED_NO_STREAM, 0);
-    resize(LEADS, 7);
-    expect(host_plan(), FILMDISK_REFUSED_TOO_SHORT, 0);
-    numbers[5] = 23835;
-    lend_bench();
-    lend_card(numbers, COUNT(numbers));
-    expect(host_plan(), 0, 0);
-    check(word(PLAN, FILMDISK_PLAN_STREAMS) == 1, "one stream fits");
+    for (size_t i = 0; i < COUNT(planners); i++) {
+        uint32_t numbers[] = {1, 1, 2, 20000, 2, 23834, 500000, 12670, 15000};
+        lend_bench();
+        lend_card(numbers, COUNT(numbers));
+        expect(planners[i](), FILMDISK_REFUSED_NO_STREAM, 0);
+        resize(LEADS, 7);
+        expect(planners[i](), FILMDISK_REFUSED_TOO_SHORT, 0);
+        numbers[5] = 23835;
+        lend_bench();
+        lend_card(numbers, COUNT(numbers));
+        expect(planners[i](), 0, 0);
+        check(word(PLAN, FILMDISK_PLAN_STREAMS) == 1, "one stream fits");
+    }
 }
 
 /* Three times a zone's time against the first zone's, 22270. */
@@ -424,9 +397,11 @@ static void refusal_26(void)
 /* The bench film's plan, with one string of another length. */
 static void plan_too_short(enum lent which, size_t length)
 {
-    lend_bench();
-    resize(which, length);
-    expect(host_plan(), FILMDISK_REFUSED_TOO_SHORT, 0);
+    for (size_t i = 0; i < COUNT(planners); i++) {
+        lend_bench();
+        resize(which, length);
+        expect(planners[i](), FILMDISK_REFUSED_TOO_SHORT, 0);
+    }
 }
 
 static void refusal_13_of_plan(void)
@@ -439,12 +414,14 @@ static void refusal_13_of_plan(void)
     plan_too_short(PLAN, FILMDISK_PLAN_BYTES - 1);
     plan_too_short(PLAN, FILMDISK_PLAN_BYTES + 1);
     plan_too_short(PLAN, 0);
-    lend_bench();
-    lend_null(PLAN);
-    expect(host_plan(), FILMDISK_REFUSED_TOO_SHORT, 0);
-    lend_bench();
-    resize(POSITIONS, list_bytes);
-    expect(host_plan(), 0, 0);
+    for (size_t i = 0; i < COUNT(planners); i++) {
+        lend_bench();
+        lend_null(PLAN);
+        expect(planners[i](), FILMDISK_REFUSED_TOO_SHORT, 0);
+        lend_bench();
+        resize(POSITIONS, list_bytes);
+        expect(planners[i](), 0, 0);
+    }
 }
 
 static void refusal_13_of_open(void)
@@ -495,10 +472,13 @@ static int makes_other_plan(enum lent which, size_t at)
 }
 
 /* Each byte of the plan and of both lists counts. */
-static void refusal_14_of_open(void)
+static void refuse_each_byte(planner *plan, uint32_t block_bytes)
 {
     static const enum lent read[] = {PLAN, POSITIONS, LEADS};
-    bench_desk();
+    uint32_t numbers[BENCH_NUMBERS];
+    memcpy(numbers, bench_film, sizeof numbers);
+    numbers[BENCH_BLOCK_BYTES] = block_bytes;
+    open_desk(plan, numbers, BENCH_NUMBERS);
     for (size_t i = 0; i < COUNT(read); i++) {
         size_t length = length_of(read[i]);
         for (size_t at = 0; at < length; at++) {
@@ -512,6 +492,13 @@ static void refusal_14_of_open(void)
     }
     lend_noise(DESK, FILMDISK_DESK_BYTES);
     expect(host_open(), 0, 0);
+}
+
+/* The loop has 16 streams too, so that c x n x margin / 2,000,000 is whole and another rate gives another buffer. */
+static void refusal_14_of_open(void)
+{
+    refuse_each_byte(host_plan, BLOCK_BYTES);
+    refuse_each_byte(host_plan_loop, 264740);
 }
 
 static void refusal_14_of_lengths(void)
@@ -573,6 +560,8 @@ static const struct unsound unsound[] = {
     {FILMDISK_PLAN_ZONES, 7},
     {FILMDISK_PLAN_POSITIONS + 63, 1},
     {FILMDISK_PLAN_RATE, 500001},
+    {FILMDISK_PLAN_SHOWING, FILMDISK_LOOP},
+    {FILMDISK_PLAN_SHOWING, 2},
     {FILMDISK_DESK_PHASE, 2},
     {FILMDISK_DESK_KINDS + 4, 5},
     {FILMDISK_DESK_KINDS + 0, 0x100},
@@ -750,11 +739,12 @@ static void sizes_and_offsets(void)
         {FILMDISK_PLAN_BLOCKS, 129}, {FILMDISK_PLAN_BLOCK_BYTES, 130}, {FILMDISK_PLAN_RATE, 131},
         {FILMDISK_PLAN_HOP, 132},    {FILMDISK_PLAN_RETURN, 133},      {FILMDISK_PLAN_STREAMS, 134},
         {FILMDISK_PLAN_BUFFER, 135}, {FILMDISK_PLAN_WORST2, 136},      {FILMDISK_PLAN_MARGIN, 137},
-        {FILMDISK_PLAN_WORDS, 138},  {FILMDISK_PLAN_BYTES, 552},       {FILMDISK_DESK_PHASE, 138},
-        {FILMDISK_DESK_KINDS, 139},  {FILMDISK_DESK_NEXT, 395},        {FILMDISK_DESK_HELD, 651},
-        {FILMDISK_DESK_WORDS, 907},  {FILMDISK_DESK_BYTES, 3628},      {FILMDISK_FETCH_POSITION, 0},
-        {FILMDISK_FETCH_SLOT, 1},    {FILMDISK_FETCH_BLOCK, 2},        {FILMDISK_FETCH_BYTES, 12},
-        {FILMDISK_ENTRY_BYTES, 4},
+        {FILMDISK_PLAN_SHOWING, 138}, {FILMDISK_PLAN_WORDS, 139},      {FILMDISK_PLAN_BYTES, 556},
+        {FILMDISK_DESK_PHASE, 139},  {FILMDISK_DESK_KINDS, 140},       {FILMDISK_DESK_NEXT, 396},
+        {FILMDISK_DESK_HELD, 652},   {FILMDISK_DESK_WORDS, 908},       {FILMDISK_DESK_BYTES, 3632},
+        {FILMDISK_FETCH_POSITION, 0}, {FILMDISK_FETCH_SLOT, 1},        {FILMDISK_FETCH_BLOCK, 2},
+        {FILMDISK_FETCH_BYTES, 12},  {FILMDISK_ENTRY_BYTES, 4},        {FILMDISK_ONCE, 0},
+        {FILMDISK_LOOP, 1},
     };
     for (size_t i = 0; i < COUNT(constants); i++)
         check(constants[i].its == constants[i].by_layout, "constant %zu: expected %zu, got %zu", i, constants[i].by_layout,
@@ -775,9 +765,9 @@ static void slots_and_fetches_by_the_header(void)
     lend_noise(FETCHES, 256 * FILMDISK_FETCH_BYTES);
     for (size_t i = 0; i < COUNT(slots); i++) {
         uint32_t slot = slots[i];
-        put_bytes(DESK, 556 + 4 * slot, 0x10);
-        put_bytes(DESK, 1580 + 4 * slot, 0x20);
-        put_bytes(DESK, 2604 + 4 * slot, 0x30);
+        put_bytes(DESK, 560 + 4 * slot, 0x10);
+        put_bytes(DESK, 1584 + 4 * slot, 0x20);
+        put_bytes(DESK, 2608 + 4 * slot, 0x30);
         check(filmdisk_slot_kind(bytes_of(DESK), slot) == 0x13121110, "kind of slot %u", slot);
         check(filmdisk_slot_next(bytes_of(DESK), slot) == 0x23222120, "next of slot %u", slot);
         check(filmdisk_slot_held(bytes_of(DESK), slot) == 0x33323130, "held of slot %u", slot);

@@ -268,22 +268,35 @@ static void after_call(void)
 
 /* The calls. */
 
-filmdisk_answer host_plan(void)
+/* A plan call writes the plan and both lists. */
+#define PLANNED (1u << PLAN | 1u << POSITIONS | 1u << LEADS)
+
+static filmdisk_answer plan_answer(filmdisk_answer answer)
 {
-    before_call(1u << PLAN | 1u << POSITIONS | 1u << LEADS);
-    filmdisk_answer answer = filmdisk_plan(LENT(CARD), LENT(PLAN), LENT(POSITIONS), LENT(LEADS));
     after_call();
     if (answer.number == 0) {
         size_t list_bytes = (size_t)word(PLAN, FILMDISK_PLAN_BLOCKS) * FILMDISK_ENTRY_BYTES;
         check_kept(POSITIONS, list_bytes);
         check_kept(LEADS, list_bytes);
-        check_others_kept(1u << PLAN | 1u << POSITIONS | 1u << LEADS);
+        check_others_kept(PLANNED);
     } else if (answer.number == FILMDISK_REFUSED_TOO_SHORT) {
         check_others_kept(0);
     } else {
         check_cleared(PLAN, FILMDISK_PLAN_BYTES);
     }
     return answer;
+}
+
+filmdisk_answer host_plan(void)
+{
+    before_call(PLANNED);
+    return plan_answer(filmdisk_plan(LENT(CARD), LENT(PLAN), LENT(POSITIONS), LENT(LEADS)));
+}
+
+filmdisk_answer host_plan_loop(void)
+{
+    before_call(PLANNED);
+    return plan_answer(filmdisk_plan_loop(LENT(CARD), LENT(PLAN), LENT(POSITIONS), LENT(LEADS)));
 }
 
 filmdisk_answer host_open(void)
@@ -349,13 +362,49 @@ void expect(filmdisk_answer answer, uint32_t number, size_t place)
         check(answer.count == 0 && answer.bound == 0, "a refused answer has count %u, bound %u", answer.count, answer.bound);
 }
 
-void open_desk(const uint32_t *numbers, size_t count)
+void expect_slot(uint32_t slot, uint32_t its_kind, uint32_t its_next, uint32_t its_held)
+{
+    check(kind(slot) == its_kind && next(slot) == its_next && held(slot) == its_held,
+          "slot %u: expected kind %u, next %u, held %u; got %u, %u, %u", slot, its_kind, its_next, its_held, kind(slot), next(slot),
+          held(slot));
+}
+
+void put_slot(uint32_t slot, uint32_t its_kind, uint32_t its_next, uint32_t its_held)
+{
+    put(DESK, FILMDISK_DESK_KINDS + slot, its_kind);
+    put(DESK, FILMDISK_DESK_NEXT + slot, its_next);
+    put(DESK, FILMDISK_DESK_HELD + slot, its_held);
+}
+
+void expect_begun(filmdisk_answer answer, uint32_t count, uint32_t bound)
+{
+    expect(answer, 0, 0);
+    check(answer.count == count && answer.bound == bound, "expected count %u, bound %u; got %u, %u", count, bound, answer.count,
+          answer.bound);
+    check(word(DESK, FILMDISK_DESK_PHASE) == FILMDISK_SWEEPING, "the desk is in a sweep");
+}
+
+void expect_fetch(size_t entry, uint32_t position, uint32_t slot, uint32_t block)
+{
+    const filmdisk_fetch got = fetch(entry);
+    check(got.position == position && got.slot == slot && got.block == block, "fetch %zu: expected %u, %u, %u; got %u, %u, %u", entry,
+          position, slot, block, got.position, got.slot, got.block);
+}
+
+void expect_words(enum lent which, size_t first, const uint32_t *words, size_t count)
+{
+    for (size_t i = 0; i < count; i++)
+        check(word(which, first + i) == words[i], "%s, word %zu: expected %u, got %u", names[which], first + i, words[i],
+              word(which, first + i));
+}
+
+void open_desk(planner *plan, const uint32_t *numbers, size_t count)
 {
     lend_card(numbers, count);
     lend_noise(PLAN, FILMDISK_PLAN_BYTES);
     lend_noise(POSITIONS, FILMDISK_MAX_BLOCKS * FILMDISK_ENTRY_BYTES);
     lend_noise(LEADS, FILMDISK_MAX_BLOCKS * FILMDISK_ENTRY_BYTES);
-    expect(host_plan(), 0, 0);
+    expect(plan(), 0, 0);
     size_t list_bytes = (size_t)word(PLAN, FILMDISK_PLAN_BLOCKS) * FILMDISK_ENTRY_BYTES;
     size_t streams = word(PLAN, FILMDISK_PLAN_STREAMS);
     resize(POSITIONS, list_bytes);

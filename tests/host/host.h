@@ -54,6 +54,7 @@ size_t offset_of(const uint32_t *numbers, size_t index);
 
 /* The library's calls over the strings. */
 filmdisk_answer host_plan(void);
+filmdisk_answer host_plan_loop(void);
 filmdisk_answer host_open(void);
 filmdisk_answer host_join(uint32_t slot, uint32_t block);
 filmdisk_answer host_leave(uint32_t slot);
@@ -63,8 +64,20 @@ filmdisk_answer host_end(void);
 /* Number and place of an answer; the rest of a refused one is 0. */
 void expect(filmdisk_answer answer, uint32_t number, size_t place);
 
+/* Words of a string from its word `first` on; the words of a slot, and setting them. */
+void expect_words(enum lent which, size_t first, const uint32_t *words, size_t count);
+void expect_slot(uint32_t slot, uint32_t its_kind, uint32_t its_next, uint32_t its_held);
+void put_slot(uint32_t slot, uint32_t its_kind, uint32_t its_next, uint32_t its_held);
+
+/* An accepted begin, and an entry of its fetches. */
+void expect_begun(filmdisk_answer answer, uint32_t count, uint32_t bound);
+void expect_fetch(size_t entry, uint32_t position, uint32_t slot, uint32_t block);
+
+/* A planner call: for one showing, or for a loop. */
+typedef filmdisk_answer planner(void);
+
 /* Lends a card with noise in all that a plan call writes, plans it and opens a desk with room for its fetches and draws. */
-void open_desk(const uint32_t *numbers, size_t count);
+void open_desk(planner *plan, const uint32_t *numbers, size_t count);
 
 /* Numbers that repeat in every run: below `end`. */
 uint32_t below(uint32_t end);

@@ -12,6 +12,11 @@ static void call_plan(void)
     answer = filmdisk_plan(LENT(CARD), LENT(PLAN), LENT(POSITIONS), LENT(LEADS));
 }
 
+static void call_plan_loop(void)
+{
+    answer = filmdisk_plan_loop(LENT(CARD), LENT(PLAN), LENT(POSITIONS), LENT(LEADS));
+}
+
 static void call_open(void)
 {
     answer = filmdisk_open(LENT(PLAN), LENT(POSITIONS), LENT(LEADS), LENT(DESK));
@@ -45,45 +50,60 @@ static void expect_stack(void (*call)(void), size_t most)
     check(bytes <= most && bytes >= most / 2, "%zu bytes of stack; the header says at most %zu", bytes, most);
 }
 
+static planner *const planners[] = {host_plan, host_plan_loop};
+
 /* Each call is made once before it is measured, so that memcpy and its like have been found by the loader. */
-static void open_bench(void)
+static void open_bench(planner *plan)
 {
-    open_desk(bench_film, BENCH_NUMBERS);
+    open_desk(plan, bench_film, BENCH_NUMBERS);
 }
 
 static void stack_of_plan(void)
 {
-    open_bench();
+    open_bench(host_plan);
     expect_stack(call_plan, FILMDISK_STACK_PLAN);
+}
+
+static void stack_of_plan_loop(void)
+{
+    open_bench(host_plan_loop);
+    expect_stack(call_plan_loop, FILMDISK_STACK_PLAN_LOOP);
 }
 
 static void stack_of_open(void)
 {
-    open_bench();
-    expect_stack(call_open, FILMDISK_STACK_OPEN);
+    for (size_t i = 0; i < COUNT(planners); i++) {
+        open_bench(planners[i]);
+        expect_stack(call_open, FILMDISK_STACK_OPEN);
+    }
 }
 
 static void stack_of_join_and_leave(void)
 {
-    open_bench();
-    expect(host_join(0, 0), 0, 0);
-    expect(host_leave(0), 0, 0);
-    expect_stack(call_join, FILMDISK_STACK_JOIN);
-    expect_stack(call_leave, FILMDISK_STACK_LEAVE);
+    for (size_t i = 0; i < COUNT(planners); i++) {
+        open_bench(planners[i]);
+        expect(host_join(0, 0), 0, 0);
+        expect(host_leave(0), 0, 0);
+        expect_stack(call_join, FILMDISK_STACK_JOIN);
+        expect_stack(call_leave, FILMDISK_STACK_LEAVE);
+    }
 }
 
 static void stack_of_begin_and_end(void)
 {
-    open_bench();
-    expect(host_join(0, 0), 0, 0);
-    expect(host_begin(), 0, 0);
-    expect(host_end(), 0, 0);
-    expect_stack(call_begin, FILMDISK_STACK_BEGIN);
-    expect_stack(call_end, FILMDISK_STACK_END);
+    for (size_t i = 0; i < COUNT(planners); i++) {
+        open_bench(planners[i]);
+        expect(host_join(0, 0), 0, 0);
+        expect(host_begin(), 0, 0);
+        expect(host_end(), 0, 0);
+        expect_stack(call_begin, FILMDISK_STACK_BEGIN);
+        expect_stack(call_end, FILMDISK_STACK_END);
+    }
 }
 
 static const test tests[] = {
     TEST(stack_of_plan),
+    TEST(stack_of_plan_loop),
     TEST(stack_of_open),
     TEST(stack_of_join_and_leave),
     TEST(stack_of_begin_and_end),

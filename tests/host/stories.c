@@ -6,6 +6,15 @@
 
 #define BENCH_BYTES 262144u
 
+/* A drive that its film fills. */
+static const uint32_t drive[] = {
+    1,    7,     598,  135594, 776,  125000, 1163,    114286, 1363, 103897, 1606,
+    96386, 1080, 89888, 2285, 86957, 8871,   1048576, 524288, 8280, 10090,
+};
+
+/* The greatest house: 256 streams just fit. */
+static const uint32_t house[] = {1, 2, 20, 3000, 20, 2000, 40, 1768000, 1000000, 500, 1000000};
+
 static void bench_story(void)
 {
     start_story(bench_film, BENCH_NUMBERS);
@@ -32,10 +41,6 @@ static void film_watched_to_its_end(void)
 /* A whole drive, its film watched from a few blocks before the end by screens that come one after another. */
 static void end_of_a_long_film(void)
 {
-    static const uint32_t drive[] = {
-        1,    7,     598,  135594, 776,  125000, 1163,    114286, 1363, 103897, 1606,
-        96386, 1080, 89888, 2285, 86957, 8871,   1048576, 524288, 8280, 10090,
-    };
     start_story(drive, COUNT(drive));
     check(blocks() == 8871, "the film fills the drive");
     for (uint32_t slot = 0; slot < streams(); slot++) {
@@ -113,10 +118,9 @@ static void film_ends_while_filling(void)
     check(drawn(0) == 2ull * BENCH_BYTES && drawn(2) == BENCH_BYTES, "both saw what they came for");
 }
 
-/* The greatest house: 256 streams just fit. Whoever ends is followed by another for some hundred sweeps. */
+/* The greatest house. Whoever ends is followed by another for some hundred sweeps. */
 static void house_of_256_streams(void)
 {
-    static const uint32_t house[] = {1, 2, 20, 3000, 20, 2000, 40, 1768000, 1000000, 500, 1000000};
     start_story(house, COUNT(house));
     check(streams() == 256, "%u streams", streams());
     expect(host_join(256, 0), FILMDISK_REFUSED_NO_SUCH_SLOT, 256);
@@ -137,9 +141,115 @@ static void house_of_256_streams(void)
     sweep_to_the_end(DRAW_ALL, 1000);
 }
 
+/* Loops. */
+
+/* The bytes of so many rounds. */
+static uint64_t rounds(uint32_t count)
+{
+    return (uint64_t)count * blocks() * word(PLAN, FILMDISK_PLAN_BLOCK_BYTES);
+}
+
+/* A sweep of a loop: no slot is tail, and the next block of a screen that began at `start` is as many on as were fetched. */
+static void sweep_loop(enum draw draw, uint32_t slot, uint32_t start)
+{
+    sweep(draw);
+    for (uint32_t any = 0; any < streams(); any++)
+        check(kind(any) != FILMDISK_TAIL, "slot %u: expected no tail", any);
+    check(next(slot) == (start + fetched(slot)) % blocks(), "slot %u: %u blocks from %u on, expected next %u, got %u", slot,
+          fetched(slot), start, (start + fetched(slot)) % blocks(), next(slot));
+}
+
+/* A lobby screen plays the film three times round and leaves, with what it may draw and with less. Nothing else ends it. */
+static void three_times_round(void)
+{
+    for (enum draw draw = DRAW_ALL; draw <= DRAW_SOME; draw++) {
+        for (uint32_t start = 0; start < 6; start += 5) {
+            unsigned sweeps = 0;
+            start_loop_story(bench_film, BENCH_NUMBERS);
+            join_slot(9, start);
+            while (drawn(9) < rounds(3) && sweeps++ < 2000)
+                sweep_loop(draw, 9, start);
+            expect_kind(9, FILMDISK_PLAYING);
+            check(drawn(9) >= rounds(3) && fetched(9) >= 18, "three rounds are %llu bytes of 18 blocks, got %llu of %u",
+                  (unsigned long long)rounds(3), (unsigned long long)drawn(9), fetched(9));
+            leave_slot(9);
+            check(audience() == 0, "only the leave ends it");
+        }
+    }
+}
+
+/* Screens all over the film; one leaves and comes back, one stands still for a while and plays on. */
+static void a_lobby(void)
+{
+    start_loop_story(bench_film, BENCH_NUMBERS);
+    for (uint32_t slot = 0; slot < streams(); slot++) {
+        join_slot(slot, slot % blocks());
+        sweep_loop(DRAW_ALL, 0, 0);
+    }
+    for (unsigned i = 0; i < 20; i++)
+        sweep_loop(DRAW_NOTHING, 0, 0);
+    leave_slot(4);
+    sweep_loop(DRAW_ALL, 0, 0);
+    join_slot(4, 5);
+    for (unsigned i = 0; i < 400; i++)
+        sweep_loop(i % 4 == 0 ? DRAW_SOME : DRAW_ALL, 0, 0);
+    for (uint32_t slot = 0; slot < streams(); slot++) {
+        expect_kind(slot, FILMDISK_PLAYING);
+        check(drawn(slot) >= rounds(3), "slot %u has drawn %llu bytes", slot, (unsigned long long)drawn(slot));
+    }
+}
+
+/* The shortest loop, and loops over one zone: each block is followed by the other. */
+static void short_loops(void)
+{
+    for (uint32_t count = 2; count <= 5; count++) {
+        const uint32_t film[] = {1, 1, 5, 20000, count, BENCH_BYTES, 500000, 12670, 15000};
+        unsigned sweeps = 0;
+        start_loop_story(film, COUNT(film));
+        join_slot(0, count - 1);
+        join_slot(1, 0);
+        while (drawn(0) < rounds(4) && sweeps++ < 2000)
+            sweep_loop(DRAW_ALL, 0, count - 1);
+        check(fetched(0) >= 4 * count, "%u blocks: expected four rounds, got %u blocks", count, fetched(0));
+    }
+}
+
+/* A whole drive as a loop: screens that begin near the end go on at its first block. */
+static void round_a_long_film(void)
+{
+    start_loop_story(drive, COUNT(drive));
+    for (uint32_t slot = 0; slot < streams(); slot++) {
+        join_slot(slot, blocks() - 4 - slot % 7);
+        sweep(DRAW_ALL);
+    }
+    for (unsigned i = 0; i < 200; i++)
+        sweep_loop(DRAW_ALL, 0, blocks() - 4);
+    for (uint32_t slot = 0; slot < streams(); slot++)
+        check(next(slot) < 400, "slot %u: expected a block past the first, got %u", slot, next(slot));
+}
+
+/* The greatest house as a lobby, for some hundred sweeps with joins and leaves. */
+static void lobby_of_256_streams(void)
+{
+    start_loop_story(house, COUNT(house));
+    check(streams() == 256, "%u streams", streams());
+    for (uint32_t slot = 0; slot < 256; slot++)
+        join_slot(slot, slot % 40);
+    for (unsigned i = 0; i < 400; i++) {
+        uint32_t slot = 1 + below(255);
+        if (kind(slot) == FILMDISK_FREE)
+            join_slot(slot, below(40));
+        else if (below(8) == 0)
+            leave_slot(slot);
+        sweep_loop(i % 100 < 80 ? DRAW_ALL : DRAW_SOME, 0, 0);
+    }
+    check(fetched(0) >= 80, "slot 0: expected two rounds, got %u blocks", fetched(0));
+}
+
 static const test tests[] = {
     TEST(film_watched_to_its_end), TEST(end_of_a_long_film),      TEST(leaves_in_mid_film),
     TEST(full_buffers_without_fetch), TEST(film_ends_while_filling), TEST(house_of_256_streams),
+    TEST(three_times_round), TEST(a_lobby), TEST(short_loops), TEST(round_a_long_film), TEST(lobby_of_256_streams),
 };
 
 int main(int argc, char **argv)

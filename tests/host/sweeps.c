@@ -54,7 +54,13 @@ unsigned audience(void)
 void start_story(const uint32_t *numbers, size_t count)
 {
     memset(book, 0, sizeof book);
-    open_desk(numbers, count);
+    open_desk(host_plan, numbers, count);
+}
+
+void start_loop_story(const uint32_t *numbers, size_t count)
+{
+    memset(book, 0, sizeof book);
+    open_desk(host_plan_loop, numbers, count);
 }
 
 /* Joins and leaves. */
@@ -219,8 +225,12 @@ static void foresee_end(uint32_t slot)
         its_held += figure(FILMDISK_PLAN_BLOCK_BYTES);
         its_next++;
     }
-    if (is_fetched[slot] && its_next == blocks())
-        its_kind = FILMDISK_TAIL;
+    if (is_fetched[slot] && its_next == blocks()) {
+        if (figure(FILMDISK_PLAN_SHOWING) == FILMDISK_LOOP)
+            its_next = 0;
+        else
+            its_kind = FILMDISK_TAIL;
+    }
     if (its_kind == FILMDISK_TAIL && its_held == 0)
         its_kind = its_next = 0;
     foresee_slot(slot, its_kind, its_next, its_held);

@@ -10,8 +10,9 @@
 /* How the slots that may draw do so. */
 enum draw { DRAW_NOTHING, DRAW_ALL, DRAW_SOME };
 
-/* Opens a desk of a card, with an empty book. */
+/* Opens a desk of a card, with an empty book; for one showing, or for a loop. */
 void start_story(const uint32_t *numbers, size_t count);
+void start_loop_story(const uint32_t *numbers, size_t count);
 
 /* A join or leave that is accepted; it changes its slot alone. */
 void join_slot(uint32_t slot, uint32_t block);

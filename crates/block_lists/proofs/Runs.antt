@@ -8,7 +8,6 @@ use native.Mathlib.Omega.{arith}
 use lib.ListN.{length, getD, drop}
 use lib.Seq.{drop-cons, drop-drop}
 use lib.Dec.{eqb}
-use Rattle.placement.specs.Placement.{place}
 use Rattle.placement.specs.Zones.{timeAt}
 use Rattle.words.specs.Words.{wordsOf, withWord, withWords}
 use Rattle.words.specs.Laws.{withWords-none, withWords-cons, withWords-append, withWords-length, withWords-entries}
@@ -151,10 +150,10 @@ has-all g ws n = let e : n - 0 ≡ n = omega arith in rw e
 -- ---- leads
 
 -- the leads of a run
-pub run-leads : {ps ts : List ℕ} {P N b : ℕ} {r : Walk} → Runs ps ts P N b r → (w : ℕ) {x y : ℕ} → x ≡ 2 * r .even - w → y ≡ 2 * r .odd - w
-    → (k : ℕ) → b ≤ k → k < r .until → sideOf x y k ≡ leadAt ps ts P N w k
-run-leads {ps} {ts} {P} {N} {b} {r} h w {x} {y} p q k l u = go (eqb (k % 2) 0) (h .times k l u)
+pub run-leads : {ps ts : List ℕ} {l : ℕ → ℕ} {N b : ℕ} {r : Walk} → Runs ps ts l N b r → (w : ℕ) {x y : ℕ} → x ≡ 2 * r .even - w → y ≡ 2 * r .odd - w
+    → (k : ℕ) → b ≤ k → k < r .until → sideOf x y k ≡ leadAt ps ts l w k
+run-leads {ps} {ts} {l} {N} {b} {r} h w {x} {y} p q k i u = go (eqb (k % 2) 0) (h .times k i u)
   where
-    go : (z : Bool) → timeAt ps ts (place P N k) ≡ cond z (r .even) (r .odd) → cond z x y ≡ 2 * timeAt ps ts (place P N k) - w
+    go : (z : Bool) → timeAt ps ts (l k) ≡ cond z (r .even) (r .odd) → cond z x y ≡ 2 * timeAt ps ts (l k) - w
     go true e = omega arith
     go false e = omega arith

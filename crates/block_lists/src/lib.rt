@@ -1,4 +1,4 @@
-// The two lent lists: the positions and the leads of the film's blocks.
+// The two lent lists: the positions and the leads of the film's blocks, in either showing.
 use streams::lead;
 use words::entries;
 use words::put_word;
@@ -10,23 +10,24 @@ ghost use mathlib.Core.Path.{_≡_};
 ghost use mathlib.Core.Bool.{_&&_};
 ghost use Prim.Native.Nat.{_≤_, _<_};
 ghost use lib.ListN.{length};
-ghost use Rattle.placement.specs.Placement.{place};
+ghost use Rattle.numbers.specs.Limits.{maxPositions};
+ghost use Rattle.placement.specs.Showing.{laying};
 ghost use Rattle.words.specs.Words.{wordsOf, withWords};
 ghost use Rattle.zones.specs.Walk.{sideOf};
-ghost use Rattle.plan.specs.Plan.{row};
+ghost use Rattle.plan.specs.Plan.{showingOf, row};
 ghost use Rattle.plan.specs.Answer.{begins};
 ghost use Rattle.plan.specs.Disk.{Film, leadAt};
 ghost use Rattle.block_lists.specs.Runs.{Within, written, has};
 
 // Writes the first `blocks` positions; `total` is P.
-pub fn write_positions(total: u32, blocks: u32, positions: &mut [u8])
-    requires { ⌜ (0 < blocks) × (blocks ≤ total) × (blocks ≤ length (wordsOf (now positions))) ⌝ }
-    ensures { λ _. ⌜ now (positions .exit) ≡ withWords (now (positions .entry)) 0 (row (place total blocks) 0 blocks) ⌝ }
+pub fn write_positions(showing: u32, total: u32, blocks: u32, positions: &mut [u8])
+    requires { ⌜ (0 < blocks) × (blocks ≤ total) × (total ≤ maxPositions) × (blocks ≤ length (wordsOf (now positions))) ⌝ }
+    ensures { λ _. ⌜ now (positions .exit) ≡ withWords (now (positions .entry)) 0 (row (laying (showingOf showing) total blocks) 0 blocks) ⌝ }
 {
     let mut b: u32 = 0;
     while b < blocks {
         let entry = b as usize;
-        put_word(positions, entry, position_of(total, blocks, b));
+        put_word(positions, entry, position_of(showing, total, blocks, b));
         b += 1;
     }
 }
@@ -57,18 +58,19 @@ fn put_run(list: &mut [u8], from: u32, to: u32, even: u32, odd: u32)
 pub fn write_leads<'a>(
     sizes: &'a [u32; 64],
     times: &'a [u32; 64],
+    showing: u32,
     total: u32,
     blocks: u32,
     worst2: u32,
     leads: &mut [u8],
 )
     requires { ⌜ (Film (now sizes) (now times) total blocks) × (blocks ≤ length (wordsOf (now leads))) ⌝ }
-    ensures { λ _. ⌜ now (leads .exit) ≡ withWords (now (leads .entry)) 0 (row (leadAt (now (sizes .entry)) (now (times .entry)) total blocks worst2) 0 blocks) ⌝ }
+    ensures { λ _. ⌜ now (leads .exit) ≡ withWords (now (leads .entry)) 0 (row (leadAt (now (sizes .entry)) (now (times .entry)) (laying (showingOf showing) total blocks) worst2) 0 blocks) ⌝ }
 {
     let mut walk = set_out(sizes);
     let mut b: u32 = 0;
     while b < blocks {
-        walk = walk_on(sizes, times, total, blocks, walk, b);
+        walk = walk_on(sizes, times, showing, total, blocks, walk, b);
         let to = walk.until;
         put_run(
             leads,
@@ -92,9 +94,9 @@ pub fn both(a: bool, b: bool) -> bool
 }
 
 // The list begins with the `blocks` positions of the film; `total` is P.
-pub fn same_positions(total: u32, blocks: u32, positions: &[u8]) -> bool
-    requires { ⌜ (0 < blocks) × (blocks ≤ total) ⌝ }
-    ensures { λ r. ⌜ r ≡ begins (row (place total blocks) 0 blocks) (wordsOf (now (positions .entry))) ⌝ }
+pub fn same_positions(showing: u32, total: u32, blocks: u32, positions: &[u8]) -> bool
+    requires { ⌜ (0 < blocks) × (blocks ≤ total) × (total ≤ maxPositions) ⌝ }
+    ensures { λ r. ⌜ r ≡ begins (row (laying (showingOf showing) total blocks) 0 blocks) (wordsOf (now (positions .entry))) ⌝ }
 {
     if entries(positions) < blocks as usize {
         return false;
@@ -103,7 +105,7 @@ pub fn same_positions(total: u32, blocks: u32, positions: &[u8]) -> bool
     let mut b: u32 = 0;
     while b < blocks {
         let have = word_at(positions, b as usize);
-        same = both(have == position_of(total, blocks, b), same);
+        same = both(have == position_of(showing, total, blocks, b), same);
         b += 1;
     }
     same
@@ -128,13 +130,14 @@ fn same_run(list: &[u8], from: u32, to: u32, even: u32, odd: u32) -> bool
 pub fn same_leads<'a>(
     sizes: &'a [u32; 64],
     times: &'a [u32; 64],
+    showing: u32,
     total: u32,
     blocks: u32,
     worst2: u32,
     leads: &[u8],
 ) -> bool
     requires { ⌜ Film (now sizes) (now times) total blocks ⌝ }
-    ensures { λ r. ⌜ r ≡ begins (row (leadAt (now (sizes .entry)) (now (times .entry)) total blocks worst2) 0 blocks) (wordsOf (now (leads .entry))) ⌝ }
+    ensures { λ r. ⌜ r ≡ begins (row (leadAt (now (sizes .entry)) (now (times .entry)) (laying (showingOf showing) total blocks) worst2) 0 blocks) (wordsOf (now (leads .entry))) ⌝ }
 {
     if entries(leads) < blocks as usize {
         return false;
@@ -143,7 +146,7 @@ pub fn same_leads<'a>(
     let mut same = true;
     let mut b: u32 = 0;
     while b < blocks {
-        walk = walk_on(sizes, times, total, blocks, walk, b);
+        walk = walk_on(sizes, times, showing, total, blocks, walk, b);
         let to = walk.until;
         let run = same_run(
             leads,

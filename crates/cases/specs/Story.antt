@@ -12,11 +12,12 @@ use Rattle.card.specs.Ranges.{first, below, above, outside, thenAbove, thenBelo
 use Rattle.card.specs.Card.{totalPositions, filmFault, zoneFaults, zerosFrom, unusedZero, recordFault}
 use Rattle.card.specs.declared.Figures.{Figures}
 use Rattle.placement.specs.Placement.{place, worstTime}
+use Rattle.placement.specs.Showing.{one}
 use Rattle.placement.specs.Zones.{timeAt}
 use Rattle.pacing.specs.Film.{row as run, span, lead}
 use Rattle.pacing.specs.Streams.{overhead, load, streams, bufferOf}
 use Rattle.pacing.specs.Laid.{slowest, margin}
-use Rattle.plan.specs.Plan.{worst2Of, streamsOf, marginOf, leadOf, bufferSize, planOf, row, positionsOf, leadsOf}
+use Rattle.plan.specs.Plan.{showingOf, worst2Of, streamsOf, marginOf, leadOf, bufferSize, planOf, row, positionsOf, leadsOf}
 use Rattle.plan.specs.Answer.{begins, hasNumbers, hasPositions, hasLeads, isPlan}
 use Rattle.safety.specs.Scheduler as S
 use Rattle.safety.specs.Sound.{isZero, soundSlot, sound}
@@ -34,10 +35,10 @@ abbrev figures : Figures
 figures = bench 6 262144
 
 unfoldable pub positions : List ℕ
-positions = bytesOf (positionsOf figures)
+positions = bytesOf (positionsOf one figures)
 
 unfoldable pub leads : List ℕ
-leads = bytesOf (leadsOf figures)
+leads = bytesOf (leadsOf one figures)
 
 -- draws for the 16 slots: slot 0 draws d
 abbrev pub draws : ℕ → List ℕ
@@ -45,7 +46,7 @@ draws d = bytesOf (d ∷ replicate 15 0)
 
 -- the desk opens; slot 0 joins at block 0; the first sweep
 unfoldable pub joinedDesk : Desk
-joinedDesk = joinDesk (openDesk (planOf figures) positions leads .desk) positions leads 0 0 .desk
+joinedDesk = joinDesk (openDesk (planOf one figures) positions leads .desk) positions leads 0 0 .desk
 
 unfoldable pub firstBegin : Begun
 firstBegin = beginDesk joinedDesk positions leads 16
@@ -95,7 +96,7 @@ pub record Story : Type 0 where
   pub third-floor : floorFor secondEnd 1 ≡ 2000000 * 264559
 
 pub story : Story
-unfolding sumBy allBy greatestOf greatest mapFrom allFrom lowestFrom wordsOf bytesOf first below above outside thenAbove thenBelow faultOf timeFault totalPositions filmFault zoneFaults zerosFrom unusedZero recordFault place worstTime timeAt run span lead overhead load streams bufferOf slowest margin worst2Of streamsOf marginOf bufferSize planOf row positionsOf leadsOf begins hasNumbers hasPositions hasLeads isPlan S.before S.insert S.sorted S.entriesAt S.reads S.leadOf S.leads S.lowWater S.holds S.joined S.left S.startedSlot S.started S.playersHold S.grantable S.granted S.tried S.tries S.begun S.isFetched S.entriesFrom S.entries S.timeOf S.times S.fetchCount S.bound S.sweptBy S.released S.endedSlot S.ended S.mostDrawn S.drawLimit isZero soundSlot sound drawAllowed drawHeld judged verdict bySlot refusals accepted answer slotsOf supplyOf viewOf deskOf zeros freshDesk openDesk answerOf answered joinDesk beginDesk endDesk array fetchesOf entries film positions leads joinedDesk firstBegin firstEnd secondJoin secondBegin secondEnd thirdBegin floorFor
+unfolding sumBy allBy greatestOf greatest mapFrom allFrom lowestFrom wordsOf bytesOf first below above outside thenAbove thenBelow faultOf timeFault totalPositions filmFault zoneFaults zerosFrom unusedZero recordFault place worstTime timeAt run span lead overhead load streams bufferOf slowest margin showingOf worst2Of streamsOf marginOf bufferSize planOf row positionsOf leadsOf begins hasNumbers hasPositions hasLeads isPlan S.before S.insert S.sorted S.entriesAt S.reads S.leadOf S.leads S.lowWater S.holds S.joined S.left S.startedSlot S.started S.playersHold S.grantable S.granted S.tried S.tries S.begun S.isFetched S.entriesFrom S.entries S.timeOf S.times S.fetchCount S.bound S.sweptBy S.released S.endedSlot S.ended S.mostDrawn S.drawLimit isZero soundSlot sound drawAllowed drawHeld judged verdict bySlot refusals accepted answer slotsOf supplyOf viewOf deskOf zeros freshDesk openDesk answerOf answered joinDesk beginDesk endDesk array fetchesOf entries film positions leads joinedDesk firstBegin firstEnd secondJoin secondBegin secondEnd thirdBegin floorFor
 story = record {
   first-fetch = (refl, refl, refl, refl, refl);
   first-bound = refl;

@@ -1,4 +1,4 @@
-// The worked cases of document 01 that are shown of the definitions, as one claim.
+// The worked cases of documents 01 and 02 that are shown of the definitions, as one claim.
 ghost use Rattle.cases.specs.Cases.{Cases};
 
 // Every row marked (p) holds. A claim with no code: a row that is changed or dropped fails the check.

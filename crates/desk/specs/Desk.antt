@@ -8,7 +8,7 @@ use lib.Dec.{ltb, eqb}
 use Rattle.card.specs.declared.Verdict.{Verdict}
 use Rattle.words.specs.Words.{wordsOf, withWords}
 use Rattle.plan.specs.declared.Plan.{Plan}
-use Rattle.plan.specs.Plan.{worst2Of, overOf, filmOf, blankPlan}
+use Rattle.plan.specs.Plan.{showingIn, worst2Of, overOf, filmOf, blankPlan}
 use Rattle.plan.specs.Answer.{isPlan}
 use Rattle.safety.specs.Supply.{Supply}
 use Rattle.safety.specs.Scheduler.{Slot, Entry, Call, join, leave, begin, end}
@@ -33,9 +33,9 @@ ratesOf p = record {
   buffer = p .buffer;
 }
 
--- what a plan record tells the desk: its figures' film as it is laid, with these rates
+-- what a plan record tells the desk: its figures' film as it is laid for the showing that it names (T7.7), with these rates
 unfoldable pub supplyOf : Plan → Supply ℕ
-supplyOf p = supplied (filmOf (p .figures)) (worst2Of (p .figures)) (ratesOf p)
+supplyOf p = supplied (filmOf (showingIn p) (p .figures)) (worst2Of (showingIn p) (p .figures)) (ratesOf p)
 
 -- ---- the order of granting, and the rules
 

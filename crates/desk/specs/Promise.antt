@@ -8,9 +8,11 @@ use lib.Dec.{ltb}
 use borrow.Author.Tests.{eqb-true}
 use Rattle.card.specs.declared.Figures.{Figures}
 use Rattle.card.specs.Card.{Legal}
+use Rattle.placement.specs.Showing.{Showing}
 use Rattle.pacing.specs.Streams.{bufferOf}
 use Rattle.plan.specs.declared.Plan.{Plan}
 use Rattle.plan.specs.Plan.{worst2Of, streamsOf, slowestOf, filmOf, planOf}
+use Rattle.plan.specs.Check.{showing-back}
 use Rattle.plan.specs.Promise.{promise}
 use Rattle.safety.specs.Supply.{Lawful, Named}
 use Rattle.safety.specs.Orderly.{Orderly}
@@ -40,15 +42,16 @@ supply-named p = record {
 pub order-orderly : (p : Plan) → Orderly (supplyOf p) (orderOf p)
 order-orderly p = bySlot-orderly (supplyOf p)
 
--- THE PLANNER'S PROMISE: the supply of the plan of legal figures is lawful
-pub plan-lawful : (f : Figures) → Legal f → 0 < streamsOf f → Lawful (supplyOf (planOf f))
+-- THE PLANNER'S PROMISE: the supply of the plan of legal figures is lawful, in either showing (T7.9)
+pub plan-lawful : (x : Showing) (f : Figures) → Legal f → 0 < streamsOf x f → Lawful (supplyOf (planOf x f))
 unfolding supplyOf planOf bufferOf
-plan-lawful f legal some =
-    let q = promise f legal some in
-    paced-lawful (filmOf f) (worst2Of f) (ratesOf (planOf f)) (slowestOf f) (q .leads .paced) (record {
+plan-lawful x f legal some =
+    let q = promise x f legal some in
+    rw (showing-back x)
+    (paced-lawful (filmOf x f) (worst2Of x f) (ratesOf (planOf x f)) (slowestOf x f) (q .leads .paced) (record {
       bytes = legal .bytes .0;
       rises = q .rises;
       fits = q .fits;
       margin = omega (arith, q .margin-is);
       buffer = omega (arith, q .buffer);
-    })
+    }))

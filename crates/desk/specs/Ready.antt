@@ -5,7 +5,7 @@ use mathlib.Core.Path.{_≡_, ap}
 use native.Mathlib.Omega.{arith}
 use Rattle.card.specs.Card.{Legal}
 use Rattle.plan.specs.declared.Plan.{Plan}
-use Rattle.plan.specs.Plan.{streamsOf, planOf}
+use Rattle.plan.specs.Plan.{showingIn, streamsOf, planOf}
 use Rattle.plan.specs.Legal.{streams-few, buffer-small}
 use Rattle.plan.specs.Promise.{buffer-formula}
 use Rattle.safety.specs.Supply.{Lawful}
@@ -19,29 +19,29 @@ use Rattle.desk.specs.Shown.{Slots}
 -- the record is the plan of its figures, and its slots are sound
 pub record Ready (d : Desk) : Type 0 where
   pub legal : Legal (d .plan .figures)
-  pub some : 0 < streamsOf (d .plan .figures)
-  pub planned : d .plan ≡ planOf (d .plan .figures)
+  pub some : 0 < streamsOf (showingIn (d .plan)) (d .plan .figures)
+  pub planned : d .plan ≡ planOf (showingIn (d .plan)) (d .plan .figures)
   pub sound : Sound (supplyOf (d .plan)) (orderOf (d .plan)) (viewOf d)
 
 pub ready-lawful : (d : Desk) → Ready d → Lawful (supplyOf (d .plan))
-ready-lawful d r = rw (r .planned) (plan-lawful (d .plan .figures) (r .legal) (r .some))
+ready-lawful d r = rw (r .planned) (plan-lawful (showingIn (d .plan)) (d .plan .figures) (r .legal) (r .some))
 
 -- ---- the sizes of a plan record
 
 -- n is at most the slots
 pub streams-are : (d : Desk) → Ready d → d .plan .streams ≤ 256
 unfolding planOf
-streams-are d r = omega (arith, ap (λ (x : Plan). x .streams) (r .planned), streams-few (d .plan .figures) (r .legal))
+streams-are d r = omega (arith, ap (λ (x : Plan). x .streams) (r .planned), streams-few (showingIn (d .plan)) (d .plan .figures) (r .legal))
 
 -- the buffer has room for three blocks
-pub buffer-has : (q : Plan) → q ≡ planOf (q .figures) → 3 * q .figures .bytes ≤ q .buffer
+pub buffer-has : (q : Plan) → q ≡ planOf (showingIn q) (q .figures) → 3 * q .figures .bytes ≤ q .buffer
 unfolding planOf
-buffer-has q e = omega (arith, ap (λ (x : Plan). x .buffer) e, buffer-formula (q .figures))
+buffer-has q e = omega (arith, ap (λ (x : Plan). x .buffer) e, buffer-formula (showingIn q) (q .figures))
 
 -- and is at most four of the largest
-pub buffer-most : (q : Plan) → Legal (q .figures) → q ≡ planOf (q .figures) → q .buffer ≤ 16777216
+pub buffer-most : (q : Plan) → Legal (q .figures) → q ≡ planOf (showingIn q) (q .figures) → q .buffer ≤ 16777216
 unfolding planOf
-buffer-most q ok e = omega (arith, ap (λ (x : Plan). x .buffer) e, buffer-small (q .figures) ok, ok .bytes .1)
+buffer-most q ok e = omega (arith, ap (λ (x : Plan). x .buffer) e, buffer-small (showingIn q) (q .figures) ok, ok .bytes .1)
 
 -- ---- the record as the steps of a sweep see it
 

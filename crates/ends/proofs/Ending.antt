@@ -1,15 +1,23 @@
 -- A slot after a sweep, and one turn of the loop over the slots.
 -- Assumes nothing.
-use Prim.Native.Nat.{ℕ, _+_, _-_, _≤_, _<_}
+use Prim.Native.Nat.{ℕ, suc, _+_, _-_, _≤_, _<_}
 use mathlib.Core.Path.{_≡_, refl, sym, ap, _∙_}
 use mathlib.Core.Bool.{Bool, true, false}
 use mathlib.Core.List.{List}
 use native.Mathlib.Omega.{arith}
 use lib.ListN.{length, getD, set}
-use borrow.Author.Tests.{ltb-true}
+use lib.Dec.{eqb}
+use borrow.Author.Tests.{ltb-true, eq-eqb, ne-eqb}
 use Rattle.laws.specs.Each.{each-at}
 use Rattle.laws.specs.Places.{each-of-allFrom, eachFrom-at}
 use Rattle.numbers.specs.Slots.{free, filling, playing, draining}
+use Rattle.numbers.specs.Showings.{loopWord}
+use Rattle.placement.specs.CircleBest.{round-last, round-next}
+use Rattle.placement.specs.Showing.{Showing, one, loop}
+use Rattle.pacing.specs.Film.{after, isPast}
+use Rattle.pacing.specs.Shown.{round-below}
+use Rattle.plan.specs.Plan.{showingOf, showingIn}
+use Rattle.plan.specs.Check.{shows-loop, shows-once}
 use Rattle.safety.specs.Supply.{Supply}
 use Rattle.safety.specs.Scheduler as S
 use Rattle.safety.specs.Scheduler.{freeSlot, at, leads, endedSlot, ended, mostDrawn}
@@ -24,34 +32,53 @@ use Rattle.desk.specs.View.{Wide}
 use Rattle.desk.specs.Ready.{Ready, ready-lawful, room-left}
 use Rattle.desk.specs.Slots.{withSlots, length-in, load-kind, load-next, load-held, store-slot, with-own}
 use Rattle.ends.specs.declared.Slot.{Slot}
-use Rattle.ends.specs.Ends.{Drawn, blockAfter, isPast, Film, slotIn, Fair}
+use Rattle.ends.specs.Ends.{Drawn, Film, slotIn, Fair}
+
+-- ---- the next block
+
+-- before the last both showings go on alike
+pub goes-on : (x : Showing) (N b : ℕ) → b + 1 < N → b + 1 ≡ after x N b
+goes-on one N b h = omega arith
+goes-on loop N b h = omega (arith, round-next N b (omega arith))
+
+-- after it a loop goes back, by the plan's word
+pub goes-round : (w N b : ℕ) → w ≡ loopWord → b + 1 ≡ N → 0 ≡ after (showingOf w) N b
+goes-round w N b e h = rw (shows-loop w e) (omega (arith, round-last N b (omega arith)))
+
+pub goes-past : (w N b : ℕ) → (w ≡ loopWord → ⊥) → b + 1 ≡ after (showingOf w) N b
+goes-past w N b n = rw (shows-once w n) (omega arith)
+
+-- in a loop the next block is never N
+past-is : (x : Showing) (N b : ℕ) → b < N → isPast x N (after x N b) ≡ eqb (after x N b) N
+past-is one N b u = refl
+past-is loop N b u = sym (ne-eqb _ N (λ e. omega (arith, round-below N b u)))
 
 -- ---- one slot
 
-module _ (p : Supply ℕ) (N bytes room : ℕ) (film : Film p N bytes room) (s : Slot) (draw : ℕ) (k : filling ≤ s .kind) (l : s .kind ≤ playing) where
+module _ (p : Supply ℕ) (x : Showing) (N bytes room : ℕ) (film : Film p x N bytes room) (s : Slot) (draw : ℕ) (k : filling ≤ s .kind) (l : s .kind ≤ playing) where
   -- its buffer is too full
   pub swept-full : room < s .held → slotIn (record { kind = s .kind; next = s .next; held = s .held - draw }) ≡ endedSlot p (slotIn s) draw
   swept-full h = sym (ended-other p (slotIn s) draw (fetched-full p (slotIn s) (omega (arith, film .size, film .left))) (λ z. absurd (omega arith)))
 
-  -- a block was fetched: x is the next, and t tells whether it stands past the last
-  module _ (h : s .held ≤ room) (x : ℕ) (q : x ≡ blockAfter (s .next)) where
-    after : x ≡ p .next (s .next)
-    after = q ∙ sym (film .next (s .next))
+  -- a block was fetched: b is the next, and t tells whether it stands past the last
+  module _ (h : s .held ≤ room) (u : s .next < N) (b : ℕ) (q : b ≡ after x N (s .next)) where
+    follows : b ≡ p .next (s .next)
+    follows = q ∙ sym (film .next (s .next))
 
-    tells : (t : Bool) → isPast N x ≡ t → p .isEnd (p .next (s .next)) ≡ t
-    tells t e = film .past (p .next (s .next)) ∙ ap (isPast N) (sym after) ∙ e
+    tells : (t : Bool) → eqb b N ≡ t → p .isEnd (p .next (s .next)) ≡ t
+    tells t e = film .past (s .next) u ∙ ap (λ (m : ℕ). eqb m N) (sym follows) ∙ e
 
     gained : s .held - draw + bytes ≡ s .held - draw + p .B
     gained = ap (λ (m : ℕ). s .held - draw + m) (sym (film .size))
 
-    pub swept-last : isPast N x ≡ true → slotIn (record { kind = draining; next = x; held = s .held - draw + bytes }) ≡ endedSlot p (slotIn s) draw
+    pub swept-last : eqb b N ≡ true → slotIn (record { kind = draining; next = b; held = s .held - draw + bytes }) ≡ endedSlot p (slotIn s) draw
     swept-last e =
-        (λ j. record { kind = draining; next = after j; buffered = gained j })
+        (λ j. record { kind = draining; next = follows j; buffered = gained j })
         ∙ sym (ended-last p (slotIn s) draw k l (omega (arith, film .size, film .left)) (tells true e) (film .some))
 
-    pub swept-on : isPast N x ≡ false → slotIn (record { kind = s .kind; next = x; held = s .held - draw + bytes }) ≡ endedSlot p (slotIn s) draw
+    pub swept-on : eqb b N ≡ false → slotIn (record { kind = s .kind; next = b; held = s .held - draw + bytes }) ≡ endedSlot p (slotIn s) draw
     swept-on e =
-        (λ j. record { kind = s .kind; next = after j; buffered = gained j })
+        (λ j. record { kind = s .kind; next = follows j; buffered = gained j })
         ∙ sym (ended-fetched p (slotIn s) draw k l (omega (arith, film .size, film .left)) (tells false e))
 
 module _ (p : Supply ℕ) (s : Slot) (draw : ℕ) where
@@ -78,12 +105,12 @@ pub ends-none : (d : Desk) → Wide d → (ds : List ℕ) → d ≡ endedUpTo d 
 unfolding endedUpTo
 ends-none d w ds = with-own d w ∙ ap (withSlots d) (sym (endedTo-none (supplyOf (d .plan)) ds (slotsIn d)))
 
-pub film-of : (d : Desk) → Ready d → Film (supplyOf (d .plan)) (d .plan .figures .blocks) (d .plan .figures .bytes) (d .plan .buffer - d .plan .figures .bytes)
-unfolding supplyOf blockAfter isPast
+pub film-of : (d : Desk) → Ready d → Film (supplyOf (d .plan)) (showingIn (d .plan)) (d .plan .figures .blocks) (d .plan .figures .bytes) (d .plan .buffer - d .plan .figures .bytes)
+unfolding supplyOf
 film-of d r = record {
   start = refl;
   next = λ b. refl;
-  past = λ b. refl;
+  past = past-is (showingIn (d .plan)) (d .plan .figures .blocks);
   some = r .legal .bytes .0;
   size = refl;
   left = room-left d r;
@@ -137,7 +164,7 @@ module _ (d : Desk) (w : Wide d) (r : Ready d) (ds : List ℕ) (o : Drawn d ds) 
 
   -- one slot more
   pub ends-turn : (draw : ℕ) → draw ≡ getD ds i 0 → (after : Slot)
-      → ((p : Supply ℕ) → Film p (d .plan .figures .blocks) (d .plan .figures .bytes) (d .plan .buffer - d .plan .figures .bytes)
+      → ((p : Supply ℕ) → Film p (showingIn (d .plan)) (d .plan .figures .blocks) (d .plan .figures .bytes) (d .plan .buffer - d .plan .figures .bytes)
       → slotIn after ≡ endedSlot p (slotIn (slotAt e i)) draw)
       → record { plan = e .plan; phase = e .phase; kinds = set (e .kinds) i (after .kind); next = set (e .next) i (after .next); held = set (e .held) i (after .held) }
       ≡ endedUpTo d ds (i + 1)

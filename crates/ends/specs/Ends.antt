@@ -1,11 +1,12 @@
 -- What an end knows of its draws and is told of the film, and a slot as its code holds it.
 -- Assumes nothing.
-use Prim.Native.Nat.{ℕ, suc, _+_, _≤_, _<_}
+use Prim.Native.Nat.{ℕ, _+_, _≤_, _<_}
 use mathlib.Core.Path.{_≡_}
-use mathlib.Core.Bool.{Bool}
 use mathlib.Core.List.{List}
 use lib.Dec.{eqb}
 use Rattle.numbers.specs.Slots.{filling, playing, draining}
+use Rattle.placement.specs.Showing.{Showing}
+use Rattle.pacing.specs.Film.{after}
 use Rattle.safety.specs.Supply.{Supply}
 use Rattle.safety.specs.Scheduler as S
 use Rattle.safety.specs.Scheduler.{end}
@@ -18,19 +19,13 @@ use Rattle.ends.specs.declared.Slot.{Slot}
 abbrev pub Drawn : Desk → List ℕ → Type 0
 Drawn d draws = let s = supplyOf (d .plan) in Allowed s (orderOf (d .plan)) (viewOf d) (end draws)
 
--- `its next block rises by one`
-unfoldable pub blockAfter : ℕ → ℕ
-blockAfter b = suc b
-
--- `reaches N`
-unfoldable pub isPast : ℕ → ℕ → Bool
-isPast N b = eqb b N
-
--- what an end is told of a supply: how the film goes on, B, and the buffer less B
-pub record Film (p : Supply ℕ) (N bytes room : ℕ) : Type 0 where
+-- what an end is told of a supply: how the film of N blocks goes on in its showing x, B, and the buffer less B
+pub record Film (p : Supply ℕ) (x : Showing) (N bytes room : ℕ) : Type 0 where
   pub start : p .none ≡ 0
-  pub next : (b : ℕ) → p .next b ≡ blockAfter b
-  pub past : (b : ℕ) → p .isEnd b ≡ isPast N b
+  -- `its next block rises by one`; in a loop 0 follows the last (T7.1)
+  pub next : (b : ℕ) → p .next b ≡ after x N b
+  -- `reaches N`, which no block of a loop does (T7.8)
+  pub past : (b : ℕ) → b < N → p .isEnd (p .next b) ≡ eqb (p .next b) N
   pub some : 0 < p .B
   pub size : p .B ≡ bytes
   pub left : room + bytes ≡ p .buffer

@@ -1,5 +1,6 @@
 // End: each slot loses its draw, and each that was fetched for gains a block.
 use desk::Desk;
+use numbers::showings::LOOP;
 use numbers::slots::DRAINING;
 use numbers::slots::FILLING;
 use numbers::slots::FREE;
@@ -7,14 +8,17 @@ use numbers::slots::PLAYING;
 use words::word_at;
 ghost use mathlib.Core.Path.{_≡_};
 ghost use Prim.Native.Nat.{ℕ, _+_, _≤_, _<_};
+ghost use lib.Dec.{eqb};
 ghost use Rattle.words.specs.Words.{wordsOf};
 ghost use Rattle.numbers.specs.Slots.{filling, playing, draining};
+ghost use Rattle.pacing.specs.Film.{after};
+ghost use Rattle.plan.specs.Plan.{showingOf};
 ghost use Rattle.safety.specs.Supply.{Supply};
 ghost use Rattle.safety.specs.Scheduler.{endedSlot, ended};
 ghost use Rattle.desk.specs.Desk.{supplyOf, slotsIn};
 ghost use Rattle.desk.specs.Ready.{Ready};
 ghost use Rattle.desk.specs.Slots.{withSlots};
-ghost use Rattle.ends.specs.Ends.{Drawn, blockAfter, isPast, Film, slotIn, Fair};
+ghost use Rattle.ends.specs.Ends.{Drawn, Film, slotIn, Fair};
 
 // A slot of the desk.
 pub struct Slot {
@@ -23,25 +27,32 @@ pub struct Slot {
     pub held: u32,
 }
 
-// The block after one.
-fn next_block(next: u32) -> u32
-    requires { ⌜ next < 4294967295 ⌝ }
-    ensures { λ r. ⌜ r ≡ blockAfter next ⌝ }
+// The block after one of the film's; a loop goes on with the first after the last, and so never reaches N.
+fn next_block(showing: u32, blocks: u32, next: u32) -> u32
+    requires { ⌜ next < blocks ⌝ }
+    ensures { λ r. ⌜ r ≡ after (showingOf showing) blocks next ⌝ }
 {
-    next + 1
+    let after = next + 1;
+    if after < blocks {
+        return after;
+    }
+    if showing == LOOP {
+        return 0;
+    }
+    after
 }
 
 // Has the film ended there?
 fn is_past(blocks: u32, next: u32) -> bool
-    ensures { λ r. ⌜ r ≡ isPast blocks next ⌝ }
+    ensures { λ r. ⌜ r ≡ eqb next blocks ⌝ }
 {
     next == blocks
 }
 
 // A filling or playing slot after a draw. With room it was fetched for: B more, the next block, and tail where the film has ended.
-fn swept(slot: Slot, draw: u32, blocks: u32, bytes: u32, room: u32) -> Slot
+fn swept(slot: Slot, draw: u32, showing: u32, blocks: u32, bytes: u32, room: u32) -> Slot
     requires { ⌜ (Fair blocks slot draw) × (filling ≤ slot .kind) × (slot .kind ≤ playing) × (room + bytes < 4294967296) ⌝ }
-    ensures { λ r. ⌜ ((p : Supply ℕ) → Film p blocks bytes room → slotIn r ≡ endedSlot p (slotIn slot) draw) ⌝ }
+    ensures { λ r. ⌜ ((p : Supply ℕ) → Film p (showingOf showing) blocks bytes room → slotIn r ≡ endedSlot p (slotIn slot) draw) ⌝ }
 {
     if room < slot.held {
         return Slot {
@@ -50,7 +61,7 @@ fn swept(slot: Slot, draw: u32, blocks: u32, bytes: u32, room: u32) -> Slot
             held: slot.held - draw,
         };
     }
-    let next = next_block(slot.next);
+    let next = next_block(showing, blocks, slot.next);
     let held = slot.held - draw + bytes;
     if is_past(blocks, next) {
         return Slot {
@@ -86,14 +97,14 @@ fn drained(slot: Slot, draw: u32) -> Slot
 }
 
 // A slot after the sweep; free and asked slots draw nothing and stay.
-fn ended_slot(slot: Slot, draw: u32, blocks: u32, bytes: u32, room: u32) -> Slot
+fn ended_slot(slot: Slot, draw: u32, showing: u32, blocks: u32, bytes: u32, room: u32) -> Slot
     requires { ⌜ (Fair blocks slot draw) × (room + bytes < 4294967296) ⌝ }
-    ensures { λ r. ⌜ ((p : Supply ℕ) → Film p blocks bytes room → slotIn r ≡ endedSlot p (slotIn slot) draw) ⌝ }
+    ensures { λ r. ⌜ ((p : Supply ℕ) → Film p (showingOf showing) blocks bytes room → slotIn r ≡ endedSlot p (slotIn slot) draw) ⌝ }
 {
     let kind = slot.kind;
     match kind {
-        FILLING => swept(slot, draw, blocks, bytes, room),
-        PLAYING => swept(slot, draw, blocks, bytes, room),
+        FILLING => swept(slot, draw, showing, blocks, bytes, room),
+        PLAYING => swept(slot, draw, showing, blocks, bytes, room),
         DRAINING => drained(slot, draw),
         _ => slot,
     }
@@ -104,6 +115,7 @@ pub fn end_slots(desk: Desk, draws: &[u8]) -> Desk
     requires { ⌜ (Ready desk) × (Drawn desk (wordsOf (now draws))) ⌝ }
     ensures { λ r. ⌜ r ≡ withSlots desk (ended (supplyOf (desk .plan)) (slotsIn desk) (wordsOf (now (draws .entry)))) ⌝ }
 {
+    let showing = desk.plan.showing;
     let blocks = desk.plan.figures.blocks;
     let bytes = desk.plan.figures.bytes;
     let room = desk.plan.buffer - bytes;
@@ -116,7 +128,7 @@ pub fn end_slots(desk: Desk, draws: &[u8]) -> Desk
             next: d.next[i],
             held: d.held[i],
         };
-        let after = ended_slot(slot, word_at(draws, i), blocks, bytes, room);
+        let after = ended_slot(slot, word_at(draws, i), showing, blocks, bytes, room);
         d.kinds[i] = after.kind;
         d.next[i] = after.next;
         d.held[i] = after.held;

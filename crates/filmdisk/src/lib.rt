@@ -1,10 +1,11 @@
 // The planner and the desk for C: numbers and byte strings, whose layouts docs/LAYOUT.md fixes. Strings lent to one call share no byte.
 use layout::FilmdiskAnswer;
 ghost use mathlib.Core.Path.{_≡_};
+ghost use Rattle.placement.specs.Showing.{one, loop};
 ghost use Rattle.plan_strings.specs.Calls.{planAnswer, planString, positionsString, leadsString};
 ghost use Rattle.desk_strings.specs.Calls.{openAnswer, openString, joinAnswer, joinString, leaveAnswer, leaveString, beginAnswer, beginString, fetchString, endAnswer, endString};
 
-// Plans a card: 1 to 11 and 26, then 13, then 12.
+// Plans a card for one showing: 1 to 11 and 26, then 13, then 12.
 #[no_mangle]
 pub extern "C" fn filmdisk_plan(
     card: &[u8],
@@ -12,12 +13,28 @@ pub extern "C" fn filmdisk_plan(
     positions: &mut [u8],
     leads: &mut [u8],
 ) -> FilmdiskAnswer
-    ensures { λ r. ⌜ (r ≡ planAnswer (now (card .entry)) (now (plan .entry)) (now (positions .entry)) (now (leads .entry)))
-        × (now (plan .exit) ≡ planString (now (card .entry)) (now (plan .entry)) (now (positions .entry)) (now (leads .entry)))
-        × (now (positions .exit) ≡ positionsString (now (card .entry)) (now (plan .entry)) (now (positions .entry)) (now (leads .entry)))
-        × (now (leads .exit) ≡ leadsString (now (card .entry)) (now (plan .entry)) (now (positions .entry)) (now (leads .entry))) ⌝ }
+    ensures { λ r. ⌜ (r ≡ planAnswer one (now (card .entry)) (now (plan .entry)) (now (positions .entry)) (now (leads .entry)))
+        × (now (plan .exit) ≡ planString one (now (card .entry)) (now (plan .entry)) (now (positions .entry)) (now (leads .entry)))
+        × (now (positions .exit) ≡ positionsString one (now (card .entry)) (now (plan .entry)) (now (positions .entry)) (now (leads .entry)))
+        × (now (leads .exit) ≡ leadsString one (now (card .entry)) (now (plan .entry)) (now (positions .entry)) (now (leads .entry))) ⌝ }
 {
     plan_strings::plan(card, plan, positions, leads)
+}
+
+// Plans a card as a loop: 1 to 11, then 13, then 12.
+#[no_mangle]
+pub extern "C" fn filmdisk_plan_loop(
+    card: &[u8],
+    plan: &mut [u8],
+    positions: &mut [u8],
+    leads: &mut [u8],
+) -> FilmdiskAnswer
+    ensures { λ r. ⌜ (r ≡ planAnswer loop (now (card .entry)) (now (plan .entry)) (now (positions .entry)) (now (leads .entry)))
+        × (now (plan .exit) ≡ planString loop (now (card .entry)) (now (plan .entry)) (now (positions .entry)) (now (leads .entry)))
+        × (now (positions .exit) ≡ positionsString loop (now (card .entry)) (now (plan .entry)) (now (positions .entry)) (now (leads .entry)))
+        × (now (leads .exit) ≡ leadsString loop (now (card .entry)) (now (plan .entry)) (now (positions .entry)) (now (leads .entry))) ⌝ }
+{
+    plan_strings::plan_loop(card, plan, positions, leads)
 }
 
 // Opens a desk of a plan and its lists: 14, then 13.

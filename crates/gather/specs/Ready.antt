@@ -11,7 +11,7 @@ use lib.ListN.{getD}
 use Rattle.numbers.specs.Limits.{maxPositions, maxTime}
 use Rattle.numbers.specs.Slots.{waiting, playing}
 use Rattle.placement.specs.Zones.{timeAt}
-use Rattle.plan.specs.Plan.{placeOf, timeOf}
+use Rattle.plan.specs.Plan.{showingIn, placeOf, timeOf}
 use Rattle.plan.specs.Answer.{isPlan}
 use Rattle.plan.specs.Disk.{Zoned}
 use Rattle.plan.specs.Check.{checked}
@@ -42,15 +42,15 @@ module _ (d : Desk) (w : Wide d) (r : Ready d) (ps ls : List ℕ) (e : isPlan (d
       let n = next-below i (omega (arith, streams-are d r)) a b in
       record {
         place = omega (arith, c .long .0);
-        within = omega (arith, c .place-at _ n, place-below (d .plan .figures) (r .legal) _ n, total-is (d .plan .figures) (r .legal));
+        within = omega (arith, c .place-at _ n, place-below (showingIn (d .plan)) (d .plan .figures) (r .legal) _ n, total-is (d .plan .figures) (r .legal));
       }
 
   -- what was collected is what the plan says
   module _ (g : Gathered) (c : Collected (d .plan .figures .positions) (d .plan .figures .times) ps (d .kinds) (d .next) (d .plan .streams) g) where
     -- time and position of the next block of slot i, as the definitions say
     record Own (i : ℕ) : Type 0 where
-      time : getD (g .times) i 0 ≡ timeOf (d .plan .figures) (getD (d .next) i 0)
-      position : getD (g .positions) i 0 ≡ placeOf (d .plan .figures) (getD (d .next) i 0)
+      time : getD (g .times) i 0 ≡ timeOf (showingIn (d .plan)) (d .plan .figures) (getD (d .next) i 0)
+      position : getD (g .positions) i 0 ≡ placeOf (showingIn (d .plan)) (d .plan .figures) (getD (d .next) i 0)
 
     own : (i : ℕ) → i < 256 → waiting ≤ getD (d .kinds) i 0 → getD (d .kinds) i 0 ≤ playing → Own i
     own i l u v =
@@ -74,7 +74,7 @@ module _ (d : Desk) (w : Wide d) (r : Ready d) (ps ls : List ℕ) (e : isPlan (d
             let l : i < 256 = omega (arith, streams-are d r) in
             by-cases (decLe waiting k)
             (λ u. by-cases (decLe k playing)
-            (λ v. let p = place-below (d .plan .figures) (r .legal) _ (next-below i l u v) in
+            (λ v. let p = place-below (showingIn (d .plan)) (d .plan .figures) (r .legal) _ (next-below i l u v) in
             let o = own i l u v in
             (omega (arith, o .time, time-small (d .plan .figures) (r .legal) _ p), omega (arith, o .position, p, r .legal .total)))
             (λ v. omega (arith, c .found i h .other (λ _ y. v y))))

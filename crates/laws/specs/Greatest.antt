@@ -25,6 +25,11 @@ unfolding greatestOf
 greatestOf-least g zero W h = omega arith
 greatestOf-least g (suc n) W h = omega (arith, h n (omega arith), greatestOf-least g n W (λ b u. h b (omega arith)))
 
+pub greatestOf-same : (g h : ℕ → ℕ) (n : ℕ) → ((b : ℕ) → b < n → g b ≡ h b) → greatestOf g n ≡ greatestOf h n
+unfolding greatestOf
+greatestOf-same g h zero e = refl
+greatestOf-same g h (suc n) e = omega (arith, e n (omega arith), greatestOf-same g h n (λ b u. e b (omega arith)))
+
 -- one of them is the greatest
 pub greatestOf-reached : (g : ℕ → ℕ) (n : ℕ) → 0 < n → (b : ℕ) × (b < n) × (g b ≡ greatestOf g n)
 unfolding greatestOf

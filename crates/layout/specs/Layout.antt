@@ -36,18 +36,19 @@ figuresOf (zones, (positions, (times, (blocks, (bytes, (rate, (hop, (back, end))
 
 abbrev pub plannedFields : List Field
 plannedFields =
-    -- streams, buffer, worst2, margin
+    -- streams, buffer, worst2, margin, showing
     word
+    ∷ word
     ∷ word
     ∷ word
     ∷ word
     ∷ []
 
 abbrev pub plannedValues : Plan → Values plannedFields
-plannedValues p = p .streams & p .buffer & p .worst2 & p .margin & tt
+plannedValues p = p .streams & p .buffer & p .worst2 & p .margin & p .showing & tt
 
 abbrev pub planWith : Figures → Values plannedFields → Plan
-planWith f (streams, (buffer, (worst2, (margin, end)))) = record { figures = f; streams = streams; buffer = buffer; worst2 = worst2; margin = margin }
+planWith f (streams, (buffer, (worst2, (margin, (showing, end))))) = record { figures = f; streams = streams; buffer = buffer; worst2 = worst2; margin = margin; showing = showing }
 
 abbrev pub planFields : List Field
 planFields = figureFields ++ plannedFields

@@ -1,6 +1,6 @@
 -- The plan of legal figures can be written and read back: its arrays have 64 entries, its numbers 32 bits.
 -- Assumes nothing.
-use Prim.Native.Nat.{suc}
+use Prim.Native.Nat.{suc, _<_}
 use mathlib.Core.Logic.{by-cases}
 use native.Mathlib.Omega.{arith}
 use native.Mathlib.Decide.{decLt}
@@ -8,15 +8,20 @@ use Rattle.words.specs.Words.{Words}
 use Rattle.card.specs.declared.Figures.{Figures}
 use Rattle.card.specs.Card.{Legal}
 use Rattle.placement.specs.Zones.{total, total-turn, total-take}
-use Rattle.plan.specs.Plan.{planOf}
+use Rattle.placement.specs.Showing.{Showing, one, loop}
+use Rattle.plan.specs.Plan.{wordOf, planOf}
 use Rattle.plan.specs.Legal.{total-is, worst2-small, margin-less, streams-few, buffer-small}
 use Rattle.layout.specs.Fields.{_&_}
 use Rattle.layout.specs.FieldLaws.{AllFit, packed-fit}
 use Rattle.layout.specs.Layout.{planFields, planValues, planWords}
 use Rattle.layout.specs.RoundTrip.{PlanSized}
 
-module _ (f : Figures) (ok : Legal f) where
-  pub legal-sized : PlanSized (planOf f)
+word-small : (x : Showing) → wordOf x < 4294967296
+word-small one = omega arith
+word-small loop = omega arith
+
+module _ (x : Showing) (f : Figures) (ok : Legal f) where
+  pub legal-sized : PlanSized (planOf x f)
   unfolding planOf
   legal-sized = record { positions = ok .wide .0; times = ok .wide .1 }
 
@@ -28,7 +33,7 @@ module _ (f : Figures) (ok : Legal f) where
   times-small : Words (f .times)
   times-small i = by-cases (decLt i (f .zones)) (λ h. omega (arith, ok .times i h)) (λ h. omega (arith, ok .unused i (omega arith)))
 
-  legal-fit : AllFit planFields (planValues (planOf f))
+  legal-fit : AllFit planFields (planValues (planOf x f))
   unfolding planOf
   legal-fit =
       omega (arith, ok .zones)
@@ -39,12 +44,13 @@ module _ (f : Figures) (ok : Legal f) where
       & omega (arith, ok .rate)
       & omega (arith, ok .hop)
       & omega (arith, ok .back)
-      & omega (arith, streams-few f ok)
-      & omega (arith, ok .bytes, buffer-small f ok)
-      & omega (arith, worst2-small f ok)
-      & omega (arith, margin-less f ok, worst2-small f ok)
+      & omega (arith, streams-few x f ok)
+      & omega (arith, ok .bytes, buffer-small x f ok)
+      & omega (arith, worst2-small x f ok)
+      & omega (arith, margin-less x f ok, worst2-small x f ok)
+      & word-small x
       & tt
 
-  pub legal-words : Words (planWords (planOf f))
+  pub legal-words : Words (planWords (planOf x f))
   unfolding planWords
-  legal-words = packed-fit planFields (planValues (planOf f)) legal-fit
+  legal-words = packed-fit planFields (planValues (planOf x f)) legal-fit

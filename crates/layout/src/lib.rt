@@ -85,6 +85,7 @@ fn plan_at(list: &[u8]) -> Plan
         buffer: word_at(list, offsets::BUFFER),
         worst2: word_at(list, offsets::WORST2),
         margin: word_at(list, offsets::MARGIN),
+        showing: word_at(list, offsets::SHOWING),
     }
 }
 
@@ -118,6 +119,7 @@ pub fn write_plan(list: &mut [u8], plan: Plan)
             plan.buffer,
             plan.worst2,
             plan.margin,
+            plan.showing,
         ],
     );
 }

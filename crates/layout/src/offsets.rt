@@ -26,7 +26,9 @@ pub const WORST2: usize = BUFFER + 1;
 
 pub const MARGIN: usize = WORST2 + 1;
 
-pub const PLAN_WORDS: usize = MARGIN + 1;
+pub const SHOWING: usize = MARGIN + 1;
+
+pub const PLAN_WORDS: usize = SHOWING + 1;
 
 // And of a desk; its plan is in front.
 pub const PHASE: usize = PLAN_WORDS;

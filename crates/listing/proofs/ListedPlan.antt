@@ -16,12 +16,13 @@ use Rattle.placement.specs.Zones.{total}
 use Rattle.words.specs.Words.{Bytes, wordsOf}
 use Rattle.plan.specs.declared.Plan.{Plan}
 use Rattle.plan.specs.declared.Planned.{Planned}
-use Rattle.plan.specs.Plan.{streamsOf}
+use Rattle.placement.specs.Showing.{Showing}
+use Rattle.plan.specs.Plan.{showingIn, streamsOf}
 use Rattle.plan.specs.Disk.{Zoned}
 use Rattle.plan.specs.Legal.{legal-zoned, place-below, total-is}
 use Rattle.plan.specs.Answer.{planFault, faultAfter, refusal, answer, planned, positionsAfter, leadsAfter, isPlan}
 use Rattle.plan.specs.Check.{checked, checked-legal, plan-passes}
-use Rattle.plan.specs.Ways.{short-positions, short-leads, no-stream, card-legal}
+use Rattle.plan.specs.Ways.{Outcome, short-positions, short-leads, no-stream, card-legal}
 
 -- ---- a plan with its lists
 
@@ -32,37 +33,36 @@ module _ (p : Plan) (ps ls : List ℕ) (w : Wide (p .figures)) (e : isPlan p ps 
   pub position-on : (b : ℕ) → b < p .figures .blocks → getD (wordsOf ps) b 0 < total (p .figures .positions)
   position-on b u =
       let ok = checked-legal p ps ls w e in
-      omega (arith, checked p ps ls e .place-at b u, place-below (p .figures) ok b u, total-is (p .figures) ok)
+      omega (arith, checked p ps ls e .place-at b u, place-below (showingIn p) (p .figures) ok b u, total-is (p .figures) ok)
 
 -- ---- an accepted card
 
 -- neither 13 nor 12: both lists are long enough, and a stream is fed
-no-fault : (f : Figures) (np nl : ℕ) → planFault f np nl ≡ 0 → (f .blocks ≤ np) × (f .blocks ≤ nl) × (0 < streamsOf f)
-no-fault f np nl e = by-cases (decLt np (f .blocks))
-    (λ h. absurd (omega (arith, short-positions f np nl h)))
+no-fault : (x : Showing) (f : Figures) (np nl : ℕ) → planFault x f np nl ≡ 0 → (f .blocks ≤ np) × (f .blocks ≤ nl) × (0 < streamsOf x f)
+no-fault x f np nl e = by-cases (decLt np (f .blocks))
+    (λ h. absurd (omega (arith, short-positions x f np nl h)))
     (λ h. by-cases (decLt nl (f .blocks))
-    (λ k. absurd (omega (arith, short-leads f np nl (omega arith) k)))
-    (λ k. by-cases (decLt 0 (streamsOf f))
+    (λ k. absurd (omega (arith, short-leads x f np nl (omega arith) k)))
+    (λ k. by-cases (decLt 0 (streamsOf x f))
     (λ s. (omega arith, omega arith, s))
-    (λ s. absurd (omega (arith, no-stream f np nl (omega arith) (omega arith) (omega arith))))))
+    (λ s. absurd (omega (arith, no-stream x f np nl (omega arith) (omega arith) (omega arith))))))
 
-answer-none : (j k : ℕ) (r : CardRead) → answer j k r .verdict .number ≡ 0 → (j ≡ 0) × (k ≡ 0)
+answer-none : (x : Showing) (j k : ℕ) (r : CardRead) → answer x j k r .verdict .number ≡ 0 → (j ≡ 0) × (k ≡ 0)
 unfolding refusal
-answer-none zero zero r e = (refl, refl)
-answer-none zero (suc k) r e = absurd (omega (arith, e))
-answer-none (suc j) k r e = absurd (omega (arith, e))
+answer-none x zero zero r e = (refl, refl)
+answer-none x zero (suc k) r e = absurd (omega (arith, e))
+answer-none x (suc j) k r e = absurd (omega (arith, e))
 
 -- the answer to an accepted card is a plan, with the lists as they are left
-answer-plan : (s : List ℕ) → Bytes s → (ps ls : List ℕ) → planned (readCard s) ps ls .verdict .number ≡ 0
-    → isPlan (planned (readCard s) ps ls .plan) (positionsAfter (readCard s) ps ls) (leadsAfter (readCard s) ps ls) ≡ true
+answer-plan : (x : Showing) (s : List ℕ) → Bytes s → (ps ls : List ℕ) → planned x (readCard s) ps ls .verdict .number ≡ 0
+    → isPlan (planned x (readCard s) ps ls .plan) (positionsAfter x (readCard s) ps ls) (leadsAfter x (readCard s) ps ls) ≡ true
 unfolding planned positionsAfter leadsAfter
-answer-plan s y ps ls e =
+answer-plan x s y ps ls e =
     let r = readCard s in
-    let n = answer-none (r .verdict .number) (faultAfter r ps ls) r e in
-    let g = no-fault (r .figures) (length (wordsOf ps)) (length (wordsOf ls)) (n .1) in
-    rw (n .0, n .1) (plan-passes (r .figures) (card-legal s y r refl (n .0)) (g .2) ps ls (g .0) (g .1))
+    let n = answer-none x (r .verdict .number) (faultAfter x r ps ls) r e in
+    let g = no-fault x (r .figures) (length (wordsOf ps)) (length (wordsOf ls)) (n .1) in
+    rw (n .0, n .1) (plan-passes x (r .figures) (card-legal s y r refl (n .0)) (g .2) ps ls (g .0) (g .1))
 
-pub accepted-plan : (s : List ℕ) → Bytes s → (ps ls : List ℕ) (a : Planned) (qs ms : List ℕ)
-    → (a ≡ planned (readCard s) ps ls) × (qs ≡ positionsAfter (readCard s) ps ls) × (ms ≡ leadsAfter (readCard s) ps ls)
+pub accepted-plan : (x : Showing) (s : List ℕ) → Bytes s → (ps ls : List ℕ) (a : Planned) (qs ms : List ℕ) → Outcome x (readCard s) ps ls a qs ms
     → a .verdict .number ≡ 0 → isPlan (a .plan) qs ms ≡ true
-accepted-plan s y ps ls a qs ms e n = rw (e .0, e .1, e .2) (answer-plan s y ps ls (sym (ap (λ (x : Planned). x .verdict .number) (e .0)) ∙ n))
+accepted-plan x s y ps ls a qs ms e n = rw (e .0, e .1, e .2) (answer-plan x s y ps ls (sym (ap (λ (b : Planned). b .verdict .number) (e .0)) ∙ n))

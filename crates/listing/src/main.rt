@@ -1,4 +1,5 @@
-// Reads a card from standard input and prints its plan: four named figures, then the position, time and lead of each block.
+// Reads a card from standard input and prints its plan, with the argument `loop` its plan as a loop: four named figures, then the position, time
+// and lead of each block.
 mod line; // lines of text
 
 use crate::line::empty;
@@ -9,6 +10,9 @@ use crate::line::put_text;
 use card::Verdict;
 use libc::STDIN_FILENO;
 use plan::Plan;
+use plan::Planned;
+use planner::plan_card;
+use planner::plan_loop_card;
 ghost use mathlib.Core.Path.{_≡_};
 ghost use mathlib.Core.Bool.{true};
 ghost use Prim.Native.Nat.{_<_};
@@ -56,11 +60,21 @@ fn print_blocks(plan: Plan, positions: &[u8], leads: &[u8])
     }
 }
 
+// The plan of a card, as a loop or for one showing, and its lists.
+fn plan_film(looped: bool, card: &[u8], positions: &mut [u8], leads: &mut [u8]) -> Planned
+    ensures { λ r. ⌜ (r .verdict .number ≡ 0 → isPlan (r .plan) (now (positions .exit)) (now (leads .exit)) ≡ true) ⌝ }
+{
+    if looped {
+        return plan_loop_card(card, positions, leads);
+    }
+    plan_card(card, positions, leads)
+}
+
 // The listing of a card: its plan, or the refusal.
-fn list(card: &[u8]) {
+fn list(looped: bool, card: &[u8]) {
     let mut positions = io::large_buffer();
     let mut leads = io::large_buffer();
-    let planned = planner::plan_card(card, &mut positions, &mut leads);
+    let planned = plan_film(looped, card, &mut positions, &mut leads);
     let verdict = planned.verdict;
     if verdict.number != 0 {
         print_refusal(verdict);
@@ -71,9 +85,44 @@ fn list(card: &[u8]) {
     print_blocks(plan, &positions, &leads);
 }
 
+// Are two strings the same?
+fn same(a: &[u8], b: &[u8]) -> bool {
+    if a.len() != b.len() {
+        return false;
+    }
+    let mut i: usize = 0;
+    while i < a.len() {
+        if a[i] != b[i] {
+            return false;
+        }
+        i += 1;
+    }
+    true
+}
+
+// Is the first argument `loop`? A longer one than fits is read as none.
+fn asks_loop() -> bool {
+    let mut word = [0u8; 8];
+    let length = os::arg(1, &mut word);
+    same(&word[..length], b"loop")
+}
+
+// How many arguments such a listing has at most, the program's name among them.
+fn most_arguments(looped: bool) -> usize {
+    if looped {
+        return 2;
+    }
+    1
+}
+
 // Every refusal of a card is decided within its first 512 bytes, so what is read is enough of any input.
 fn main() {
+    let looped = asks_loop();
+    if most_arguments(looped) < os::arg_count() {
+        print(put_text(empty(), b"usage: listing [loop]"));
+        return;
+    }
     let mut input = io::buffer();
     let count = io::read_full(STDIN_FILENO, &mut input);
-    list(&input[..count]);
+    list(looped, &input[..count]);
 }

@@ -7,8 +7,10 @@ use mathlib.Core.List.{List, []}
 use lib.Dec.{ltb, eqb}
 use Rattle.laws.specs.Greatest.{greatestOf}
 use Rattle.numbers.specs.Refusals.{noSuchBlock}
+use Rattle.placement.specs.Circle.{round}
+use Rattle.placement.specs.Showing.{Showing, one, loop}
 
--- A names what a slot reads next: a block's number in the base, as `once` says. Fields that only document 02 needs say what they are there
+-- A names what a slot reads next: a block's number in the base, as `shown` says. Fields that only document 02 needs say what they are there
 pub record Film (A : Type 0) : Type 0 where
   -- the name in a free slot, and its test: block 0
   pub none : A
@@ -61,18 +63,35 @@ module _ {A : Type 0} (film : Film A) where
   unfoldable pub lead : ℕ → A → ℕ
   lead w a = greatestOf (runSum w a) (suc (film .longest a))
 
--- the film of document 01: N blocks, once through in the order of their numbers
-abbrev pub once : ℕ → (ℕ → ℕ) → (ℕ → ℕ) → Film ℕ
-once N time place = record {
+-- ---- the showings
+
+-- the block after b of N (T7.1): in a loop the last is followed by the first
+abbrev pub after : Showing → ℕ → ℕ → ℕ
+after one N = suc
+after loop N = round N
+
+-- past the last block: a loop has no end (T7.8)
+abbrev pub isPast : Showing → ℕ → ℕ → Bool
+isPast one N b = eqb b N
+isPast loop N b = false
+
+-- the most blocks of a run that starts at b: to the film's end, or once round (T7.6)
+abbrev pub longestRun : Showing → ℕ → ℕ → ℕ
+longestRun one N b = N - b
+longestRun loop N b = N
+
+-- a film of N blocks in the order of their numbers, in either showing
+abbrev pub shown : Showing → ℕ → (ℕ → ℕ) → (ℕ → ℕ) → Film ℕ
+shown x N time place = record {
   none = 0;
   isNone = λ b. eqb b 0;
   isBlock = λ b. ltb b N;
   fault = λ b. cond (ltb b N) 0 noSuchBlock;
-  isEnd = λ b. eqb b N;
-  next = suc;
+  isEnd = isPast x N;
+  next = after x N;
   number = λ b. b;
   place = place;
   others = λ b. [];
   time = time;
-  longest = λ b. N - b;
+  longest = longestRun x N;
 }

@@ -1,6 +1,5 @@
 pub mod Film
 pub mod Lead
-pub mod Loop
-pub mod Once
+pub mod Shown
 pub mod Streams
 pub mod Laid

@@ -6,4 +6,4 @@ pub mod Best
 pub mod Circle
 pub mod CircleBest
 pub mod CircleRow
-pub mod Quick
+pub mod Showing

@@ -1,4 +1,4 @@
--- The answers of the planner, the later contents of both lists, and the test that a record is the plan of its figures.
+-- The answers of the planner for either showing, the later contents of both lists, and the test that a record is the plan of its figures.
 use Prim.Native.Nat.{ℕ, zero, suc}
 use mathlib.Core.List.{List, [], _∷_}
 use mathlib.Core.Bool.{Bool, true, false, cond, _&&_, _||_}
@@ -8,18 +8,19 @@ use Rattle.card.specs.declared.Figures.{Figures}
 use Rattle.card.specs.declared.CardRead.{CardRead}
 use Rattle.card.specs.Card.{recordFault, judgeRecord}
 use Rattle.words.specs.Words.{wordsOf, withWords}
+use Rattle.placement.specs.Showing.{Showing}
 use Rattle.plan.specs.declared.Plan.{Plan}
 use Rattle.plan.specs.declared.Planned.{Planned}
-use Rattle.plan.specs.Plan.{streamsOf, planOf, blankPlan, positionsOf, leadsOf}
+use Rattle.plan.specs.Plan.{showingIn, streamsOf, planOf, blankPlan, positionsOf, leadsOf}
 
 -- ---- the answer
 
 -- after the figures are accepted: 13 where a lent list, of np or nl entries, is too short, then 12 where 'not even one stream fits'
-unfoldable pub planFault : Figures → ℕ → ℕ → ℕ
-planFault f np nl = cond (ltb np (f .blocks) || ltb nl (f .blocks)) 13 (cond (eqb (streamsOf f) 0) 12 0)
+unfoldable pub planFault : Showing → Figures → ℕ → ℕ → ℕ
+planFault x f np nl = cond (ltb np (f .blocks) || ltb nl (f .blocks)) 13 (cond (eqb (streamsOf x f) 0) 12 0)
 
-abbrev pub faultAfter : CardRead → List ℕ → List ℕ → ℕ
-faultAfter r ps ls = planFault (r .figures) (length (wordsOf ps)) (length (wordsOf ls))
+abbrev pub faultAfter : Showing → CardRead → List ℕ → List ℕ → ℕ
+faultAfter x r ps ls = planFault x (r .figures) (length (wordsOf ps)) (length (wordsOf ls))
 
 -- a refusal; 'A plan .. in a refused answer is all zero'
 unfoldable pub refusal : ℕ → ℕ → Planned
@@ -27,10 +28,10 @@ refusal k at = record { verdict = record { number = k; place = at }; plan = blan
 
 -- the answer by the number of the refusal of the figures and by that of 13 and 12. A refusal of the figures keeps its place; 13 and 12
 -- answer with 0
-abbrev pub answer : ℕ → ℕ → CardRead → Planned
-answer zero zero r = record { verdict = record { number = 0; place = 0 }; plan = planOf (r .figures) }
-answer zero (suc k) r = refusal (suc k) 0
-answer (suc j) k r = refusal (suc j) (r .verdict .place)
+abbrev pub answer : Showing → ℕ → ℕ → CardRead → Planned
+answer x zero zero r = record { verdict = record { number = 0; place = 0 }; plan = planOf x (r .figures) }
+answer x zero (suc k) r = refusal (suc k) 0
+answer x (suc j) k r = refusal (suc j) (r .verdict .place)
 
 -- a list by the same two numbers: its first entries are written, or it is left as it was
 abbrev pub filled : ℕ → ℕ → List ℕ → List ℕ → List ℕ
@@ -39,14 +40,14 @@ filled zero (suc k) s vs = s
 filled (suc j) k s vs = s
 
 -- THE ANSWER, and both lists after the call, for figures as they were read or judged
-unfoldable pub planned : CardRead → List ℕ → List ℕ → Planned
-planned r ps ls = answer (r .verdict .number) (faultAfter r ps ls) r
+unfoldable pub planned : Showing → CardRead → List ℕ → List ℕ → Planned
+planned x r ps ls = answer x (r .verdict .number) (faultAfter x r ps ls) r
 
-unfoldable pub positionsAfter : CardRead → List ℕ → List ℕ → List ℕ
-positionsAfter r ps ls = filled (r .verdict .number) (faultAfter r ps ls) ps (positionsOf (r .figures))
+unfoldable pub positionsAfter : Showing → CardRead → List ℕ → List ℕ → List ℕ
+positionsAfter x r ps ls = filled (r .verdict .number) (faultAfter x r ps ls) ps (positionsOf x (r .figures))
 
-unfoldable pub leadsAfter : CardRead → List ℕ → List ℕ → List ℕ
-leadsAfter r ps ls = filled (r .verdict .number) (faultAfter r ps ls) ls (leadsOf (r .figures))
+unfoldable pub leadsAfter : Showing → CardRead → List ℕ → List ℕ → List ℕ
+leadsAfter x r ps ls = filled (r .verdict .number) (faultAfter x r ps ls) ls (leadsOf x (r .figures))
 
 -- a record's figures, judged: 4 to 10 and 26, offset 0
 unfoldable pub judged : Figures → CardRead
@@ -60,20 +61,22 @@ begins [] ws = true
 begins (v ∷ vs) [] = false
 begins (v ∷ vs) (w ∷ ws) = eqb w v && begins vs ws
 
--- two plans have the same streams, buffer, worst2 and margin
+-- two plans have the same streams, buffer, worst2, margin and showing (T7.7)
 abbrev pub sameNumbers : Plan → Plan → Bool
-sameNumbers p q = eqb (p .streams) (q .streams) && (eqb (p .buffer) (q .buffer) && (eqb (p .worst2) (q .worst2) && eqb (p .margin) (q .margin)))
+sameNumbers p q =
+    eqb (p .streams) (q .streams)
+    && (eqb (p .buffer) (q .buffer) && (eqb (p .worst2) (q .worst2) && (eqb (p .margin) (q .margin) && eqb (p .showing) (q .showing))))
 
--- the figures are legal and feed a stream, and the record has their numbers
+-- the figures are legal and feed a stream, and the record has their numbers in the showing that it names
 unfoldable pub hasNumbers : Plan → Bool
-hasNumbers p = eqb (recordFault (p .figures)) 0 && (ltb 0 (streamsOf (p .figures)) && sameNumbers p (planOf (p .figures)))
+hasNumbers p = eqb (recordFault (p .figures)) 0 && (ltb 0 (streamsOf (showingIn p) (p .figures)) && sameNumbers p (planOf (showingIn p) (p .figures)))
 
 -- a list begins with the film's positions, one with its leads
 unfoldable pub hasPositions : Plan → List ℕ → Bool
-hasPositions p ps = begins (positionsOf (p .figures)) (wordsOf ps)
+hasPositions p ps = begins (positionsOf (showingIn p) (p .figures)) (wordsOf ps)
 
 unfoldable pub hasLeads : Plan → List ℕ → Bool
-hasLeads p ls = begins (leadsOf (p .figures)) (wordsOf ls)
+hasLeads p ls = begins (leadsOf (showingIn p) (p .figures)) (wordsOf ls)
 
 -- 'it is the plan of its figures, both lists begin with its N entries'
 unfoldable pub isPlan : Plan → List ℕ → List ℕ → Bool

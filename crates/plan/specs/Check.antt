@@ -7,15 +7,17 @@ use mathlib.Core.List.{List}
 use native.Mathlib.Omega.{arith}
 use lib.ListN.{length, getD, take}
 use lib.Dec.{ltb, eqb}
-use borrow.Author.Tests.{ltb-true, eqb-true, lt-ltb, eq-eqb}
+use borrow.Author.Tests.{ltb-true, eqb-true, lt-ltb, eq-eqb, ne-eqb}
 use Rattle.laws.specs.Bools.{and-left, and-right, and-both}
+use Rattle.numbers.specs.Showings.{loopWord}
 use Rattle.card.specs.Card.{Legal, recordFault}
 use Rattle.round_trip.specs.Legality.{Wide, fault-legal, legal-fault}
 use Rattle.words.specs.Words.{Words, wordsOf, withWords}
 use Rattle.words.specs.Laws.{read-written}
 use Rattle.card.specs.declared.Figures.{Figures}
+use Rattle.placement.specs.Showing.{Showing, one, loop}
 use Rattle.plan.specs.declared.Plan.{Plan}
-use Rattle.plan.specs.Plan.{placeOf, leadOf, streamsOf, bufferSize, worst2Of, marginOf, planOf, row, positionsOf, leadsOf}
+use Rattle.plan.specs.Plan.{wordOf, showingOf, showingIn, placeOf, leadOf, streamsOf, bufferSize, worst2Of, marginOf, planOf, row, positionsOf, leadsOf}
 use Rattle.plan.specs.Answer.{begins, sameNumbers, hasNumbers, hasPositions, hasLeads, isPlan}
 use Rattle.plan.specs.Legal.{place-below, lead-small}
 use Rattle.plan.specs.Rows.{row-length, begins-at, begins-long, take-begins}
@@ -23,37 +25,40 @@ use Rattle.plan.specs.Rows.{row-length, begins-at, begins-long, take-beg
 -- a plan has the numbers of its figures, which are legal and feed a stream
 pub record Numbered (p : Plan) : Type 0 where
   pub legal : Legal (p .figures)
-  pub fed : 0 < streamsOf (p .figures)
-  pub plan : p ≡ planOf (p .figures)
+  pub fed : 0 < streamsOf (showingIn p) (p .figures)
+  pub plan : p ≡ planOf (showingIn p) (p .figures)
 
 -- a passed check: the same, and both lists begin with the film's N entries
 pub record Checked (p : Plan) (ps ls : List ℕ) : Type 0 where
   pub clear : recordFault (p .figures) ≡ 0
-  pub fed : 0 < streamsOf (p .figures)
-  pub plan : p ≡ planOf (p .figures)
+  pub fed : 0 < streamsOf (showingIn p) (p .figures)
+  pub plan : p ≡ planOf (showingIn p) (p .figures)
   pub long : (p .figures .blocks ≤ length (wordsOf ps)) × (p .figures .blocks ≤ length (wordsOf ls))
-  pub place-at : (b : ℕ) → b < p .figures .blocks → getD (wordsOf ps) b 0 ≡ placeOf (p .figures) b
-  pub lead-at : (b : ℕ) → b < p .figures .blocks → getD (wordsOf ls) b 0 ≡ leadOf (p .figures) b
+  pub place-at : (b : ℕ) → b < p .figures .blocks → getD (wordsOf ps) b 0 ≡ placeOf (showingIn p) (p .figures) b
+  pub lead-at : (b : ℕ) → b < p .figures .blocks → getD (wordsOf ls) b 0 ≡ leadOf (showingIn p) (p .figures) b
 
-same-plan : (p : Plan) (f : Figures) → p .figures ≡ f → sameNumbers p (planOf f) ≡ true → p ≡ planOf f
+same-plan : (p : Plan) (x : Showing) (f : Figures) → p .figures ≡ f → sameNumbers p (planOf x f) ≡ true → p ≡ planOf x f
 unfolding planOf
-same-plan p f d e =
-    let e₁ = and-right (eqb (p .streams) (streamsOf f)) _ e in
-    let e₂ = and-right (eqb (p .buffer) (bufferSize f)) _ e₁ in
-    let s = eqb-true (p .streams) (streamsOf f) (and-left (eqb (p .streams) (streamsOf f)) _ e) in
-    let b = eqb-true (p .buffer) (bufferSize f) (and-left (eqb (p .buffer) (bufferSize f)) _ e₁) in
-    let w = eqb-true (p .worst2) (worst2Of f) (and-left (eqb (p .worst2) (worst2Of f)) _ e₂) in
-    let m = eqb-true (p .margin) (marginOf f) (and-right (eqb (p .worst2) (worst2Of f)) _ e₂) in
-    λ i. record { figures = d i; streams = s i; buffer = b i; worst2 = w i; margin = m i }
+same-plan p x f d e =
+    let e₁ = and-right (eqb (p .streams) (streamsOf x f)) _ e in
+    let e₂ = and-right (eqb (p .buffer) (bufferSize x f)) _ e₁ in
+    let s = eqb-true (p .streams) (streamsOf x f) (and-left (eqb (p .streams) (streamsOf x f)) _ e) in
+    let b = eqb-true (p .buffer) (bufferSize x f) (and-left (eqb (p .buffer) (bufferSize x f)) _ e₁) in
+    let w = eqb-true (p .worst2) (worst2Of x f) (and-left (eqb (p .worst2) (worst2Of x f)) _ e₂) in
+    let e₃ = and-right (eqb (p .worst2) (worst2Of x f)) _ e₂ in
+    let m = eqb-true (p .margin) (marginOf x f) (and-left (eqb (p .margin) (marginOf x f)) _ e₃) in
+    let k = eqb-true (p .showing) (wordOf x) (and-right (eqb (p .margin) (marginOf x f)) _ e₃) in
+    λ i. record { figures = d i; streams = s i; buffer = b i; worst2 = w i; margin = m i; showing = k i }
 
-numbers-say : (p : Plan) → hasNumbers p ≡ true → (recordFault (p .figures) ≡ 0) × (0 < streamsOf (p .figures)) × (p ≡ planOf (p .figures))
+numbers-say : (p : Plan) → hasNumbers p ≡ true → (recordFault (p .figures) ≡ 0) × (0 < streamsOf (showingIn p) (p .figures)) × (p ≡ planOf (showingIn p) (p .figures))
 unfolding hasNumbers
 numbers-say p e =
+    let x = showingIn p in
     let f = p .figures in
     let e₁ = and-right (eqb (recordFault f) 0) _ e in (
       eqb-true (recordFault f) 0 (and-left (eqb (recordFault f) 0) _ e),
-      ltb-true 0 (streamsOf f) (and-left (ltb 0 (streamsOf f)) _ e₁),
-      same-plan p f refl (and-right (ltb 0 (streamsOf f)) _ e₁),
+      ltb-true 0 (streamsOf x f) (and-left (ltb 0 (streamsOf x f)) _ e₁),
+      same-plan p x f refl (and-right (ltb 0 (streamsOf x f)) _ e₁),
     )
 
 pub numbered : (p : Plan) → Wide (p .figures) → hasNumbers p ≡ true → Numbered p
@@ -65,6 +70,7 @@ row-here g n ws e b u = let z : 0 + b ≡ b = omega arith in begins-at g 0 n ws 
 pub checked : (p : Plan) (ps ls : List ℕ) → isPlan p ps ls ≡ true → Checked p ps ls
 unfolding isPlan hasPositions hasLeads positionsOf leadsOf
 checked p ps ls e =
+    let x = showingIn p in
     let f = p .figures in
     let n = numbers-say p (and-left (hasNumbers p) _ e) in
     let e₁ = and-right (hasNumbers p) _ e in
@@ -74,9 +80,9 @@ checked p ps ls e =
       clear = n .0;
       fed = n .1;
       plan = n .2;
-      long = (begins-long (placeOf f) 0 (f .blocks) (wordsOf ps) b, begins-long (leadOf f) 0 (f .blocks) (wordsOf ls) d);
-      place-at = row-here (placeOf f) (f .blocks) (wordsOf ps) b;
-      lead-at = row-here (leadOf f) (f .blocks) (wordsOf ls) d;
+      long = (begins-long (placeOf x f) 0 (f .blocks) (wordsOf ps) b, begins-long (leadOf x f) 0 (f .blocks) (wordsOf ls) d);
+      place-at = row-here (placeOf x f) (f .blocks) (wordsOf ps) b;
+      lead-at = row-here (leadOf x f) (f .blocks) (wordsOf ls) d;
     }
 
 -- its figures are legal
@@ -85,10 +91,26 @@ checked-legal p ps ls w e = fault-legal (p .figures) w (checked p ps ls e .clear
 
 -- ---- the planner's own answers
 
+-- the word of a showing tells it
+pub showing-back : (x : Showing) → showingOf (wordOf x) ≡ x
+unfolding showingOf
+showing-back one = refl
+showing-back loop = refl
+
+-- the showing of a word, as code tests it
+pub shows-loop : (w : ℕ) → w ≡ loopWord → showingOf w ≡ loop
+unfolding showingOf
+shows-loop w e = rw (eq-eqb w loopWord e)
+
+pub shows-once : (w : ℕ) → (w ≡ loopWord → ⊥) → showingOf w ≡ one
+unfolding showingOf
+shows-once w e = rw (ne-eqb w loopWord e)
+
 same-numbers-self : (p : Plan) → sameNumbers p p ≡ true
 same-numbers-self p =
     and-both (eq-eqb (p .streams) (p .streams) refl)
-    (and-both (eq-eqb (p .buffer) (p .buffer) refl) (and-both (eq-eqb (p .worst2) (p .worst2) refl) (eq-eqb (p .margin) (p .margin) refl)))
+    (and-both (eq-eqb (p .buffer) (p .buffer) refl)
+    (and-both (eq-eqb (p .worst2) (p .worst2) refl) (and-both (eq-eqb (p .margin) (p .margin) refl) (eq-eqb (p .showing) (p .showing) refl))))
 
 row-words : (g : ℕ → ℕ) (b n : ℕ) → ((k : ℕ) → k < b + n → g k < 4294967296) → Words (row g b n)
 unfolding row
@@ -101,12 +123,13 @@ written-begins : (g : ℕ → ℕ) (n : ℕ) (s : List ℕ) → Words (row g 0 n
 written-begins g n s w h = take-begins (row g 0 n) _ (read-written s 0 (row g 0 n) w (omega (arith, row-length g 0 n)))
 
 -- THE PLAN OF LEGAL FIGURES PASSES, with the lists that the planner leaves
-pub plan-passes : (f : Figures) → Legal f → 0 < streamsOf f → (ps ls : List ℕ) → f .blocks ≤ length (wordsOf ps) → f .blocks ≤ length (wordsOf ls)
-    → isPlan (planOf f) (withWords ps 0 (positionsOf f)) (withWords ls 0 (leadsOf f)) ≡ true
+pub plan-passes : (x : Showing) (f : Figures) → Legal f → 0 < streamsOf x f → (ps ls : List ℕ) → f .blocks ≤ length (wordsOf ps) → f .blocks ≤ length (wordsOf ls)
+    → isPlan (planOf x f) (withWords ps 0 (positionsOf x f)) (withWords ls 0 (leadsOf x f)) ≡ true
 unfolding isPlan hasNumbers hasPositions hasLeads planOf positionsOf leadsOf
-plan-passes f ok fed ps ls lp ll =
-    and-both
-    (and-both (eq-eqb (recordFault f) 0 (legal-fault f ok)) (and-both (lt-ltb 0 (streamsOf f) fed) (same-numbers-self (planOf f))))
+plan-passes x f ok fed ps ls lp ll =
+    rw (showing-back x)
     (and-both
-    (written-begins (placeOf f) (f .blocks) ps (row-words (placeOf f) 0 (f .blocks) (λ b u. omega (arith, place-below f ok b (omega arith), ok .total))) lp)
-    (written-begins (leadOf f) (f .blocks) ls (row-words (leadOf f) 0 (f .blocks) (λ b u. omega (arith, lead-small f ok b (omega arith)))) ll))
+    (and-both (eq-eqb (recordFault f) 0 (legal-fault f ok)) (and-both (lt-ltb 0 (streamsOf x f) fed) (same-numbers-self (planOf x f))))
+    (and-both
+    (written-begins (placeOf x f) (f .blocks) ps (row-words (placeOf x f) 0 (f .blocks) (λ b u. omega (arith, place-below x f ok b (omega arith), ok .total))) lp)
+    (written-begins (leadOf x f) (f .blocks) ls (row-words (leadOf x f) 0 (f .blocks) (λ b u. omega (arith, lead-small x f ok b (omega arith)))) ll)))

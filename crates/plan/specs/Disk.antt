@@ -3,18 +3,18 @@ use Prim.Native.Nat.{ℕ, _-_, _*_, _≤_, _<_}
 use mathlib.Core.Path.{_≡_}
 use mathlib.Core.List.{List}
 use lib.ListN.{length, getD}
-use Rattle.placement.specs.Placement.{place}
+use Rattle.numbers.specs.Limits.{maxPositions, maxTime}
 use Rattle.placement.specs.Zones.{total, timeAt}
 
 -- the zones of a disk, whose positions are few enough in all
 pub record Zoned (ps : List ℕ) : Type 0 where
   pub wide : length ps ≡ 64
-  pub small : total ps ≤ 1048576
+  pub small : total ps ≤ maxPositions
 
 -- the same, with no time above the greatest
 pub record Disk (ps ts : List ℕ) : Type 0 where
   pub zoned : Zoned ps
-  pub quick : (i : ℕ) → getD ts i 0 ≤ 4000000
+  pub quick : (i : ℕ) → getD ts i 0 ≤ maxTime
 
 -- a film of N blocks on the disk, whose positions are P
 pub record Film (ps ts : List ℕ) (P N : ℕ) : Type 0 where
@@ -23,6 +23,6 @@ pub record Film (ps ts : List ℕ) (P N : ℕ) : Type 0 where
   pub some : 0 < N
   pub room : N ≤ P
 
--- the lead of block b as the code computes it, w being worst2
-abbrev pub leadAt : List ℕ → List ℕ → ℕ → ℕ → ℕ → ℕ → ℕ
-leadAt ps ts P N w b = 2 * timeAt ps ts (place P N b) - w
+-- the lead of block b as the code computes it, l being the laying and w worst2
+abbrev pub leadAt : List ℕ → List ℕ → (ℕ → ℕ) → ℕ → ℕ → ℕ
+leadAt ps ts l w b = 2 * timeAt ps ts (l b) - w

@@ -4,30 +4,43 @@ use mathlib.Core.Path.{_≡_}
 use Rattle.numbers.specs.Limits.{maxStreams}
 use Rattle.numbers.specs.Units.{parts}
 use Rattle.card.specs.declared.Figures.{Figures}
+use Rattle.placement.specs.Showing.{Showing, one, loop}
 use Rattle.pacing.specs.Film.{span}
 use Rattle.plan.specs.Plan.{worst2Of, filmOf}
 
-module _ (f : Figures) where
+-- ---- runs
+
+-- j blocks in a row from b on are a run: up to the film's end, or in a loop once round, N blocks (T7.6)
+abbrev pub IsRun : Showing → ℕ → ℕ → ℕ → Type 0
+IsRun one N b j = b + j ≤ N
+IsRun loop N b j = j ≤ N
+
+-- what has a lead: each block, and the end of a film shown once
+abbrev pub Starts : Showing → ℕ → ℕ → Type 0
+Starts one N b = b ≤ N
+Starts loop N b = b < N
+
+module _ (x : Showing) (f : Figures) where
   -- ---- P6: lead
 
   -- the times of j blocks in a row, b the first, added up
   abbrev pub runTime : ℕ → ℕ → ℕ
-  runTime b j = span (filmOf f) j b
+  runTime b j = span (filmOf x f) j b
 
   -- m is the greatest sum of 2 × time − worst2 over a run starting at b: no run of the film's blocks has a greater one, and some run has it.
   -- (The empty run has 0; what is taken off stands on the other side.)
   pub record GreatestRun (b m : ℕ) : Type 0 where
-    pub above : (j : ℕ) → b + j ≤ f .blocks → 2 * runTime b j ≤ j * worst2Of f + m
-    pub reached : (j : ℕ) × (b + j ≤ f .blocks) × (2 * runTime b j ≡ j * worst2Of f + m)
+    pub above : (j : ℕ) → IsRun x (f .blocks) b j → 2 * runTime b j ≤ j * worst2Of x f + m
+    pub reached : (j : ℕ) × IsRun x (f .blocks) b j × (2 * runTime b j ≡ j * worst2Of x f + m)
 
   -- ---- P4: streams
 
   -- the formula of streams: n streams are fed, or are too many
   abbrev pub Feeds : ℕ → Type 0
-  Feeds n = f .rate * (n * worst2Of f + 2 * (n * f .hop + f .back)) ≤ parts * f .bytes
+  Feeds n = f .rate * (n * worst2Of x f + 2 * (n * f .hop + f .back)) ≤ parts * f .bytes
 
   abbrev pub TooMany : ℕ → Type 0
-  TooMany n = parts * f .bytes < f .rate * (n * worst2Of f + 2 * (n * f .hop + f .back))
+  TooMany n = parts * f .bytes < f .rate * (n * worst2Of x f + 2 * (n * f .hop + f .back))
 
   -- n is the greatest whole number from 1 to 256 that meets the formula
   pub record MostStreams (n : ℕ) : Type 0 where

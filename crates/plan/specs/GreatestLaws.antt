@@ -11,78 +11,98 @@ use Rattle.laws.specs.Bools.{and-left, and-right, and-both}
 use Rattle.numbers.specs.Limits.{maxStreams}
 use Rattle.numbers.specs.Refusals.{noStream}
 use Rattle.card.specs.declared.Figures.{Figures}
-use Rattle.pacing.specs.Film.{row}
+use Rattle.placement.specs.Circle.{round}
+use Rattle.placement.specs.Showing.{Showing, one, loop}
+use Rattle.pacing.specs.Film.{row, longestRun, shown}
+use Rattle.pacing.specs.Shown.{round-below}
 use Rattle.pacing.specs.Lead.{lead-above, lead-attained, lead-only}
 use Rattle.pacing.specs.Streams.{overhead, overhead-rises, load, streams-le, streams-fits, streams-best, streams-only, streams-none}
-use Rattle.plan.specs.Plan.{worst2Of, overOf, streamsOf, filmOf, leadOf}
+use Rattle.plan.specs.Plan.{placeOf, timeOf, worst2Of, overOf, streamsOf, filmOf, leadOf}
 use Rattle.plan.specs.Answer.{planFault}
-use Rattle.plan.specs.Greatest.{GreatestRun, TooMany, MostStreams}
+use Rattle.plan.specs.Greatest.{IsRun, Starts, GreatestRun, TooMany, MostStreams}
 
-module _ (f : Figures) where
+module _ (N : ℕ) (time position : ℕ → ℕ) where
+  -- a run stays within the film
+  once-in : (j b : ℕ) → b + j ≤ N → row (shown one N time position) j b ≡ true
+  unfolding row
+  once-in zero b h = refl
+  once-in (suc j) b h = and-both (lt-ltb b N (omega arith)) (once-in j (suc b) (omega arith))
+
+  once-out : (j b : ℕ) → b ≤ N → row (shown one N time position) j b ≡ true → b + j ≤ N
+  unfolding row
+  once-out zero b h e = omega arith
+  once-out (suc j) b h e =
+      let u = ltb-true b N (and-left (ltb b N) _ e) in
+      omega (arith, once-out j (suc b) (omega arith) (and-right (ltb b N) _ e))
+
+  -- and one on the circle on it
+  loop-in : (j b : ℕ) → b < N → row (shown loop N time position) j b ≡ true
+  unfolding row
+  loop-in zero b h = refl
+  loop-in (suc j) b h = and-both (lt-ltb b N h) (loop-in j (round N b) (round-below N b h))
+
+-- the runs that a lead looks at are those of document 01 and document 02
+run-in : (x : Showing) (N : ℕ) (time position : ℕ → ℕ) (j b : ℕ) → Starts x N b → IsRun x N b j → (j ≤ longestRun x N b) × (row (shown x N time position) j b ≡ true)
+run-in one N time position j b h u = (omega arith, once-in N time position j b u)
+run-in loop N time position j b h u = (u, loop-in N time position j b h)
+
+in-run : (x : Showing) (N : ℕ) (time position : ℕ → ℕ) (j b : ℕ) → Starts x N b → j ≤ longestRun x N b → row (shown x N time position) j b ≡ true → IsRun x N b j
+in-run one N time position j b h u r = once-out N time position j b h r
+in-run loop N time position j b h u r = u
+
+module _ (x : Showing) (f : Figures) where
   -- ---- lead
 
-  -- a run stays within the film
-  in-film : (j b : ℕ) → b + j ≤ f .blocks → row (filmOf f) j b ≡ true
-  unfolding row
-  in-film zero b h = refl
-  in-film (suc j) b h = and-both (lt-ltb b (f .blocks) (omega arith)) (in-film j (suc b) (omega arith))
-
-  film-in : (j b : ℕ) → b ≤ f .blocks → row (filmOf f) j b ≡ true → b + j ≤ f .blocks
-  unfolding row
-  film-in zero b h e = omega arith
-  film-in (suc j) b h e =
-      let u = ltb-true b (f .blocks) (and-left (ltb b (f .blocks)) _ e) in
-      omega (arith, film-in j (suc b) (omega arith) (and-right (ltb b (f .blocks)) _ e))
-
   -- the lead is that number
-  pub lead-greatest : (b : ℕ) → b ≤ f .blocks → GreatestRun f b (leadOf f b)
+  pub lead-greatest : (b : ℕ) → Starts x (f .blocks) b → GreatestRun x f b (leadOf x f b)
   lead-greatest b h =
-      let (j, u, r, e) = lead-attained (filmOf f) (worst2Of f) b in
+      let (j, u, r, e) = lead-attained (filmOf x f) (worst2Of x f) b in
       record {
-        above = λ j u. lead-above (filmOf f) (worst2Of f) j b (omega arith) (in-film j b u);
-        reached = (j, film-in j b h r, e);
+        above = λ j u. let v = run-in x (f .blocks) (timeOf x f) (placeOf x f) j b h u in lead-above (filmOf x f) (worst2Of x f) j b (v .0) (v .1);
+        reached = (j, in-run x (f .blocks) (timeOf x f) (placeOf x f) j b h u r, e);
       }
 
   -- and no other is
-  pub greatest-lead : (b m : ℕ) → b ≤ f .blocks → GreatestRun f b m → m ≡ leadOf f b
+  pub greatest-lead : (b m : ℕ) → Starts x (f .blocks) b → GreatestRun x f b m → m ≡ leadOf x f b
   greatest-lead b m h g =
       let (j, u, e) = g .reached in
-      lead-only (filmOf f) (worst2Of f) m b (λ k v r. g .above k (film-in k b h r)) j (omega arith) (in-film j b u) e
+      let v = run-in x (f .blocks) (timeOf x f) (placeOf x f) j b h u in
+      lead-only (filmOf x f) (worst2Of x f) m b (λ k u r. g .above k (in-run x (f .blocks) (timeOf x f) (placeOf x f) k b h u r)) j (v .0) (v .1) e
 
   -- ---- streams
 
-  too-many : (n : ℕ) → streamsOf f < n → n ≤ maxStreams → TooMany f n
+  too-many : (n : ℕ) → streamsOf x f < n → n ≤ maxStreams → TooMany x f n
   unfolding streamsOf load overhead
-  too-many n m u = streams-best (f .rate) (worst2Of f) (overOf f) (f .bytes) (worst2Of f) n (le-refl (worst2Of f)) m u
+  too-many n m u = streams-best (f .rate) (worst2Of x f) (overOf f) (f .bytes) (worst2Of x f) n (le-refl (worst2Of x f)) m u
 
   -- the plan's streams are that number
-  pub streams-most : 0 < streamsOf f → MostStreams f (streamsOf f)
+  pub streams-most : 0 < streamsOf x f → MostStreams x f (streamsOf x f)
   unfolding streamsOf load overhead
   streams-most h = record {
-    range = (h, streams-le (f .rate) (worst2Of f) (overOf f) (f .bytes));
-    feeds = streams-fits (f .rate) (worst2Of f) (overOf f) (f .bytes) h;
+    range = (h, streams-le (f .rate) (worst2Of x f) (overOf f) (f .bytes));
+    feeds = streams-fits (f .rate) (worst2Of x f) (overOf f) (f .bytes) h;
     most = too-many;
   }
 
   -- and no other is
-  pub most-streams : (n : ℕ) → MostStreams f n → n ≡ streamsOf f
+  pub most-streams : (n : ℕ) → MostStreams x f n → n ≡ streamsOf x f
   unfolding streamsOf load overhead
-  most-streams n m = streams-only (f .rate) (worst2Of f) (overOf f) (f .bytes) n (m .range .0) (m .range .1) (m .feeds) (m .most)
+  most-streams n m = streams-only (f .rate) (worst2Of x f) (overOf f) (f .bytes) n (m .range .0) (m .range .1) (m .feeds) (m .most)
 
   -- ---- 12: np and nl are the entries of the lent lists
 
   -- only where no number fits
-  pub none-fits : (np nl : ℕ) → planFault f np nl ≡ noStream → (n : ℕ) → 1 ≤ n → n ≤ maxStreams → TooMany f n
+  pub none-fits : (np nl : ℕ) → planFault x f np nl ≡ noStream → (n : ℕ) → 1 ≤ n → n ≤ maxStreams → TooMany x f n
   unfolding planFault
-  none-fits np nl e n l u = too-many n (go (ltb np (f .blocks) || ltb nl (f .blocks)) (eqb (streamsOf f) 0) refl e) u
+  none-fits np nl e n l u = too-many n (go (ltb np (f .blocks) || ltb nl (f .blocks)) (eqb (streamsOf x f) 0) refl e) u
     where
-      go : (s t : Bool) → eqb (streamsOf f) 0 ≡ t → _≡_ {A = ℕ} (cond s 13 (cond t 12 0)) 12 → streamsOf f < n
+      go : (s t : Bool) → eqb (streamsOf x f) 0 ≡ t → _≡_ {A = ℕ} (cond s 13 (cond t 12 0)) 12 → streamsOf x f < n
       go true t q e = absurd (omega arith)
-      go false true q e = omega (arith, eqb-true (streamsOf f) 0 q)
+      go false true q e = omega (arith, eqb-true (streamsOf x f) 0 q)
       go false false q e = absurd (omega arith)
 
   -- and always where not even one does
-  pub one-fails : (np nl : ℕ) → f .blocks ≤ np → f .blocks ≤ nl → TooMany f 1 → planFault f np nl ≡ noStream
+  pub one-fails : (np nl : ℕ) → f .blocks ≤ np → f .blocks ≤ nl → TooMany x f 1 → planFault x f np nl ≡ noStream
   unfolding planFault streamsOf load overhead
   one-fails np nl p l h =
-      rw (le-ltb np (f .blocks) p, le-ltb nl (f .blocks) l, streams-none (f .rate) (worst2Of f) (overOf f) (f .bytes) (overhead-rises (f .hop) (f .back)) h)
+      rw (le-ltb np (f .blocks) p, le-ltb nl (f .blocks) l, streams-none (f .rate) (worst2Of x f) (overOf f) (f .bytes) (overhead-rises (f .hop) (f .back)) h)

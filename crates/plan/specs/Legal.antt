@@ -11,12 +11,11 @@ use Rattle.numbers.specs.Limits.{maxTime, maxStreams}
 use Rattle.numbers.specs.Units.{parts}
 use Rattle.card.specs.declared.Figures.{Figures}
 use Rattle.card.specs.Card.{Legal, totalPositions}
-use Rattle.placement.specs.Placement.{Laying, Falling, worstTime}
-use Rattle.placement.specs.Best.{place-laying}
-use Rattle.placement.specs.Quick.{slowest-quick}
+use Rattle.placement.specs.Placement.{Laying, Falling}
+use Rattle.placement.specs.Showing.{Showing, laying-lays, slowest-first}
 use Rattle.placement.specs.Zones.{total, total-first, timeAt-positive, timeAt-within, descending-first, zones-falling}
 use Rattle.pacing.specs.Streams.{load, bufferOf, streams-le, streams-fits, buffer-bound}
-use Rattle.pacing.specs.Laid.{slowest, laid-lead, margin-quick, margin-small, pair-within, worst-within}
+use Rattle.pacing.specs.Laid.{slowest, worst-within, time-below, laid-lead, margin-small, margin-quick}
 use Rattle.plan.specs.Disk.{Zoned, Disk}
 use Rattle.plan.specs.Plan.{timeOn, placeOf, timeOf, worst2Of, overOf, streamsOf, marginOf, filmOf, leadOf, bufferSize}
 
@@ -48,68 +47,68 @@ module _ (f : Figures) (ok : Legal f) where
       subst (λ (n : ℕ). Falling n (timeOn f)) (sym total-is)
       (zones-falling (f .positions) (f .times) (descending-first (f .times) (f .zones) (ok .falling) (λ i h. ok .unused i h .1)))
 
-  pub legal-laying : Laying (totalPositions f) (f .blocks) (placeOf f)
-  legal-laying = place-laying (totalPositions f) (f .blocks) (ok .room)
-
-  pub place-below : (b : ℕ) → b < f .blocks → placeOf f b < totalPositions f
-  place-below b u = legal-laying .into b u
-
   pub time-positive : (q : ℕ) → q < totalPositions f → 0 < timeOn f q
   time-positive q h = timeAt-positive (f .positions) (f .times) (f .zones) q (λ i u. ok .times i u .0) (omega (arith, total-zones))
 
   pub time-small : (q : ℕ) → q < totalPositions f → timeOn f q ≤ maxTime
   time-small q h = timeAt-within (f .positions) (f .times) (f .zones) q maxTime (λ i u. ok .times i u .1) (omega (arith, total-zones))
 
-  pub worst2-small : worst2Of f ≤ 2 * maxTime
-  unfolding worst2Of worstTime
-  worst2-small =
-      greatestOf-least (λ b. timeOf f b + timeOf f (suc b)) (f .blocks - 1) (2 * maxTime)
-      (λ b u. omega (arith, time-small (placeOf f b) (place-below b (omega arith)), time-small (placeOf f (suc b)) (place-below (suc b) (omega arith))))
+module _ (x : Showing) (f : Figures) (ok : Legal f) where
+  pub legal-laying : Laying (totalPositions f) (f .blocks) (placeOf x f)
+  legal-laying = laying-lays x (totalPositions f) (f .blocks) (ok .room)
+
+  pub place-below : (b : ℕ) → b < f .blocks → placeOf x f b < totalPositions f
+  place-below b u = legal-laying .into b u
+
+  slowest-small : slowest (timeOn f) (placeOf x f) (f .blocks) ≤ maxTime
+  unfolding slowest
+  slowest-small = greatestOf-least (timeOf x f) (f .blocks) maxTime (λ b u. time-small f ok (placeOf x f b) (place-below b u))
+
+  pub worst2-small : worst2Of x f ≤ 2 * maxTime
+  unfolding worst2Of
+  worst2-small = omega (arith, worst-within (timeOn f) (placeOf x f) (f .blocks) x, slowest-small)
 
   -- the margin from the innermost position of the film
-  pub margin-is : marginOf f ≡ 2 * timeOn f (totalPositions f - f .blocks) - worst2Of f
+  pub margin-is : marginOf x f ≡ 2 * timeOn f (totalPositions f - f .blocks) - worst2Of x f
   unfolding worst2Of marginOf
-  margin-is = margin-quick (totalPositions f) (f .blocks) (ok .room) (omega (arith, ok .blocks)) (timeOn f) legal-falling
+  margin-is = margin-quick x (totalPositions f) (f .blocks) (ok .room) (omega (arith, ok .blocks)) (timeOn f) (legal-falling f ok)
 
   -- its subtraction is exact
-  pub margin-exact : worst2Of f ≤ 2 * timeOn f (totalPositions f - f .blocks)
+  pub margin-exact : worst2Of x f ≤ 2 * timeOn f (totalPositions f - f .blocks)
   unfolding worst2Of slowest
   margin-exact =
-      omega (arith, worst-within (timeOn f) (placeOf f) (f .blocks), slowest-quick (totalPositions f) (f .blocks) (ok .room) (timeOn f) legal-falling (omega (arith, ok .blocks)))
+      omega (arith, worst-within (timeOn f) (placeOf x f) (f .blocks) x, slowest-first x (totalPositions f) (f .blocks) (ok .room) (timeOn f) (legal-falling f ok) (omega (arith, ok .blocks)))
 
-  pub margin-less : marginOf f + 1 ≤ worst2Of f
+  pub margin-less : marginOf x f + 1 ≤ worst2Of x f
   unfolding worst2Of marginOf
-  margin-less = margin-small (timeOn f) (placeOf f) (f .blocks) (omega (arith, ok .blocks)) (λ b u. time-positive (placeOf f b) (place-below b u))
+  margin-less = margin-small x (timeOn f) (placeOf x f) (f .blocks) (omega (arith, ok .blocks)) (λ b u. time-positive f ok (placeOf x f b) (place-below b u))
 
   -- a lead from the time of its block alone
-  pub lead-is : (b : ℕ) → b < f .blocks → leadOf f b ≡ 2 * timeOf f b - worst2Of f
+  pub lead-is : (b : ℕ) → b < f .blocks → leadOf x f b ≡ 2 * timeOf x f b - worst2Of x f
   unfolding worst2Of
-  lead-is b u = laid-lead (timeOn f) (placeOf f) (f .blocks) b u
+  lead-is b u = laid-lead x (timeOn f) (placeOf x f) (f .blocks) b u
 
-  pub time-less : (b : ℕ) → b < f .blocks → timeOf f b < worst2Of f
+  pub time-less : (b : ℕ) → b < f .blocks → timeOf x f b < worst2Of x f
   unfolding worst2Of
-  time-less b u = by-cases (decLt (suc b) (f .blocks))
-      (λ h. omega (arith, pair-within (timeOn f) (placeOf f) (f .blocks) b h, time-positive (placeOf f (suc b)) (place-below (suc b) h)))
-      (λ h. let e : suc (b - 1) ≡ b = omega (arith, ok .blocks) in
-      omega (arith, rw e at (pair-within (timeOn f) (placeOf f) (f .blocks) (b - 1) (omega (arith, ok .blocks))), time-positive (placeOf f (b - 1)) (place-below (b - 1) (omega arith))))
+  time-less b u = time-below (timeOn f) (placeOf x f) (f .blocks) (omega (arith, ok .blocks)) (λ b u. time-positive f ok (placeOf x f b) (place-below b u)) x b u
 
-  pub lead-small : (b : ℕ) → b < f .blocks → leadOf f b ≤ maxTime - 1
-  lead-small b u = omega (arith, lead-is b u, time-less b u, time-small (placeOf f b) (place-below b u))
+  pub lead-small : (b : ℕ) → b < f .blocks → leadOf x f b ≤ maxTime - 1
+  lead-small b u = omega (arith, lead-is b u, time-less b u, time-small f ok (placeOf x f b) (place-below b u))
 
   -- ---- streams and buffer
 
-  pub streams-few : streamsOf f ≤ maxStreams
+  pub streams-few : streamsOf x f ≤ maxStreams
   unfolding streamsOf
-  streams-few = streams-le (f .rate) (worst2Of f) (overOf f) (f .bytes)
+  streams-few = streams-le (f .rate) (worst2Of x f) (overOf f) (f .bytes)
 
   -- the formula of streams
-  pub streams-fit : 0 < streamsOf f → load (f .rate) (worst2Of f) (overOf f) (streamsOf f) ≤ parts * f .bytes
+  pub streams-fit : 0 < streamsOf x f → load (f .rate) (worst2Of x f) (overOf f) (streamsOf x f) ≤ parts * f .bytes
   unfolding streamsOf
-  streams-fit h = streams-fits (f .rate) (worst2Of f) (overOf f) (f .bytes) h
+  streams-fit h = streams-fits (f .rate) (worst2Of x f) (overOf f) (f .bytes) h
 
   -- a buffer is at most four blocks
-  pub buffer-small : bufferSize f ≤ 4 * f .bytes
+  pub buffer-small : bufferSize x f ≤ 4 * f .bytes
   unfolding bufferSize bufferOf
-  buffer-small = by-cases (decLt 0 (streamsOf f))
-      (λ h. buffer-bound (f .rate) (worst2Of f) (overOf f) (f .bytes) (streamsOf f) (marginOf f) (omega (arith, margin-less)) (streams-fit h))
-      (λ h. let e : streamsOf f ≡ 0 = omega arith in rw e (omega arith))
+  buffer-small = by-cases (decLt 0 (streamsOf x f))
+      (λ h. buffer-bound (f .rate) (worst2Of x f) (overOf f) (f .bytes) (streamsOf x f) (marginOf x f) (omega (arith, margin-less)) (streams-fit h))
+      (λ h. let e : streamsOf x f ≡ 0 = omega arith in rw e (omega arith))

@@ -1,67 +1,88 @@
--- The plan of figures: document 01's terms of 'Laying the film', each over the record of a card.
+-- The plan of figures in either showing: document 01's terms of 'Laying the film', each over the record of a card, with what document 02's
+-- loop (T7.1 to T7.7) makes of them.
 use Prim.Native.Nat.{ℕ, zero, suc}
+use mathlib.Core.Bool.{cond}
 use mathlib.Core.List.{List, [], _∷_}
+use lib.Dec.{eqb}
+use Rattle.numbers.specs.Showings.{onceWord, loopWord}
 use Rattle.card.specs.declared.Figures.{Figures}
 use Rattle.card.specs.Card.{totalPositions}
 use Rattle.card.specs.Read.{blankFigures}
-use Rattle.placement.specs.Placement.{place, worstTime}
 use Rattle.placement.specs.Zones.{timeAt}
+use Rattle.placement.specs.Showing.{Showing, one, loop, laying, worstOf}
 use Rattle.pacing.specs.Film.{Film, lead}
 use Rattle.pacing.specs.Streams.{overhead, streams, bufferOf}
 use Rattle.pacing.specs.Laid.{laidFilm, slowest, margin}
 use Rattle.plan.specs.declared.Plan.{Plan}
 
+-- ---- which showing it is (T7.7)
+
+-- the word that stands for a showing in a plan record
+abbrev pub wordOf : Showing → ℕ
+wordOf one = onceWord
+wordOf loop = loopWord
+
+-- the showing that a word tells; a word that stands for none is compared with 0, and so never passes
+unfoldable pub showingOf : ℕ → Showing
+showingOf w = cond (eqb w loopWord) loop one
+
+-- that of a plan record
+abbrev pub showingIn : Plan → Showing
+showingIn p = showingOf (p .showing)
+
+-- ---- the terms
+
 -- the time to read a block at a position (P2)
 abbrev pub timeOn : Figures → ℕ → ℕ
 timeOn f = timeAt (f .positions) (f .times)
 
--- the position of block b (P1)
-abbrev pub placeOf : Figures → ℕ → ℕ
-placeOf f = place (totalPositions f) (f .blocks)
+-- the position of block b (P1, T7.3)
+abbrev pub placeOf : Showing → Figures → ℕ → ℕ
+placeOf x f = laying x (totalPositions f) (f .blocks)
 
 -- time(b) (P2)
-abbrev pub timeOf : Figures → ℕ → ℕ
-timeOf f b = timeOn f (placeOf f b)
+abbrev pub timeOf : Showing → Figures → ℕ → ℕ
+timeOf x f b = timeOn f (placeOf x f b)
 
--- worst2 (P3)
-unfoldable pub worst2Of : Figures → ℕ
-worst2Of f = worstTime (timeOn f) (placeOf f) (f .blocks)
+-- worst2 (P3, T7.2)
+unfoldable pub worst2Of : Showing → Figures → ℕ
+worst2Of x f = worstOf x (timeOn f) (placeOf x f) (f .blocks)
 
 -- what a sweep takes beside the times of its blocks (D11)
 abbrev pub overOf : Figures → ℕ → ℕ
 overOf f = overhead (f .hop) (f .back)
 
--- streams (P4); 0 where not even one fits
-unfoldable pub streamsOf : Figures → ℕ
-streamsOf f = streams (f .rate) (worst2Of f) (overOf f) (f .bytes)
+-- streams (P4, T7.5); 0 where not even one fits
+unfoldable pub streamsOf : Showing → Figures → ℕ
+streamsOf x f = streams (f .rate) (worst2Of x f) (overOf f) (f .bytes)
 
 -- the greatest time(b)
-unfoldable pub slowestOf : Figures → ℕ
-slowestOf f = slowest (timeOn f) (placeOf f) (f .blocks)
+unfoldable pub slowestOf : Showing → Figures → ℕ
+slowestOf x f = slowest (timeOn f) (placeOf x f) (f .blocks)
 
--- margin (P5)
-unfoldable pub marginOf : Figures → ℕ
-marginOf f = margin (timeOn f) (placeOf f) (f .blocks)
+-- margin (P5, T7.5)
+unfoldable pub marginOf : Showing → Figures → ℕ
+marginOf x f = margin x (timeOn f) (placeOf x f) (f .blocks)
 
 -- the film as it is laid
-abbrev pub filmOf : Figures → Film ℕ
-filmOf f = laidFilm (timeOn f) (placeOf f) (f .blocks)
+abbrev pub filmOf : Showing → Figures → Film ℕ
+filmOf x f = laidFilm x (timeOn f) (placeOf x f) (f .blocks)
 
--- lead(b) (P6)
-abbrev pub leadOf : Figures → ℕ → ℕ
-leadOf f = lead (filmOf f) (worst2Of f)
+-- lead(b) (P6, T7.6)
+abbrev pub leadOf : Showing → Figures → ℕ → ℕ
+leadOf x f = lead (filmOf x f) (worst2Of x f)
 
--- buffer (P7)
-unfoldable pub bufferSize : Figures → ℕ
-bufferSize f = bufferOf (f .rate) (streamsOf f) (marginOf f) (f .bytes)
+-- buffer (P7, T7.5)
+unfoldable pub bufferSize : Showing → Figures → ℕ
+bufferSize x f = bufferOf (f .rate) (streamsOf x f) (marginOf x f) (f .bytes)
 
--- the plan record (P9)
-unfoldable pub planOf : Figures → Plan
-planOf f = record { figures = f; streams = streamsOf f; buffer = bufferSize f; worst2 = worst2Of f; margin = marginOf f }
+-- the plan record (P9, T7.7)
+unfoldable pub planOf : Showing → Figures → Plan
+planOf x f = record { figures = f; streams = streamsOf x f; buffer = bufferSize x f; worst2 = worst2Of x f; margin = marginOf x f; showing = wordOf x }
 
 -- a plan that is all zero
 unfoldable pub blankPlan : Plan
-blankPlan = record { figures = blankFigures; streams = 0; buffer = 0; worst2 = 0; margin = 0 }
+blankPlan = record { figures = blankFigures; streams = 0; buffer = 0; worst2 = 0; margin = 0; showing = 0 }
 
 -- ---- the two lists
 
@@ -71,8 +92,8 @@ row g b zero = []
 row g b (suc n) = g b ∷ row g (suc b) n
 
 -- what the two lent lists are filled with (P8)
-unfoldable pub positionsOf : Figures → List ℕ
-positionsOf f = row (placeOf f) 0 (f .blocks)
+unfoldable pub positionsOf : Showing → Figures → List ℕ
+positionsOf x f = row (placeOf x f) 0 (f .blocks)
 
-unfoldable pub leadsOf : Figures → List ℕ
-leadsOf f = row (leadOf f) 0 (f .blocks)
+unfoldable pub leadsOf : Showing → Figures → List ℕ
+leadsOf x f = row (leadOf x f) 0 (f .blocks)

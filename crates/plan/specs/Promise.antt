@@ -10,11 +10,11 @@ use Rattle.numbers.specs.Limits.{maxTime, maxStreams}
 use Rattle.numbers.specs.Units.{parts, wholeBytes}
 use Rattle.card.specs.declared.Figures.{Figures}
 use Rattle.card.specs.Card.{Legal, totalPositions}
-use Rattle.placement.specs.Placement.{Laying, worstTime}
-use Rattle.placement.specs.Best.{placement-best}
-use Rattle.pacing.specs.Film.{Paced, lead}
+use Rattle.placement.specs.Placement.{Laying}
+use Rattle.placement.specs.Showing.{Showing, one, loop, worstOf, laying-best}
+use Rattle.pacing.specs.Film.{Paced, lead, after, isPast}
 use Rattle.pacing.specs.Lead.{lead-law}
-use Rattle.pacing.specs.Once.{once-end}
+use Rattle.pacing.specs.Shown.{shown-end}
 use Rattle.pacing.specs.Streams.{overhead-rises, load, bufferOf}
 use Rattle.pacing.specs.Laid.{margin, laid-paced, time-within, no-laying-feeds-more}
 use Rattle.plan.specs.Plan.{timeOn, placeOf, timeOf, worst2Of, overOf, streamsOf, slowestOf, marginOf, filmOf, leadOf, bufferSize}
@@ -23,99 +23,105 @@ use Rattle.plan.specs.Legal.{legal-falling, legal-laying, place-below, t
 -- ---- leads
 
 -- the lead laws of a film: it is paced by worst2, a lead pays for its block, none is above the margin, and that past the end is 0
-pub record LeadLaws (f : Figures) : Type 0 where
-  pub paced : Paced (filmOf f) (worst2Of f) (slowestOf f)
-  pub pays : (b : ℕ) → b < f .blocks → 2 * timeOf f b + leadOf f (suc b) ≤ leadOf f b + worst2Of f
-  pub within : (b : ℕ) → b < f .blocks → leadOf f b ≤ marginOf f
-  pub last : leadOf f (f .blocks) ≡ 0
+pub record LeadLaws (x : Showing) (f : Figures) : Type 0 where
+  pub paced : Paced (filmOf x f) (worst2Of x f) (slowestOf x f)
+  pub pays : (b : ℕ) → b < f .blocks → 2 * timeOf x f b + leadOf x f (after x (f .blocks) b) ≤ leadOf x f b + worst2Of x f
+  pub within : (b : ℕ) → b < f .blocks → leadOf x f b ≤ marginOf x f
+  pub last : leadOf x f (f .blocks) ≡ 0
 
-module _ (f : Figures) where
-  pub margin-of : marginOf f ≡ 2 * slowestOf f - worst2Of f
+module _ (x : Showing) (f : Figures) where
+  pub margin-of : marginOf x f ≡ 2 * slowestOf x f - worst2Of x f
   unfolding marginOf slowestOf worst2Of margin
   margin-of = refl
 
-  pub film-paced : Paced (filmOf f) (worst2Of f) (slowestOf f)
+  pub film-paced : Paced (filmOf x f) (worst2Of x f) (slowestOf x f)
   unfolding worst2Of slowestOf
-  film-paced = laid-paced (timeOn f) (placeOf f) (f .blocks)
+  film-paced = laid-paced (timeOn f) (placeOf x f) (f .blocks) x
 
-  pub lead-last : leadOf f (f .blocks) ≡ 0
-  lead-last = once-end (f .blocks) (timeOf f) (placeOf f) (worst2Of f)
+  pub lead-last : leadOf x f (f .blocks) ≡ 0
+  lead-last = shown-end (f .blocks) (timeOf x f) (placeOf x f) x (worst2Of x f)
 
-  pub time-slowest : (b : ℕ) → b < f .blocks → timeOf f b ≤ slowestOf f
+  pub time-slowest : (b : ℕ) → b < f .blocks → timeOf x f b ≤ slowestOf x f
   unfolding slowestOf
-  time-slowest b u = time-within (timeOn f) (placeOf f) (f .blocks) b u
+  time-slowest b u = time-within (timeOn f) (placeOf x f) (f .blocks) b u
 
-pub lead-laws : (f : Figures) → Legal f → LeadLaws f
-lead-laws f ok = record {
-  paced = film-paced f;
-  pays = λ b u. pay b (eqb (suc b) (f .blocks)) refl (lead-law (filmOf f) (worst2Of f) (slowestOf f) (film-paced f) b (lt-ltb b (f .blocks) u));
-  within = λ b u. omega (arith, lead-is f ok b u, margin-of f, time-slowest f b u);
-  last = lead-last f;
+pub lead-laws : (x : Showing) (f : Figures) → Legal f → LeadLaws x f
+lead-laws x f ok = record {
+  paced = film-paced x f;
+  pays = λ b u. pay x b (lead-law (filmOf x f) (worst2Of x f) (slowestOf x f) (film-paced x f) b (lt-ltb b (f .blocks) u));
+  within = λ b u. omega (arith, lead-is x f ok b u, margin-of x f, time-slowest x f b u);
+  last = lead-last x f;
 }
   where
-    pay : (b : ℕ) (t : Bool) → eqb (suc b) (f .blocks) ≡ t → 2 * timeOf f b + cond t 0 (leadOf f (suc b)) ≤ leadOf f b + worst2Of f
-        → 2 * timeOf f b + leadOf f (suc b) ≤ leadOf f b + worst2Of f
-    pay b true e h = rw (eqb-true (suc b) (f .blocks) e, lead-last f) h
-    pay b false e h = h
+    ended : (b : ℕ) (t : Bool) → eqb (suc b) (f .blocks) ≡ t → 2 * timeOf one f b + cond t 0 (leadOf one f (suc b)) ≤ leadOf one f b + worst2Of one f
+        → 2 * timeOf one f b + leadOf one f (suc b) ≤ leadOf one f b + worst2Of one f
+    ended b true e h = rw (eqb-true (suc b) (f .blocks) e, lead-last one f) h
+    ended b false e h = h
+
+    pay : (x : Showing) (b : ℕ)
+        → 2 * timeOf x f b + cond (isPast x (f .blocks) (after x (f .blocks) b)) 0 (leadOf x f (after x (f .blocks) b)) ≤ leadOf x f b + worst2Of x f
+        → 2 * timeOf x f b + leadOf x f (after x (f .blocks) b) ≤ leadOf x f b + worst2Of x f
+    pay one b h = ended b (eqb (suc b) (f .blocks)) refl h
+    pay loop b h = h
 
 -- ---- the promise
 
 -- all that the desk relies on
-pub record Promise (f : Figures) : Type 0 where
-  pub leads : LeadLaws f
+pub record Promise (x : Showing) (f : Figures) : Type 0 where
+  pub leads : LeadLaws x f
   -- streams
-  pub some : 0 < streamsOf f
-  pub few : streamsOf f ≤ maxStreams
-  pub fits : load (f .rate) (worst2Of f) (overOf f) (streamsOf f) ≤ parts * f .bytes
+  pub some : 0 < streamsOf x f
+  pub few : streamsOf x f ≤ maxStreams
+  pub fits : load (f .rate) (worst2Of x f) (overOf f) (streamsOf x f) ≤ parts * f .bytes
   pub rises : (j k : ℕ) → j ≤ k → overOf f j ≤ overOf f k
   -- the buffer
-  pub buffer : bufferSize f ≡ 3 * f .bytes + wholeBytes (f .rate * streamsOf f * marginOf f)
-  pub four : bufferSize f ≤ 4 * f .bytes
+  pub buffer : bufferSize x f ≡ 3 * f .bytes + wholeBytes (f .rate * streamsOf x f * marginOf x f)
+  pub four : bufferSize x f ≤ 4 * f .bytes
   -- positions: below P, and no two alike
-  pub laying : Laying (totalPositions f) (f .blocks) (placeOf f)
+  pub laying : Laying (totalPositions f) (f .blocks) (placeOf x f)
   -- sizes
-  pub worst2 : worst2Of f ≤ 2 * maxTime
-  pub margin : marginOf f + 1 ≤ worst2Of f
-  pub margin-is : marginOf f ≡ 2 * slowestOf f - worst2Of f
-  pub lead : (b : ℕ) → b < f .blocks → leadOf f b ≤ maxTime - 1
-  pub time : (b : ℕ) → b < f .blocks → (0 < timeOf f b) × (timeOf f b ≤ maxTime)
+  pub worst2 : worst2Of x f ≤ 2 * maxTime
+  pub margin : marginOf x f + 1 ≤ worst2Of x f
+  pub margin-is : marginOf x f ≡ 2 * slowestOf x f - worst2Of x f
+  pub lead : (b : ℕ) → b < f .blocks → leadOf x f b ≤ maxTime - 1
+  pub time : (b : ℕ) → b < f .blocks → (0 < timeOf x f b) × (timeOf x f b ≤ maxTime)
 
-pub buffer-formula : (f : Figures) → bufferSize f ≡ 3 * f .bytes + wholeBytes (f .rate * streamsOf f * marginOf f)
+pub buffer-formula : (x : Showing) (f : Figures) → bufferSize x f ≡ 3 * f .bytes + wholeBytes (f .rate * streamsOf x f * marginOf x f)
 unfolding bufferSize bufferOf
-buffer-formula f = refl
+buffer-formula x f = refl
 
-pub promise : (f : Figures) → Legal f → 0 < streamsOf f → Promise f
-promise f ok some = record {
-  leads = lead-laws f ok;
+pub promise : (x : Showing) (f : Figures) → Legal f → 0 < streamsOf x f → Promise x f
+promise x f ok some = record {
+  leads = lead-laws x f ok;
   some = some;
-  few = streams-few f ok;
-  fits = streams-fit f ok some;
+  few = streams-few x f ok;
+  fits = streams-fit x f ok some;
   rises = overhead-rises (f .hop) (f .back);
-  buffer = buffer-formula f;
-  four = buffer-small f ok;
-  laying = legal-laying f ok;
-  worst2 = worst2-small f ok;
-  margin = margin-less f ok;
-  margin-is = margin-of f;
-  lead = lead-small f ok;
-  time = λ b u. (time-positive f ok (placeOf f b) (place-below f ok b u), time-small f ok (placeOf f b) (place-below f ok b u));
+  buffer = buffer-formula x f;
+  four = buffer-small x f ok;
+  laying = legal-laying x f ok;
+  worst2 = worst2-small x f ok;
+  margin = margin-less x f ok;
+  margin-is = margin-of x f;
+  lead = lead-small x f ok;
+  time = λ b u. (time-positive f ok (placeOf x f b) (place-below x f ok b u), time-small f ok (placeOf x f b) (place-below x f ok b u));
 }
 
 -- ---- the best placement
 
-module _ (f : Figures) (ok : Legal f) (l : ℕ → ℕ) (lay : Laying (totalPositions f) (f .blocks) l) where
-  -- no laying has a smaller worst time (P10)
-  pub best-time : worst2Of f ≤ worstTime (timeOn f) l (f .blocks)
+module _ (x : Showing) (f : Figures) (ok : Legal f) (l : ℕ → ℕ) (lay : Laying (totalPositions f) (f .blocks) l) where
+  -- no laying has a smaller worst time (P10, T7.4)
+  pub best-time : worst2Of x f ≤ worstOf x (timeOn f) l (f .blocks)
   unfolding worst2Of
-  best-time = placement-best (totalPositions f) (f .blocks) (ok .room) (timeOn f) (legal-falling f ok) l lay
+  best-time = laying-best x (totalPositions f) (f .blocks) (ok .room) (omega (arith, ok .blocks)) (timeOn f) (legal-falling f ok) l lay
 
   -- nor lets more streams fit
-  pub best-streams : (n : ℕ) → streamsOf f < n → n ≤ maxStreams → parts * f .bytes < load (f .rate) (worstTime (timeOn f) l (f .blocks)) (overOf f) n
+  pub best-streams : (n : ℕ) → streamsOf x f < n → n ≤ maxStreams → parts * f .bytes < load (f .rate) (worstOf x (timeOn f) l (f .blocks)) (overOf f) n
   unfolding worst2Of streamsOf
   best-streams n h u =
-      no-laying-feeds-more (totalPositions f) (f .blocks) (ok .room) (timeOn f) (legal-falling f ok) l lay (f .rate) (overOf f) (f .bytes) n h u
+      no-laying-feeds-more x (totalPositions f) (f .blocks) (ok .room) (omega (arith, ok .blocks)) (timeOn f) (legal-falling f ok) l lay (f .rate) (overOf f) (f .bytes) n h u
 
 -- the plan's own laying reaches worst2
-pub own-time : (f : Figures) → worstTime (timeOn f) (placeOf f) (f .blocks) ≡ worst2Of f
+pub own-time : (x : Showing) (f : Figures) → worstOf x (timeOn f) (placeOf x f) (f .blocks) ≡ worst2Of x f
 unfolding worst2Of
-own-time f = refl
+own-time x f = refl

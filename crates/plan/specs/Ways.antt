@@ -8,27 +8,28 @@ use native.Mathlib.Omega.{arith}
 use lib.ListN.{length}
 use lib.Dec.{ltb}
 use borrow.Author.Tests.{lt-ltb, le-ltb, eq-eqb, ne-eqb}
+use Rattle.numbers.specs.Limits.{maxPositions}
 use Rattle.card.specs.declared.Figures.{Figures}
 use Rattle.card.specs.declared.CardRead.{CardRead}
 use Rattle.card.specs.declared.Verdict.{Verdict}
 use Rattle.card.specs.Card.{Legal, totalPositions, recordFault, judgeRecord}
 use Rattle.card.specs.Read.{readCard}
-use Rattle.round_trip.specs.Legality.{fault-legal}
+use Rattle.round_trip.specs.Legality.{Wide, fault-legal}
 use Rattle.round_trip.specs.RoundTrip.{read-card}
-use Rattle.placement.specs.Placement.{place, worstTime}
+use Rattle.placement.specs.Showing.{Showing, laying, worstOf}
 use Rattle.words.specs.Words.{Bytes, wordsOf, withWords}
 use Rattle.plan.specs.declared.Plan.{Plan}
 use Rattle.plan.specs.declared.Planned.{Planned}
-use Rattle.plan.specs.Plan.{timeOn, worst2Of, streamsOf, leadOf, planOf, row, positionsOf, leadsOf}
+use Rattle.plan.specs.Plan.{showingIn, timeOn, placeOf, worst2Of, streamsOf, leadOf, planOf, row, positionsOf, leadsOf}
 use Rattle.plan.specs.Disk.{Film, leadAt}
 use Rattle.plan.specs.Legal.{total-is, legal-disk, lead-is}
 use Rattle.plan.specs.Answer.{planFault, faultAfter, refusal, answer, filled, planned, positionsAfter, leadsAfter, judged, sameNumbers, hasNumbers}
 use Rattle.plan.specs.Rows.{row-same}
 
-module _ (r : CardRead) (ps ls : List ℕ) where
+module _ (x : Showing) (r : CardRead) (ps ls : List ℕ) where
   -- the answer and the later contents of both lists
   abbrev pub Outcome : Planned → List ℕ → List ℕ → Type 0
-  Outcome a qs ms = (a ≡ planned r ps ls) × (qs ≡ positionsAfter r ps ls) × (ms ≡ leadsAfter r ps ls)
+  Outcome a qs ms = (a ≡ planned x r ps ls) × (qs ≡ positionsAfter x r ps ls) × (ms ≡ leadsAfter x r ps ls)
 
   -- the figures are refused
   pub by-figures : (r .verdict .number ≡ 0 → ⊥) → Outcome (refusal (r .verdict .number) (r .verdict .place)) ps ls
@@ -36,48 +37,53 @@ module _ (r : CardRead) (ps ls : List ℕ) where
   by-figures n = go (r .verdict .number) n
     where
       go : (k : ℕ) → (k ≡ 0 → ⊥)
-          → (refusal k (r .verdict .place) ≡ answer k (faultAfter r ps ls) r)
-          × (ps ≡ filled k (faultAfter r ps ls) ps (positionsOf (r .figures))) × (ls ≡ filled k (faultAfter r ps ls) ls (leadsOf (r .figures)))
+          → (refusal k (r .verdict .place) ≡ answer x k (faultAfter x r ps ls) r)
+          × (ps ≡ filled k (faultAfter x r ps ls) ps (positionsOf x (r .figures))) × (ls ≡ filled k (faultAfter x r ps ls) ls (leadsOf x (r .figures)))
       go zero n = absurd (n refl)
       go (suc k) n = (refl, refl, refl)
 
   -- 13 or 12
-  pub by-plan : (k : ℕ) → r .verdict .number ≡ 0 → faultAfter r ps ls ≡ suc k → Outcome (refusal (suc k) 0) ps ls
+  pub by-plan : (k : ℕ) → r .verdict .number ≡ 0 → faultAfter x r ps ls ≡ suc k → Outcome (refusal (suc k) 0) ps ls
   unfolding planned positionsAfter leadsAfter
   by-plan k e d = rw (e, d) (refl, refl, refl)
 
   -- accepted
-  pub by-none : r .verdict .number ≡ 0 → faultAfter r ps ls ≡ 0
-      → Outcome (record { verdict = record { number = 0; place = 0 }; plan = planOf (r .figures) }) (withWords ps 0 (positionsOf (r .figures))) (withWords ls 0 (leadsOf (r .figures)))
+  pub by-none : r .verdict .number ≡ 0 → faultAfter x r ps ls ≡ 0
+      → Outcome (record { verdict = record { number = 0; place = 0 }; plan = planOf x (r .figures) }) (withWords ps 0 (positionsOf x (r .figures))) (withWords ls 0 (leadsOf x (r .figures)))
   unfolding planned positionsAfter leadsAfter
   by-none e d = rw (e, d) (refl, refl, refl)
 
-module _ (f : Figures) (np nl : ℕ) where
-  pub short-positions : np < f .blocks → planFault f np nl ≡ 13
+-- the same outcome of equal figures in an equal showing
+pub outcome-same : {x y : Showing} {r s : CardRead} (ps ls : List ℕ) (a : Planned) (qs ms : List ℕ) → x ≡ y → r ≡ s → Outcome x r ps ls a qs ms → Outcome y s ps ls a qs ms
+outcome-same {x} {y} {r} {s} ps ls a qs ms e d o =
+    subst (λ (t : CardRead). Outcome y t ps ls a qs ms) d (subst (λ (z : Showing). Outcome z r ps ls a qs ms) e o)
+
+module _ (x : Showing) (f : Figures) (np nl : ℕ) where
+  pub short-positions : np < f .blocks → planFault x f np nl ≡ 13
   unfolding planFault
   short-positions h = rw (lt-ltb np (f .blocks) h)
 
-  pub short-leads : f .blocks ≤ np → nl < f .blocks → planFault f np nl ≡ 13
+  pub short-leads : f .blocks ≤ np → nl < f .blocks → planFault x f np nl ≡ 13
   unfolding planFault
   short-leads l h = rw (le-ltb np (f .blocks) l, lt-ltb nl (f .blocks) h)
 
-  pub no-stream : f .blocks ≤ np → f .blocks ≤ nl → streamsOf f ≡ 0 → planFault f np nl ≡ 12
+  pub no-stream : f .blocks ≤ np → f .blocks ≤ nl → streamsOf x f ≡ 0 → planFault x f np nl ≡ 12
   unfolding planFault
-  no-stream l m e = rw (le-ltb np (f .blocks) l, le-ltb nl (f .blocks) m, eq-eqb (streamsOf f) 0 e)
+  no-stream l m e = rw (le-ltb np (f .blocks) l, le-ltb nl (f .blocks) m, eq-eqb (streamsOf x f) 0 e)
 
-  pub some-stream : f .blocks ≤ np → f .blocks ≤ nl → (streamsOf f ≡ 0 → ⊥) → planFault f np nl ≡ 0
+  pub some-stream : f .blocks ≤ np → f .blocks ≤ nl → (streamsOf x f ≡ 0 → ⊥) → planFault x f np nl ≡ 0
   unfolding planFault
-  some-stream l m e = rw (le-ltb np (f .blocks) l, le-ltb nl (f .blocks) m, ne-eqb (streamsOf f) 0 e)
+  some-stream l m e = rw (le-ltb np (f .blocks) l, le-ltb nl (f .blocks) m, ne-eqb (streamsOf x f) 0 e)
 
 -- ---- the lists, as the code makes them
 
-pub plan-streams : (f : Figures) (p : Plan) → p ≡ planOf f → p .streams ≡ streamsOf f
+pub plan-streams : (x : Showing) (f : Figures) (p : Plan) → p ≡ planOf x f → p .streams ≡ streamsOf x f
 unfolding planOf
-plan-streams f p e = ap (λ (q : Plan). q .streams) e
+plan-streams x f p e = ap (λ (q : Plan). q .streams) e
 
-pub plan-worst2 : (f : Figures) (p : Plan) → p ≡ planOf f → p .worst2 ≡ worst2Of f
+pub plan-worst2 : (x : Showing) (f : Figures) (p : Plan) → p ≡ planOf x f → p .worst2 ≡ worst2Of x f
 unfolding planOf
-plan-worst2 f p e = ap (λ (q : Plan). q .worst2) e
+plan-worst2 x f p e = ap (λ (q : Plan). q .worst2) e
 
 module _ (f : Figures) (ok : Legal f) (t : ℕ) (e : t ≡ totalPositions f) where
   pub film-on : Film (f .positions) (f .times) t (f .blocks)
@@ -88,20 +94,23 @@ module _ (f : Figures) (ok : Legal f) (t : ℕ) (e : t ≡ totalPositions f) whe
     room = omega (arith, ok .room);
   }
 
-  pub worst2-is : worstTime (timeOn f) (place t (f .blocks)) (f .blocks) ≡ worst2Of f
+  pub small-on : t ≤ maxPositions
+  small-on = omega (arith, ok .total)
+
+  pub worst2-is : (x : Showing) → worstOf x (timeOn f) (laying x t (f .blocks)) (f .blocks) ≡ worst2Of x f
   unfolding worst2Of
-  worst2-is = ap (λ (n : ℕ). worstTime (timeOn f) (place n (f .blocks)) (f .blocks)) e
+  worst2-is x = ap (λ (n : ℕ). worstOf x (timeOn f) (laying x n (f .blocks)) (f .blocks)) e
 
-  pub positions-are : row (place t (f .blocks)) 0 (f .blocks) ≡ positionsOf f
+  pub positions-are : (x : Showing) → row (laying x t (f .blocks)) 0 (f .blocks) ≡ positionsOf x f
   unfolding positionsOf
-  positions-are = ap (λ (n : ℕ). row (place n (f .blocks)) 0 (f .blocks)) e
+  positions-are x = ap (λ (n : ℕ). row (laying x n (f .blocks)) 0 (f .blocks)) e
 
-  pub leads-are : (w : ℕ) → w ≡ worst2Of f → row (leadAt (f .positions) (f .times) t (f .blocks) w) 0 (f .blocks) ≡ leadsOf f
+  pub leads-are : (x : Showing) (w : ℕ) → w ≡ worst2Of x f → row (leadAt (f .positions) (f .times) (laying x t (f .blocks)) w) 0 (f .blocks) ≡ leadsOf x f
   unfolding leadsOf
-  leads-are w d =
-      ap₂ (λ (n v : ℕ). row (leadAt (f .positions) (f .times) n (f .blocks) v) 0 (f .blocks)) e d
-      ∙ row-same (leadAt (f .positions) (f .times) (totalPositions f) (f .blocks) (worst2Of f)) (leadOf f) 0 (f .blocks)
-      (λ b l u. sym (lead-is f ok b (omega arith)))
+  leads-are x w d =
+      ap₂ (λ (n v : ℕ). row (leadAt (f .positions) (f .times) (laying x n (f .blocks)) v) 0 (f .blocks)) e d
+      ∙ row-same (leadAt (f .positions) (f .times) (placeOf x f) (worst2Of x f)) (leadOf x f) 0 (f .blocks)
+      (λ b l u. sym (lead-is x f ok b (omega arith)))
 
 -- ---- figures that are read or judged
 
@@ -120,6 +129,13 @@ module _ (f : Figures) (v : Verdict) (e : v ≡ judgeRecord f) where
   unfolding judged
   judged-is = λ i. record { verdict = e i; figures = f }
 
+-- an accepted record has legal figures
+pub judged-legal : (f : Figures) → Wide f → (r : CardRead) → r ≡ judged f → r .verdict .number ≡ 0 → Legal (r .figures)
+unfolding judged
+judged-legal f w r e n =
+    let c = sym (record-fault f (r .verdict) (ap (λ (t : CardRead). t .verdict) e)) ∙ n in
+    subst (λ (t : CardRead). Legal (t .figures)) (sym e) (fault-legal f w c)
+
 -- ---- has a plan the numbers of its figures
 
 module _ (p : Plan) where
@@ -128,6 +144,6 @@ module _ (p : Plan) where
   not-legal n = rw (ne-eqb (recordFault (p .figures)) 0 n)
 
   -- the plan of legal figures decides
-  pub numbers-decide : recordFault (p .figures) ≡ 0 → (ltb 0 (streamsOf (p .figures)) && sameNumbers p (planOf (p .figures))) ≡ hasNumbers p
+  pub numbers-decide : recordFault (p .figures) ≡ 0 → (ltb 0 (streamsOf (showingIn p) (p .figures)) && sameNumbers p (planOf (showingIn p) (p .figures))) ≡ hasNumbers p
   unfolding hasNumbers
   numbers-decide e = rw (eq-eqb (recordFault (p .figures)) 0 e)

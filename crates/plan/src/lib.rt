@@ -8,11 +8,12 @@ ghost use Rattle.numbers.specs.Limits.{maxStreams};
 ghost use Rattle.numbers.specs.Units.{parts};
 ghost use Rattle.card.specs.declared.Figures.{Figures};
 ghost use Rattle.card.specs.Card.{Legal, totalPositions};
-ghost use Rattle.placement.specs.Placement.{Laying, worstTime};
+ghost use Rattle.placement.specs.Placement.{Laying};
+ghost use Rattle.placement.specs.Showing.{Showing, worstOf};
 ghost use Rattle.pacing.specs.Streams.{load};
 ghost use Rattle.plan.specs.Plan.{timeOn, placeOf, worst2Of, overOf, streamsOf, leadOf, blankPlan};
 ghost use Rattle.plan.specs.Answer.{planFault};
-ghost use Rattle.plan.specs.Greatest.{GreatestRun, MostStreams, TooMany};
+ghost use Rattle.plan.specs.Greatest.{Starts, GreatestRun, MostStreams, TooMany};
 ghost use Rattle.plan.specs.Promise.{LeadLaws, Promise};
 
 // A plan; all zero where there is none.
@@ -26,6 +27,8 @@ pub struct Plan {
     pub worst2: u32,
     // The most that a lead can be, in half microseconds.
     pub margin: u32,
+    // Which showing it is: 0 once through, 1 round and round.
+    pub showing: u32,
 }
 
 // The answer of the planner.
@@ -54,35 +57,38 @@ pub fn blank_plan() -> Plan
         buffer: 0,
         worst2: 0,
         margin: 0,
+        showing: 0,
     }
 }
 
-// No laying is better: every laying's worst time is at least worst2, and with it no number above the plan's streams meets the
-// formula. The plan's own laying is a laying and reaches worst2.
+// No laying is better, in either showing: every laying's worst time is at least worst2, and with it no number above the plan's streams meets
+// the formula. The plan's own laying is a laying and reaches worst2.
 pub fn placement_best()
-    ensures best { λ _. ⌜ ((f : Figures) → Legal f → (l : ℕ → ℕ) → Laying (totalPositions f) (f .blocks) l
-        → (worst2Of f ≤ worstTime (timeOn f) l (f .blocks))
-        × ((n : ℕ) → streamsOf f < n → n ≤ maxStreams → parts * f .bytes < load (f .rate) (worstTime (timeOn f) l (f .blocks)) (overOf f) n)) ⌝ }
-    ensures own { λ _. ⌜ ((f : Figures) → Legal f → Laying (totalPositions f) (f .blocks) (placeOf f) × (worstTime (timeOn f) (placeOf f) (f .blocks) ≡ worst2Of f)) ⌝ }
+    ensures best { λ _. ⌜ ((x : Showing) (f : Figures) → Legal f → (l : ℕ → ℕ) → Laying (totalPositions f) (f .blocks) l
+        → (worst2Of x f ≤ worstOf x (timeOn f) l (f .blocks))
+        × ((n : ℕ) → streamsOf x f < n → n ≤ maxStreams → parts * f .bytes < load (f .rate) (worstOf x (timeOn f) l (f .blocks)) (overOf f) n)) ⌝ }
+    ensures own { λ _. ⌜ ((x : Showing) (f : Figures) → Legal f
+        → Laying (totalPositions f) (f .blocks) (placeOf x f) × (worstOf x (timeOn f) (placeOf x f) (f .blocks) ≡ worst2Of x f)) ⌝ }
 {}
 
-// The lead laws hold of every legal film, and of each that feeds a stream all that the desk relies on.
+// The lead laws hold of every legal film in either showing, and of each that feeds a stream all that the desk relies on.
 pub fn lead_promise()
-    ensures leads { λ _. ⌜ ((f : Figures) → Legal f → LeadLaws f) ⌝ }
-    ensures all { λ _. ⌜ ((f : Figures) → Legal f → 0 < streamsOf f → Promise f) ⌝ }
+    ensures leads { λ _. ⌜ ((x : Showing) (f : Figures) → Legal f → LeadLaws x f) ⌝ }
+    ensures all { λ _. ⌜ ((x : Showing) (f : Figures) → Legal f → 0 < streamsOf x f → Promise x f) ⌝ }
 {}
 
-// A lead is the greatest sum over the runs from its block, the empty run included, and no other number is. For every film, N and block.
+// A lead is the greatest sum over the runs from its block, the empty run included, and no other number is: runs to the film's end, in a loop
+// runs of at most N blocks round the circle. For every film, N and block.
 pub fn lead_is_the_greatest()
-    ensures greatest { λ _. ⌜ ((f : Figures) (b : ℕ) → b ≤ f .blocks → GreatestRun f b (leadOf f b)) ⌝ }
-    ensures only { λ _. ⌜ ((f : Figures) (b m : ℕ) → b ≤ f .blocks → GreatestRun f b m → m ≡ leadOf f b) ⌝ }
+    ensures greatest { λ _. ⌜ ((x : Showing) (f : Figures) (b : ℕ) → Starts x (f .blocks) b → GreatestRun x f b (leadOf x f b)) ⌝ }
+    ensures only { λ _. ⌜ ((x : Showing) (f : Figures) (b m : ℕ) → Starts x (f .blocks) b → GreatestRun x f b m → m ≡ leadOf x f b) ⌝ }
 {}
 
 // The streams of a plan are the greatest whole number from 1 to 256 that meets the formula, and no other number is. 12 is answered only
 // where no number meets it, and where the lists have room always if not even 1 does.
 pub fn streams_are_the_most()
-    ensures most { λ _. ⌜ ((f : Figures) → 0 < streamsOf f → MostStreams f (streamsOf f)) ⌝ }
-    ensures only { λ _. ⌜ ((f : Figures) (n : ℕ) → MostStreams f n → n ≡ streamsOf f) ⌝ }
-    ensures none { λ _. ⌜ ((f : Figures) (np nl : ℕ) → planFault f np nl ≡ 12 → (n : ℕ) → 1 ≤ n → n ≤ 256 → TooMany f n) ⌝ }
-    ensures one { λ _. ⌜ ((f : Figures) (np nl : ℕ) → f .blocks ≤ np → f .blocks ≤ nl → TooMany f 1 → planFault f np nl ≡ 12) ⌝ }
+    ensures most { λ _. ⌜ ((x : Showing) (f : Figures) → 0 < streamsOf x f → MostStreams x f (streamsOf x f)) ⌝ }
+    ensures only { λ _. ⌜ ((x : Showing) (f : Figures) (n : ℕ) → MostStreams x f n → n ≡ streamsOf x f) ⌝ }
+    ensures none { λ _. ⌜ ((x : Showing) (f : Figures) (np nl : ℕ) → planFault x f np nl ≡ 12 → (n : ℕ) → 1 ≤ n → n ≤ 256 → TooMany x f n) ⌝ }
+    ensures one { λ _. ⌜ ((x : Showing) (f : Figures) (np nl : ℕ) → f .blocks ≤ np → f .blocks ≤ nl → TooMany x f 1 → planFault x f np nl ≡ 12) ⌝ }
 {}

@@ -1,15 +1,16 @@
-// Runs the planner on the cases of document 01, on real disks and on refusals, and the check of a plan on altered plans. Standard input
+// Runs the planner on the cases of document 01, on real disks, on loops and on refusals, and the check of a plan on altered plans. Standard input
 // has a case on each line: its name, which has no colon, then a colon, a letter for what is done, and what it is done to. P and L are the
 // bytes of the lists of positions and leads, 65,536 at most. RECORD is zones N B c hop return, then positions and time of each zone; what
-// is missing is 0. PLAN is streams, buffer, worst2 and margin, then RECORD.
+// is missing is 0. PLAN is streams, buffer, worst2, margin and showing, then RECORD.
 //
-//     NAME: r P L RECORD    plans a record, with lists of a pattern
-//     NAME: c P L CARD      plans a card, its bytes in hexadecimal, with lists of a pattern
+//     NAME: r P L RECORD    plans a record, with lists of a pattern; R plans it as a loop
+//     NAME: c P L CARD      plans a card, its bytes in hexadecimal, with lists of a pattern; C plans it as a loop
 //     NAME: k P L PLAN      is this the plan of its figures, with the first bytes of the lists as the last plan left them?
 //     NAME: b P L PLAN      the same with each of the first 28 bytes altered, of the positions and of the leads in turn
 //
-// A line is printed for each: its name and the answer, which of a planned film is streams, buffer, worst2 and margin, or the refusal, then
-// a sum of each list.
+// A line is printed for each: its name and the answer, which of a planned film is streams, buffer, worst2, margin and showing, or the refusal,
+// then a sum of each list.
+use card::Figures;
 use case_text::next_letter;
 use case_text::print;
 use case_text::print_byte;
@@ -54,22 +55,25 @@ fn print_answer(planned: Planned, positions: &[u8], leads: &[u8]) {
     print_number(plan.buffer as u64);
     print_number(plan.worst2 as u64);
     print_number(plan.margin as u64);
+    print_number(plan.showing as u64);
     print_number(sum_of(positions));
     print_number(sum_of(leads));
 }
 
-// A plan: streams, buffer, worst2, margin, and its record.
+// A plan: streams, buffer, worst2, margin, showing, and its record.
 fn read_plan(text: &[u8], start: usize) -> Plan {
     let streams = read_number(text, start);
     let buffer = read_number(text, streams.next);
     let worst2 = read_number(text, buffer.next);
     let margin = read_number(text, worst2.next);
+    let showing = read_number(text, margin.next);
     Plan {
-        figures: read_record(text, margin.next),
+        figures: read_record(text, showing.next),
         streams: streams.value,
         buffer: buffer.value,
         worst2: worst2.value,
         margin: margin.value,
+        showing: showing.value,
     }
 }
 
@@ -104,25 +108,54 @@ fn check_altered(plan: Plan, positions: &mut [u8], leads: &mut [u8]) {
     }
 }
 
+// Does this letter stand before a record?
+fn is_record(letter: u8) -> bool {
+    if letter == b'R' {
+        return true;
+    }
+    letter == b'r'
+}
+
+// Plans a record, by `R` as a loop.
+fn plan_record(letter: u8, figures: Figures, positions: &mut [u8], leads: &mut [u8]) -> Planned {
+    if letter == b'R' {
+        return planner::plan_loop_record(figures, positions, leads);
+    }
+    planner::plan_record(figures, positions, leads)
+}
+
+// Plans a card, by `C` as a loop.
+fn plan_card(letter: u8, card: &[u8], positions: &mut [u8], leads: &mut [u8]) -> Planned {
+    if letter == b'C' {
+        return planner::plan_loop_card(card, positions, leads);
+    }
+    planner::plan_card(card, positions, leads)
+}
+
+// Plans the card that stands from `start` on.
+fn plan_bytes(text: &[u8], letter: u8, start: usize, positions: &mut [u8], leads: &mut [u8]) {
+    let mut card = io::buffer();
+    let n = read_bytes(text, start, &mut card);
+    print_answer(
+        plan_card(letter, &card[..n], positions, leads),
+        positions,
+        leads,
+    );
+}
+
 // Plans the record or the card that stands from `start` on, with lists of a pattern.
 fn plan_film(text: &[u8], letter: u8, start: usize, positions: &mut [u8], leads: &mut [u8]) {
     fill(positions);
     fill(leads);
-    if letter == b'r' {
+    if is_record(letter) {
         print_answer(
-            planner::plan_record(read_record(text, start), positions, leads),
+            plan_record(letter, read_record(text, start), positions, leads),
             positions,
             leads,
         );
         return;
     }
-    let mut card = io::buffer();
-    let n = read_bytes(text, start, &mut card);
-    print_answer(
-        planner::plan_card(&card[..n], positions, leads),
-        positions,
-        leads,
-    );
+    plan_bytes(text, letter, start, positions, leads);
 }
 
 // Does what the letter says to what stands from `start` on, with these lists.

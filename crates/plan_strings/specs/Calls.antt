@@ -1,4 +1,4 @@
--- What the plan call answers on byte strings, and what it leaves in each.
+-- What the plan calls, one for each showing, answer on byte strings, and what they leave in each.
 use Prim.Native.Nat.{ℕ}
 use mathlib.Core.List.{List}
 use mathlib.Core.Bool.{cond, not, _&&_}
@@ -8,6 +8,7 @@ use Rattle.numbers.specs.Refusals.{tooShort}
 use Rattle.words.specs.Words.{withWords}
 use Rattle.card.specs.declared.CardRead.{CardRead}
 use Rattle.card.specs.Read.{readCard}
+use Rattle.placement.specs.Showing.{Showing}
 use Rattle.plan.specs.declared.Planned.{Planned}
 use Rattle.plan.specs.Plan.{positionsOf, leadsOf}
 use Rattle.plan.specs.Answer.{faultAfter, answer, filled}
@@ -18,26 +19,26 @@ use Rattle.layout.specs.Answers.{verdictAnswer}
 -- ---- plan: a card as it was read, the plan string p, and both lists
 
 -- after the figures are accepted: 13 where the plan string has another length or a list is too short, then 12
-unfoldable pub planFaultOf : CardRead → List ℕ → List ℕ → List ℕ → ℕ
-planFaultOf r p ps ls = cond (eqb (length p) planSize) (faultAfter r ps ls) tooShort
+unfoldable pub planFaultOf : Showing → CardRead → List ℕ → List ℕ → List ℕ → ℕ
+planFaultOf x r p ps ls = cond (eqb (length p) planSize) (faultAfter x r ps ls) tooShort
 
 -- the planner's answer
-unfoldable pub plannedOf : CardRead → List ℕ → List ℕ → List ℕ → Planned
-plannedOf r p ps ls = answer (r .verdict .number) (planFaultOf r p ps ls) r
+unfoldable pub plannedOf : Showing → CardRead → List ℕ → List ℕ → List ℕ → Planned
+plannedOf x r p ps ls = answer x (r .verdict .number) (planFaultOf x r p ps ls) r
 
 -- the plan string after an answer: the plan, all zero after 1 to 12 and 26; as it was after 13, and where it has another length
 unfoldable pub planFilled : List ℕ → Planned → List ℕ
 planFilled p a = cond (eqb (length p) planSize && not (eqb (a .verdict .number) tooShort)) (withWords p 0 (planWords (a .plan))) p
 
--- THE ANSWER of the plan call with a card s, and the three strings after it. A list has its N entries written, or is left as it was
-unfoldable pub planAnswer : List ℕ → List ℕ → List ℕ → List ℕ → FilmdiskAnswer
-planAnswer s p ps ls = verdictAnswer (plannedOf (readCard s) p ps ls .verdict)
+-- THE ANSWER of a showing's plan call with a card s, and the three strings after it. A list has its N entries written, or is left as it was
+unfoldable pub planAnswer : Showing → List ℕ → List ℕ → List ℕ → List ℕ → FilmdiskAnswer
+planAnswer x s p ps ls = verdictAnswer (plannedOf x (readCard s) p ps ls .verdict)
 
-unfoldable pub planString : List ℕ → List ℕ → List ℕ → List ℕ → List ℕ
-planString s p ps ls = planFilled p (plannedOf (readCard s) p ps ls)
+unfoldable pub planString : Showing → List ℕ → List ℕ → List ℕ → List ℕ → List ℕ
+planString x s p ps ls = planFilled p (plannedOf x (readCard s) p ps ls)
 
-unfoldable pub positionsString : List ℕ → List ℕ → List ℕ → List ℕ → List ℕ
-positionsString s p ps ls = let r = readCard s in filled (r .verdict .number) (planFaultOf r p ps ls) ps (positionsOf (r .figures))
+unfoldable pub positionsString : Showing → List ℕ → List ℕ → List ℕ → List ℕ → List ℕ
+positionsString x s p ps ls = let r = readCard s in filled (r .verdict .number) (planFaultOf x r p ps ls) ps (positionsOf x (r .figures))
 
-unfoldable pub leadsString : List ℕ → List ℕ → List ℕ → List ℕ → List ℕ
-leadsString s p ps ls = let r = readCard s in filled (r .verdict .number) (planFaultOf r p ps ls) ls (leadsOf (r .figures))
+unfoldable pub leadsString : Showing → List ℕ → List ℕ → List ℕ → List ℕ → List ℕ
+leadsString x s p ps ls = let r = readCard s in filled (r .verdict .number) (planFaultOf x r p ps ls) ls (leadsOf x (r .figures))

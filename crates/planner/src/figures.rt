@@ -14,6 +14,7 @@ ghost use mathlib.Core.Path.{_≡_};
 ghost use Prim.Native.Nat.{_<_};
 ghost use Rattle.numbers.specs.Refusals.{noStream};
 ghost use Rattle.card.specs.Card.{Legal};
+ghost use Rattle.plan.specs.Plan.{showingOf};
 ghost use Rattle.plan.specs.Answer.{refusal, planned, positionsAfter, leadsAfter};
 
 // A refusal.
@@ -39,12 +40,12 @@ fn stream_fault(streams: u32) -> u32
     ACCEPTED
 }
 
-// Plans figures that were read or judged: their refusal, else 13, then 12.
-pub fn plan_figures(read: CardRead, positions: &mut [u8], leads: &mut [u8]) -> Planned
+// Plans figures that were read or judged, in a showing: their refusal, else 13, then 12.
+pub fn plan_figures(read: CardRead, showing: u32, positions: &mut [u8], leads: &mut [u8]) -> Planned
     requires { ⌜ (read .verdict .number ≡ 0 → Legal (read .figures)) ⌝ }
-    ensures { λ r. ⌜ (r ≡ planned read (now (positions .entry)) (now (leads .entry)))
-        × (now (positions .exit) ≡ positionsAfter read (now (positions .entry)) (now (leads .entry)))
-        × (now (leads .exit) ≡ leadsAfter read (now (positions .entry)) (now (leads .entry))) ⌝ }
+    ensures { λ r. ⌜ (r ≡ planned (showingOf showing) read (now (positions .entry)) (now (leads .entry)))
+        × (now (positions .exit) ≡ positionsAfter (showingOf showing) read (now (positions .entry)) (now (leads .entry)))
+        × (now (leads .exit) ≡ leadsAfter (showingOf showing) read (now (positions .entry)) (now (leads .entry))) ⌝ }
 {
     let verdict = read.verdict;
     if verdict.number != ACCEPTED {
@@ -57,16 +58,17 @@ pub fn plan_figures(read: CardRead, positions: &mut [u8], leads: &mut [u8]) -> P
     if words::entries(leads) < blocks {
         return refused(TOO_SHORT, 0);
     }
-    let plan = plan_of(read.figures);
+    let plan = plan_of(read.figures, showing);
     let number = stream_fault(plan.streams);
     if number != ACCEPTED {
         return refused(number, 0);
     }
     let total = sum_positions(&read.figures.positions, read.figures.zones);
-    write_positions(total, read.figures.blocks, positions);
+    write_positions(showing, total, read.figures.blocks, positions);
     write_leads(
         &read.figures.positions,
         &read.figures.times,
+        showing,
         total,
         read.figures.blocks,
         plan.worst2,

@@ -1,6 +1,8 @@
 // The plan of legal figures.
 use block_lists::both;
 use card::Figures;
+use numbers::showings::LOOP;
+use numbers::showings::ONCE;
 use plan::Plan;
 use streams::buffer_size;
 use streams::count_streams;
@@ -9,16 +11,32 @@ use zones::time_at;
 use zones::worst_time;
 ghost use mathlib.Core.Path.{_≡_};
 ghost use Rattle.card.specs.Card.{Legal};
-ghost use Rattle.plan.specs.Plan.{planOf};
+ghost use Rattle.plan.specs.Plan.{wordOf, showingOf, planOf};
 ghost use Rattle.plan.specs.Answer.{sameNumbers};
 
-// The plan of legal figures. The film's innermost position is its slowest.
-pub fn plan_of(figures: Figures) -> Plan
+// The word of the showing that a word tells: of one that tells none, 0.
+fn known_word(showing: u32) -> u32
+    ensures { λ r. ⌜ r ≡ wordOf (showingOf showing) ⌝ }
+{
+    if showing == LOOP {
+        return LOOP;
+    }
+    ONCE
+}
+
+// The plan of legal figures in a showing. The film's innermost position is its slowest.
+pub fn plan_of(figures: Figures, showing: u32) -> Plan
     requires { ⌜ Legal figures ⌝ }
-    ensures { λ r. ⌜ r ≡ planOf figures ⌝ }
+    ensures { λ r. ⌜ r ≡ planOf (showingOf showing) figures ⌝ }
 {
     let total = sum_positions(&figures.positions, figures.zones);
-    let worst2 = worst_time(&figures.positions, &figures.times, total, figures.blocks);
+    let worst2 = worst_time(
+        &figures.positions,
+        &figures.times,
+        showing,
+        total,
+        figures.blocks,
+    );
     let slowest = time_at(&figures.positions, &figures.times, total - figures.blocks);
     let margin = 2 * slowest - worst2;
     let streams = count_streams(
@@ -35,16 +53,18 @@ pub fn plan_of(figures: Figures) -> Plan
         buffer: buffer,
         worst2: worst2,
         margin: margin,
+        showing: known_word(showing),
     }
 }
 
-// Two plans have the same streams, buffer, worst2 and margin.
+// Two plans have the same streams, buffer, worst2, margin and showing.
 pub fn same_numbers(plan: Plan, own: Plan) -> bool
     ensures { λ r. ⌜ r ≡ sameNumbers plan own ⌝ }
 {
-    let times = both(plan.worst2 == own.worst2, plan.margin == own.margin);
+    let shown = both(plan.margin == own.margin, plan.showing == own.showing);
+    let timed = both(plan.worst2 == own.worst2, shown);
     both(
         plan.streams == own.streams,
-        both(plan.buffer == own.buffer, times),
+        both(plan.buffer == own.buffer, timed),
     )
 }

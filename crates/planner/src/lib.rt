@@ -1,4 +1,5 @@
-// The planner: from the figures of a card it lays the film and says how many streams may be fed and with what buffers.
+// The planner: from the figures of a card it lays the film, for one showing or for a loop, and says how many streams may be fed and with what
+// buffers.
 mod film; // the plan of legal figures
 mod figures; // the answer to figures that were read or judged
 
@@ -11,37 +12,63 @@ use block_lists::same_positions;
 use card::CardRead;
 use card::Figures;
 use numbers::refusals::ACCEPTED;
+use numbers::showings::LOOP;
+use numbers::showings::ONCE;
 use plan::Plan;
 use plan::Planned;
 use zones::sum_positions;
 ghost use mathlib.Core.Path.{_≡_};
 ghost use Rattle.card.specs.Read.{readCard};
+ghost use Rattle.placement.specs.Showing.{one, loop};
 ghost use Rattle.plan.specs.Answer.{planned, positionsAfter, leadsAfter, judged, hasNumbers, isPlan};
 
-// Plans a card: 1 to 11 and 26 as the reader gives them, then 13, then 12. A refusal leaves both lists.
+// Plans a card for one showing: 1 to 11 and 26 as the reader gives them, then 13, then 12. A refusal leaves both lists.
 pub fn plan_card(card: &[u8], positions: &mut [u8], leads: &mut [u8]) -> Planned
-    ensures { λ r. ⌜ (r ≡ planned (readCard (now (card .entry))) (now (positions .entry)) (now (leads .entry)))
-        × (now (positions .exit) ≡ positionsAfter (readCard (now (card .entry))) (now (positions .entry)) (now (leads .entry)))
-        × (now (leads .exit) ≡ leadsAfter (readCard (now (card .entry))) (now (positions .entry)) (now (leads .entry))) ⌝ }
+    ensures { λ r. ⌜ (r ≡ planned one (readCard (now (card .entry))) (now (positions .entry)) (now (leads .entry)))
+        × (now (positions .exit) ≡ positionsAfter one (readCard (now (card .entry))) (now (positions .entry)) (now (leads .entry)))
+        × (now (leads .exit) ≡ leadsAfter one (readCard (now (card .entry))) (now (positions .entry)) (now (leads .entry))) ⌝ }
 {
-    plan_figures(card_reader::read_card(card), positions, leads)
+    plan_figures(card_reader::read_card(card), ONCE, positions, leads)
 }
 
-// Plans a record of figures: 4 to 10 and 26, then 13, then 12, place 0. A refusal leaves both lists.
-pub fn plan_record(figures: Figures, positions: &mut [u8], leads: &mut [u8]) -> Planned
-    ensures { λ r. ⌜ (r ≡ planned (judged figures) (now (positions .entry)) (now (leads .entry)))
-        × (now (positions .exit) ≡ positionsAfter (judged figures) (now (positions .entry)) (now (leads .entry)))
-        × (now (leads .exit) ≡ leadsAfter (judged figures) (now (positions .entry)) (now (leads .entry))) ⌝ }
+// Plans a card for a loop; refused as for one showing.
+pub fn plan_loop_card(card: &[u8], positions: &mut [u8], leads: &mut [u8]) -> Planned
+    ensures { λ r. ⌜ (r ≡ planned loop (readCard (now (card .entry))) (now (positions .entry)) (now (leads .entry)))
+        × (now (positions .exit) ≡ positionsAfter loop (readCard (now (card .entry))) (now (positions .entry)) (now (leads .entry)))
+        × (now (leads .exit) ≡ leadsAfter loop (readCard (now (card .entry))) (now (positions .entry)) (now (leads .entry))) ⌝ }
 {
-    let verdict = card::judge_figures(figures);
-    let read = CardRead {
-        verdict: verdict,
+    plan_figures(card_reader::read_card(card), LOOP, positions, leads)
+}
+
+// The figures of a record with their verdict.
+fn judged_figures(figures: Figures) -> CardRead
+    ensures { λ r. ⌜ r ≡ judged figures ⌝ }
+{
+    CardRead {
+        verdict: card::judge_figures(figures),
         figures: figures,
-    };
-    plan_figures(read, positions, leads)
+    }
 }
 
-// Has this record the numbers of its figures, and are these legal and feed a stream?
+// Plans a record of figures for one showing: 4 to 10 and 26, then 13, then 12, place 0. A refusal leaves both lists.
+pub fn plan_record(figures: Figures, positions: &mut [u8], leads: &mut [u8]) -> Planned
+    ensures { λ r. ⌜ (r ≡ planned one (judged figures) (now (positions .entry)) (now (leads .entry)))
+        × (now (positions .exit) ≡ positionsAfter one (judged figures) (now (positions .entry)) (now (leads .entry)))
+        × (now (leads .exit) ≡ leadsAfter one (judged figures) (now (positions .entry)) (now (leads .entry))) ⌝ }
+{
+    plan_figures(judged_figures(figures), ONCE, positions, leads)
+}
+
+// Plans a record of figures for a loop; refused as for one showing.
+pub fn plan_loop_record(figures: Figures, positions: &mut [u8], leads: &mut [u8]) -> Planned
+    ensures { λ r. ⌜ (r ≡ planned loop (judged figures) (now (positions .entry)) (now (leads .entry)))
+        × (now (positions .exit) ≡ positionsAfter loop (judged figures) (now (positions .entry)) (now (leads .entry)))
+        × (now (leads .exit) ≡ leadsAfter loop (judged figures) (now (positions .entry)) (now (leads .entry))) ⌝ }
+{
+    plan_figures(judged_figures(figures), LOOP, positions, leads)
+}
+
+// Has this record the numbers of its figures in the showing that it names, and are these legal and feed a stream?
 pub fn has_numbers(plan: Plan) -> bool
     ensures { λ r. ⌜ r ≡ hasNumbers plan ⌝ }
 {
@@ -49,7 +76,7 @@ pub fn has_numbers(plan: Plan) -> bool
     if verdict.number != ACCEPTED {
         return false;
     }
-    let own = plan_of(plan.figures);
+    let own = plan_of(plan.figures, plan.showing);
     both(0 < own.streams, same_numbers(plan, own))
 }
 
@@ -61,10 +88,11 @@ pub fn is_plan(plan: Plan, positions: &[u8], leads: &[u8]) -> bool
         return false;
     }
     let total = sum_positions(&plan.figures.positions, plan.figures.zones);
-    let placed = same_positions(total, plan.figures.blocks, positions);
+    let placed = same_positions(plan.showing, total, plan.figures.blocks, positions);
     let led = same_leads(
         &plan.figures.positions,
         &plan.figures.times,
+        plan.showing,
         total,
         plan.figures.blocks,
         plan.worst2,

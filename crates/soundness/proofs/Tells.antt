@@ -26,12 +26,13 @@ pub tells-within : {P : Type 0} (a b : ℕ) → (a ≤ b → P) → (P → a ≤
 tells-within a b f g = record { yes = λ e. f (leb-true a b e); no = λ e p. clash (le-leb a b (g p)) e }
 
 -- a slot that is all zero is tidy
-pub zero-tidy : {N buffer k x h : ℕ} → k ≡ 0 → x ≡ 0 → h ≡ 0 → Tidy N buffer k x h
+pub zero-tidy : {w N buffer k x h : ℕ} → k ≡ 0 → x ≡ 0 → h ≡ 0 → Tidy w N buffer k x h
 zero-tidy k x h = record {
   kinds = omega arith;
   zeros = λ _. (x, h);
   empty = λ _. h;
   named = λ a b. absurd (omega arith);
+  ends = λ e. absurd (omega arith);
   past = λ e. absurd (omega arith);
   some = λ e. absurd (omega arith);
   fits = omega arith;

@@ -2,13 +2,16 @@
 -- Assumes nothing.
 use Prim.Native.Nat.{ℕ, _*_, _≤_, _<_}
 use mathlib.Core.Path.{_≡_}
+use mathlib.Core.Logic.{_≢_}
 use mathlib.Core.Bool.{Bool, true, false, _&&_}
 use mathlib.Core.List.{List}
 use lib.ListN.{length, getD}
 use Rattle.numbers.specs.Slots.{free, waiting, playing, draining}
+use Rattle.numbers.specs.Showings.{loopWord}
 use Rattle.numbers.specs.Units.{parts}
 use Rattle.card.specs.declared.Figures.{Figures}
 use Rattle.words.specs.Words.{wordsOf}
+use Rattle.placement.specs.Showing.{Showing}
 use Rattle.plan.specs.declared.Plan.{Plan}
 use Rattle.plan.specs.Plan.{leadOf}
 use Rattle.plan.specs.Answer.{isPlan}
@@ -35,12 +38,14 @@ pub record Tells (r : Bool) (P : Type 0) : Type 0 where
   pub no : r ≡ false → P → ⊥
 
 -- a slot's kind k, next block x and held bytes h, but for the low-water mark: `each kind is 0 to 4, free slots .. are zero, asked slots
--- hold 0, next is below N for kinds 1 to 3 and N for tail, tail holds 1 or more, no slot holds above the buffer`
-pub record Tidy (N buffer k x h : ℕ) : Type 0 where
+-- hold 0, next is below N for kinds 1 to 3 and N for tail, tail holds 1 or more, no slot holds above the buffer`. In a loop, which the plan's
+-- word w tells, none is tail (T7.8)
+pub record Tidy (w N buffer k x h : ℕ) : Type 0 where
   pub kinds : k ≤ draining
   pub zeros : k ≡ free → (x ≡ 0) × (h ≡ 0)
   pub empty : k ≡ waiting → h ≡ 0
   pub named : waiting ≤ k → k ≤ playing → x < N
+  pub ends : k ≡ draining → w ≢ loopWord
   pub past : k ≡ draining → x ≡ N
   pub some : k ≡ draining → 1 ≤ h
   pub fits : h ≤ buffer
@@ -50,19 +55,19 @@ abbrev pub RestZero : ℕ → List ℕ → List ℕ → List ℕ → ℕ → Typ
 RestZero n ks xs hs m = (i : ℕ) → i < m → n ≤ i → (getD ks i 0 ≡ free) × (getD xs i 0 ≡ 0) × (getD hs i 0 ≡ 0)
 
 -- the 256 slots of kinds ks, next blocks xs and held bytes hs are tidy, and `all slots from n on are zero`
-pub record SlotsTidy (N buffer n : ℕ) (ks xs hs : List ℕ) : Type 0 where
-  pub slots : (i : ℕ) → i < 256 → Tidy N buffer (getD ks i 0) (getD xs i 0) (getD hs i 0)
+pub record SlotsTidy (w N buffer n : ℕ) (ks xs hs : List ℕ) : Type 0 where
+  pub slots : (i : ℕ) → i < 256 → Tidy w N buffer (getD ks i 0) (getD xs i 0) (getD hs i 0)
   pub unused : (i : ℕ) → i < 256 → n ≤ i → getD ks i 0 ≡ free
 
 -- and so are those of a record
 abbrev pub AllTidy : Desk → Type 0
-AllTidy d = SlotsTidy (d .plan .figures .blocks) (d .plan .buffer) (d .plan .streams) (d .kinds) (d .next) (d .held)
+AllTidy d = SlotsTidy (d .plan .showing) (d .plan .figures .blocks) (d .plan .buffer) (d .plan .streams) (d .kinds) (d .next) (d .held)
 
 -- a list of leads that begins with the film's: long enough, each entry the lead of its block and in its range
-pub record LeadList (f : Figures) (ls : List ℕ) : Type 0 where
+pub record LeadList (x : Showing) (f : Figures) (ls : List ℕ) : Type 0 where
   pub long : f .blocks ≤ length (wordsOf ls)
-  pub here : (b : ℕ) → b < f .blocks → getD (wordsOf ls) b 0 ≡ leadOf f b
-  pub small : (b : ℕ) → b < f .blocks → leadOf f b ≤ mostLead
+  pub here : (b : ℕ) → b < f .blocks → getD (wordsOf ls) b 0 ≡ leadOf x f b
+  pub small : (b : ℕ) → b < f .blocks → leadOf x f b ≤ mostLead
 
 -- `each playing slot holds at least the floor` among the first n, x being the floor in two-millionths of a byte
 abbrev pub PlayersHold : ℕ → List ℕ → List ℕ → ℕ → Type 0

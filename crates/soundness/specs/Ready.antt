@@ -8,7 +8,7 @@ use native.Mathlib.Omega.{arith}
 use Rattle.laws.specs.Bools.{and-left, and-right}
 use Rattle.round_trip.specs.Legality as legality
 use Rattle.plan.specs.declared.Plan.{Plan}
-use Rattle.plan.specs.Plan.{streamsOf, planOf}
+use Rattle.plan.specs.Plan.{showingIn, streamsOf, planOf}
 use Rattle.plan.specs.Answer.{isPlan}
 use Rattle.plan.specs.Check.{checked, checked-legal}
 use Rattle.plan.specs.Legal.{lead-small, streams-few}
@@ -20,17 +20,17 @@ use Rattle.desk.specs.Ready.{Ready}
 use Rattle.soundness.specs.Facts.{soundDesk, LeadList}
 
 -- the lent leads of a plan
-pub plan-leads : (p : Plan) (ps ls : List ℕ) → legality.Wide (p .figures) → isPlan p ps ls ≡ true → LeadList (p .figures) ls
+pub plan-leads : (p : Plan) (ps ls : List ℕ) → legality.Wide (p .figures) → isPlan p ps ls ≡ true → LeadList (showingIn p) (p .figures) ls
 plan-leads p ps ls w e =
     let h = checked p ps ls e in
-    record { long = h .long .1; here = h .lead-at; small = lead-small (p .figures) (checked-legal p ps ls w e) }
+    record { long = h .long .1; here = h .lead-at; small = lead-small (showingIn p) (p .figures) (checked-legal p ps ls w e) }
 
 -- its streams are at most the slots
 pub plan-streams : (p : Plan) (ps ls : List ℕ) → legality.Wide (p .figures) → isPlan p ps ls ≡ true → p .streams ≤ 256
 unfolding planOf
 plan-streams p ps ls w e =
-    let s : p .streams ≡ streamsOf (p .figures) = ap (λ (q : Plan). q .streams) (checked p ps ls e .plan) in
-    omega (arith, streams-few (p .figures) (checked-legal p ps ls w e))
+    let s : p .streams ≡ streamsOf (showingIn p) (p .figures) = ap (λ (q : Plan). q .streams) (checked p ps ls e .plan) in
+    omega (arith, streams-few (showingIn p) (p .figures) (checked-legal p ps ls w e))
 
 -- a record that passes is the plan of its figures, with its lent lists
 pub sound-plan : (d : Desk) (ps ls : List ℕ) → soundDesk d ps ls ≡ true → isPlan (d .plan) ps ls ≡ true

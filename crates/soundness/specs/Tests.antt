@@ -8,11 +8,12 @@ use mathlib.Core.Logic.{by-cases}
 use native.Mathlib.Omega.{arith}
 use native.Mathlib.Decide.{decLe, decLt}
 use lib.ListN.{getD, List·getD-eq-default}
-use borrow.Author.Tests.{ltb-true, eqb-true, lt-ltb, eq-eqb}
+use borrow.Author.Tests.{ltb-true, lt-ltb}
 use Rattle.numbers.specs.Slots.{waiting, playing, sweeping}
 use Rattle.numbers.specs.Units.{parts}
 use Rattle.words.specs.Words.{wordsOf}
 use Rattle.plan.specs.declared.Plan.{Plan}
+use Rattle.plan.specs.Plan.{showingIn}
 use Rattle.safety.specs.Scheduler.{leads, lowWater}
 use Rattle.safety.specs.Order.{bySlot}
 use Rattle.safety.specs.Arrays.{slotOf}
@@ -22,6 +23,7 @@ use Rattle.desk.specs.declared.Desk.{Desk}
 use Rattle.desk.specs.Desk.{supplyOf, orderOf, slotsIn, viewOf}
 use Rattle.desk.specs.View.{Wide, same-length}
 use Rattle.desk.specs.Shown.{Slots, OfNext}
+use Rattle.desk.specs.FilmEnd.{end-says, end-at}
 use Rattle.desk.specs.Promise.{supply-named}
 use Rattle.desk.specs.Slots.{length-in, slot-in, kind-in}
 use Rattle.floor.specs.Floor.{mostLead, leadSum, Listed, Taken, mark-is}
@@ -30,19 +32,20 @@ use Rattle.soundness.specs.Facts.{slotsSound, Tells, Tidy, AllTidy, Play
 -- ---- one slot
 
 -- a good slot is tidy, and a tidy one is good where it holds the low-water mark
-pub good-tidy : (p : Plan) (L k x h : ℕ) → Good (supplyOf p) L (slotOf (supplyOf p) k x h) → Tidy (p .figures .blocks) (p .buffer) k x h
+pub good-tidy : (p : Plan) (L k x h : ℕ) → Good (supplyOf p) L (slotOf (supplyOf p) k x h) → Tidy (p .showing) (p .figures .blocks) (p .buffer) k x h
 unfolding supplyOf
 good-tidy p L k x h g = record {
   kinds = g .kinds;
   zeros = g .zeros;
   empty = g .empty;
   named = λ a b. ltb-true x (p .figures .blocks) (g .named a b);
-  past = λ e. eqb-true x (p .figures .blocks) (g .past e);
+  ends = λ e. end-says p x (g .past e) .0;
+  past = λ e. end-says p x (g .past e) .1;
   some = g .some;
   fits = g .fits;
 }
 
-pub tidy-good : (p : Plan) (L k x h : ℕ) → Tidy (p .figures .blocks) (p .buffer) k x h → (k ≡ playing → lowWater (supplyOf p) L ≤ parts * h)
+pub tidy-good : (p : Plan) (L k x h : ℕ) → Tidy (p .showing) (p .figures .blocks) (p .buffer) k x h → (k ≡ playing → lowWater (supplyOf p) L ≤ parts * h)
     → Good (supplyOf p) L (slotOf (supplyOf p) k x h)
 unfolding supplyOf
 tidy-good p L k x h t f = record {
@@ -50,7 +53,7 @@ tidy-good p L k x h t f = record {
   zeros = t .zeros;
   empty = t .empty;
   named = λ a b. lt-ltb x (p .figures .blocks) (t .named a b);
-  past = λ e. eq-eqb x (p .figures .blocks) (t .past e);
+  past = λ e. end-at p x (t .ends e) (t .past e);
   some = t .some;
   fits = t .fits;
   floored = f;
@@ -90,7 +93,7 @@ module _ (d : Desk) (w : Wide d) where
   }
 
   -- its next blocks are in the list of leads ls, and what is taken from there are their leads
-  module _ (t : AllTidy d) (n : d .plan .streams ≤ 256) (ls : List ℕ) (q : LeadList (d .plan .figures) ls) where
+  module _ (t : AllTidy d) (n : d .plan .streams ≤ 256) (ls : List ℕ) (q : LeadList (showingIn (d .plan)) (d .plan .figures) ls) where
     pub tidy-listed : Listed (wordsOf ls) (d .kinds) (d .next) (d .plan .streams)
     tidy-listed i l a b = omega (arith, t .slots i (omega arith) .named a b, q .long)
 

@@ -53,7 +53,15 @@ pub fn test_record<'a>(
         };
     }
     let streams = plan.streams as usize;
-    if !all_tidy(plan.figures.blocks, plan.buffer, streams, kinds, next, held) {
+    if !all_tidy(
+        plan.showing,
+        plan.figures.blocks,
+        plan.buffer,
+        streams,
+        kinds,
+        next,
+        held,
+    ) {
         return Tested {
             sound: false,
             sum: 0,

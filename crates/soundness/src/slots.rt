@@ -1,4 +1,5 @@
 // The test of the slots of a record.
+use numbers::showings::LOOP;
 use numbers::slots::DRAINING;
 use numbers::slots::FILLING;
 use numbers::slots::FREE;
@@ -13,9 +14,9 @@ ghost use Rattle.numbers.specs.Slots.{playing};
 ghost use Rattle.numbers.specs.Units.{parts};
 ghost use Rattle.soundness.specs.Facts.{Tells, Tidy, RestZero, SlotsTidy, PlayersHold};
 
-// Is a slot sound but for the low-water mark (01: the floor)? `blocks` is N.
-fn is_tidy(blocks: u32, buffer: u32, kind: u32, next: u32, held: u32) -> bool
-    ensures { λ r. ⌜ Tells r (Tidy blocks buffer kind next held) ⌝ }
+// Is a slot sound but for the low-water mark (01: the floor)? `showing` is the plan's word, `blocks` N.
+fn is_tidy(showing: u32, blocks: u32, buffer: u32, kind: u32, next: u32, held: u32) -> bool
+    ensures { λ r. ⌜ Tells r (Tidy showing blocks buffer kind next held) ⌝ }
 {
     if held > buffer {
         return false;
@@ -36,6 +37,9 @@ fn is_tidy(blocks: u32, buffer: u32, kind: u32, next: u32, held: u32) -> bool
         FILLING => return next < blocks,
         PLAYING => return next < blocks,
         DRAINING => {
+            if showing == LOOP {
+                return false;
+            }
             if held == 0 {
                 return false;
             }
@@ -64,8 +68,9 @@ fn rest_zero<'a>(
     bits == 0
 }
 
-// Are all slots tidy, and those from n on zero? `blocks` is N, `streams` n.
+// Are all slots tidy, and those from n on zero? `showing` is the plan's word, `blocks` N, `streams` n.
 pub fn all_tidy<'a>(
+    showing: u32,
     blocks: u32,
     buffer: u32,
     streams: usize,
@@ -74,14 +79,14 @@ pub fn all_tidy<'a>(
     held: &'a [u32; 256],
 ) -> bool
     requires { ⌜ streams ≤ maxStreams ⌝ }
-    ensures { λ r. ⌜ Tells r (SlotsTidy blocks buffer streams (now (kinds .entry)) (now (next .entry)) (now (held .entry))) ⌝ }
+    ensures { λ r. ⌜ Tells r (SlotsTidy showing blocks buffer streams (now (kinds .entry)) (now (next .entry)) (now (held .entry))) ⌝ }
 {
     if !rest_zero(streams, kinds, next, held) {
         return false;
     }
     let mut i: usize = 0;
     while i < streams {
-        if !is_tidy(blocks, buffer, kinds[i], next[i], held[i]) {
+        if !is_tidy(showing, blocks, buffer, kinds[i], next[i], held[i]) {
             return false;
         }
         i += 1;

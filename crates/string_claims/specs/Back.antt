@@ -8,7 +8,7 @@ use mathlib.Core.Logic.{by-cases}
 use native.Mathlib.Omega.{arith}
 use native.Mathlib.Decide.{ℕ-discrete}
 use lib.ListN.{length, length-map, length-replicate}
-use borrow.Author.Tests.{eq-eqb, ne-eqb, ltb-true, eqb-true}
+use borrow.Author.Tests.{eq-eqb, ne-eqb, ltb-true}
 use Rattle.numbers.specs.Limits.{maxStreams, noNumber}
 use Rattle.numbers.specs.Refusals.{notSound}
 use Rattle.laws.specs.Each.{Each, each-replicate}
@@ -17,7 +17,7 @@ use Rattle.words.specs.Laws.{words-length}
 use Rattle.card.specs.Card.{Legal}
 use Rattle.round_trip.specs.Legality.{Wide}
 use Rattle.plan.specs.declared.Plan.{Plan}
-use Rattle.plan.specs.Plan.{planOf}
+use Rattle.plan.specs.Plan.{showingIn, planOf}
 use Rattle.plan.specs.Answer.{isPlan}
 use Rattle.plan.specs.Check.{checked, checked-legal}
 use Rattle.plan.specs.Legal.{buffer-small}
@@ -32,6 +32,7 @@ use Rattle.safety.specs.Safety.{accepted-length}
 use Rattle.safety.specs.Claim as K
 use Rattle.desk.specs.declared.Desk.{Desk}
 use Rattle.desk.specs.Desk.{supplyOf, rulesOf, orderOf, Queue, viewOf, deskOf, zeros, freshDesk, openBy, openDesk, answerOf, answered, joinDesk, leaveDesk, endDesk, beginDesk}
+use Rattle.desk.specs.FilmEnd.{end-says}
 use Rattle.desk.specs.Promise.{order-orderly, supply-named}
 use Rattle.trace.specs.Opening.{checked-lawful, fair-of}
 use Rattle.layout.specs.declared.FilmdiskAnswer.{FilmdiskAnswer}
@@ -53,11 +54,11 @@ module _ (p : Plan) (ps ls : List ℕ) (w : Wide (p .figures)) (i : isPlan p ps 
   legal = checked-legal p ps ls w i
 
   plan-fits : Words (planWords p)
-  plan-fits = subst (λ (q : Plan). Words (planWords q)) (sym (checked p ps ls i .plan)) (legal-words (p .figures) legal)
+  plan-fits = subst (λ (q : Plan). Words (planWords q)) (sym (checked p ps ls i .plan)) (legal-words (showingIn p) (p .figures) legal)
 
   buffer-fits : p .buffer < noNumber
   unfolding planOf
-  buffer-fits = omega (arith, ap (λ (q : Plan). q .buffer) (checked p ps ls i .plan), buffer-small (p .figures) legal, legal .bytes)
+  buffer-fits = omega (arith, ap (λ (q : Plan). q .buffer) (checked p ps ls i .plan), buffer-small (showingIn p) (p .figures) legal, legal .bytes)
 
   -- a good slot
   next-fits : (L : ℕ) (s : Slot ℕ) → Good (supplyOf p) L s → s .next < noNumber
@@ -70,7 +71,7 @@ module _ (p : Plan) (ps ls : List ℕ) (w : Wide (p .figures)) (i : isPlan p ps 
       by-kind : (k : ℕ) → s .kind ≡ k → s .next < noNumber
       by-kind zero e = omega (arith, g .zeros e .0)
       by-kind (suc k) e = by-cases (ℕ-discrete k 3)
-          (λ z. omega (arith, eqb-true (s .next) (p .figures .blocks) (g .past (omega arith)), legal .blocks))
+          (λ z. omega (arith, end-says p (s .next) (g .past (omega arith)) .1, legal .blocks))
           (λ z. block (omega arith) (omega (arith, g .kinds)))
 
   module _ (L : ℕ) where

@@ -1,4 +1,4 @@
--- What the plan call leaves in each string, in document 01's words.
+-- What the plan call of either showing leaves in each string, in document 01's words.
 -- Assumes nothing.
 use Prim.Native.Nat.{ℕ, zero, suc}
 use mathlib.Core.Path.{_≡_, refl, ap, _∙_}
@@ -15,6 +15,7 @@ use Rattle.words.specs.Words.{Bytes, wordsOf, withWords}
 use Rattle.words.specs.Laws.{words-length, withWords-length}
 use Rattle.card.specs.declared.CardRead.{CardRead}
 use Rattle.card.specs.Read.{readCard}
+use Rattle.placement.specs.Showing.{Showing}
 use Rattle.plan.specs.declared.Plan.{Plan}
 use Rattle.plan.specs.Plan.{planOf, blankPlan, positionsOf, leadsOf}
 use Rattle.plan.specs.Answer.{refusal, answer, filled}
@@ -32,9 +33,9 @@ use Rattle.plan_strings.specs.Calls.{planFaultOf, plannedOf, planFilled, planAn
 
 -- ---- the planner's answer, by its two numbers
 
-module _ (r : CardRead) (s vs : List ℕ) where
+module _ (x : Showing) (r : CardRead) (s vs : List ℕ) where
   -- a refusal leaves a list and has a blank plan
-  refused-kept : (j k : ℕ) → (answer j k r .verdict .number ≡ 0 → ⊥) → (filled j k s vs ≡ s) × (answer j k r .plan ≡ blankPlan)
+  refused-kept : (j k : ℕ) → (answer x j k r .verdict .number ≡ 0 → ⊥) → (filled j k s vs ≡ s) × (answer x j k r .plan ≡ blankPlan)
   unfolding refusal
   refused-kept zero zero h = absurd (h refl)
   refused-kept zero (suc k) h = (refl, refl)
@@ -43,44 +44,44 @@ module _ (r : CardRead) (s vs : List ℕ) where
 -- ---- the strings after the call
 
 -- the number that the call answers
-abbrev pub numberOf : List ℕ → List ℕ → List ℕ → List ℕ → ℕ
-numberOf s p ps ls = planAnswer s p ps ls .number
+abbrev pub numberOf : Showing → List ℕ → List ℕ → List ℕ → List ℕ → ℕ
+numberOf x s p ps ls = planAnswer x s p ps ls .number
 
-module _ (s p ps ls : List ℕ) where
+module _ (x : Showing) (s p ps ls : List ℕ) where
   -- a refused call leaves both lists
-  pub lists-kept : (numberOf s p ps ls ≡ 0 → ⊥) → (positionsString s p ps ls ≡ ps) × (leadsString s p ps ls ≡ ls)
+  pub lists-kept : (numberOf x s p ps ls ≡ 0 → ⊥) → (positionsString x s p ps ls ≡ ps) × (leadsString x s p ps ls ≡ ls)
   unfolding planAnswer verdictAnswer plannedOf positionsString leadsString
   lists-kept h =
       let r = readCard s in
       let j = r .verdict .number in
-      let k = planFaultOf r p ps ls in
-      (refused-kept r ps (positionsOf (r .figures)) j k h .0, refused-kept r ls (leadsOf (r .figures)) j k h .0)
+      let k = planFaultOf x r p ps ls in
+      (refused-kept x r ps (positionsOf x (r .figures)) j k h .0, refused-kept x r ls (leadsOf x (r .figures)) j k h .0)
 
   -- after 13, and where it has another length, the plan string is as it was
-  pub plan-kept : numberOf s p ps ls ≡ tooShort → planString s p ps ls ≡ p
+  pub plan-kept : numberOf x s p ps ls ≡ tooShort → planString x s p ps ls ≡ p
   unfolding planAnswer verdictAnswer planString planFilled
-  plan-kept h = rw (eq-eqb (plannedOf (readCard s) p ps ls .verdict .number) tooShort h) (go (eqb (length p) planSize))
+  plan-kept h = rw (eq-eqb (plannedOf x (readCard s) p ps ls .verdict .number) tooShort h) (go (eqb (length p) planSize))
     where
-      go : (t : Bool) → cond (t && false) (withWords p 0 (planWords (plannedOf (readCard s) p ps ls .plan))) p ≡ p
+      go : (t : Bool) → cond (t && false) (withWords p 0 (planWords (plannedOf x (readCard s) p ps ls .plan))) p ≡ p
       go true = refl
       go false = refl
 
-  pub other-kept : (length p ≡ planSize → ⊥) → planString s p ps ls ≡ p
+  pub other-kept : (length p ≡ planSize → ⊥) → planString x s p ps ls ≡ p
   unfolding planString planFilled
   other-kept n = rw (ne-eqb (length p) planSize n)
 
-  module _ (l : length p ≡ planSize) (n : numberOf s p ps ls ≡ tooShort → ⊥) where
-    written : planString s p ps ls ≡ withWords p 0 (planWords (plannedOf (readCard s) p ps ls .plan))
+  module _ (l : length p ≡ planSize) (n : numberOf x s p ps ls ≡ tooShort → ⊥) where
+    written : planString x s p ps ls ≡ withWords p 0 (planWords (plannedOf x (readCard s) p ps ls .plan))
     unfolding planAnswer verdictAnswer planString planFilled
-    written = rw (eq-eqb (length p) planSize l, ne-eqb (plannedOf (readCard s) p ps ls .verdict .number) tooShort n)
+    written = rw (eq-eqb (length p) planSize l, ne-eqb (plannedOf x (readCard s) p ps ls .verdict .number) tooShort n)
 
     -- after 1 to 12 and 26 it is all zero
-    pub plan-cleared : (numberOf s p ps ls ≡ 0 → ⊥) → planString s p ps ls ≡ zeroBytes planSize
+    pub plan-cleared : (numberOf x s p ps ls ≡ 0 → ⊥) → planString x s p ps ls ≡ zeroBytes planSize
     unfolding planAnswer verdictAnswer plannedOf
     plan-cleared h =
-        written ∙ ap (λ (q : Plan). withWords p 0 (planWords q)) (refused-kept (readCard s) ps ps (readCard s .verdict .number) (planFaultOf (readCard s) p ps ls) h .1) ∙ plan-zero p l
+        written ∙ ap (λ (q : Plan). withWords p 0 (planWords q)) (refused-kept x (readCard s) ps ps (readCard s .verdict .number) (planFaultOf x (readCard s) p ps ls) h .1) ∙ plan-zero p l
 
-  right-length : planFaultOf (readCard s) p ps ls ≡ 0 → length p ≡ planSize
+  right-length : planFaultOf x (readCard s) p ps ls ≡ 0 → length p ≡ planSize
   unfolding planFaultOf
   right-length e = by-cases (ℕ-discrete (length p) planSize) (λ l. l) (λ n. wrong (rw (ne-eqb (length p) planSize n) at e))
     where
@@ -88,34 +89,34 @@ module _ (s p ps ls : List ℕ) where
       wrong e = absurd (omega arith)
 
   -- an accepted call leaves the plan of the card's figures
-  pub plan-told : Bytes s → numberOf s p ps ls ≡ 0 → planIn (wordsOf (planString s p ps ls)) ≡ planOf (readCard s .figures)
+  pub plan-told : Bytes s → numberOf x s p ps ls ≡ 0 → planIn (wordsOf (planString x s p ps ls)) ≡ planOf x (readCard s .figures)
   unfolding planAnswer verdictAnswer plannedOf
   plan-told y h =
       let r = readCard s in
-      let told = accepted-told r (r .verdict .number) (planFaultOf r p ps ls) h in
+      let told = accepted-told x r (r .verdict .number) (planFaultOf x r p ps ls) h in
       let l = right-length (told .1) in
       let ok = card-legal s y r refl (told .0) in
       ap (λ (t : List ℕ). planIn (wordsOf t)) (written l (λ e. omega arith) ∙ ap (λ (q : Plan). withWords p 0 (planWords q)) (told .2))
-      ∙ plan-written p (planOf (r .figures)) (legal-sized (r .figures) ok) (legal-words (r .figures) ok) (omega (arith, words-length p))
+      ∙ plan-written p (planOf x (r .figures)) (legal-sized x (r .figures) ok) (legal-words x (r .figures) ok) (omega (arith, words-length p))
 
   -- AND CAN BE OPENED: the strings that an accepted call leaves, with any desk string of the right length
-  module _ (y : Bytes s) (h : numberOf s p ps ls ≡ 0) where
-    planned-opened : openedFrom (planString s p ps ls) (positionsString s p ps ls) (leadsString s p ps ls) .verdict .number ≡ 0
+  module _ (y : Bytes s) (h : numberOf x s p ps ls ≡ 0) where
+    planned-opened : openedFrom (planString x s p ps ls) (positionsString x s p ps ls) (leadsString x s p ps ls) .verdict .number ≡ 0
     unfolding planAnswer verdictAnswer plannedOf positionsString leadsString planFaultOf openedFrom
     planned-opened =
         let r = readCard s in
-        let (j, k, q) = accepted-told r (r .verdict .number) (planFaultOf r p ps ls) h in
+        let (j, k, q) = accepted-told x r (r .verdict .number) (planFaultOf x r p ps ls) h in
         let l = right-length k in
-        let long : length (planString s p ps ls) ≡ planSize = ap length (written l (λ e. omega arith)) ∙ withWords-length p 0 _ ∙ l in
-        let o = plan-opens (r .figures) (card-legal s y r refl j) ps ls (rw (eq-eqb (length p) planSize l) at k) in
-        rw (eq-eqb (length (planString s p ps ls)) planSize long, plan-told y h, j, k) (o .0)
+        let long : length (planString x s p ps ls) ≡ planSize = ap length (written l (λ e. omega arith)) ∙ withWords-length p 0 _ ∙ l in
+        let o = plan-opens x (r .figures) (card-legal s y r refl j) ps ls (rw (eq-eqb (length p) planSize l) at k) in
+        rw (eq-eqb (length (planString x s p ps ls)) planSize long, plan-told y h, j, k) (o .0)
 
     pub strings-open : (D : List ℕ) → length D ≡ deskSize
-        → (let P = planString s p ps ls in let qs = positionsString s p ps ls in let ms = leadsString s p ps ls in
-        (openAnswer P qs ms D .number ≡ 0) × (said (openString P qs ms D) ≡ freshDesk (planOf (readCard s .figures))))
+        → (let P = planString x s p ps ls in let qs = positionsString x s p ps ls in let ms = leadsString x s p ps ls in
+        (openAnswer P qs ms D .number ≡ 0) × (said (openString P qs ms D) ≡ freshDesk (planOf x (readCard s .figures))))
     strings-open D l =
-        let P = planString s p ps ls in
-        let qs = positionsString s p ps ls in
-        let ms = leadsString s p ps ls in
+        let P = planString x s p ps ls in
+        let qs = positionsString x s p ps ls in
+        let ms = leadsString x s p ps ls in
         let n = open-number P qs ms D l ∙ planned-opened in
         (n, open-back P qs ms D n ∙ ap freshDesk (plan-told y h))

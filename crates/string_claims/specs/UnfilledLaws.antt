@@ -17,6 +17,7 @@ use Rattle.card.specs.declared.CardRead.{CardRead}
 use Rattle.card.specs.Card.{recordFault, cardOf, writeFault, writtenBy, bufferBy, writtenCard, bufferAfter}
 use Rattle.card.specs.Ranges.{first}
 use Rattle.card.specs.Read.{readCard}
+use Rattle.placement.specs.Showing.{Showing}
 use Rattle.plan.specs.Plan.{placeOf, leadOf, row, positionsOf, leadsOf}
 use Rattle.plan.specs.Rows.{row-length}
 use Rattle.plan.specs.Answer.{faultAfter, filled, positionsAfter, leadsAfter}
@@ -40,20 +41,21 @@ filled-past zero (suc k) s g n = (refl, λ i u. refl)
 filled-past (suc j) k s g n = (refl, λ i u. refl)
 
 -- after the planner on a record or a card, and after the plan call
-pub lists-past : (r : CardRead) (ps ls : List ℕ) → SameFrom (4 * r .figures .blocks) ps (positionsAfter r ps ls) × SameFrom (4 * r .figures .blocks) ls (leadsAfter r ps ls)
+pub lists-past : (x : Showing) (r : CardRead) (ps ls : List ℕ)
+    → SameFrom (4 * r .figures .blocks) ps (positionsAfter x r ps ls) × SameFrom (4 * r .figures .blocks) ls (leadsAfter x r ps ls)
 unfolding positionsAfter leadsAfter positionsOf leadsOf
-lists-past r ps ls = (
-  filled-past (r .verdict .number) (faultAfter r ps ls) ps (placeOf (r .figures)) (r .figures .blocks),
-  filled-past (r .verdict .number) (faultAfter r ps ls) ls (leadOf (r .figures)) (r .figures .blocks),
+lists-past x r ps ls = (
+  filled-past (r .verdict .number) (faultAfter x r ps ls) ps (placeOf x (r .figures)) (r .figures .blocks),
+  filled-past (r .verdict .number) (faultAfter x r ps ls) ls (leadOf x (r .figures)) (r .figures .blocks),
 )
 
-pub strings-past : (s p ps ls : List ℕ)
-    → SameFrom (4 * readCard s .figures .blocks) ps (positionsString s p ps ls) × SameFrom (4 * readCard s .figures .blocks) ls (leadsString s p ps ls)
+pub strings-past : (x : Showing) (s p ps ls : List ℕ)
+    → SameFrom (4 * readCard s .figures .blocks) ps (positionsString x s p ps ls) × SameFrom (4 * readCard s .figures .blocks) ls (leadsString x s p ps ls)
 unfolding positionsString leadsString positionsOf leadsOf
-strings-past s p ps ls =
+strings-past x s p ps ls =
     let r = readCard s in (
-      filled-past (r .verdict .number) (planFaultOf r p ps ls) ps (placeOf (r .figures)) (r .figures .blocks),
-      filled-past (r .verdict .number) (planFaultOf r p ps ls) ls (leadOf (r .figures)) (r .figures .blocks),
+      filled-past (r .verdict .number) (planFaultOf x r p ps ls) ps (placeOf x (r .figures)) (r .figures .blocks),
+      filled-past (r .verdict .number) (planFaultOf x r p ps ls) ls (leadOf x (r .figures)) (r .figures .blocks),
     )
 
 -- ---- the fetch list, past the count: an entry has 12 bytes

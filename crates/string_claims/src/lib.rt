@@ -8,6 +8,7 @@ ghost use Rattle.card.specs.declared.Figures.{Figures};
 ghost use Rattle.card.specs.declared.CardRead.{CardRead};
 ghost use Rattle.card.specs.Card.{writtenCard, bufferAfter};
 ghost use Rattle.card.specs.Read.{readCard};
+ghost use Rattle.placement.specs.Showing.{Showing};
 ghost use Rattle.plan.specs.Plan.{planOf};
 ghost use Rattle.plan.specs.Answer.{positionsAfter, leadsAfter};
 ghost use Rattle.desk.specs.Desk.{freshDesk, joinDesk, leaveDesk, endDesk, beginDesk};
@@ -41,37 +42,39 @@ pub fn accepted_desk_reads_back()
     ensures ends { λ _. ⌜ ((D ps ls draws : List ℕ) → endAnswer D ps ls draws .number ≡ 0 → said (endString D ps ls draws) ≡ endDesk (said D) ps ls draws .desk) ⌝ }
 {}
 
-// Demand 3 for C: from an accepted opening with the plan string P, every list of calls on one desk string, refused calls included, keeps the
-// string's length and is safe as crate trace says it. Desk, book, numbers and bounds are what the strings and these very answers say.
+// Demand 3 for C: from an accepted opening with the plan string P, of either showing, every list of calls on one desk string, refused calls
+// included, keeps the string's length and is safe as crate trace says it. Desk, book, numbers and bounds are what the strings and these very
+// answers say.
 pub fn every_list_of_strings_safe()
     ensures { λ _. ⌜ ((P ps ls D : List ℕ) → Bytes D → openAnswer P ps ls D .number ≡ 0 → (xs : List StringCall)
         → (length (stringsAfter P (openString P ps ls D) xs .desk) ≡ deskSize) × Safe (planIn (wordsOf P)) (onString P (openString P ps ls D)) xs) ⌝ }
 {}
 
-// What the plan call leaves in the plan string and the lists: accepted, the plan of the card's figures; after 1 to 12 and 26 zeros; after 13, and where
-// it has another length, what it held. A refused call leaves both lists.
+// What the plan call of either showing leaves in the plan string and the lists: accepted, the plan of the card's figures; after 1 to 12 and 26
+// zeros; after 13, and where it has another length, what it held. A refused call leaves both lists.
 pub fn plan_call_leaves()
-    ensures accepted { λ _. ⌜ ((s p ps ls : List ℕ) → Bytes s → planAnswer s p ps ls .number ≡ 0 → planIn (wordsOf (planString s p ps ls)) ≡ planOf (readCard s .figures)) ⌝ }
-    ensures cleared { λ _. ⌜ ((s p ps ls : List ℕ) → length p ≡ planSize → (planAnswer s p ps ls .number ≡ 13 → ⊥) → (planAnswer s p ps ls .number ≡ 0 → ⊥) → planString s p ps ls ≡ zeroBytes planSize) ⌝ }
-    ensures kept { λ _. ⌜ ((s p ps ls : List ℕ) → planAnswer s p ps ls .number ≡ 13 → planString s p ps ls ≡ p) ⌝ }
-    ensures other { λ _. ⌜ ((s p ps ls : List ℕ) → (length p ≡ planSize → ⊥) → planString s p ps ls ≡ p) ⌝ }
-    ensures lists { λ _. ⌜ ((s p ps ls : List ℕ) → (planAnswer s p ps ls .number ≡ 0 → ⊥) → (positionsString s p ps ls ≡ ps) × (leadsString s p ps ls ≡ ls)) ⌝ }
+    ensures accepted { λ _. ⌜ ((x : Showing) (s p ps ls : List ℕ) → Bytes s → planAnswer x s p ps ls .number ≡ 0 → planIn (wordsOf (planString x s p ps ls)) ≡ planOf x (readCard s .figures)) ⌝ }
+    ensures cleared { λ _. ⌜ ((x : Showing) (s p ps ls : List ℕ) → length p ≡ planSize → (planAnswer x s p ps ls .number ≡ 13 → ⊥) → (planAnswer x s p ps ls .number ≡ 0 → ⊥) → planString x s p ps ls ≡ zeroBytes planSize) ⌝ }
+    ensures kept { λ _. ⌜ ((x : Showing) (s p ps ls : List ℕ) → planAnswer x s p ps ls .number ≡ 13 → planString x s p ps ls ≡ p) ⌝ }
+    ensures other { λ _. ⌜ ((x : Showing) (s p ps ls : List ℕ) → (length p ≡ planSize → ⊥) → planString x s p ps ls ≡ p) ⌝ }
+    ensures lists { λ _. ⌜ ((x : Showing) (s p ps ls : List ℕ) → (planAnswer x s p ps ls .number ≡ 0 → ⊥) → (positionsString x s p ps ls ≡ ps) × (leadsString x s p ps ls ≡ ls)) ⌝ }
 {}
 
-// What the plan call leaves can be opened, into any desk string of the right length: the desk is that of the card's plan, all slots free.
+// What the plan call of either showing leaves can be opened, into any desk string of the right length: the desk is that of the card's plan, all
+// slots free.
 pub fn planned_strings_open()
-    ensures { λ _. ⌜ ((s p ps ls : List ℕ) → Bytes s → planAnswer s p ps ls .number ≡ 0 → (D : List ℕ) → length D ≡ deskSize
-        → (openAnswer (planString s p ps ls) (positionsString s p ps ls) (leadsString s p ps ls) D .number ≡ 0)
-        × (said (openString (planString s p ps ls) (positionsString s p ps ls) (leadsString s p ps ls) D) ≡ freshDesk (planOf (readCard s .figures)))) ⌝ }
+    ensures { λ _. ⌜ ((x : Showing) (s p ps ls : List ℕ) → Bytes s → planAnswer x s p ps ls .number ≡ 0 → (D : List ℕ) → length D ≡ deskSize
+        → (openAnswer (planString x s p ps ls) (positionsString x s p ps ls) (leadsString x s p ps ls) D .number ≡ 0)
+        × (said (openString (planString x s p ps ls) (positionsString x s p ps ls) (leadsString x s p ps ls) D) ≡ freshDesk (planOf x (readCard s .figures)))) ⌝ }
 {}
 
 // Bytes that an answer does not fill keep their contents, spare ones too: of both lists past N entries, of the fetch list past the counted
 // entries of 12 bytes, of the buffer past the written card. Each keeps its length.
 pub fn unfilled_entries_stay()
-    ensures planner { λ _. ⌜ ((r : CardRead) (ps ls : List ℕ)
-        → SameFrom (4 * r .figures .blocks) ps (positionsAfter r ps ls) × SameFrom (4 * r .figures .blocks) ls (leadsAfter r ps ls)) ⌝ }
-    ensures plans { λ _. ⌜ ((s p ps ls : List ℕ)
-        → SameFrom (4 * readCard s .figures .blocks) ps (positionsString s p ps ls) × SameFrom (4 * readCard s .figures .blocks) ls (leadsString s p ps ls)) ⌝ }
+    ensures planner { λ _. ⌜ ((x : Showing) (r : CardRead) (ps ls : List ℕ)
+        → SameFrom (4 * r .figures .blocks) ps (positionsAfter x r ps ls) × SameFrom (4 * r .figures .blocks) ls (leadsAfter x r ps ls)) ⌝ }
+    ensures plans { λ _. ⌜ ((x : Showing) (s p ps ls : List ℕ)
+        → SameFrom (4 * readCard s .figures .blocks) ps (positionsString x s p ps ls) × SameFrom (4 * readCard s .figures .blocks) ls (leadsString x s p ps ls)) ⌝ }
     ensures begins { λ _. ⌜ ((D ps ls F : List ℕ) → SameFrom (12 * beginAnswer D ps ls F .count) F (fetchString D ps ls F)) ⌝ }
     ensures writer { λ _. ⌜ ((f : Figures) (out : List ℕ) → SameFrom (writtenCard f out .length) out (bufferAfter f out)) ⌝ }
 {}

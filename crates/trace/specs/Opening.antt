@@ -7,6 +7,7 @@ use mathlib.Core.List.{List}
 use native.Mathlib.Omega.{arith}
 use Rattle.round_trip.specs.Legality.{Wide}
 use Rattle.plan.specs.declared.Plan.{Plan}
+use Rattle.plan.specs.Plan.{showingIn}
 use Rattle.plan.specs.Answer.{isPlan}
 use Rattle.plan.specs.Check.{checked, checked-legal}
 use Rattle.safety.specs.Supply.{Lawful}
@@ -29,7 +30,7 @@ use Rattle.trace.specs.SafeLists.{list-safe, givenOf, called-ruled}
 pub checked-lawful : (p : Plan) (ps ls : List ℕ) → Wide (p .figures) → isPlan p ps ls ≡ true → Lawful (supplyOf p)
 checked-lawful p ps ls w e =
     let c = checked p ps ls e in
-    subst (λ (q : Plan). Lawful (supplyOf q)) (sym (c .plan)) (plan-lawful (p .figures) (checked-legal p ps ls w e) (c .fed))
+    subst (λ (q : Plan). Lawful (supplyOf q)) (sym (c .plan)) (plan-lawful (showingIn p) (p .figures) (checked-legal p ps ls w e) (c .fed))
 
 -- EVERY LIST FROM AN ACCEPTED OPENING
 pub opening-safe : (p : Plan) (ps ls : List ℕ) → Wide (p .figures) → openDesk p ps ls .verdict .number ≡ 0

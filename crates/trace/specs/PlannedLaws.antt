@@ -14,6 +14,7 @@ use Rattle.card.specs.declared.CardRead.{CardRead}
 use Rattle.card.specs.Card.{Legal, judgeRecord}
 use Rattle.card.specs.Read.{readCard}
 use Rattle.round_trip.specs.Legality.{Wide, fault-legal}
+use Rattle.placement.specs.Showing.{Showing}
 use Rattle.plan.specs.Plan.{streamsOf, planOf, positionsOf, leadsOf}
 use Rattle.plan.specs.Answer.{planFault, faultAfter, refusal, answer, planned, positionsAfter, leadsAfter, judged}
 use Rattle.plan.specs.Check.{plan-passes}
@@ -22,46 +23,46 @@ use Rattle.desk.specs.Desk.{openDesk}
 use Rattle.trace.specs.Answers.{Opens}
 
 -- the planner's answer, by its two numbers: accepted, it has the plan of the figures
-pub accepted-told : (r : CardRead) (j k : ℕ) → answer j k r .verdict .number ≡ 0 → (j ≡ 0) × (k ≡ 0) × (answer j k r .plan ≡ planOf (r .figures))
+pub accepted-told : (x : Showing) (r : CardRead) (j k : ℕ) → answer x j k r .verdict .number ≡ 0 → (j ≡ 0) × (k ≡ 0) × (answer x j k r .plan ≡ planOf x (r .figures))
 unfolding refusal
-accepted-told r zero zero h = (refl, refl, refl)
-accepted-told r zero (suc k) h = absurd (omega arith)
-accepted-told r (suc j) k h = absurd (omega arith)
+accepted-told x r zero zero h = (refl, refl, refl)
+accepted-told x r zero (suc k) h = absurd (omega arith)
+accepted-told x r (suc j) k h = absurd (omega arith)
 
 -- neither 13 nor 12
-fault-none : (f : Figures) (np nl : ℕ) → planFault f np nl ≡ 0 → (f .blocks ≤ np) × (f .blocks ≤ nl) × (0 < streamsOf f)
+fault-none : (x : Showing) (f : Figures) (np nl : ℕ) → planFault x f np nl ≡ 0 → (f .blocks ≤ np) × (f .blocks ≤ nl) × (0 < streamsOf x f)
 unfolding planFault
-fault-none f np nl e = go (ltb np (f .blocks)) refl (ltb nl (f .blocks)) refl (eqb (streamsOf f) 0) refl e
+fault-none x f np nl e = go (ltb np (f .blocks)) refl (ltb nl (f .blocks)) refl (eqb (streamsOf x f) 0) refl e
   where
-    go : (s : Bool) → ltb np (f .blocks) ≡ s → (t : Bool) → ltb nl (f .blocks) ≡ t → (u : Bool) → eqb (streamsOf f) 0 ≡ u
-        → _≡_ {A = ℕ} (cond (s || t) 13 (cond u 12 0)) 0 → (f .blocks ≤ np) × (f .blocks ≤ nl) × (0 < streamsOf f)
+    go : (s : Bool) → ltb np (f .blocks) ≡ s → (t : Bool) → ltb nl (f .blocks) ≡ t → (u : Bool) → eqb (streamsOf x f) 0 ≡ u
+        → _≡_ {A = ℕ} (cond (s || t) 13 (cond u 12 0)) 0 → (f .blocks ≤ np) × (f .blocks ≤ nl) × (0 < streamsOf x f)
     go true a t b u c e = absurd (omega arith)
     go false a true b u c e = absurd (omega arith)
     go false a false b true c e = absurd (omega arith)
     go false a false b false c e =
-        (ltb-false np (f .blocks) a, ltb-false nl (f .blocks) b, omega (arith, eqb-false (streamsOf f) 0 c))
+        (ltb-false np (f .blocks) a, ltb-false nl (f .blocks) b, omega (arith, eqb-false (streamsOf x f) 0 c))
 
 -- the plan of legal figures, with the lists in which it was written
-pub plan-opens : (f : Figures) → Legal f → (ps ls : List ℕ) → planFault f (length (wordsOf ps)) (length (wordsOf ls)) ≡ 0
-    → Opens (planOf f) (withWords ps 0 (positionsOf f)) (withWords ls 0 (leadsOf f))
+pub plan-opens : (x : Showing) (f : Figures) → Legal f → (ps ls : List ℕ) → planFault x f (length (wordsOf ps)) (length (wordsOf ls)) ≡ 0
+    → Opens (planOf x f) (withWords ps 0 (positionsOf x f)) (withWords ls 0 (leadsOf x f))
 unfolding openDesk
-plan-opens f ok ps ls e =
-    let (lp, ll, fed) = fault-none f (length (wordsOf ps)) (length (wordsOf ls)) e in
-    rw (plan-passes f ok fed ps ls lp ll) (refl, refl)
+plan-opens x f ok ps ls e =
+    let (lp, ll, fed) = fault-none x f (length (wordsOf ps)) (length (wordsOf ls)) e in
+    rw (plan-passes x f ok fed ps ls lp ll) (refl, refl)
 
-module _ (r : CardRead) (ps ls : List ℕ) (e : planned r ps ls .verdict .number ≡ 0) where
-  legal-opens : (r .verdict .number ≡ 0 → Legal (r .figures)) → Opens (planned r ps ls .plan) (positionsAfter r ps ls) (leadsAfter r ps ls)
+module _ (x : Showing) (r : CardRead) (ps ls : List ℕ) (e : planned x r ps ls .verdict .number ≡ 0) where
+  legal-opens : (r .verdict .number ≡ 0 → Legal (r .figures)) → Opens (planned x r ps ls .plan) (positionsAfter x r ps ls) (leadsAfter x r ps ls)
   unfolding planned positionsAfter leadsAfter
   legal-opens legal =
-      let (j, k, p) = accepted-told r (r .verdict .number) (faultAfter r ps ls) e in
-      rw (p, j, k) (plan-opens (r .figures) (legal j) ps ls k)
+      let (j, k, p) = accepted-told x r (r .verdict .number) (faultAfter x r ps ls) e in
+      rw (p, j, k) (plan-opens x (r .figures) (legal j) ps ls k)
 
 -- A CARD that was planned, and A RECORD
-pub card-opens : (s ps ls : List ℕ) → Bytes s → planned (readCard s) ps ls .verdict .number ≡ 0
-    → Opens (planned (readCard s) ps ls .plan) (positionsAfter (readCard s) ps ls) (leadsAfter (readCard s) ps ls)
-card-opens s ps ls y e = legal-opens (readCard s) ps ls e (card-legal s y (readCard s) refl)
+pub card-opens : (x : Showing) (s ps ls : List ℕ) → Bytes s → planned x (readCard s) ps ls .verdict .number ≡ 0
+    → Opens (planned x (readCard s) ps ls .plan) (positionsAfter x (readCard s) ps ls) (leadsAfter x (readCard s) ps ls)
+card-opens x s ps ls y e = legal-opens x (readCard s) ps ls e (card-legal s y (readCard s) refl)
 
-pub record-opens : (f : Figures) (ps ls : List ℕ) → Wide f → planned (judged f) ps ls .verdict .number ≡ 0
-    → Opens (planned (judged f) ps ls .plan) (positionsAfter (judged f) ps ls) (leadsAfter (judged f) ps ls)
+pub record-opens : (x : Showing) (f : Figures) (ps ls : List ℕ) → Wide f → planned x (judged f) ps ls .verdict .number ≡ 0
+    → Opens (planned x (judged f) ps ls .plan) (positionsAfter x (judged f) ps ls) (leadsAfter x (judged f) ps ls)
 unfolding judged judgeRecord
-record-opens f ps ls w e = legal-opens (judged f) ps ls e (fault-legal f w)
+record-opens x f ps ls w e = legal-opens x (judged f) ps ls e (fault-legal f w)

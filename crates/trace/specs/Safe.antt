@@ -8,6 +8,7 @@ use lib.ListN.{getD}
 use Rattle.numbers.specs.Limits.{maxStreams}
 use Rattle.numbers.specs.Refusals.{notSound}
 use Rattle.numbers.specs.Slots.{waiting, playing, draining}
+use Rattle.numbers.specs.Showings.{loopWord}
 use Rattle.numbers.specs.Units.{micros}
 use Rattle.plan.specs.declared.Plan.{Plan}
 use Rattle.plan.specs.Answer.{isPlan}
@@ -57,7 +58,7 @@ module _ {X : Type 0} (p : Plan) (v : Seen X) where
   abbrev pub lineOf : List X → ℕ → Line
   lineOf xs i = lineAt (v .book xs) i
 
-  -- AFTER EVERY LIST from an opening of p, for each of the 256 slots
+  -- AFTER EVERY LIST from an opening of p, a plan of either showing (T7.9), for each of the 256 slots
   pub record Safe (xs : List X) : Type 0 where
     -- B3: a slot is occupied exactly where its line is open
     pub occupied-open : (i : ℕ) → i < maxStreams → ((waiting ≤ kindAt xs i) × (kindAt xs i ≤ draining)) ↔ (lineOf xs i .isOpen ≡ true)
@@ -76,3 +77,5 @@ module _ {X : Type 0} (p : Plan) (v : Seen X) where
     pub same-plan : v .desk xs .plan ≡ p
     pub stays-sound : sound (supplyOf p) (orderOf p) (viewOf (v .desk xs)) ≡ true
     pub never-unsound : (x : X) → v .fair x ≡ true → v .number xs x ≢ notSound
+    -- T7.8: in a loop no slot is tail
+    pub loop-never-drains : p .showing ≡ loopWord → (i : ℕ) → i < maxStreams → kindAt xs i ≢ draining

@@ -11,7 +11,9 @@ use Rattle.plan.specs.Answer.{isPlan}
 use Rattle.safety.specs.Supply.{Lawful}
 use Rattle.safety.specs.Order.{Scheduler, bySlot}
 use Rattle.safety.specs.Order as A
-use Rattle.safety.specs.Sound.{sound}
+use Rattle.safety.specs.Scheduler.{leads}
+use Rattle.safety.specs.Sound.{Good, sound, sound-says}
+use Rattle.safety.specs.Turns.{sound-at}
 use Rattle.safety.specs.Kinds.{kindAfter}
 use Rattle.safety.specs.Ledger.{lineAt, recorded}
 use Rattle.safety.specs.Calls as C
@@ -21,6 +23,7 @@ use Rattle.desk.specs.declared.Desk.{Desk}
 use Rattle.desk.specs.Desk.{supplyOf, rulesOf, orderOf, Queue, viewOf, deskOf, answerOf, answered, joinDesk, leaveDesk, beginDesk, endDesk, zeros, freshDesk}
 use Rattle.desk.specs.Entries.{entries-in}
 use Rattle.desk.specs.View.{view-of-desk}
+use Rattle.desk.specs.FilmEnd.{end-says}
 use Rattle.desk.specs.Promise.{supply-named}
 use Rattle.trace.specs.List.{Request, joins, leaves, begins, ends, Lent, moveOf, answerTo, called, World, turn, after, opened}
 use Rattle.trace.specs.Safe.{Seen, worldAfter, onRecord, Safe}
@@ -49,6 +52,7 @@ module _ {X Y : Type 0} (g : X → Y) (v : Seen Y) where
     same-plan = s .same-plan;
     stays-sound = s .stays-sound;
     never-unsound = λ x. s .never-unsound (g x);
+    loop-never-drains = s .loop-never-drains;
   }
 
 -- ---- a call as the rules are given it
@@ -182,8 +186,17 @@ module _ (p : Plan) where
           same-plan = unfold deskOf in refl;
           stays-sound = ap (sound (supplyOf p) (orderOf p)) (view-of-desk p d) ∙ s .stays-sound;
           never-unsound = s .never-unsound;
+          loop-never-drains = λ l i u k. end-says p _ (good gs i .past (sym (kind-at p d i) ∙ k)) .0 l;
         }
       where
+        -- each slot is sound
+        good : (gs : List (Given ℕ)) (i : ℕ)
+            → Good (supplyOf p) (leads (supplyOf p) (K.stateAfter (supplyOf p) (orderOf p) gs .scheduler .slots)) (K.slotAfter (supplyOf p) (orderOf p) gs i)
+        good gs i =
+            let d = K.stateAfter (supplyOf p) (orderOf p) gs .scheduler in
+            sound-at (supplyOf p) (supply-named p) (orderOf p) d
+            (sound-says (supplyOf p) (supply-named p) (orderOf p) d (K.every-list-safe (supplyOf p) ok (supply-named p) gs .stays-sound)) i
+
         -- the desk before the last call is the scheduler's too
         before : (ys : List (Given ℕ)) (x : Given ℕ) (i : ℕ)
             → cond (isAccepted (onRules .number ys x)) (kindAfter (supplyOf p) (K.stateAfter (supplyOf p) (orderOf p) ys .scheduler) (x .call) i) (K.slotAfter (supplyOf p) (orderOf p) ys i .kind)

@@ -9,6 +9,7 @@ ghost use Rattle.words.specs.Words.{Bytes};
 ghost use Rattle.card.specs.declared.Figures.{Figures};
 ghost use Rattle.card.specs.Read.{readCard};
 ghost use Rattle.round_trip.specs.Legality.{Wide};
+ghost use Rattle.placement.specs.Showing.{Showing};
 ghost use Rattle.plan.specs.declared.Plan.{Plan};
 ghost use Rattle.plan.specs.Answer.{planned, positionsAfter, leadsAfter, judged};
 ghost use Rattle.safety.specs.Sound.{sound};
@@ -20,8 +21,8 @@ ghost use Rattle.trace.specs.Answers.{Opens, Fetched, drawAt, mayDraw, L
 ghost use Rattle.trace.specs.List.{Lent, called};
 ghost use Rattle.trace.specs.Safe.{Safe, onRecord};
 
-// From an accepted opening every list of joins, leaves, begins and ends is safe, refused calls included. (Wide: the record has 64 zone
-// entries, as a value of its type has.)
+// From an accepted opening of either showing's plan every list of joins, leaves, begins and ends is safe, refused calls included. (Wide: the
+// record has 64 zone entries, as a value of its type has.)
 pub fn every_list_safe()
     ensures { λ _. ⌜ ((p : Plan) (positions leads : List ℕ) → Wide (p .figures) → openDesk p positions leads .verdict .number ≡ 0
         → (openDesk p positions leads .desk ≡ freshDesk p) × ((xs : List Lent) → Safe p (onRecord p) xs)) ⌝ }
@@ -33,12 +34,12 @@ pub fn accepted_call_stays_sound()
         → sound (supplyOf (d .plan)) (orderOf (d .plan)) (viewOf (called d x .desk)) ≡ true) ⌝ }
 {}
 
-// What the planner leaves can be opened: of an accepted card, and of an accepted record.
+// What the planner leaves can be opened, in either showing: of an accepted card, and of an accepted record.
 pub fn planned_film_opens()
-    ensures card { λ _. ⌜ ((s ps ls : List ℕ) → Bytes s → planned (readCard s) ps ls .verdict .number ≡ 0
-        → Opens (planned (readCard s) ps ls .plan) (positionsAfter (readCard s) ps ls) (leadsAfter (readCard s) ps ls)) ⌝ }
-    ensures record { λ _. ⌜ ((f : Figures) (ps ls : List ℕ) → Wide f → planned (judged f) ps ls .verdict .number ≡ 0
-        → Opens (planned (judged f) ps ls .plan) (positionsAfter (judged f) ps ls) (leadsAfter (judged f) ps ls)) ⌝ }
+    ensures card { λ _. ⌜ ((x : Showing) (s ps ls : List ℕ) → Bytes s → planned x (readCard s) ps ls .verdict .number ≡ 0
+        → Opens (planned x (readCard s) ps ls .plan) (positionsAfter x (readCard s) ps ls) (leadsAfter x (readCard s) ps ls)) ⌝ }
+    ensures record { λ _. ⌜ ((x : Showing) (f : Figures) (ps ls : List ℕ) → Wide f → planned x (judged f) ps ls .verdict .number ≡ 0
+        → Opens (planned x (judged f) ps ls .plan) (positionsAfter x (judged f) ps ls) (leadsAfter x (judged f) ps ls)) ⌝ }
 {}
 
 // An accepted begin fetches one block for each filling or playing slot with room and no other, by rising position, then slot.

@@ -1,2 +1,3 @@
 mod Cursors
+mod Layings
 mod Runs

@@ -1,11 +1,11 @@
 -- The code's way to the times of a film's blocks: cursors over the zones, and a walk in runs of blocks that lie in the same two zones.
-use Prim.Native.Nat.{ℕ, suc, _+_, _*_, _-_, _%_, _≤_, _<_, min}
+use Prim.Native.Nat.{ℕ, suc, _+_, _*_, _-_, _/_, _%_, _≤_, _<_, min}
 use mathlib.Core.Path.{_≡_}
 use mathlib.Core.Bool.{cond}
 use mathlib.Core.List.{List}
 use lib.ListN.{take}
 use lib.Dec.{eqb}
-use Rattle.placement.specs.Placement.{place}
+use Rattle.numbers.specs.Limits.{maxPositions, maxTime}
 use Rattle.placement.specs.Zones.{total, timeAt}
 use Rattle.plan.specs.Disk.{Zoned}
 use Rattle.zones.specs.declared.Zone.{Zone}
@@ -33,28 +33,36 @@ pub record Holds (ps : List ℕ) (z : Zone) (q : ℕ) : Type 0 where
   pub from : z .first ≤ q
   pub to : q < z .end
 
--- ---- the laying, as the walk needs it
+-- ---- a laying, as the walk needs it: the N highest of P positions, l the position of a block
 
--- the position of block b of N, among the N highest of P
-pub record Position (P N b q : ℕ) : Type 0 where
-  pub is : q ≡ place P N b
+-- the position of block b
+pub record Position (P N : ℕ) (l : ℕ → ℕ) (b q : ℕ) : Type 0 where
+  pub is : q ≡ l b
   pub from : P - N ≤ q
   pub to : q < P
 
--- the zones of an even and of an odd block of a film reach into its positions
-pub record Ends (P N : ℕ) (low high : Zone) : Type 0 where
+-- of block b and the next one, the even one lies in the low zone and the odd one in the high zone
+pub record Ends (P N : ℕ) (l : ℕ → ℕ) (b : ℕ) (low high : Zone) : Type 0 where
+  pub block : b < N
   pub room : N ≤ P
-  pub first : P - N ≤ low .end
-  pub end : low .end ≤ P
-  pub last : high .first ≤ P
-  pub small : P ≤ 1048576
+  pub small : P ≤ maxPositions
+  pub low-from : low .first ≤ l (b + b % 2)
+  pub low-to : l (b + b % 2) < low .end
+  pub low-end : low .end ≤ P
+  pub high-from : high .first ≤ l (b + 1 - b % 2)
+  pub high-to : l (b + 1 - b % 2) < high .end
+  pub high-end : high .end ≤ P
 
--- t is the first block, at most N, that may lie in another zone: of the even ones past the low zone, of the odd ones before the high zone
-pub record RunEnd (P N : ℕ) (low high : Zone) (t : ℕ) : Type 0 where
+-- the first block that is an even one above a or an odd one above z
+abbrev pub firstPast : ℕ → ℕ → ℕ
+firstPast a z = min (2 * (a / 2) + 2) (2 * ((z + 1) / 2) + 1)
+
+-- the blocks from b up to t lie in the same two zones: two or more blocks where b is not the last
+pub record RunEnd (N : ℕ) (l : ℕ → ℕ) (b : ℕ) (low high : Zone) (t : ℕ) : Type 0 where
+  pub ahead : min (b + 2) N ≤ t
   pub within : t ≤ N
-  pub even : t + 2 * P ≤ 2 * low .end + 2 * N
-  pub odd : t + 2 * high .first ≤ 2 * P + 1
-  pub most : (k : ℕ) → k ≤ N → k + 2 * P ≤ 2 * low .end + 2 * N → k + 2 * high .first ≤ 2 * P + 1 → k ≤ t
+  pub even : (k : ℕ) → b ≤ k → k < t → k % 2 ≡ 0 → (low .first ≤ l k) × (l k < low .end)
+  pub odd : (k : ℕ) → b ≤ k → k < t → k % 2 ≡ 1 → (high .first ≤ l k) × (l k < high .end)
 
 -- ---- a walk
 
@@ -66,11 +74,13 @@ pub record Cursors (ps : List ℕ) (w : Walk) : Type 0 where
 abbrev pub sideOf : ℕ → ℕ → ℕ → ℕ
 sideOf even odd b = cond (eqb (b % 2) 0) even odd
 
--- a walk at block b of N: a run of blocks from b on, two or more where b is not the last, and their times
-pub record Runs (ps ts : List ℕ) (P N b : ℕ) (w : Walk) : Type 0 where
+-- a walk at block b of N, laid by l: a run of blocks from b on, two or more where b is not the last, and their times; and that of the block
+-- after b, past the last block too
+pub record Runs (ps ts : List ℕ) (l : ℕ → ℕ) (N b : ℕ) (w : Walk) : Type 0 where
   pub cursors : Cursors ps w
   pub ahead : min (b + 2) N ≤ w .until
   pub within : w .until ≤ N
-  pub times : (k : ℕ) → b ≤ k → k < w .until → timeAt ps ts (place P N k) ≡ sideOf (w .even) (w .odd) k
-  pub even : w .even ≤ 4000000
-  pub odd : w .odd ≤ 4000000
+  pub times : (k : ℕ) → b ≤ k → k < w .until → timeAt ps ts (l k) ≡ sideOf (w .even) (w .odd) k
+  pub pair : timeAt ps ts (l b) + timeAt ps ts (l (suc b)) ≡ w .even + w .odd
+  pub even : w .even ≤ maxTime
+  pub odd : w .odd ≤ maxTime

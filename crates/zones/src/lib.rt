@@ -1,11 +1,16 @@
-// The zones of a disk, and one walk over a film: how long each block takes where it lies.
+// The zones of a disk, and one walk over a film in either showing: how long each block takes where it lies.
+use numbers::showings::LOOP;
 ghost use mathlib.Core.Path.{_≡_};
 ghost use Prim.Native.Nat.{_≤_, _<_, min, max};
 ghost use lib.ListN.{take};
-ghost use Rattle.placement.specs.Placement.{place, worstTime};
+ghost use Rattle.numbers.specs.Limits.{maxPositions};
+ghost use Rattle.placement.specs.Placement.{place};
+ghost use Rattle.placement.specs.Circle.{falls, rank, ring};
+ghost use Rattle.placement.specs.Showing.{laying, worstOf};
 ghost use Rattle.placement.specs.Zones.{total, timeAt};
+ghost use Rattle.plan.specs.Plan.{showingOf};
 ghost use Rattle.plan.specs.Disk.{Zoned, Film};
-ghost use Rattle.zones.specs.Walk.{ZoneOf, Seeks, Holds, Position, Ends, RunEnd, Cursors, Runs};
+ghost use Rattle.zones.specs.Walk.{ZoneOf, Seeks, Holds, Position, Ends, firstPast, RunEnd, Cursors, Runs};
 
 // A zone by its number, with its first position and the first after it.
 pub struct Zone {
@@ -128,10 +133,10 @@ pub fn time_at<'a>(sizes: &'a [u32; 64], times: &'a [u32; 64], q: u32) -> u32
     times[index]
 }
 
-// The laying: the position of block b, or of the one that would follow the last; `total` is P.
-pub fn position_of(total: u32, blocks: u32, b: u32) -> u32
+// The position of block b of a film shown once, or of the one that would follow the last; `total` is P.
+fn once_position(total: u32, blocks: u32, b: u32) -> u32
     requires { ⌜ (0 < blocks) × (blocks ≤ total) × (b ≤ blocks) ⌝ }
-    ensures { λ r. ⌜ Position total blocks b r ⌝ }
+    ensures { λ r. ⌜ Position total blocks (place total blocks) b r ⌝ }
 {
     if b % 2 == 0 {
         return total - blocks + b / 2;
@@ -139,14 +144,97 @@ pub fn position_of(total: u32, blocks: u32, b: u32) -> u32
     total - 1 - b / 2
 }
 
-// How far the laying stays in a zone of the even and one of the odd blocks: the first block, at most N, from which it may leave one.
-fn run_end(total: u32, blocks: u32, low: Zone, high: Zone) -> u32
-    requires { ⌜ Ends total blocks low high ⌝ }
-    ensures { λ r. ⌜ RunEnd total blocks low high r ⌝ }
+// Does the rank of block b of a loop fall as b rises?
+fn rank_falls(blocks: u32, b: u32) -> bool
+    requires { ⌜ (b ≤ blocks) × (blocks ≤ maxPositions) ⌝ }
+    ensures { λ r. ⌜ r ≡ falls blocks b ⌝ }
+{
+    if 2 * b <= blocks {
+        return b % 2 == 1;
+    }
+    (blocks - b) % 2 == 0
+}
+
+// The rank of block b of a loop among the film's positions, slowest first; past the last block comes the first.
+fn loop_rank(blocks: u32, b: u32) -> u32
+    requires { ⌜ (b ≤ blocks) × (blocks ≤ maxPositions) ⌝ }
+    ensures { λ r. ⌜ r ≡ rank blocks b ⌝ }
+{
+    if rank_falls(blocks, b) {
+        return blocks - b;
+    }
+    if b == 0 {
+        return 0;
+    }
+    b - 1
+}
+
+// The position of block b of a loop, or of the first one past the last; `total` is P.
+fn loop_position(total: u32, blocks: u32, b: u32) -> u32
+    requires { ⌜ (0 < blocks) × (blocks ≤ total) × (b ≤ blocks) × (total ≤ maxPositions) ⌝ }
+    ensures { λ r. ⌜ Position total blocks (ring total blocks) b r ⌝ }
+{
+    total - blocks + loop_rank(blocks, b)
+}
+
+// The laying of a showing: the position of block b, or of the one past the last; `total` is P.
+pub fn position_of(showing: u32, total: u32, blocks: u32, b: u32) -> u32
+    requires { ⌜ (0 < blocks) × (blocks ≤ total) × (b ≤ blocks) × (total ≤ maxPositions) ⌝ }
+    ensures { λ r. ⌜ Position total blocks (laying (showingOf showing) total blocks) b r ⌝ }
+{
+    if showing == LOOP {
+        return loop_position(total, blocks, b);
+    }
+    once_position(total, blocks, b)
+}
+
+// How far a film shown once stays in a zone of the even and one of the odd blocks: even positions rise, odd ones fall.
+fn once_end(total: u32, blocks: u32, b: u32, low: Zone, high: Zone) -> u32
+    requires { ⌜ Ends total blocks (place total blocks) b low high ⌝ }
+    ensures { λ r. ⌜ RunEnd blocks (place total blocks) b low high r ⌝ }
 {
     let even = 2 * (low.end - (total - blocks));
     let odd = 2 * (total - high.first) + 1;
     lesser(blocks, lesser(even, odd))
+}
+
+// The first block that is an even one above `even` or an odd one above `odd`.
+fn first_past(even: u32, odd: u32) -> u32
+    requires { ⌜ (even ≤ maxPositions) × (odd ≤ maxPositions) ⌝ }
+    ensures { λ r. ⌜ r ≡ firstPast even odd ⌝ }
+{
+    lesser(2 * (even / 2) + 2, 2 * ((odd + 1) / 2) + 1)
+}
+
+// How far a loop stays in a zone of the even and one of the odd blocks. Positions of the even ones rise and those of the odd ones fall; past half of
+// an even number of blocks it is the other way round, and at the half the run is the two blocks themselves.
+fn loop_end(total: u32, blocks: u32, b: u32, low: Zone, high: Zone) -> u32
+    requires { ⌜ Ends total blocks (ring total blocks) b low high ⌝ }
+    ensures { λ r. ⌜ RunEnd blocks (ring total blocks) b low high r ⌝ }
+{
+    let below = total - blocks;
+    let half = blocks / 2;
+    if blocks % 2 == 1 {
+        return lesser(blocks, first_past(low.end - below, total - high.first));
+    }
+    if b < half {
+        return lesser(half + 1, first_past(low.end - below, total - high.first));
+    }
+    if b == half {
+        return lesser(blocks, b + 2);
+    }
+    lesser(blocks, first_past(total - low.first, high.end - below))
+}
+
+// How far the laying of a showing stays in a zone of the even and one of the odd blocks, from block b on.
+fn run_end(showing: u32, total: u32, blocks: u32, b: u32, low: Zone, high: Zone) -> u32
+    requires { ⌜ Ends total blocks (laying (showingOf showing) total blocks) b low high ⌝ }
+    ensures { λ r. ⌜ RunEnd blocks (laying (showingOf showing) total blocks) b low high r ⌝ }
+{
+    if showing == LOOP {
+        return loop_end(total, blocks, b, low, high);
+    }
+    once_end(total, blocks, b, low, high)
 }
 
 // A walk that has met no block.
@@ -168,18 +256,19 @@ pub fn set_out(sizes: &[u32; 64]) -> Walk
 pub fn walk_on<'a>(
     sizes: &'a [u32; 64],
     times: &'a [u32; 64],
+    showing: u32,
     total: u32,
     blocks: u32,
     walk: Walk,
     b: u32,
 ) -> Walk
     requires { ⌜ (Film (now sizes) (now times) total blocks) × (Cursors (now sizes) walk) × (b < blocks) ⌝ }
-    ensures { λ r. ⌜ Runs (now (sizes .entry)) (now (times .entry)) total blocks b r ⌝ }
+    ensures { λ r. ⌜ Runs (now (sizes .entry)) (now (times .entry)) (laying (showingOf showing) total blocks) blocks b r ⌝ }
 {
     let even = b + b % 2;
     let odd = b + 1 - b % 2;
-    let low = zone_near(sizes, walk.low, position_of(total, blocks, even));
-    let high = zone_near(sizes, walk.high, position_of(total, blocks, odd));
+    let low = zone_near(sizes, walk.low, position_of(showing, total, blocks, even));
+    let high = zone_near(sizes, walk.high, position_of(showing, total, blocks, odd));
     let inner = low.index;
     let outer = high.index;
     Walk {
@@ -187,23 +276,33 @@ pub fn walk_on<'a>(
         high: high,
         even: times[inner],
         odd: times[outer],
-        until: run_end(total, blocks, low, high),
+        until: run_end(showing, total, blocks, b, low, high),
     }
 }
 
-// The greatest time of two successive blocks; `total` is P.
-pub fn worst_time<'a>(sizes: &'a [u32; 64], times: &'a [u32; 64], total: u32, blocks: u32) -> u32
+// The greatest time of two successive blocks; `total` is P. In a loop the first block follows the last.
+pub fn worst_time<'a>(
+    sizes: &'a [u32; 64],
+    times: &'a [u32; 64],
+    showing: u32,
+    total: u32,
+    blocks: u32,
+) -> u32
     requires { ⌜ Film (now sizes) (now times) total blocks ⌝ }
-    ensures { λ r. ⌜ r ≡ worstTime (timeAt (now (sizes .entry)) (now (times .entry))) (place total blocks) blocks ⌝ }
+    ensures { λ r. ⌜ r ≡ worstOf (showingOf showing) (timeAt (now (sizes .entry)) (now (times .entry))) (laying (showingOf showing) total blocks) blocks ⌝ }
 {
     let last = blocks - 1;
     let mut walk = set_out(sizes);
     let mut worst: u32 = 0;
     let mut b: u32 = 0;
     while b < last {
-        walk = walk_on(sizes, times, total, blocks, walk, b);
+        walk = walk_on(sizes, times, showing, total, blocks, walk, b);
         worst = greater(worst, walk.even + walk.odd);
         b = walk.until - 1;
     }
-    worst
+    if showing != LOOP {
+        return worst;
+    }
+    let closing = walk_on(sizes, times, showing, total, blocks, walk, last);
+    greater(worst, closing.even + closing.odd)
 }

@@ -4,6 +4,9 @@ use crate::plan::{plan_card, plan_loop_card, time_at, Planned};
 use crate::refusal::Refusal;
 use std::fmt::Write;
 
+/// What the program says of any argument but `loop`.
+pub const USAGE: &str = "usage: listing [loop]\n";
+
 /// Four named figures, a header, then block, position, time and lead of each block.
 pub fn plan_text(planned: &Planned) -> String {
     let plan = &planned.plan;
@@ -44,4 +47,13 @@ pub fn listing(card: &[u8]) -> String {
 /// The same of the film as a loop.
 pub fn loop_listing(card: &[u8]) -> String {
     answer_text(plan_loop_card(card, usize::MAX, usize::MAX))
+}
+
+/// What the program prints with these arguments.
+pub fn listing_with(arguments: &[String], card: &[u8]) -> String {
+    match arguments {
+        [] => listing(card),
+        [word] if word == "loop" => loop_listing(card),
+        _ => USAGE.to_string(),
+    }
 }

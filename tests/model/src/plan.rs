@@ -294,9 +294,20 @@ pub fn plan_record(figures: &Figures, positions: usize, leads: usize) -> Result<
     plan_record_for(figures, Showing::Once, positions, leads)
 }
 
-/// The plan of a card for one showing, with the lengths of the two lent lists: 1 to 11 and 26 with offset, 13, 12.
+/// The plan of a card for a showing, with the lengths of the two lent lists: 1 to 11 and 26 with
+/// offset, 13, 12.
+pub fn plan_card_for(
+    card: &[u8],
+    showing: Showing,
+    positions: usize,
+    leads: usize,
+) -> Result<Planned, Refusal> {
+    plan_judged(&read_card(card)?, showing, positions, leads)
+}
+
+/// The plan of a card for one showing.
 pub fn plan_card(card: &[u8], positions: usize, leads: usize) -> Result<Planned, Refusal> {
-    plan_judged(&read_card(card)?, Showing::Once, positions, leads)
+    plan_card_for(card, Showing::Once, positions, leads)
 }
 
 /// The plan of a record as a loop.
@@ -310,7 +321,7 @@ pub fn plan_loop_record(
 
 /// The plan of a card as a loop; turned down as for one showing.
 pub fn plan_loop_card(card: &[u8], positions: usize, leads: usize) -> Result<Planned, Refusal> {
-    plan_judged(&read_card(card)?, Showing::Loop, positions, leads)
+    plan_card_for(card, Showing::Loop, positions, leads)
 }
 
 /// Puts an answer at the start of a lent list; entries past it keep their contents.

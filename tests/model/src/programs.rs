@@ -8,26 +8,39 @@ use std::process::{Command, ExitCode, Stdio};
 /// What a program writes to standard output and to standard error.
 pub type Written = (Vec<u8>, String);
 
+/// What a program is given: its arguments, and its standard input.
+pub struct Given {
+    pub arguments: Vec<String>,
+    pub input: Vec<u8>,
+}
+
+impl Given {
+    pub fn new(arguments: &[&str], input: Vec<u8>) -> Given {
+        Given { arguments: arguments.iter().map(|word| word.to_string()).collect(), input }
+    }
+}
+
 /// The inputs of a program, and what the model writes for each.
 pub struct Comparison {
     pub program: &'static str,
-    /// Inputs that are always run, before the random ones.
-    pub first: fn(&mut Rng) -> Vec<Vec<u8>>,
-    pub random: fn(&mut Rng) -> Vec<u8>,
-    pub expected: fn(&[u8]) -> Written,
-    /// Prints an input, what the model writes for it, and what the program wrote instead.
-    pub report: fn(&[u8], &Written, &Written),
+    /// Runs that are always made, before the random ones.
+    pub first: fn(&mut Rng) -> Vec<Given>,
+    pub random: fn(&mut Rng) -> Given,
+    pub expected: fn(&Given) -> Written,
+    /// Prints what was given, what the model writes for it, and what the program wrote instead.
+    pub report: fn(&Given, &Written, &Written),
 }
 
-/// What the program writes for an input, or how it failed to end.
-fn run(path: &str, input: &[u8]) -> Result<Written> {
+/// What the program writes for what it is given, or how it failed to end.
+fn run(path: &str, given: &Given) -> Result<Written> {
     let mut child = Command::new(path)
+        .args(&given.arguments)
         .stdin(Stdio::piped())
         .stdout(Stdio::piped())
         .stderr(Stdio::piped())
         .spawn()?;
     let mut pipe = child.stdin.take().expect("a piped input");
-    let bytes = input.to_vec();
+    let bytes = given.input.clone();
     // A program may end before it has read everything: a failed write is no fault.
     let writer = std::thread::spawn(move || pipe.write_all(&bytes).is_ok());
     let output = child.wait_with_output()?;
@@ -57,16 +70,16 @@ impl Comparison {
         let first = (self.first)(&mut rng);
         let random = (0..count).map(|_| (self.random)(&mut rng));
         let (mut passed, mut failed) = (0, 0);
-        for input in first.into_iter().chain(random) {
-            let expected = (self.expected)(&input);
-            let got = run(path, &input)?;
+        for given in first.into_iter().chain(random) {
+            let expected = (self.expected)(&given);
+            let got = run(path, &given)?;
             if got == expected {
                 passed += 1;
                 continue;
             }
             failed += 1;
             if failed == 1 {
-                (self.report)(&input, &expected, &got);
+                (self.report)(&given, &expected, &got);
             }
         }
         Ok((passed, failed))

@@ -1,5 +1,8 @@
 //! The comparisons of listing and mkcard programs, tried on the model's own ones and on others.
 
+use film_disk_model::bench::bench_film;
+use film_disk_model::listing::listing_with;
+use film_disk_model::{card_bytes, listing, loop_listing};
 use std::process::Command;
 
 const LISTING: &str = env!("CARGO_BIN_EXE_listing");
@@ -16,8 +19,24 @@ fn run(comparison: &str, arguments: &[&str]) -> (String, Option<i32>) {
 #[test]
 fn own_listing_passes() {
     let (text, status) = run(LISTING_CASES, &[LISTING, "5", "300"]);
-    assert_eq!(text, "seed 5\n321 passed, 0 failed\n");
+    assert_eq!(text, "seed 5\n350 passed, 0 failed\n");
     assert_eq!(status, Some(0));
+}
+
+/// A loop's listing by its argument, and one line for any other.
+#[test]
+fn arguments_of_listing() {
+    let bench = card_bytes(&bench_film());
+    let printed = |words: &[&str]| {
+        let words: Vec<String> = words.iter().map(|word| word.to_string()).collect();
+        listing_with(&words, &bench)
+    };
+    assert_eq!(printed(&[]), listing(&bench));
+    assert_eq!(printed(&["loop"]), loop_listing(&bench));
+    assert!(printed(&["loop"]).starts_with("streams 15\n"));
+    for words in [["once"].as_slice(), &[""], &["loops"]] {
+        assert_eq!(printed(words), "usage: listing [loop]\n");
+    }
 }
 
 #[test]
@@ -31,10 +50,10 @@ fn own_mkcard_passes() {
 #[test]
 fn silent_program_fails() {
     let (text, status) = run(LISTING_CASES, &[LISTING_CASES, "5", "3"]);
-    assert!(text.starts_with("seed 5\ninput 01 06 01 FE AD 01 "), "{text}");
+    assert!(text.starts_with("seed 5\narguments [], input 01 06 01 FE AD 01 "), "{text}");
     assert!(text.contains("line 1: expected \"streams 16\\n\", got nothing\n"), "{text}");
     assert!(text.contains("usage: listing_cases LISTING SEED COUNT\n"), "{text}");
-    assert!(text.ends_with("\n0 passed, 24 failed\n"), "{text}");
+    assert!(text.ends_with("\n0 passed, 53 failed\n"), "{text}");
     assert_eq!(status, Some(1));
 }
 

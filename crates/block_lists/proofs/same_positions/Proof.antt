@@ -2,7 +2,8 @@ use Prim.Native.Nat.{_-_}
 use mathlib.Core.Path.{sym, _∙_}
 use native.Mathlib.Omega.{arith}
 use Rattle.words.specs.Words.{wordsOf}
-use Rattle.placement.specs.Placement.{place}
+use Rattle.placement.specs.Showing.{laying}
+use Rattle.plan.specs.Plan.{showingOf}
 use Rattle.plan.specs.Rows.{begins-short}
 use Rattle.block_lists.proofs.Runs.{Compares, compares-start, compares-one, compares-end, has-all}
 use borrow.Author.Needs.{needs}
@@ -10,17 +11,17 @@ use Rattle.block_lists.proofs.same_positions.Statement.{statement}
 use Rattle.block_lists.proofs.same_positions.Tie as tie
 
 abbrev Inv-loop : tie.InvT-loop
-Inv-loop total blocks positions same₀ b₀ same b = Compares (wordsOf positions) (place total blocks) 0 blocks same b
+Inv-loop showing total blocks positions same₀ b₀ same b = Compares (wordsOf positions) (laying (showingOf showing) total blocks) 0 blocks same b
 
 abbrev μ-loop : tie.MeasureT-loop
-μ-loop total blocks positions same₀ b₀ same b = blocks - b
+μ-loop showing total blocks positions same₀ b₀ same b = blocks - b
 
 returns : tie.Need-returns Inv-loop μ-loop
 returns c = let a = c .before .before .before .args in
-    sym (begins-short (place (a .total) (a .blocks)) 0 (a .blocks) (wordsOf (a .positions .now)) (omega arith))
+    sym (begins-short (laying (showingOf (a .showing)) (a .total) (a .blocks)) 0 (a .blocks) (wordsOf (a .positions .now)) (omega arith))
 
 loop-holds : tie.Need-loop-holds Inv-loop μ-loop
-loop-holds c = let a = c .before .before .before .args in compares-start (wordsOf (a .positions .now)) (place (a .total) (a .blocks)) 0 (a .blocks) (omega arith)
+loop-holds c = let a = c .before .before .before .args in compares-start (wordsOf (a .positions .now)) (laying (showingOf (a .showing)) (a .total) (a .blocks)) 0 (a .blocks) (omega arith)
 
 loop-again : tie.Need-loop-again Inv-loop μ-loop
 loop-again c = let l = c .before .before .before .before in
@@ -31,7 +32,7 @@ returns-2 : tie.Need-returns-2 Inv-loop μ-loop
 returns-2 c = let l = c .before in
     let a = l .before .before .before .before .args in
     compares-end (l .loop .inv) (omega arith)
-    ∙ has-all (place (a .total) (a .blocks)) (wordsOf (a .positions .now)) (a .blocks)
+    ∙ has-all (laying (showingOf (a .showing)) (a .total) (a .blocks)) (wordsOf (a .positions .now)) (a .blocks)
 
 pub same-positions-spec : {M : Type 1} → statement M
 same-positions-spec =

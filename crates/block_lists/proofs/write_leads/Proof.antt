@@ -4,25 +4,27 @@ use mathlib.Core.List.{List}
 use native.Mathlib.Omega.{arith}
 use Rattle.zones.specs.declared.Walk.{Walk}
 use Rattle.zones.specs.Walk.{sideOf, Cursors}
+use Rattle.placement.specs.Showing.{laying}
+use Rattle.plan.specs.Plan.{showingOf}
 use Rattle.plan.specs.Disk.{leadAt}
 use Rattle.block_lists.proofs.Runs.{Writes, writes-start, writes-run, writes-end, written-all, run-leads}
 use borrow.Author.Needs.{needs}
 use Rattle.block_lists.proofs.write_leads.Statement.{statement}
 use Rattle.block_lists.proofs.write_leads.Tie as tie
 
-record Walked (ps ts : List ℕ) (P N w : ℕ) (s ls : List ℕ) (walk : Walk) (b : ℕ) : Type 0 where
+record Walked (ps ts : List ℕ) (l : ℕ → ℕ) (N w : ℕ) (s ls : List ℕ) (walk : Walk) (b : ℕ) : Type 0 where
   cursors : Cursors ps walk
-  leads : Writes s (leadAt ps ts P N w) 0 N ls b
+  leads : Writes s (leadAt ps ts l w) 0 N ls b
 
 abbrev Inv-loop : tie.InvT-loop
-Inv-loop sizes times total blocks worst2 leads₀ walk₀ b₀ leads walk b = Walked sizes times total blocks worst2 leads₀ leads walk b
+Inv-loop sizes times showing total blocks worst2 leads₀ walk₀ b₀ leads walk b = Walked sizes times (laying (showingOf showing) total blocks) blocks worst2 leads₀ leads walk b
 
 abbrev μ-loop : tie.MeasureT-loop
-μ-loop sizes times total blocks worst2 leads₀ walk₀ b₀ leads walk b = blocks - b
+μ-loop sizes times showing total blocks worst2 leads₀ walk₀ b₀ leads walk b = blocks - b
 
 loop-holds : tie.Need-loop-holds Inv-loop μ-loop
 loop-holds c = let a = c .before .before .args in
-    record { cursors = c .set-out .ensures; leads = writes-start (a .leads .now) (leadAt (a .sizes .now) (a .times .now) (a .total) (a .blocks) (a .worst2)) 0 (a .blocks) (omega arith) }
+    record { cursors = c .set-out .ensures; leads = writes-start (a .leads .now) (leadAt (a .sizes .now) (a .times .now) (laying (showingOf (a .showing)) (a .total) (a .blocks)) (a .worst2)) 0 (a .blocks) (omega arith) }
 
 loop-again : tie.Need-loop-again Inv-loop μ-loop
 loop-again c = let put = c .before .before in
@@ -42,7 +44,7 @@ same-length c = c .before .loop .inv .leads .kept
 returns : tie.Need-returns Inv-loop μ-loop
 returns c = let l = c .before in
     let a = l .before .before .before .args in
-    let g = leadAt (a .sizes .now) (a .times .now) (a .total) (a .blocks) (a .worst2) in
+    let g = leadAt (a .sizes .now) (a .times .now) (laying (showingOf (a .showing)) (a .total) (a .blocks)) (a .worst2) in
     writes-end (l .loop .inv .leads) (omega arith) ∙ written-all (a .leads .now) g (a .blocks)
 
 pub write-leads-spec : {M : Type 1} → statement M

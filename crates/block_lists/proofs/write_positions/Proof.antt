@@ -1,19 +1,20 @@
 use Prim.Native.Nat.{_-_}
 use mathlib.Core.Path.{_∙_}
 use native.Mathlib.Omega.{arith}
-use Rattle.placement.specs.Placement.{place}
+use Rattle.placement.specs.Showing.{laying}
+use Rattle.plan.specs.Plan.{showingOf}
 use Rattle.block_lists.proofs.Runs.{Writes, writes-start, writes-one, writes-end, written-all}
 use Rattle.block_lists.proofs.write_positions.Statement.{statement}
 use Rattle.block_lists.proofs.write_positions.Tie as tie
 
 abbrev Inv-loop : tie.InvT-loop
-Inv-loop total blocks positions₀ b₀ positions b = Writes positions₀ (place total blocks) 0 blocks positions b
+Inv-loop showing total blocks positions₀ b₀ positions b = Writes positions₀ (laying (showingOf showing) total blocks) 0 blocks positions b
 
 abbrev μ-loop : tie.MeasureT-loop
-μ-loop total blocks positions₀ b₀ positions b = blocks - b
+μ-loop showing total blocks positions₀ b₀ positions b = blocks - b
 
 loop-holds : tie.Need-loop-holds Inv-loop μ-loop
-loop-holds c = let a = c .before .args in writes-start (a .positions .now) (place (a .total) (a .blocks)) 0 (a .blocks) (omega arith)
+loop-holds c = let a = c .before .args in writes-start (a .positions .now) (laying (showingOf (a .showing)) (a .total) (a .blocks)) 0 (a .blocks) (omega arith)
 
 put-word-requires : tie.Need-put-word-requires Inv-loop μ-loop
 put-word-requires c κs = let w = c .before .before .before .loop .inv in omega arith
@@ -30,7 +31,7 @@ returns : tie.Need-returns Inv-loop μ-loop
 returns c = let l = c .before in
     let a = l .before .before .args in
     writes-end (l .loop .inv) (omega arith)
-    ∙ written-all (a .positions .now) (place (a .total) (a .blocks)) (a .blocks)
+    ∙ written-all (a .positions .now) (laying (showingOf (a .showing)) (a .total) (a .blocks)) (a .blocks)
 
 pub write-positions-spec : {M : Type 1} → statement M
 write-positions-spec =

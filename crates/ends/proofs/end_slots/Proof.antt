@@ -19,10 +19,10 @@ record Ending (desk : Desk) (draws : List ℕ) (count : ℕ) (d : Desk) (i : ℕ
   ended : d ≡ endedUpTo desk draws i
 
 abbrev Inv-loop : tie.InvT-loop
-Inv-loop draws blocks bytes room count d₀ i₀ d i = Ending d₀ (wordsOf draws) count d i
+Inv-loop draws showing blocks bytes room count d₀ i₀ d i = Ending d₀ (wordsOf draws) count d i
 
 abbrev μ-loop : tie.MeasureT-loop
-μ-loop draws blocks bytes room count d₀ i₀ d i = count - i
+μ-loop draws showing blocks bytes room count d₀ i₀ d i = count - i
 
 -- the arrays have 256 entries
 wide : (c : tie.Start Inv-loop μ-loop) → Wide (c .args .desk)
@@ -55,17 +55,17 @@ mul-ended-slot c = omega (arith, inside c)
 element-copy-out-ended-slot : tie.Need-element-copy-out-ended-slot Inv-loop μ-loop
 element-copy-out-ended-slot c = inside c .0
 
-mul-t16 : tie.Need-mul-t16 Inv-loop μ-loop
-mul-t16 c = omega (arith, inside (c .before))
+mul-t17 : tie.Need-mul-t17 Inv-loop μ-loop
+mul-t17 c = omega (arith, inside (c .before))
 
-element-copy-out-t19 : tie.Need-element-copy-out-t19 Inv-loop μ-loop
-element-copy-out-t19 c = inside (c .before) .0
+element-copy-out-t20 : tie.Need-element-copy-out-t20 Inv-loop μ-loop
+element-copy-out-t20 c = inside (c .before) .0
 
-mul-t20 : tie.Need-mul-t20 Inv-loop μ-loop
-mul-t20 c = omega (arith, inside (c .before .before))
+mul-t21 : tie.Need-mul-t21 Inv-loop μ-loop
+mul-t21 c = omega (arith, inside (c .before .before))
 
-element-copy-out-t23 : tie.Need-element-copy-out-t23 Inv-loop μ-loop
-element-copy-out-t23 c = inside (c .before .before) .0
+element-copy-out-t24 : tie.Need-element-copy-out-t24 Inv-loop μ-loop
+element-copy-out-t24 c = inside (c .before .before) .0
 
 word-at-requires : tie.Need-word-at-requires Inv-loop μ-loop
 word-at-requires c κs = inside (c .before .before .before) .1
@@ -137,10 +137,10 @@ end-slots-spec =
     loop-holds
     mul-ended-slot
     element-copy-out-ended-slot
-    mul-t16
-    element-copy-out-t19
-    mul-t20
-    element-copy-out-t23
+    mul-t17
+    element-copy-out-t20
+    mul-t21
+    element-copy-out-t24
     word-at-requires
     ended-slot-requires
     mul-d

@@ -1,10 +1,8 @@
 use mathlib.Core.Path.{refl}
-use Rattle.ends.specs.Ends.{isPast}
 use Rattle.ends.proofs.is_past.Statement.{statement}
 use Rattle.ends.proofs.is_past.Tie as tie
 
 returns : tie.Need-returns
-unfolding isPast
 returns c = refl
 
 pub is-past-spec : {M : Type 1} → statement M

@@ -1,5 +1,3 @@
-use Rattle.words.specs.Laws.{bytes-fit}
-use Rattle.listing.proofs.ListedPlan.{accepted-plan}
 use borrow.Author.Needs.{needs}
 use Rattle.listing.proofs.list.Statement.{statement}
 use Rattle.listing.proofs.list.Tie as tie
@@ -10,14 +8,14 @@ large-buffer-requires c κs = search needs
 large-buffer-requires-2 : tie.Need-large-buffer-requires-2
 large-buffer-requires-2 c κs = search needs
 
-slice-aggregate-plan-card : tie.Need-slice-aggregate-plan-card
-slice-aggregate-plan-card c = search needs
+slice-aggregate-plan-film : tie.Need-slice-aggregate-plan-film
+slice-aggregate-plan-film c = search needs
 
-slice-aggregate-plan-card-2 : tie.Need-slice-aggregate-plan-card-2
-slice-aggregate-plan-card-2 c = search needs
+slice-aggregate-plan-film-2 : tie.Need-slice-aggregate-plan-film-2
+slice-aggregate-plan-film-2 c = search needs
 
-plan-card-requires : tie.Need-plan-card-requires
-plan-card-requires c κs = search needs
+plan-film-requires : tie.Need-plan-film-requires
+plan-film-requires c κs = search needs
 
 print-refusal-requires : tie.Need-print-refusal-requires
 print-refusal-requires c κs = search needs
@@ -37,9 +35,7 @@ slice-aggregate-print-blocks-2 c = search needs
 print-blocks-requires : tie.Need-print-blocks-requires
 print-blocks-requires c κs = let d = c .before .before .before .before in
     let p = d .before .before .before .before .before in
-    let k = p .before .before .before .before .before in
-    let s = k .before .args .card .now in
-    accepted-plan s (bytes-fit s (k .shared-slice-known .given)) _ _ (p .plan-card .result) _ _ (p .plan-card .ensures) (d .if1 .left)
+    p .plan-film .ensures (d .if1 .left)
 
 returns-2 : tie.Need-returns-2
 returns-2 c = search needs
@@ -50,9 +46,9 @@ list-spec =
     (tie.spec
     large-buffer-requires
     large-buffer-requires-2
-    slice-aggregate-plan-card
-    slice-aggregate-plan-card-2
-    plan-card-requires
+    slice-aggregate-plan-film
+    slice-aggregate-plan-film-2
+    plan-film-requires
     print-refusal-requires
     returns
     print-figures-requires

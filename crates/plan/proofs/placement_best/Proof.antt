@@ -4,7 +4,7 @@ use Rattle.plan.proofs.placement_best.Statement.{statement}
 use Rattle.plan.proofs.placement_best.Tie as tie
 
 returns : tie.Need-returns
-returns c = (λ f ok l lay. (best-time f ok l lay, best-streams f ok l lay), λ f ok. (legal-laying f ok, own-time f))
+returns c = (λ x f ok l lay. (best-time x f ok l lay, best-streams x f ok l lay), λ x f ok. (legal-laying x f ok, own-time x f))
 
 pub placement-best-spec : {M : Type 1} → statement M
 placement-best-spec = tie.close (tie.spec returns)

@@ -5,6 +5,7 @@ use lib.Dec.{ltb}
 use Rattle.card.specs.Card.{recordFault}
 use Rattle.round_trip.specs.Legality.{Wide, fault-legal}
 use Rattle.plan.specs.declared.Plan.{Plan}
+use Rattle.plan.specs.Plan.{showingIn}
 use Rattle.plan.specs.Answer.{sameNumbers}
 use Rattle.plan.specs.Ways.{record-fault, plan-streams, not-legal, numbers-decide}
 use borrow.Author.Needs.{needs}
@@ -31,7 +32,7 @@ returns-2 c = let o = c .before .before .before in
     let p = o .before .before .before .before .args .plan in
     let own = o .plan-of .ensures in
     c .both .ensures
-    ∙ ap₂ (λ (n : ℕ) (t : Bool). ltb 0 n && t) (plan-streams (p .figures) (o .plan-of .result) own) (c .before .same-numbers .ensures ∙ ap (λ (q : Plan). sameNumbers p q) own)
+    ∙ ap₂ (λ (n : ℕ) (t : Bool). ltb 0 n && t) (plan-streams (showingIn p) (p .figures) (o .plan-of .result) own) (c .before .same-numbers .ensures ∙ ap (λ (q : Plan). sameNumbers p q) own)
     ∙ numbers-decide p (clear (o .before))
 
 pub has-numbers-spec : {M : Type 1} → statement M

@@ -7,9 +7,10 @@ use Rattle.words.specs.Words.{wordsOf}
 use Rattle.card.specs.Card.{totalPositions}
 use Rattle.round_trip.specs.Legality.{Wide}
 use Rattle.plan.specs.Legal.{legal-zoned, total-zones}
+use Rattle.plan.specs.Plan.{showingIn}
 use Rattle.plan.specs.Answer.{begins, hasNumbers, hasPositions, hasLeads, isPlan}
 use Rattle.plan.specs.Check.{Numbered, numbered}
-use Rattle.plan.specs.Ways.{plan-worst2, film-on, positions-are, leads-are}
+use Rattle.plan.specs.Ways.{plan-worst2, film-on, small-on, positions-are, leads-are}
 use borrow.Author.Needs.{needs}
 use Rattle.planner.proofs.is_plan.Statement.{statement}
 use Rattle.planner.proofs.is_plan.Tie as tie
@@ -40,7 +41,7 @@ sum-positions-requires : tie.Need-sum-positions-requires
 sum-positions-requires c κs = let ok = has (c .before .before) .legal in (legal-zoned _ ok, ok .zones .1)
 
 same-positions-requires : tie.Need-same-positions-requires
-same-positions-requires c κs = let f = film-on _ (has (first c) .legal) _ (sum c) in (f .some, f .room)
+same-positions-requires c κs = let f = film-on _ (has (first c) .legal) _ (sum c) in (f .some, f .room, small-on _ (has (first c) .legal) _ (sum c))
 
 same-leads-requires : tie.Need-same-leads-requires
 same-leads-requires c κs = let t = c .before .before .before .before in film-on _ (has (first t) .legal) _ (sum t)
@@ -54,7 +55,8 @@ returns-2 c = let q = c .before .before .before .before .before in
     rw (passed (first t))
     (c .both .ensures ∙ ap₂ _&&_ (q .same-positions .ensures) (c .before .same-leads .ensures)
     ∙ ap₂ (λ (x y : List ℕ). begins x (wordsOf (a .positions .now)) && begins y (wordsOf (a .leads .now)))
-    (positions-are (a .t1 .figures) (n .legal) _ (sum t)) (leads-are (a .t1 .figures) (n .legal) _ (sum t) _ (plan-worst2 (a .t1 .figures) (a .t1) (n .plan))))
+    (positions-are (a .t1 .figures) (n .legal) _ (sum t) (showingIn (a .t1)))
+    (leads-are (a .t1 .figures) (n .legal) _ (sum t) (showingIn (a .t1)) _ (plan-worst2 (showingIn (a .t1)) (a .t1 .figures) (a .t1) (n .plan))))
 
 pub is-plan-spec : {M : Type 1} → statement M
 is-plan-spec =

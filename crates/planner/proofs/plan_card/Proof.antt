@@ -1,8 +1,7 @@
-use mathlib.Core.Path.{ap, _∙_}
-use Rattle.card.specs.declared.CardRead.{CardRead}
+use Rattle.placement.specs.Showing.{one}
 use Rattle.words.specs.Laws.{bytes-fit}
-use Rattle.plan.specs.Answer.{planned, positionsAfter, leadsAfter}
-use Rattle.plan.specs.Ways.{card-legal}
+use Rattle.plan.specs.Check.{showing-back}
+use Rattle.plan.specs.Ways.{outcome-same, card-legal}
 use borrow.Author.Needs.{needs}
 use Rattle.planner.proofs.plan_card.Statement.{statement}
 use Rattle.planner.proofs.plan_card.Tie as tie
@@ -16,11 +15,7 @@ returns : tie.Need-returns
 returns c = let p = c .before .before .before .before in
     let r = p .before .before .before in
     let a = r .before .before .before .before .args in
-    let e = r .read-card .ensures in (
-      p .plan-figures .ensures .0 ∙ ap (λ (x : CardRead). planned x (a .positions .now) (a .leads .now)) e,
-      p .plan-figures .ensures .1 ∙ ap (λ (x : CardRead). positionsAfter x (a .positions .now) (a .leads .now)) e,
-      p .plan-figures .ensures .2 ∙ ap (λ (x : CardRead). leadsAfter x (a .positions .now) (a .leads .now)) e,
-    )
+    outcome-same (a .positions .now) (a .leads .now) _ _ _ (showing-back one) (r .read-card .ensures) (p .plan-figures .ensures)
 
 pub plan-card-spec : {M : Type 1} → statement M
 plan-card-spec =

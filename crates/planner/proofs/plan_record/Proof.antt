@@ -1,8 +1,7 @@
-use mathlib.Core.Path.{sym, ap, _∙_}
-use Rattle.card.specs.declared.CardRead.{CardRead}
-use Rattle.round_trip.specs.Legality.{Wide, fault-legal}
-use Rattle.plan.specs.Answer.{planned, positionsAfter, leadsAfter}
-use Rattle.plan.specs.Ways.{record-fault, judged-is}
+use Rattle.placement.specs.Showing.{one}
+use Rattle.round_trip.specs.Legality.{Wide}
+use Rattle.plan.specs.Check.{showing-back}
+use Rattle.plan.specs.Ways.{outcome-same, judged-legal}
 use borrow.Author.Needs.{needs}
 use Rattle.planner.proofs.plan_record.Statement.{statement}
 use Rattle.planner.proofs.plan_record.Tie as tie
@@ -11,19 +10,15 @@ wide : (c : tie.Start) → Wide (c .args .figures)
 wide c = (search needs, search needs)
 
 plan-figures-requires : tie.Need-plan-figures-requires
-plan-figures-requires c κs = let s = c .before .before .before .before .before in
-    let j = c .before .before .judge-figures in
-    λ n. fault-legal (s .args .figures) (wide s) (sym (record-fault (s .args .figures) (j .result) (j .ensures)) ∙ n)
+plan-figures-requires c κs = let j = c .before .before .judged-figures in
+    let s = c .before .before .before .before .before in
+    judged-legal (s .args .figures) (wide s) (j .result) (j .ensures)
 
 returns : tie.Need-returns
 returns c = let p = c .before .before .before .before in
     let r = p .before .before .before in
     let a = r .before .before .before .args in
-    let e = judged-is (a .figures) (r .judge-figures .result) (r .judge-figures .ensures) in (
-      p .plan-figures .ensures .0 ∙ ap (λ (x : CardRead). planned x (a .positions .now) (a .leads .now)) e,
-      p .plan-figures .ensures .1 ∙ ap (λ (x : CardRead). positionsAfter x (a .positions .now) (a .leads .now)) e,
-      p .plan-figures .ensures .2 ∙ ap (λ (x : CardRead). leadsAfter x (a .positions .now) (a .leads .now)) e,
-    )
+    outcome-same (a .positions .now) (a .leads .now) _ _ _ (showing-back one) (r .judged-figures .ensures) (p .plan-figures .ensures)
 
 pub plan-record-spec : {M : Type 1} → statement M
 plan-record-spec =

@@ -6,6 +6,7 @@ use borrow.Author.Tests.{not-true, not-false}
 use Rattle.laws.specs.Bools.{clash}
 use Rattle.round_trip.specs.Legality as legality
 use Rattle.card.specs.Card.{Legal}
+use Rattle.plan.specs.Plan.{showingIn}
 use Rattle.plan.specs.Answer.{isPlan}
 use Rattle.plan.specs.Check.{checked-legal}
 use Rattle.desk.specs.declared.Desk.{Desk}
@@ -51,7 +52,7 @@ legal c = checked-legal _ _ _ (slim (start c)) (passed c)
 few : (c : tie.Else1) → given (start c) .plan .streams ≤ 256
 few c = plan-streams _ _ _ (slim (start c)) (passed c)
 
-lent : (c : tie.Else1) → LeadList (given (start c) .plan .figures) (start c .args .leads .now)
+lent : (c : tie.Else1) → LeadList (showingIn (given (start c) .plan)) (given (start c) .plan .figures) (start c .args .leads .now)
 lent c = plan-leads _ _ _ (slim (start c)) (passed c)
 
 -- past the test of the slots

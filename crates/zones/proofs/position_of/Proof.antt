@@ -1,18 +1,14 @@
-use native.Mathlib.Omega.{arith}
-use borrow.Author.Tests.{eq-eqb, ne-eqb}
-use Rattle.placement.specs.Placement.{place}
+use mathlib.Core.Path.{_≡_}
+use Rattle.plan.specs.Check.{shows-loop, shows-once}
 use borrow.Author.Needs.{needs}
 use Rattle.zones.proofs.position_of.Statement.{statement}
 use Rattle.zones.proofs.position_of.Tie as tie
 
 returns : tie.Need-returns
-unfolding place
-returns c = record { is = simp (eq-eqb _ _ (c .if1 .taken)); from = omega arith; to = omega arith }
+returns c = rw (shows-loop _ (c .before .if1 .taken)) (c .loop-position .ensures)
 
 returns-2 : tie.Need-returns-2
-unfolding place
-returns-2 c = record { is = simp (ne-eqb _ _ (c .if1 .left)); from = omega arith; to = omega arith }
+returns-2 c = rw (shows-once _ (c .before .if1 .left)) (c .once-position .ensures)
 
 pub position-of-spec : {M : Type 1} → statement M
-position-of-spec =
-    tie.close (tie.spec (λ c. search needs) (λ c. search needs) returns (λ c. search needs) (λ c. search needs) returns-2)
+position-of-spec = tie.close (tie.spec (λ c κs. search needs) returns (λ c κs. search needs) returns-2)

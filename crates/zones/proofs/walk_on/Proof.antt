@@ -1,3 +1,5 @@
+use Rattle.placement.specs.Showing.{laying}
+use Rattle.plan.specs.Plan.{showingOf}
 use Rattle.zones.proofs.Runs.{run-is}
 use borrow.Author.Needs.{needs}
 use Rattle.zones.proofs.walk_on.Statement.{statement}
@@ -11,7 +13,7 @@ returns c = let t = c .before in
     let even = t .before .before .before .before .before .position-of in
     let s = t .before .before .before .before .before .before in
     let a = s .args in
-    run-is (a .sizes .now) (a .times .now) (a .total) (a .blocks) (a .b) (s .pre .0) (s .pre .2) (low .result) (high .result) (even .result) (odd .result) _ (even .ensures) (odd .ensures) (low .ensures) (high .ensures) (c .run-end .ensures)
+    run-is (a .sizes .now) (a .times .now) (a .total) (a .blocks) (laying (showingOf (a .showing)) (a .total) (a .blocks)) (a .b) (s .pre .0) (low .result) (high .result) (even .result) (odd .result) _ (even .ensures) (odd .ensures) (low .ensures) (high .ensures) (c .run-end .ensures)
 
 pub walk-on-spec : {M : Type 1} → statement M
 walk-on-spec =

@@ -1,5 +1,7 @@
 //! A call, the strings that it is lent, and what comes of it.
 
+use film_disk_model::Showing;
+
 /// The strings of all calls, by name.
 pub type Strings = [Vec<u8>; 7];
 pub const CARD: usize = 0;
@@ -13,7 +15,7 @@ pub const NAMES: [&str; 7] = ["card", "plan", "positions", "leads", "desk", "fet
 
 #[derive(Clone, Copy, Debug, PartialEq, Eq)]
 pub enum Call {
-    Plan,
+    Plan(Showing),
     Open,
     Join { slot: u32, block: u32 },
     Leave { slot: u32 },
@@ -25,19 +27,20 @@ impl Call {
     /// The place of the call's sort in a tally.
     pub fn sort(&self) -> usize {
         match self {
-            Call::Plan => 0,
-            Call::Open => 1,
-            Call::Join { .. } => 2,
-            Call::Leave { .. } => 3,
-            Call::Begin => 4,
-            Call::End => 5,
+            Call::Plan(Showing::Once) => 0,
+            Call::Plan(Showing::Loop) => 1,
+            Call::Open => 2,
+            Call::Join { .. } => 3,
+            Call::Leave { .. } => 4,
+            Call::Begin => 5,
+            Call::End => 6,
         }
     }
 
     /// The strings that the call is lent; the true ones it may write.
     pub fn lent(&self) -> &'static [(usize, bool)] {
         match self {
-            Call::Plan => &[(CARD, false), (PLAN, true), (POSITIONS, true), (LEADS, true)],
+            Call::Plan(_) => &[(CARD, false), (PLAN, true), (POSITIONS, true), (LEADS, true)],
             Call::Open => &[(PLAN, false), (POSITIONS, false), (LEADS, false), (DESK, true)],
             Call::Join { .. } | Call::Leave { .. } => {
                 &[(DESK, true), (POSITIONS, false), (LEADS, false)]
@@ -48,7 +51,7 @@ impl Call {
     }
 }
 
-pub const SORTS: [&str; 6] = ["plan", "open", "join", "leave", "begin", "end"];
+pub const SORTS: [&str; 7] = ["plan", "plan_loop", "open", "join", "leave", "begin", "end"];
 
 /// The answer of a call and all strings after it.
 #[derive(Clone, Debug, PartialEq, Eq)]

@@ -4,12 +4,12 @@ use crate::call::{Call, Strings, CARD, DESK, DRAWS, FETCHES, LEADS, PLAN, POSITI
 use crate::layout::{
     bytes_of, desk_bytes, plan_bytes, DESK_BYTES, ENTRY_BYTES, FETCH_BYTES, PLAN_BYTES,
 };
-use film_disk_model::desk::{floor, ASKED, BETWEEN, FILLING, PLAYING};
+use film_disk_model::desk::{floor, ASKED, BETWEEN, FILLING, PLAYING, TAIL};
 use film_disk_model::plan::TWO_MILLION;
 use film_disk_model::rng::borders::{border_card, border_plan_for};
 use film_disk_model::rng::cards::any_card;
 use film_disk_model::rng::desks::{alter_plan, any_step, longer_list, sound_desk, spoiled_list};
-use film_disk_model::rng::figures::{desk_plan, large_desk_plan};
+use film_disk_model::rng::figures::{desk_plan_for, large_desk_plan_for};
 use film_disk_model::{read_card, Desk, Planned, Rng, Showing, Step};
 
 /// Bytes of no meaning.
@@ -97,7 +97,7 @@ fn written_list(rng: &mut Rng, blocks: usize) -> Vec<u8> {
     bytes
 }
 
-/// Any card.
+/// Any card, for one showing or as a loop.
 pub fn plan_case(rng: &mut Rng) -> (Call, Strings) {
     let mut strings = Strings::default();
     strings[CARD] = if rng.once_in(4) { border_card(rng) } else { any_card(rng) };
@@ -108,15 +108,16 @@ pub fn plan_case(rng: &mut Rng) -> (Call, Strings) {
     strings[PLAN] = written_string(rng, PLAN_BYTES);
     strings[POSITIONS] = written_list(rng, blocks);
     strings[LEADS] = written_list(rng, blocks);
-    (Call::Plan, strings)
+    (Call::Plan(rng.pick(&Showing::ALL)), strings)
 }
 
-/// A plan for a desk; rarely a great one, often one whose products are great or carry.
+/// A plan for a desk, for one showing or a loop; rarely a great one, often one whose products are great or carry.
 pub fn some_plan(rng: &mut Rng) -> Planned {
+    let showing = rng.pick(&Showing::ALL);
     match rng.below(40) {
-        0 => large_desk_plan(rng),
-        1..=10 => border_plan_for(rng, Showing::Once),
-        _ => desk_plan(rng),
+        0 => large_desk_plan_for(rng, showing),
+        1..=10 => border_plan_for(rng, showing),
+        _ => desk_plan_for(rng, showing),
     }
 }
 
@@ -174,6 +175,38 @@ pub fn desk_case(rng: &mut Rng) -> (Call, Strings) {
     let (desk, step) = any_step(rng, &planned);
     let desk = read_string(rng, desk_bytes(&desk));
     step_strings(rng, desk, &step, 20)
+}
+
+/// A used slot becomes a tail, mostly as one showing has it.
+fn set_tail(rng: &mut Rng, desk: &mut Desk) {
+    let slot = rng.below(desk.plan.streams as usize);
+    let blocks = desk.plan.figures.blocks;
+    desk.kinds[slot] = TAIL;
+    desk.next[slot] = rng.pick(&[blocks, blocks, blocks, 0, blocks - 1]);
+    desk.held[slot] = rng.between(1, desk.plan.buffer);
+}
+
+/// An opening or a call on a desk whose showing is another: the word turned over, or a third word. Or there is a tail where a loop
+/// has none, with the word or without.
+pub fn showing_case(rng: &mut Rng) -> (Call, Strings) {
+    let planned = some_plan(rng);
+    let (_, step) = any_step(rng, &planned);
+    let mut desk = sound_desk(rng, &planned);
+    let has_tail = rng.once_in(2);
+    if has_tail {
+        set_tail(rng, &mut desk);
+    }
+    if !has_tail || rng.once_in(2) {
+        let turned = 1 - planned.plan.showing;
+        desk.plan.showing = rng.pick(&[turned, turned, turned, 2, 3, 256, 65_536, u32::MAX]);
+    }
+    let (call, mut strings) = step_strings(rng, desk_bytes(&desk), &step, 100);
+    if !rng.once_in(4) {
+        return (call, strings);
+    }
+    strings[PLAN] = plan_bytes(&desk.plan);
+    strings[DESK] = written_string(rng, DESK_BYTES);
+    (Call::Open, strings)
 }
 
 /// The floor with the leads of the first few asked slots, in whole bytes, rounded up.

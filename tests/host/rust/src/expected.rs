@@ -5,7 +5,8 @@ use crate::layout::{
     bytes_of, desk_bytes, fetch_bytes, plan_bytes, read_desk, read_plan, words_of, DESK_BYTES,
     ENTRY_BYTES, FETCH_BYTES, PLAN_BYTES,
 };
-use film_disk_model::{answer, cause, fill_lent, open, plan_card, read_card, Refusal};
+use film_disk_model::plan::plan_card_for;
+use film_disk_model::{answer, cause, fill_lent, open, read_card, Refusal, Showing};
 
 /// An accepted call with nothing more to say.
 fn accepted(strings: Strings) -> Outcome {
@@ -26,7 +27,7 @@ fn cleared(strings: &Strings, refusal: Refusal, which: usize, length: usize) -> 
     outcome
 }
 
-fn expected_plan(strings: &Strings) -> Outcome {
+fn expected_plan(showing: Showing, strings: &Strings) -> Outcome {
     let too_short = Refusal { number: cause::TOO_SHORT, place: 0 };
     if let Err(refusal) = read_card(&strings[CARD]) {
         return cleared(strings, refusal, PLAN, PLAN_BYTES);
@@ -35,7 +36,7 @@ fn expected_plan(strings: &Strings) -> Outcome {
         return refused(strings, too_short);
     }
     let entries = |which: usize| strings[which].len() / ENTRY_BYTES;
-    match plan_card(&strings[CARD], entries(POSITIONS), entries(LEADS)) {
+    match plan_card_for(&strings[CARD], showing, entries(POSITIONS), entries(LEADS)) {
         Err(refusal) if refusal == too_short => refused(strings, refusal),
         Err(refusal) => cleared(strings, refusal, PLAN, PLAN_BYTES),
         Ok(planned) => {
@@ -76,7 +77,7 @@ pub fn model_call(call: Call, strings: &Strings) -> film_disk_model::Call {
             film_disk_model::Call::Begin { fetch_list: strings[FETCHES].len() / FETCH_BYTES }
         }
         Call::End => film_disk_model::Call::End { draws: words_of(&strings[DRAWS]) },
-        Call::Plan | Call::Open => unreachable!("no call on a desk"),
+        Call::Plan(_) | Call::Open => unreachable!("no call on a desk"),
     }
 }
 
@@ -101,7 +102,7 @@ fn expected_desk_call(call: Call, strings: &Strings) -> Outcome {
 
 pub fn expected(call: Call, strings: &Strings) -> Outcome {
     match call {
-        Call::Plan => expected_plan(strings),
+        Call::Plan(showing) => expected_plan(showing, strings),
         Call::Open => expected_open(strings),
         _ => expected_desk_call(call, strings),
     }

@@ -3,6 +3,7 @@
 use crate::call::{
     Call, Outcome, Strings, CARD, DESK, DRAWS, FETCHES, LEADS, NAMES, PLAN, POSITIONS,
 };
+use film_disk_model::Showing;
 use std::ffi::{c_char, c_int, CString};
 
 /// Room for the longest string of a case.
@@ -22,6 +23,7 @@ type Write = *mut u8;
 #[rustfmt::skip]
 extern "C" {
     fn filmdisk_plan(card: Read, card_len: usize, plan: Write, plan_len: usize, positions: Write, positions_len: usize, leads: Write, leads_len: usize) -> FilmdiskAnswer;
+    fn filmdisk_plan_loop(card: Read, card_len: usize, plan: Write, plan_len: usize, positions: Write, positions_len: usize, leads: Write, leads_len: usize) -> FilmdiskAnswer;
     fn filmdisk_open(plan: Read, plan_len: usize, positions: Read, positions_len: usize, leads: Read, leads_len: usize, desk: Write, desk_len: usize) -> FilmdiskAnswer;
     fn filmdisk_join(desk: Write, desk_len: usize, positions: Read, positions_len: usize, leads: Read, leads_len: usize, slot: u32, block: u32) -> FilmdiskAnswer;
     fn filmdisk_leave(desk: Write, desk_len: usize, positions: Read, positions_len: usize, leads: Read, leads_len: usize, slot: u32) -> FilmdiskAnswer;
@@ -116,7 +118,8 @@ impl Library {
         let p = |which: usize| self.pointers[which];
         let n = |which: usize| self.lent[which].length;
         match call {
-            Call::Plan => filmdisk_plan(p(CARD), n(CARD), p(PLAN), n(PLAN), p(POSITIONS), n(POSITIONS), p(LEADS), n(LEADS)),
+            Call::Plan(Showing::Once) => filmdisk_plan(p(CARD), n(CARD), p(PLAN), n(PLAN), p(POSITIONS), n(POSITIONS), p(LEADS), n(LEADS)),
+            Call::Plan(Showing::Loop) => filmdisk_plan_loop(p(CARD), n(CARD), p(PLAN), n(PLAN), p(POSITIONS), n(POSITIONS), p(LEADS), n(LEADS)),
             Call::Open => filmdisk_open(p(PLAN), n(PLAN), p(POSITIONS), n(POSITIONS), p(LEADS), n(LEADS), p(DESK), n(DESK)),
             Call::Join { slot, block } => filmdisk_join(p(DESK), n(DESK), p(POSITIONS), n(POSITIONS), p(LEADS), n(LEADS), slot, block),
             Call::Leave { slot } => filmdisk_leave(p(DESK), n(DESK), p(POSITIONS), n(POSITIONS), p(LEADS), n(LEADS), slot),

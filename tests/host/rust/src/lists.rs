@@ -6,8 +6,8 @@ use crate::cases::{noise, some_plan, step_strings};
 use crate::expected::model_call;
 use crate::layout::{read_desk, read_fetches, DESK_BYTES, ENTRY_BYTES, PLAN_BYTES};
 use crate::trial::Trial;
-use film_disk_model::rng::desks::{next_step, temper, Temper};
-use film_disk_model::{card_bytes, check_claim, Book, Desk, Planned, Rng};
+use film_disk_model::rng::desks::{next_step, temper};
+use film_disk_model::{card_bytes, check_claim, Book, Desk, Planned, Rng, Showing, Step};
 
 /// A desk that the library opened, of a card that it planned.
 fn open_desk(rng: &mut Rng, trial: &mut Trial, planned: &Planned) -> Result<Vec<u8>, String> {
@@ -18,7 +18,8 @@ fn open_desk(rng: &mut Rng, trial: &mut Trial, planned: &Planned) -> Result<Vec<
     strings[POSITIONS] = noise(rng, list_bytes);
     strings[LEADS] = noise(rng, list_bytes);
     strings[DESK] = noise(rng, DESK_BYTES);
-    let mut strings = trial.accepted(rng, Call::Plan, &strings)?.strings;
+    let showing = Showing::of(planned.plan.showing).expect("the word of a plan");
+    let mut strings = trial.accepted(rng, Call::Plan(showing), &strings)?.strings;
     strings[CARD].clear();
     Ok(trial.accepted(rng, Call::Open, &strings)?.strings[DESK].clone())
 }
@@ -34,37 +35,69 @@ fn begun(call: Call, got: &Outcome) -> Option<u32> {
     (call == Call::Begin && got.number == 0).then_some(got.bound)
 }
 
-/// One list: so many calls from one opening.
-struct List<'a> {
+/// One list of calls from one opening.
+pub struct List<'a> {
     planned: &'a Planned,
-    temper: Temper,
     /// The library's desk, and the one by the model's rules.
     desk: Vec<u8>,
-    rules: Desk,
+    pub rules: Desk,
     book: Book,
+    number: usize,
 }
 
-impl List<'_> {
-    fn call(&mut self, rng: &mut Rng, trial: &mut Trial) -> Result<(), String> {
-        let step = next_step(rng, self.planned, &self.rules, &self.temper);
-        let (call, before) = step_strings(rng, self.desk.clone(), &step, 40);
+impl<'a> List<'a> {
+    pub fn open(rng: &mut Rng, trial: &mut Trial, planned: &'a Planned) -> Result<Self, String> {
+        let desk = open_desk(rng, trial, planned)?;
+        let book = Book::new(planned.plan.figures.block_bytes);
+        Ok(List { planned, desk, rules: Desk::all_free(&planned.plan), book, number: 0 })
+    }
+
+    /// Makes a call; once in `damaged` times a list that it is lent is spoiled.
+    pub fn call(
+        &mut self,
+        rng: &mut Rng,
+        trial: &mut Trial,
+        step: &Step,
+        damaged: usize,
+    ) -> Result<Outcome, String> {
+        let got = self.checked_call(rng, trial, step, damaged);
+        self.number += 1;
+        got.map_err(|words| format!("call {} of the list: {words}", self.number))
+    }
+
+    fn checked_call(
+        &mut self,
+        rng: &mut Rng,
+        trial: &mut Trial,
+        step: &Step,
+        damaged: usize,
+    ) -> Result<Outcome, String> {
+        let (call, before) = step_strings(rng, self.desk.clone(), step, damaged);
         let (got, expected) = trial.both(rng, call, &before)?;
         feed(&mut self.book, call, &before, &got)?;
         self.desk = got.strings[DESK].clone();
         self.rules = read_desk(&expected.strings[DESK]);
-        check_claim(&self.book, &read_desk(&self.desk), &self.rules, begun(call, &got))
+        trial.note_rounds(self.rounds());
+        check_claim(&self.book, &read_desk(&self.desk), &self.rules, begun(call, &got))?;
+        Ok(got)
+    }
+
+    /// The most times that a slot of a loop has got the whole film; 0 for one showing.
+    pub fn rounds(&self) -> u128 {
+        let fetched = self.book.rows.iter().map(|row| row.fetched).max().unwrap_or(0);
+        self.planned.plan.showing as u128 * fetched / self.planned.positions.len() as u128
     }
 }
 
+/// A list of random calls.
 pub fn list_case(rng: &mut Rng, trial: &mut Trial) -> Result<(), String> {
     let planned = some_plan(rng);
-    let desk = open_desk(rng, trial, &planned)?;
-    let book = Book::new(planned.plan.figures.block_bytes);
-    let rules = Desk::all_free(&planned.plan);
-    let mut list = List { planned: &planned, temper: temper(rng), desk, rules, book };
+    let mut list = List::open(rng, trial, &planned)?;
+    let temper = temper(rng);
     let most = if planned.positions.len() > 256 { 20 } else { rng.pick(&[10, 40, 150, 400]) };
-    for number in 0..most {
-        list.call(rng, trial).map_err(|words| format!("call {number} of the list: {words}"))?;
+    for _ in 0..most {
+        let step = next_step(rng, &planned, &list.rules, &temper);
+        list.call(rng, trial, &step, 40)?;
     }
     Ok(())
 }

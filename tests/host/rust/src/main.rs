@@ -1,56 +1,78 @@
 //! Compares the static library with the model, call by call: the answer, and every byte of every lent string.
 //!
-//! Arguments: seed, count of cases. Each case has a seed of its own, the first one the given, so that a failing case runs alone
-//! with its seed and count 1. Exit status 0 only if all passed.
+//! Arguments: seed, count of random cases. Each case has a seed of its own, the first one the given, so that a failing case runs
+//! alone with its seed and count 1. Any other count has the films at the borders before them, count 0 these alone. Exit status 0
+//! only if all passed.
 
 mod call;
 mod cases;
 mod expected;
+mod films;
 mod layout;
 mod library;
 mod lists;
 mod trial;
 
-use cases::{desk_case, edge_case, open_case, plan_case};
+use cases::{desk_case, edge_case, open_case, plan_case, showing_case};
 use film_disk_model::Rng;
+use films::{all_films, film_case};
 use library::set_scene;
 use lists::list_case;
 use std::process::ExitCode;
 use trial::Trial;
 
-/// A run of so many cases or more must meet every number of every call.
+/// A run of so many cases or more must meet every number of every call, and loops gone round.
 const MANY_CASES: u64 = 5000;
 /// As many failures are shown.
 const SHOWN: u64 = 10;
 
 fn run_case(trial: &mut Trial, seed: u64) -> Result<(), String> {
     let mut rng = Rng::new(seed);
-    let (call, strings) = match rng.below(10) {
+    let (call, strings) = match rng.below(11) {
         0..=2 => plan_case(&mut rng),
         3 => open_case(&mut rng),
         4 | 5 => desk_case(&mut rng),
         6..=8 => edge_case(&mut rng),
+        9 => showing_case(&mut rng),
         _ => return list_case(&mut rng, trial),
     };
     trial.both(&mut rng, call, &strings).map(|_| ())
 }
 
-/// Answers how many cases passed and how many failed.
-fn run_cases(trial: &mut Trial, first: u64, count: u64) -> (u64, u64) {
-    let (mut passed, mut failed) = (0, 0);
-    for seed in (0..count).map(|case| first.wrapping_add(case)) {
-        set_scene(&format!("seed {seed}, alone: library_cases {seed} 1"));
-        match run_case(trial, seed) {
-            Ok(()) => passed += 1,
+/// How many cases passed and how many failed.
+#[derive(Default)]
+struct Count {
+    passed: u64,
+    failed: u64,
+}
+
+impl Count {
+    fn note(&mut self, name: &str, result: Result<(), String>) {
+        match result {
+            Ok(()) => self.passed += 1,
             Err(words) => {
-                failed += 1;
-                if failed <= SHOWN {
-                    println!("seed {seed}: {words}; alone: library_cases {seed} 1");
+                self.failed += 1;
+                if self.failed <= SHOWN {
+                    println!("{name}: {words}");
                 }
             }
         }
     }
-    (passed, failed)
+}
+
+fn run_films(trial: &mut Trial, count: &mut Count) {
+    for (name, blocks, zones, showing) in all_films() {
+        set_scene(&name);
+        count.note(&name, film_case(trial, blocks, zones, showing));
+    }
+}
+
+fn run_cases(trial: &mut Trial, count: &mut Count, first: u64, cases: u64) {
+    for seed in (0..cases).map(|case| first.wrapping_add(case)) {
+        let name = format!("seed {seed}, alone: library_cases {seed} 1");
+        set_scene(&name);
+        count.note(&name, run_case(trial, seed));
+    }
 }
 
 /// Seed and count.
@@ -65,19 +87,25 @@ fn arguments() -> Option<(u64, u64)> {
 }
 
 fn main() -> ExitCode {
-    let Some((seed, count)) = arguments() else {
+    let Some((seed, cases)) = arguments() else {
         eprintln!("usage: library_cases SEED COUNT");
         return ExitCode::from(2);
     };
-    println!("seeds {seed} to {}", seed.wrapping_add(count).wrapping_sub(1));
-    let mut trial = Trial::new();
-    let (passed, mut failed) = run_cases(&mut trial, seed, count);
+    let (mut trial, mut count) = (Trial::new(), Count::default());
+    if cases != 1 {
+        run_films(&mut trial, &mut count);
+    }
+    if cases > 0 {
+        println!("seeds {seed} to {}", seed.wrapping_add(cases - 1));
+    }
+    run_cases(&mut trial, &mut count, seed, cases);
     trial.report();
     let missing = trial.missing();
-    if count >= MANY_CASES && !missing.is_empty() {
+    if cases >= MANY_CASES && !missing.is_empty() {
         println!("not met: {}", missing.join(", "));
-        failed += 1;
+        count.failed += 1;
     }
+    let Count { passed, failed } = count;
     println!("{passed} passed, {failed} failed");
     ExitCode::from((failed > 0) as u8)
 }

@@ -7,11 +7,15 @@ use film_disk_model::Rng;
 
 /// Numbers of answers, 0 to 26.
 const NUMBERS: usize = 27;
+/// A slot of some loop must go round so many times.
+const MANY_ROUNDS: u128 = 5;
 
 pub struct Trial {
     library: Library,
     /// For each sort of call, how often each number was answered.
-    tally: [[u64; NUMBERS]; 6],
+    tally: [[u64; NUMBERS]; SORTS.len()],
+    /// The most times that a slot of a loop has got the whole film since its join.
+    rounds: u128,
 }
 
 /// The call and the lengths of what it was lent.
@@ -25,7 +29,7 @@ fn describe(call: Call, strings: &Strings) -> String {
 
 impl Trial {
     pub fn new() -> Trial {
-        Trial { library: Library::new(), tally: [[0; NUMBERS]; 6] }
+        Trial { library: Library::new(), tally: [[0; NUMBERS]; SORTS.len()], rounds: 0 }
     }
 
     /// Makes the call of both and compares the answer and every byte of every string.
@@ -58,6 +62,11 @@ impl Trial {
         Ok(got)
     }
 
+    /// Notes how often a slot has gone round a loop.
+    pub fn note_rounds(&mut self, rounds: u128) {
+        self.rounds = self.rounds.max(rounds);
+    }
+
     /// A line for each sort of call: how many, and how often each number was answered.
     pub fn report(&self) {
         for (sort, counts) in SORTS.iter().zip(&self.tally) {
@@ -65,12 +74,15 @@ impl Trial {
             let words: Vec<String> = met.map(|n| format!("{n} x {}", counts[n])).collect();
             println!("{sort}: {} calls; numbers {}", counts.iter().sum::<u64>(), words.join(", "));
         }
+        println!("loops: a slot went round {} times", self.rounds);
     }
 
-    /// The numbers that each sort of call can answer and that no call was answered.
+    /// The numbers that each sort of call can answer and that no call was answered; and loops, if
+    /// none went round often enough.
     pub fn missing(&self) -> Vec<String> {
         let plan: Vec<usize> = (0..=13).chain([26]).collect();
-        let answers: [&[usize]; 6] = [
+        let answers: [&[usize]; SORTS.len()] = [
+            &plan,
             &plan,
             &[0, 13, 14],
             &[0, 14, 15, 16, 17, 18],
@@ -83,6 +95,9 @@ impl Trial {
             for &number in numbers.iter().filter(|&&number| self.tally[sort][number] == 0) {
                 missing.push(format!("{} {number}", SORTS[sort]));
             }
+        }
+        if self.rounds < MANY_ROUNDS {
+            missing.push(format!("a loop gone round {MANY_ROUNDS} times"));
         }
         missing
     }

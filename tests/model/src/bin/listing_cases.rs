@@ -1,13 +1,39 @@
-//! Runs a listing program on many cards and compares what it prints with the model, byte by byte.
+//! Runs a listing program on many cards, for one showing and as loops, and compares what it prints
+//! with the model, byte by byte.
 //!
 //! Arguments: path of the listing program, seed, count of random cards. The fixed cards of the
-//! bench are always run before the random ones. Exit status 0 only if all passed.
+//! bench are always run before the random ones, and arguments that the program does not know.
+//! Exit status 0 only if all passed.
 
-use film_disk_model::bench::fixed_cards;
-use film_disk_model::listing;
-use film_disk_model::programs::{Comparison, Written};
+use film_disk_model::bench::{bench_film, fixed_cards};
+use film_disk_model::card_bytes;
+use film_disk_model::listing::listing_with;
+use film_disk_model::programs::{Comparison, Given, Written};
 use film_disk_model::rng::cards::any_card;
+use film_disk_model::Rng;
 use std::process::ExitCode;
+
+/// The arguments of one showing and of a loop.
+const SHOWINGS: [&[&str]; 2] = [&[], &["loop"]];
+
+/// Single arguments that the program does not know.
+const OTHERS: [&str; 8] = ["", "once", "Loop", "loo", "loops", " loop", "loop\n", "-loop"];
+
+/// The fixed cards for both showings; the bench film and an empty card with other arguments.
+fn first_runs(_: &mut Rng) -> Vec<Given> {
+    let mut runs = Vec::new();
+    for card in fixed_cards() {
+        runs.extend(SHOWINGS.map(|words| Given::new(words, card.clone())));
+    }
+    for card in [card_bytes(&bench_film()), Vec::new()] {
+        runs.extend(OTHERS.map(|word| Given::new(&[word], card.clone())));
+    }
+    runs
+}
+
+fn random_run(rng: &mut Rng) -> Given {
+    Given::new(rng.pick(&SHOWINGS), any_card(rng))
+}
 
 fn hex(bytes: &[u8]) -> String {
     bytes.iter().map(|byte| format!("{byte:02X}")).collect::<Vec<_>>().join(" ")
@@ -28,8 +54,8 @@ fn first_difference(expected: &[u8], got: &[u8]) -> String {
     format!("line {}: expected {}, got {}", line + 1, show(&expected), show(&got))
 }
 
-fn report(card: &[u8], expected: &Written, got: &Written) {
-    println!("input {}", hex(card));
+fn report(given: &Given, expected: &Written, got: &Written) {
+    println!("arguments {:?}, input {}", given.arguments, hex(&given.input));
     println!("{}", first_difference(&expected.0, &got.0));
     println!("expected:\n{}", String::from_utf8_lossy(&expected.0));
     println!("got:\n{}", String::from_utf8_lossy(&got.0));
@@ -39,9 +65,11 @@ fn report(card: &[u8], expected: &Written, got: &Written) {
 fn main() -> ExitCode {
     let comparison = Comparison {
         program: "listing",
-        first: |_| fixed_cards(),
-        random: any_card,
-        expected: |card| (listing(card).into_bytes(), String::new()),
+        first: first_runs,
+        random: random_run,
+        expected: |given| {
+            (listing_with(&given.arguments, &given.input).into_bytes(), String::new())
+        },
         report,
     };
     comparison.main()

@@ -4,7 +4,7 @@
 //! long ones are always run before the random ones. Exit status 0 only if all passed.
 
 use film_disk_model::mkcard;
-use film_disk_model::programs::{Comparison, Written};
+use film_disk_model::programs::{Comparison, Given, Written};
 use film_disk_model::rng::texts::{any_text, bench_words, long_text};
 use film_disk_model::Rng;
 use std::process::ExitCode;
@@ -68,7 +68,7 @@ fn texts_of_length(length: usize) -> [String; 5] {
 }
 
 /// The texts that are always run.
-fn first_texts(rng: &mut Rng) -> Vec<Vec<u8>> {
+fn first_texts(rng: &mut Rng) -> Vec<Given> {
     let mut texts = bench_texts();
     texts.extend(SHORT_TEXTS.map(String::from));
     for length in [65_534, 65_535, 65_536, 65_537, 131_072, 1_000_000] {
@@ -76,10 +76,11 @@ fn first_texts(rng: &mut Rng) -> Vec<Vec<u8>> {
     }
     let mut texts: Vec<Vec<u8>> = texts.into_iter().map(String::into_bytes).collect();
     texts.extend((0..20).map(|_| long_text(rng, &bench_words())));
-    texts
+    texts.into_iter().map(|text| Given::new(&[], text)).collect()
 }
 
-fn report(text: &[u8], expected: &Written, got: &Written) {
+fn report(given: &Given, expected: &Written, got: &Written) {
+    let text = &given.input;
     println!("input {:?}", String::from_utf8_lossy(&text[..text.len().min(2000)]));
     println!("expected {:02X?} {:?}", expected.0, expected.1);
     println!("got {:02X?} {:?}", got.0, got.1);
@@ -89,8 +90,8 @@ fn main() -> ExitCode {
     let comparison = Comparison {
         program: "mkcard",
         first: first_texts,
-        random: any_text,
-        expected: mkcard,
+        random: |rng| Given::new(&[], any_text(rng)),
+        expected: |given| mkcard(&given.input),
         report,
     };
     comparison.main()

@@ -168,7 +168,8 @@ fn noise(rng: &mut Rng) -> Vec<u8> {
 
 /// A card damaged in one way. Some come out legal, at the limit.
 pub fn damaged_card(rng: &mut Rng) -> Vec<u8> {
-    let figures = tight_figures(rng, Showing::Once, 60);
+    let showing = rng.pick(&Showing::ALL);
+    let figures = tight_figures(rng, showing, 60);
     let numbers = card_numbers(&figures);
     let card = card_bytes(&figures);
     match rng.below(15) {

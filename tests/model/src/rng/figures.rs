@@ -131,7 +131,10 @@ pub fn legal_figures(rng: &mut Rng) -> Figures {
     match rng.below(8) {
         0 => large_figures(rng),
         1..=3 => small_figures(rng, MAX_BLOCKS),
-        _ => tight_figures(rng, Showing::Once, MAX_BLOCKS),
+        _ => {
+            let showing = rng.pick(&Showing::ALL);
+            tight_figures(rng, showing, MAX_BLOCKS)
+        }
     }
 }
 
@@ -161,22 +164,12 @@ pub fn desk_plan_for(rng: &mut Rng, showing: Showing) -> Planned {
     }
 }
 
-/// The same for one showing.
-pub fn desk_plan(rng: &mut Rng) -> Planned {
-    desk_plan_for(rng, Showing::Once)
-}
-
 /// A plan for desks with a film of any length and zones of any size.
 pub fn large_desk_plan_for(rng: &mut Rng, showing: Showing) -> Planned {
     let mut figures = large_figures(rng);
     let n = rng.pick(&[1, 3, 20, 256]);
     tighten(rng, &mut figures, showing, n);
     plan_of(&figures, showing).expect("n streams fit")
-}
-
-/// The same for one showing.
-pub fn large_desk_plan(rng: &mut Rng) -> Planned {
-    large_desk_plan_for(rng, Showing::Once)
 }
 
 /// Alters one figure, used or not.

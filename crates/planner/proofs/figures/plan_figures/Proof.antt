@@ -5,8 +5,9 @@ use lib.ListN.{length}
 use Rattle.card.specs.Card.{Legal, totalPositions}
 use Rattle.words.specs.Words.{wordsOf, withWords}
 use Rattle.plan.specs.Legal.{legal-zoned, total-zones}
+use Rattle.plan.specs.Plan.{showingOf}
 use Rattle.plan.specs.Answer.{refusal}
-use Rattle.plan.specs.Ways.{by-figures, by-plan, by-none, short-positions, short-leads, no-stream, some-stream, plan-streams, plan-worst2, film-on, positions-are, leads-are}
+use Rattle.plan.specs.Ways.{by-figures, by-plan, by-none, short-positions, short-leads, no-stream, some-stream, plan-streams, plan-worst2, film-on, small-on, positions-are, leads-are}
 use borrow.Author.Needs.{needs}
 use Rattle.planner.proofs.figures.plan_figures.Statement.{statement}
 use Rattle.planner.proofs.figures.plan_figures.Tie as tie
@@ -29,14 +30,14 @@ long c =
 
 returns : tie.Need-returns
 returns c = let a = c .before .before .before .before .before .before .args in
-    let o = by-figures (a .t1) (a .positions .now) (a .leads .now) (c .before .if1 .taken) in
+    let o = by-figures (showingOf (a .showing)) (a .t1) (a .positions .now) (a .leads .now) (c .before .if1 .taken) in
     (c .refused .ensures ∙ o .0, o .1, o .2)
 
 returns-2 : tie.Need-returns-2
 returns-2 c = let f = c .before .before .before .before in
     let a = f .before .before .before .before .before .args in
     let e = c .before .before .entries .ensures in
-    let o = by-plan (a .t1) (a .positions .now) (a .leads .now) 12 (f .if1 .left) (short-positions (a .t1 .figures) _ _ (omega (arith, c .before .if2 .taken))) in
+    let o = by-plan (showingOf (a .showing)) (a .t1) (a .positions .now) (a .leads .now) 12 (f .if1 .left) (short-positions (showingOf (a .showing)) (a .t1 .figures) _ _ (omega (arith, c .before .if2 .taken))) in
     (c .refused2 .ensures ∙ o .0, o .1, o .2)
 
 returns-3 : tie.Need-returns-3
@@ -44,7 +45,7 @@ returns-3 c = let f = c .before .before .before .before .before .before .before 
     let a = f .before .before .before .before .before .args in
     let e = c .before .before .before .before .before .entries .ensures in
     let d = c .before .before .entries2 .ensures in
-    let o = by-plan (a .t1) (a .positions .now) (a .leads .now) 12 (f .if1 .left) (short-leads (a .t1 .figures) _ _ (omega (arith, c .before .before .before .before .if2 .left)) (omega (arith, c .before .if3 .taken))) in
+    let o = by-plan (showingOf (a .showing)) (a .t1) (a .positions .now) (a .leads .now) 12 (f .if1 .left) (short-leads (showingOf (a .showing)) (a .t1 .figures) _ _ (omega (arith, c .before .before .before .before .if2 .left)) (omega (arith, c .before .if3 .taken))) in
     (c .refused3 .ensures ∙ o .0, o .1, o .2)
 
 plan-of-requires : tie.Need-plan-of-requires
@@ -56,7 +57,7 @@ returns-4 c = let n = c .before .before in
     let e = p .before .before in
     let a = start e .args in
     let k = n .stream-fault .ensures .0 (c .before .if4 .taken) in
-    let o = by-plan (a .t1) (a .positions .now) (a .leads .now) 11 (accepted e) (no-stream (a .t1 .figures) _ _ (long e .0) (long e .1) (sym (plan-streams (a .t1 .figures) (p .plan-of .result) (p .plan-of .ensures)) ∙ k .0)) in
+    let o = by-plan (showingOf (a .showing)) (a .t1) (a .positions .now) (a .leads .now) 11 (accepted e) (no-stream (showingOf (a .showing)) (a .t1 .figures) _ _ (long e .0) (long e .1) (sym (plan-streams (showingOf (a .showing)) (a .t1 .figures) (p .plan-of .result) (p .plan-of .ensures)) ∙ k .0)) in
     (c .refused4 .ensures ∙ ap (λ (j : ℕ). refusal j 0) (k .1) ∙ o .0, o .1, o .2)
 
 abbrev made : (c : tie.After-sum-positions) → tie.After-plan-of
@@ -74,7 +75,7 @@ sum-positions-requires c κs = let ok = legal (c .before .before .before .before
 write-positions-requires : tie.Need-write-positions-requires
 write-positions-requires c κs = let t = c .before in
     let f = film-on _ (legal (past t)) _ (total t) in
-    (f .some, f .room, long (past t) .0)
+    (f .some, f .room, small-on _ (legal (past t)) _ (total t), long (past t) .0)
 
 write-leads-requires : tie.Need-write-leads-requires
 write-leads-requires c κs = let t = c .before .before .before .before .before .before .before .before in (film-on _ (legal (past t)) _ (total t), long (past t) .1)
@@ -89,10 +90,10 @@ returns-5 c = let w = c .before .before in
     let f = a .t1 .figures in
     let n = t .before .before .before .before .stream-fault in
     let z = t .before .before .before .if4 .left in
-    let o = by-none (a .t1) (a .positions .now) (a .leads .now) (accepted e) (some-stream f _ _ (long e .0) (long e .1) (λ y. omega (arith, n .ensures .1 z, plan-streams f (p .result) (p .ensures)))) in (
+    let o = by-none (showingOf (a .showing)) (a .t1) (a .positions .now) (a .leads .now) (accepted e) (some-stream (showingOf (a .showing)) f _ _ (long e .0) (long e .1) (λ y. omega (arith, n .ensures .1 z, plan-streams (showingOf (a .showing)) f (p .result) (p .ensures)))) in (
       (λ i. record { verdict = record { number = z i; place = 0 }; plan = p .ensures i }) ∙ o .0,
-      q .write-positions .ensures ∙ ap (withWords (a .positions .now) 0) (positions-are f (legal e) _ (total t)) ∙ o .1,
-      w .write-leads .ensures ∙ ap (withWords (a .leads .now) 0) (leads-are f (legal e) _ (total t) _ (plan-worst2 f (p .result) (p .ensures))) ∙ o .2,
+      q .write-positions .ensures ∙ ap (withWords (a .positions .now) 0) (positions-are f (legal e) _ (total t) (showingOf (a .showing))) ∙ o .1,
+      w .write-leads .ensures ∙ ap (withWords (a .leads .now) 0) (leads-are f (legal e) _ (total t) (showingOf (a .showing)) _ (plan-worst2 (showingOf (a .showing)) f (p .result) (p .ensures))) ∙ o .2,
     )
 
 pub plan-figures-spec : {M : Type 1} → statement M

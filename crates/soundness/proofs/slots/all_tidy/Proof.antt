@@ -13,15 +13,15 @@ use Rattle.soundness.proofs.slots.all_tidy.Statement.{statement}
 use Rattle.soundness.proofs.slots.all_tidy.Tie as tie
 
 -- the first i slots are tidy
-record Testing (blocks buffer streams : ℕ) (kinds next held : List ℕ) (i : ℕ) : Type 0 where
+record Testing (showing blocks buffer streams : ℕ) (kinds next held : List ℕ) (i : ℕ) : Type 0 where
   few : i ≤ streams
-  tidy : (j : ℕ) → j < i → Tidy blocks buffer (getD kinds j 0) (getD next j 0) (getD held j 0)
+  tidy : (j : ℕ) → j < i → Tidy showing blocks buffer (getD kinds j 0) (getD next j 0) (getD held j 0)
 
 abbrev Inv-loop : tie.InvT-loop
-Inv-loop blocks buffer streams kinds next held i₀ i = Testing blocks buffer streams kinds next held i
+Inv-loop showing blocks buffer streams kinds next held i₀ i = Testing showing blocks buffer streams kinds next held i
 
 abbrev μ-loop : tie.MeasureT-loop
-μ-loop blocks buffer streams kinds next held i₀ i = streams - i
+μ-loop showing blocks buffer streams kinds next held i₀ i = streams - i
 
 rest-zero-requires : tie.Need-rest-zero-requires Inv-loop μ-loop
 rest-zero-requires c κs = c .pre

@@ -25,13 +25,16 @@ returns-7 : tie.Need-returns-7
 returns-7 c = let k = c .match .keys4 in tells-below _ _ (λ e. omega arith) (λ t. t .named (omega arith) (omega arith))
 
 returns-8 : tie.Need-returns-8
-returns-8 c = let k = c .before .match .keys5 in tells-no (λ t. omega (arith, t .some k))
+returns-8 c = let k = c .before .match .keys5 in tells-no (λ t. omega (arith, t .ends k))
 
 returns-9 : tie.Need-returns-9
-returns-9 c = let k = c .before .match .keys5 in tells-equal _ _ (λ e. omega arith) (λ t. t .past k)
+returns-9 c = let k = c .before .before .match .keys5 in tells-no (λ t. omega (arith, t .some k))
 
 returns-10 : tie.Need-returns-10
-returns-10 c = let r = c .match .rest in tells-no (λ t. no-kind (c .before .before .args .kind) (r .0 .0 .0 .0 .1) (r .0 .0 .0 .1) (r .0 .0 .1) (r .0 .1) (r .1) (t .kinds))
+returns-10 c = let k = c .before .before .match .keys5 in tells-equal _ _ (λ e. omega arith) (λ t. t .past k)
+
+returns-11 : tie.Need-returns-11
+returns-11 c = let r = c .match .rest in tells-no (λ t. no-kind (c .before .before .args .kind) (r .0 .0 .0 .0 .1) (r .0 .0 .0 .1) (r .0 .0 .1) (r .0 .1) (r .1) (t .kinds))
 
 pub is-tidy-spec : {M : Type 1} → statement M
 is-tidy-spec =
@@ -46,4 +49,5 @@ is-tidy-spec =
     returns-7
     returns-8
     returns-9
-    returns-10)
+    returns-10
+    returns-11)

@@ -1,0 +1,41 @@
+-- Films in either showing, by the numbers of their blocks: what paces them, and their leads.
+-- Assumes nothing.
+use Prim.Native.Nat.{ℕ, suc, _+_, _*_, _-_, _≤_, _<_}
+use mathlib.Core.Path.{_≡_}
+use mathlib.Core.Logic.{by-cases}
+use native.Mathlib.Omega.{arith}
+use native.Mathlib.Decide.{decLt}
+use borrow.Author.Tests.{ltb-true, lt-ltb, le-ltb, eqb-false}
+use Rattle.placement.specs.Circle.{round}
+use Rattle.placement.specs.CircleBest.{round-last, round-next}
+use Rattle.placement.specs.Showing.{Showing, one, loop}
+use Rattle.pacing.specs.Film.{Paced, lead, after, shown}
+use Rattle.pacing.specs.Lead.{lead-none, lead-closed}
+
+pub round-below : (N b : ℕ) → b < N → round N b < N
+round-below N b u = by-cases (decLt (suc b) N) (λ h. omega (arith, round-next N b h)) (λ h. omega (arith, round-last N b (omega arith)))
+
+module _ (N : ℕ) (time position : ℕ → ℕ) where
+  -- paced by what bounds its blocks and its pairs: those of a film shown once, and in a loop that of last and first too
+  pub shown-paced : (x : Showing) (w m : ℕ) → ((b : ℕ) → b < N → after x N b < N → time b + time (after x N b) ≤ w) → ((b : ℕ) → b < N → time b ≤ m)
+      → Paced (shown x N time position) w m
+  shown-paced one w m pairs slow = record {
+    goes = λ b e q. lt-ltb (suc b) N (omega (arith, ltb-true b N e, eqb-false (suc b) N q));
+    pairs = λ b e q. pairs b (ltb-true b N e) (ltb-true (suc b) N q);
+    slow = λ b e. slow b (ltb-true b N e);
+    runs = λ b e. omega (arith, ltb-true b N e);
+  }
+  shown-paced loop w m pairs slow = record {
+    goes = λ b e q. lt-ltb (round N b) N (round-below N b (ltb-true b N e));
+    pairs = λ b e q. pairs b (ltb-true b N e) (ltb-true (round N b) N q);
+    slow = λ b e. slow b (ltb-true b N e);
+    runs = λ b e. omega (arith, ltb-true b N e);
+  }
+
+  -- lead(N)
+  pub shown-end : (x : Showing) (w : ℕ) → lead (shown x N time position) w N ≡ 0
+  shown-end x w = lead-none (shown x N time position) w N (le-ltb N N (omega arith))
+
+  -- a lead as code computes it
+  pub shown-lead : (x : Showing) (w m : ℕ) → Paced (shown x N time position) w m → (b : ℕ) → b < N → lead (shown x N time position) w b ≡ 2 * time b - w
+  shown-lead x w m ok b u = lead-closed (shown x N time position) w m ok b (lt-ltb b N u)

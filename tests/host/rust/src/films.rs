@@ -1,0 +1,88 @@
+//! Films at the borders of N and of the zones, for one showing and as loops. Each is planned and opened, and some screens play it past
+//! its last block; short loops they play several times round.
+
+use crate::lists::List;
+use crate::trial::Trial;
+use film_disk_model::bench::figures_of;
+use film_disk_model::plan::{plan_of, worst2};
+use film_disk_model::rng::desks::{fair_draws, Draw};
+use film_disk_model::{Call, Planned, Rng, Showing, Step};
+
+const BLOCKS: [u32; 14] = [2, 3, 4, 5, 6, 7, 8, 9, 63, 64, 65, 256, 16_383, 16_384];
+const ZONES: [u32; 6] = [1, 2, 3, 6, 7, 64];
+/// A loop of up to so many blocks is played round so many times.
+const SHORT: u32 = 9;
+const ROUNDS: u128 = 3;
+/// Screens of a film, where it feeds so many.
+const SCREENS: u32 = 4;
+const RATE: u32 = 100_000;
+
+/// A film of the last N positions, over zones of any size about N / zones, with blocks that just feed so many streams. A short one
+/// feeds few, so that its screens get a block in most sweeps.
+fn film(rng: &mut Rng, blocks: u32, zones: u32, showing: Showing) -> Planned {
+    let each = (blocks / zones).max(1);
+    let mut sizes: Vec<u32> = (0..zones).map(|_| rng.between(1, 2 * each)).collect();
+    let total: u32 = sizes.iter().sum();
+    sizes[zones as usize / 2] += blocks.saturating_sub(total);
+    let fall = rng.pick(&[0, 1, 300]);
+    let timed = |(zone, size): (usize, &u32)| (*size, 40_000 - fall * zone as u32);
+    let zones: Vec<(u32, u32)> = sizes.iter().enumerate().map(timed).collect();
+    let mut figures = figures_of(&zones, blocks, 1, RATE);
+    let streams = if blocks <= SHORT { rng.between(1, 3) } else { rng.pick(&[1, 16, 256]) };
+    let time = worst2(&figures, showing) as u64 + 2 * figures.hop as u64;
+    let need = streams as u64 * time + 2 * figures.ret as u64;
+    figures.block_bytes = (RATE as u64 * need).div_ceil(2_000_000) as u32;
+    plan_of(&figures, showing).expect("so many streams fit")
+}
+
+/// A call with the plan's own lists.
+fn step(planned: &Planned, call: Call) -> Step {
+    Step { positions: planned.positions.clone(), leads: planned.leads.clone(), call }
+}
+
+/// Screens join about the end of the film and draw what they may.
+fn play(rng: &mut Rng, trial: &mut Trial, planned: &Planned) -> Result<(), String> {
+    let blocks = planned.plan.figures.blocks;
+    let mut list = List::open(rng, trial, planned)?;
+    let mut call = |list: &mut List, rng: &mut Rng, call| {
+        let got = list.call(rng, trial, &step(planned, call), usize::MAX)?;
+        if got.number == 0 {
+            Ok(())
+        } else {
+            Err(format!("refused {}", got.number))
+        }
+    };
+    for slot in 0..SCREENS.min(planned.plan.streams) {
+        call(&mut list, rng, Call::Join { slot, block: (blocks - 2 + slot) % blocks })?;
+    }
+    let sweeps = if blocks <= SHORT { 12 * blocks } else { 8 };
+    for _ in 0..sweeps {
+        call(&mut list, rng, Call::Begin { fetch_list: planned.plan.streams as usize })?;
+        let draws = fair_draws(rng, &list.rules, Draw::Full);
+        call(&mut list, rng, Call::End { draws })?;
+    }
+    if planned.plan.showing == Showing::Loop.word() && blocks <= SHORT && list.rounds() < ROUNDS {
+        return Err(format!("expected {ROUNDS} rounds, got {}", list.rounds()));
+    }
+    Ok(())
+}
+
+/// All films, each with a name for what is said of it.
+pub fn all_films() -> impl Iterator<Item = (String, u32, u32, Showing)> {
+    let sizes = BLOCKS.into_iter().flat_map(|blocks| ZONES.map(|zones| (blocks, zones)));
+    let films = sizes.flat_map(|(blocks, zones)| Showing::ALL.map(|how| (blocks, zones, how)));
+    films.map(|(blocks, zones, showing)| {
+        (format!("film of {blocks} blocks over {zones} zones, {showing:?}"), blocks, zones, showing)
+    })
+}
+
+pub fn film_case(
+    trial: &mut Trial,
+    blocks: u32,
+    zones: u32,
+    showing: Showing,
+) -> Result<(), String> {
+    let mut rng = Rng::new((blocks * 100 + zones) as u64);
+    let planned = film(&mut rng, blocks, zones, showing);
+    play(&mut rng, trial, &planned)
+}
