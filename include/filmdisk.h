@@ -27,9 +27,9 @@
 extern "C" {
 #endif
 
-#define FILMDISK_VERSION "0.3.0"
+#define FILMDISK_VERSION "0.4.0"
 #define FILMDISK_VERSION_MAJOR 0
-#define FILMDISK_VERSION_MINOR 3
+#define FILMDISK_VERSION_MINOR 4
 #define FILMDISK_VERSION_PATCH 0
 
 /* Limits. */
@@ -53,6 +53,7 @@ enum filmdisk_plan_word {
     FILMDISK_PLAN_WORST2,
     FILMDISK_PLAN_MARGIN,
     FILMDISK_PLAN_SHOWING,
+    FILMDISK_PLAN_WORSTAT, /* the first block of the worst pair, the earliest where several are equal */
     FILMDISK_PLAN_WORDS /* how many there are */
 };
 
@@ -70,8 +71,8 @@ enum filmdisk_fetch_word { FILMDISK_FETCH_POSITION, FILMDISK_FETCH_SLOT, FILMDIS
 
 /* Sizes in bytes. */
 #define FILMDISK_WORD_BYTES 4
-#define FILMDISK_PLAN_BYTES (FILMDISK_PLAN_WORDS * FILMDISK_WORD_BYTES)   /* 556 */
-#define FILMDISK_DESK_BYTES (FILMDISK_DESK_WORDS * FILMDISK_WORD_BYTES)   /* 3,632 */
+#define FILMDISK_PLAN_BYTES (FILMDISK_PLAN_WORDS * FILMDISK_WORD_BYTES)   /* 560 */
+#define FILMDISK_DESK_BYTES (FILMDISK_DESK_WORDS * FILMDISK_WORD_BYTES)   /* 3,636 */
 #define FILMDISK_ENTRY_BYTES FILMDISK_WORD_BYTES                          /* an entry of positions, leads or draws */
 #define FILMDISK_FETCH_BYTES (FILMDISK_FETCH_WORDS * FILMDISK_WORD_BYTES) /* an entry of the fetch list */
 
@@ -181,6 +182,21 @@ static inline void filmdisk_put_word(uint8_t *bytes, size_t index, uint32_t word
     b[1] = (uint8_t)(word >> 8);
     b[2] = (uint8_t)(word >> 16);
     b[3] = (uint8_t)(word >> 24);
+}
+
+/* Two successive blocks of a film. */
+typedef struct filmdisk_pair {
+    uint32_t first;
+    uint32_t second; /* 0 after the last block of a loop */
+} filmdisk_pair;
+
+/* The blocks that take worst2, by an accepted plan or by a desk, which begins with one. */
+static inline filmdisk_pair filmdisk_worst_pair(const uint8_t *plan)
+{
+    filmdisk_pair pair;
+    pair.first = filmdisk_word(plan, FILMDISK_PLAN_WORSTAT);
+    pair.second = pair.first + 1 < filmdisk_word(plan, FILMDISK_PLAN_BLOCKS) ? pair.first + 1 : 0;
+    return pair;
 }
 
 /* The kind of a slot below FILMDISK_MAX_STREAMS, by a desk. */

@@ -28,4 +28,8 @@ void trail_end(struct trail *trail);
 enum { ZONE_COLOURS = 7 };
 extern const char *const zone_colours[ZONE_COLOURS];
 
+/* Bars of two successive blocks: the worst pair, which the plan names, and the others. */
+#define WORST_COLOUR "#d62728"
+#define PAIR_COLOUR "#9db4c8"
+
 #endif

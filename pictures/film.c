@@ -125,15 +125,18 @@ uint32_t pair_time(const struct film *film, uint32_t block)
 /* The formulas over the library's own laying must give the library's figures: the other plans use the same formulas. */
 static void compare_with_formulas(const struct film *film)
 {
-    uint32_t worst2 = 0, greatest = 0;
+    uint32_t worst2 = 0, worstat = 0, greatest = 0;
     for (uint32_t b = 0; b < film->card.blocks; b++) {
         if (laid_time(film, b) > greatest)
             greatest = laid_time(film, b);
-        if (b < pair_count(film) && pair_time(film, b) > worst2)
+        if (b < pair_count(film) && pair_time(film, b) > worst2) {
             worst2 = pair_time(film, b);
+            worstat = b;
+        }
     }
     struct promise expected = promise_of(&film->card, worst2, greatest);
     must(memcmp(&expected, &film->promise, sizeof expected) == 0, "the library's figures are the formulas' over its laying");
+    must(filmdisk_worst_pair(film->plan).first == worstat, "worstat is the first block of the earliest worst pair");
 }
 
 /* A planner call of the library. */

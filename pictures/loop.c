@@ -10,6 +10,9 @@ enum { LEFT = 140, RIGHT = 975, FIRST_STRIP = 700, STRIP = 70, STRIP_HIGH = 48 }
 static const char *const screen_names[SCREENS] = {"Entrance", "Bar", "Pool"};
 static const char *const screen_colours[SCREENS] = {"#0072b2", "#d98200", "#008f68"};
 
+/* The bar of the last block with the first. */
+#define CLOSING_COLOUR "#6f4aa0"
+
 /* Pixels of a microsecond along a bar of the inner and of the outer ring. */
 static const double block_scale = 110.0 / 150000, pair_scale = 75.0 / 300000;
 
@@ -44,13 +47,20 @@ static void draw_ring(FILE *out, const struct film *film)
     svg_text(out, MIDDLE_X, MIDDLE_Y + 28, "note mid", "round and round");
 }
 
+/* The colour of the pair of block b: the last and the first block, the worst pair, or another. */
+static const char *pair_colour(const struct film *film, uint32_t b)
+{
+    if (b + 1 == film->card.blocks)
+        return CLOSING_COLOUR;
+    return b == filmdisk_worst_pair(film->plan).first ? WORST_COLOUR : PAIR_COLOUR;
+}
+
 /* The pairs stand where their two blocks meet; the one of the last and the first block is at the top. */
 static void draw_pairs(FILE *out, const struct film *film)
 {
     for (uint32_t b = 0; b < pair_count(film); b++) {
-        int closes = b + 1 == film->card.blocks;
         must(pair_time(film, b) <= film->promise.worst2, "no two successive blocks of the loop take more than worst2");
-        draw_bar(out, film, b + 1, PAIRS_RADIUS, pair_time(film, b) * pair_scale, 18, "pair", closes ? "#6f4aa0" : "#9db4c8");
+        draw_bar(out, film, b + 1, PAIRS_RADIUS, pair_time(film, b) * pair_scale, 18, "pair", pair_colour(film, b));
     }
     svg_circle(out, MIDDLE_X, MIDDLE_Y, PAIRS_RADIUS, "axis");
     svg_circle(out, MIDDLE_X, MIDDLE_Y, PAIRS_RADIUS + film->promise.worst2 * pair_scale, "limit");
@@ -58,6 +68,7 @@ static void draw_pairs(FILE *out, const struct film *film)
 
 static void draw_words(FILE *out, const struct film *film)
 {
+    const filmdisk_pair worst = filmdisk_worst_pair(film->plan);
     svg_text(out, KEYS, 130, "head", "Inner ring: time to read each block");
     svg_text(out, KEYS, 150, "note", "Dashed: half of worst2. Zones, inner to outer:");
     for (uint32_t zone = 0; zone < film->card.zones; zone++) {
@@ -67,12 +78,14 @@ static void draw_words(FILE *out, const struct film *film)
     }
     svg_text(out, KEYS, 345, "head", "Outer ring: two successive blocks");
     svg_text(out, KEYS, 365, "note", "Dashed: worst2, %.1f ms. None takes longer,", film->promise.worst2 / 1000.0);
-    svg_rect(out, KEYS, 375, 12, 12, "key", "#6f4aa0");
+    svg_rect(out, KEYS, 375, 12, 12, "key", CLOSING_COLOUR);
     svg_text(out, KEYS + 18, 385, "note", "not even the last block with the first: %.1f ms.", pair_time(film, film->card.blocks - 1) / 1000.0);
-    svg_text(out, KEYS, 425, "head", "How a loop is laid");
-    svg_text(out, KEYS, 445, "note", "Block 0 lies on the slowest position. From there both");
-    svg_text(out, KEYS, 461, "note", "ways round quick and slow take turns, from the ends of");
-    svg_text(out, KEYS, 477, "note", "the disk to its middle, and meet on the other side.");
+    svg_rect(out, KEYS, 395, 12, 12, "key", WORST_COLOUR);
+    svg_text(out, KEYS + 18, 405, "note", "worstat %u: blocks %u and %u are the first to take it.", worst.first, worst.first, worst.second);
+    svg_text(out, KEYS, 440, "head", "How a loop is laid");
+    svg_text(out, KEYS, 460, "note", "Block 0 lies on the slowest position. From there both");
+    svg_text(out, KEYS, 476, "note", "ways round quick and slow take turns, from the ends of");
+    svg_text(out, KEYS, 492, "note", "the disk to its middle, and meet on the other side.");
 }
 
 /* What a screen holds, as a filled line. */

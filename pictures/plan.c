@@ -56,6 +56,7 @@ static void draw_bars(FILE *out, const struct film *film)
 static void draw_pairs(FILE *out, const struct film *film)
 {
     const double most = 300000;
+    const filmdisk_pair worst = filmdisk_worst_pair(film->plan);
     uint32_t slowest = 2 * film->card.times[0];
     svg_text(out, LEFT, PAIRS_TOP - 14, "head", "Time to read two successive blocks together");
     draw_scale(out, most, 100000, PAIRS_TOP, PAIRS_FOOT);
@@ -63,13 +64,16 @@ static void draw_pairs(FILE *out, const struct film *film)
         uint32_t sum = pair_time(film, b);
         must(sum <= film->promise.worst2, "no two successive blocks take more than worst2");
         double y = time_y(sum, most, PAIRS_TOP, PAIRS_FOOT);
-        svg_rect(out, block_x(film, b + 0.5) + 3, y, block_x(film, 1) - LEFT - 6, PAIRS_FOOT - y, "pair", "#9db4c8");
+        svg_rect(out, block_x(film, b + 0.5) + 3, y, block_x(film, 1) - LEFT - 6, PAIRS_FOOT - y, "pair",
+                 b == worst.first ? WORST_COLOUR : PAIR_COLOUR);
     }
     double limit = time_y(film->promise.worst2, most, PAIRS_TOP, PAIRS_FOOT);
     double other = time_y(slowest, most, PAIRS_TOP, PAIRS_FOOT);
     svg_line(out, LEFT, limit, RIGHT, limit, "limit");
     svg_line(out, LEFT, other, RIGHT, other, "other");
     svg_coloured(out, RIGHT, limit - 5, "note end", "#d62728", "worst2: no two successive blocks take longer");
+    svg_text(out, LEFT + 8, limit - 5, "note", "worstat %u: blocks %u and %u, the red bar, are the first to take it", worst.first, worst.first,
+             worst.second);
     svg_text(out, RIGHT, other - 5, "note end", "twice the slowest zone, %.1f ms: the limit without this laying", slowest / 1000.0);
     svg_text(out, (LEFT + RIGHT) / 2.0, PAIRS_FOOT + 20, "note mid", "blocks 0 and 1, 1 and 2, .. up to %u and %u",
              film->card.blocks - 2, film->card.blocks - 1);

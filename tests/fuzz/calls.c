@@ -236,6 +236,14 @@ static void set_showing(enum lent which)
     filmdisk_put_word(contents[which], FILMDISK_PLAN_SHOWING, value % 4 == 0 ? 1 - word(which, FILMDISK_PLAN_SHOWING) : value);
 }
 
+/* Sets worstat: one block further or back, the last block, or any word. */
+static void set_worstat(enum lent which)
+{
+    uint32_t value = take_number(), its = word(which, FILMDISK_PLAN_WORSTAT);
+    const uint32_t words[] = {its + 1, its - 1, word(which, FILMDISK_PLAN_BLOCKS) - 1, value};
+    filmdisk_put_word(contents[which], FILMDISK_PLAN_WORSTAT, words[value % COUNT(words)]);
+}
+
 /* Makes a slot a tail, which no loop has; at times with the next block of one that has gone round. */
 static void set_tail(void)
 {
@@ -259,7 +267,7 @@ static void set_slot(void)
 static void take_call(void)
 {
     uint32_t slot, all, one;
-    switch (take() % 11) {
+    switch (take() % 12) {
     case 0:
     case 1:
         slot = take_number();
@@ -289,9 +297,25 @@ static void take_call(void)
     case 9:
         set_showing(DESK);
         break;
-    default:
+    case 10:
         set_tail();
+        break;
+    default:
+        set_worstat(DESK);
     }
+}
+
+/* Damages what an opening reads. */
+static void damage_plan(uint32_t choice)
+{
+    if (choice < 240)
+        damage();
+    else if (lengths[PLAN] != FILMDISK_PLAN_BYTES)
+        return;
+    else if (choice < 248)
+        set_showing(PLAN);
+    else
+        set_worstat(PLAN);
 }
 
 /* The calls on a desk that was opened. */
@@ -320,12 +344,8 @@ int LLVMFuzzerTestOneInput(const uint8_t *data, size_t size)
         return 0;
     size_t list_bytes = (size_t)word(PLAN, FILMDISK_PLAN_BLOCKS) * FILMDISK_ENTRY_BYTES;
     lengths[POSITIONS] = lengths[LEADS] = list_bytes;
-    for (uint32_t more = take(); more >= 200; more = take()) {
-        if (more < 240)
-            damage();
-        else if (lengths[PLAN] == FILMDISK_PLAN_BYTES)
-            set_showing(PLAN);
-    }
+    for (uint32_t more = take(); more >= 200; more = take())
+        damage_plan(more);
     if (call_both(CALL_OPEN, 0, 0).number == 0)
         run_desk();
     return 0;

@@ -34,7 +34,7 @@ static void lend_bench(void)
 
 static void plan_of_the_bench_film(void)
 {
-    static const uint32_t others[] = {6, 262144, 500000, 12670, 15000, 16, 812632, 37990, 6550, FILMDISK_ONCE};
+    static const uint32_t others[] = {6, 262144, 500000, 12670, 15000, 16, 812632, 37990, 6550, FILMDISK_ONCE, 0};
     static const uint32_t positions[] = {0, 5, 1, 4, 2, 3};
     static const uint32_t leads[] = {6550, 0, 3110, 0, 190, 0};
     uint32_t zones[1 + 2 * FILMDISK_MAX_ZONES] = {6};
@@ -68,6 +68,39 @@ static void plans_at_the_limit_of_a_stream(void)
 {
     plan_with(BENCH_BLOCK_BYTES, 260820, 16, 808660);
     plan_with(BENCH_BLOCK_BYTES, 260819, 15, 807020);
+}
+
+/* Times of a film's positions, innermost first, and the first block of its worst pair: shown once, and as a loop. */
+static const struct worst_film {
+    uint32_t blocks, times[8], worstat[2];
+} worst_films[] = {
+    {2, {3, 1}, {0, 0}}, /* a loop of two blocks has two equal pairs */
+    {3, {2, 2, 2}, {0, 0}},
+    {3, {3, 2, 1}, {0, 2}}, /* the last block of a loop with the first */
+    {4, {5, 4, 3, 2}, {0, 3}},
+    {4, {3, 3, 2, 1}, {2, 2}}, /* before the last, and in a loop as bad as the last with the first */
+    {6, {5, 5, 5, 5, 2, 2}, {4, 2}},
+    {6, {6, 3, 3, 3, 3, 2}, {0, 5}},
+    {6, {3, 1, 1, 1, 1, 1}, {0, 0}},
+    {8, {12, 11, 10, 9, 8, 7, 6, 5}, {0, 2}}, /* every second pair is as bad */
+    {8, {9, 9, 9, 5, 5, 3, 3, 3}, {0, 5}},
+    {8, {9, 9, 9, 9, 9, 3, 3, 3}, {6, 4}}, /* half way round two side by side */
+};
+
+/* By the plan and by the desk; after the last block comes block 0. */
+static void worst_pairs(void)
+{
+    static const enum lent records[] = {PLAN, DESK};
+    for (size_t i = 0; i < 2 * COUNT(worst_films); i++) {
+        const struct worst_film *film = &worst_films[i / 2];
+        const uint32_t first = film->worstat[i % 2], second = (first + 1) % film->blocks;
+        open_film(planners[i % 2], film->times, film->blocks);
+        for (size_t k = 0; k < COUNT(records); k++) {
+            const filmdisk_pair got = worst_pair(records[k]);
+            check(got.first == first && got.second == second, "film %zu, showing %zu: expected blocks %u and %u, got %u and %u", i / 2, i % 2,
+                  first, second, got.first, got.second);
+        }
+    }
 }
 
 /* The desk. */
@@ -514,6 +547,10 @@ static void refusal_14_of_lengths(void)
     bench_desk();
     resize(PLAN, FILMDISK_PLAN_BYTES + 1);
     expect_opening_refused();
+    /* Version 0.3.0 had no worstat. */
+    bench_desk();
+    resize(PLAN, 556);
+    expect_opening_refused();
 }
 
 /* A zone of which the film has no block counts too: a plan with a time that is 26 on a card is none. */
@@ -562,6 +599,8 @@ static const struct unsound unsound[] = {
     {FILMDISK_PLAN_RATE, 500001},
     {FILMDISK_PLAN_SHOWING, FILMDISK_LOOP},
     {FILMDISK_PLAN_SHOWING, 2},
+    {FILMDISK_PLAN_WORSTAT, 1},
+    {FILMDISK_PLAN_WORSTAT, 0x01000000},
     {FILMDISK_DESK_PHASE, 2},
     {FILMDISK_DESK_KINDS + 4, 5},
     {FILMDISK_DESK_KINDS + 0, 0x100},
@@ -588,6 +627,26 @@ static void refusal_14_of_desks(void)
         mixed_desk((uint32_t)i % 2);
         put(DESK, unsound[i].word, unsound[i].value);
         expect_calls_refused(FILMDISK_REFUSED_NOT_SOUND);
+    }
+}
+
+/* A record names the earliest worst pair: neither another pair as bad nor any other block makes a plan. */
+static void refusal_14_of_worst_pairs(void)
+{
+    for (size_t i = 0; i < 2 * COUNT(worst_films); i++) {
+        const struct worst_film *film = &worst_films[i / 2];
+        const uint32_t right = film->worstat[i % 2];
+        open_film(planners[i % 2], film->times, film->blocks);
+        for (uint32_t step = 1; step <= film->blocks; step++) {
+            const uint32_t block = (right + step) % (film->blocks + 1);
+            put(DESK, FILMDISK_PLAN_WORSTAT, block);
+            expect_calls_refused(FILMDISK_REFUSED_NOT_SOUND);
+            put(PLAN, FILMDISK_PLAN_WORSTAT, block);
+            expect(host_open(), FILMDISK_REFUSED_NOT_SOUND, 0);
+            put(PLAN, FILMDISK_PLAN_WORSTAT, right);
+            expect(host_open(), 0, 0);
+        }
+        expect(host_join(0, right), 0, 0);
     }
 }
 
@@ -739,9 +798,10 @@ static void sizes_and_offsets(void)
         {FILMDISK_PLAN_BLOCKS, 129}, {FILMDISK_PLAN_BLOCK_BYTES, 130}, {FILMDISK_PLAN_RATE, 131},
         {FILMDISK_PLAN_HOP, 132},    {FILMDISK_PLAN_RETURN, 133},      {FILMDISK_PLAN_STREAMS, 134},
         {FILMDISK_PLAN_BUFFER, 135}, {FILMDISK_PLAN_WORST2, 136},      {FILMDISK_PLAN_MARGIN, 137},
-        {FILMDISK_PLAN_SHOWING, 138}, {FILMDISK_PLAN_WORDS, 139},      {FILMDISK_PLAN_BYTES, 556},
-        {FILMDISK_DESK_PHASE, 139},  {FILMDISK_DESK_KINDS, 140},       {FILMDISK_DESK_NEXT, 396},
-        {FILMDISK_DESK_HELD, 652},   {FILMDISK_DESK_WORDS, 908},       {FILMDISK_DESK_BYTES, 3632},
+        {FILMDISK_PLAN_SHOWING, 138}, {FILMDISK_PLAN_WORSTAT, 139},    {FILMDISK_PLAN_WORDS, 140},
+        {FILMDISK_PLAN_BYTES, 560},  {FILMDISK_DESK_PHASE, 140},       {FILMDISK_DESK_KINDS, 141},
+        {FILMDISK_DESK_NEXT, 397},   {FILMDISK_DESK_HELD, 653},        {FILMDISK_DESK_WORDS, 909},
+        {FILMDISK_DESK_BYTES, 3636},
         {FILMDISK_FETCH_POSITION, 0}, {FILMDISK_FETCH_SLOT, 1},        {FILMDISK_FETCH_BLOCK, 2},
         {FILMDISK_FETCH_BYTES, 12},  {FILMDISK_ENTRY_BYTES, 4},        {FILMDISK_ONCE, 0},
         {FILMDISK_LOOP, 1},
@@ -765,9 +825,9 @@ static void slots_and_fetches_by_the_header(void)
     lend_noise(FETCHES, 256 * FILMDISK_FETCH_BYTES);
     for (size_t i = 0; i < COUNT(slots); i++) {
         uint32_t slot = slots[i];
-        put_bytes(DESK, 560 + 4 * slot, 0x10);
-        put_bytes(DESK, 1584 + 4 * slot, 0x20);
-        put_bytes(DESK, 2608 + 4 * slot, 0x30);
+        put_bytes(DESK, 564 + 4 * slot, 0x10);
+        put_bytes(DESK, 1588 + 4 * slot, 0x20);
+        put_bytes(DESK, 2612 + 4 * slot, 0x30);
         check(filmdisk_slot_kind(bytes_of(DESK), slot) == 0x13121110, "kind of slot %u", slot);
         check(filmdisk_slot_next(bytes_of(DESK), slot) == 0x23222120, "next of slot %u", slot);
         check(filmdisk_slot_held(bytes_of(DESK), slot) == 0x33323130, "held of slot %u", slot);
@@ -832,6 +892,7 @@ static void a_meaning_for_each_number(void)
 static const test tests[] = {
     TEST(plan_of_the_bench_film),
     TEST(plans_at_the_limit_of_a_stream),
+    TEST(worst_pairs),
     TEST(opening),
     TEST(worked_desk),
     TEST(floor_to_the_half_byte),
@@ -858,6 +919,7 @@ static const test tests[] = {
     TEST(refusal_14_of_lengths),
     TEST(refusal_14_of_half_dead_zone),
     TEST(refusal_14_of_desks),
+    TEST(refusal_14_of_worst_pairs),
     TEST(refusal_14_of_desk_strings),
     TEST(refusal_15),
     TEST(refusal_16),

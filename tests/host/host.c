@@ -169,6 +169,11 @@ filmdisk_fetch fetch(size_t entry)
     return filmdisk_fetch_at(bytes_of(FETCHES), entry);
 }
 
+filmdisk_pair worst_pair(enum lent which)
+{
+    return filmdisk_worst_pair(bytes_of(which));
+}
+
 /* A number's shortest form; answers its length. */
 static size_t write_number(uint8_t *bytes, uint32_t value)
 {
@@ -414,4 +419,18 @@ void open_desk(planner *plan, const uint32_t *numbers, size_t count)
     expect(host_open(), 0, 0);
     lend_noise(DRAWS, streams * FILMDISK_ENTRY_BYTES);
     memset(bytes_of(DRAWS), 0, length_of(DRAWS));
+}
+
+void open_film(planner *plan, const uint32_t *times, uint32_t blocks)
+{
+    uint32_t numbers[MOST_CARD_NUMBERS] = {1, blocks};
+    size_t count = 2;
+    for (uint32_t zone = 0; zone < blocks; zone++) {
+        numbers[count++] = 1;
+        numbers[count++] = times[zone];
+    }
+    numbers[count++] = blocks;
+    for (size_t i = BENCH_BLOCK_BYTES; i < BENCH_NUMBERS; i++)
+        numbers[count++] = bench_film[i];
+    open_desk(plan, numbers, count);
 }

@@ -48,6 +48,9 @@ uint32_t held(uint32_t slot);
 uint64_t draw_limit(uint32_t slot, uint32_t bound);
 filmdisk_fetch fetch(size_t entry);
 
+/* The worst pair by a plan or a desk. */
+filmdisk_pair worst_pair(enum lent which);
+
 /* The card of these numbers; where a number of it begins. */
 void lend_card(const uint32_t *numbers, size_t count);
 size_t offset_of(const uint32_t *numbers, size_t index);
@@ -78,6 +81,9 @@ typedef filmdisk_answer planner(void);
 
 /* Lends a card with noise in all that a plan call writes, plans it and opens a desk with room for its fetches and draws. */
 void open_desk(planner *plan, const uint32_t *numbers, size_t count);
+
+/* The same of a film on positions with these times, innermost first, each a zone; all else as the bench film has it. */
+void open_film(planner *plan, const uint32_t *times, uint32_t blocks);
 
 /* Numbers that repeat in every run: below `end`. */
 uint32_t below(uint32_t end);

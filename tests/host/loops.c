@@ -29,15 +29,15 @@ static void bench_loop(void)
 
 /* Plans. */
 
-/* The numbers of a plan from its streams on: streams, buffer, worst2, margin, showing. */
+/* The numbers of a plan from its streams on: streams, buffer, worst2, margin, showing, worstat. */
 static void expect_numbers(const uint32_t *numbers)
 {
-    expect_words(PLAN, FILMDISK_PLAN_STREAMS, numbers, 5);
+    expect_words(PLAN, FILMDISK_PLAN_STREAMS, numbers, 6);
 }
 
 static void plan_of_the_bench_loop(void)
 {
-    static const uint32_t numbers[] = {STREAMS, BUFFER, 38970, 5570, FILMDISK_LOOP};
+    static const uint32_t numbers[] = {STREAMS, BUFFER, 38970, 5570, FILMDISK_LOOP, BLOCKS - 1};
     static const uint32_t positions[] = {0, 5, 1, 3, 2, 4};
     static const uint32_t leads[] = {5570, 0, 2130, 0, 0, 0};
     uint8_t figures[FILMDISK_PLAN_STREAMS * FILMDISK_WORD_BYTES];
@@ -51,7 +51,7 @@ static void plan_of_the_bench_loop(void)
 }
 
 struct laid {
-    uint32_t worst2, margin;
+    uint32_t worst2, worstat, margin;
     uint32_t positions[7], leads[7];
 };
 
@@ -59,18 +59,19 @@ struct laid {
 static void loops_on_three_zones(void)
 {
     static const struct laid films[] = {
-        {20, 0, {5, 6}, {0, 0}},
-        {30, 10, {4, 6, 5}, {10, 0, 0}},
-        {30, 10, {3, 6, 4, 5}, {10, 0, 10, 0}},
-        {40, 0, {2, 6, 3, 4, 5}, {0, 0, 0, 0, 0}},
-        {40, 20, {1, 6, 2, 4, 3, 5}, {20, 0, 0, 0, 0, 0}},
-        {50, 10, {0, 6, 1, 4, 3, 2, 5}, {10, 0, 10, 0, 0, 0, 0}},
+        {20, 0, 0, {5, 6}, {0, 0}},
+        {30, 0, 10, {4, 6, 5}, {10, 0, 0}},
+        {30, 0, 10, {3, 6, 4, 5}, {10, 0, 10, 0}},
+        {40, 2, 0, {2, 6, 3, 4, 5}, {0, 0, 0, 0, 0}},
+        {40, 0, 20, {1, 6, 2, 4, 3, 5}, {20, 0, 0, 0, 0, 0}},
+        {50, 2, 10, {0, 6, 1, 4, 3, 2, 5}, {10, 0, 10, 0, 0, 0, 0}},
     };
     for (uint32_t blocks = 2; blocks <= 7; blocks++) {
         const uint32_t numbers[] = {1, 3, 2, 30, 3, 20, 2, 10, blocks, BLOCK_BYTES, 500000, HOP, RETURN};
         const struct laid *film = &films[blocks - 2];
         open_desk(host_plan_loop, numbers, COUNT(numbers));
         expect_words(PLAN, FILMDISK_PLAN_WORST2, &film->worst2, 1);
+        expect_words(PLAN, FILMDISK_PLAN_WORSTAT, &film->worstat, 1);
         expect_words(PLAN, FILMDISK_PLAN_MARGIN, &film->margin, 1);
         expect_words(POSITIONS, 0, film->positions, blocks);
         expect_words(LEADS, 0, film->leads, blocks);
@@ -107,9 +108,9 @@ static filmdisk_answer plan_with(planner *plan, uint32_t block_bytes)
 /* The last pair of a loop makes its worst2 greater: 12 may come for the loop alone. */
 static void limits_of_a_stream(void)
 {
-    static const uint32_t sixteen[] = {16, 816500, 38970, 5570, FILMDISK_LOOP};
-    static const uint32_t fifteen[] = {15, 815105, 38970, 5570, FILMDISK_LOOP};
-    static const uint32_t one[] = {1, 72127, 38970, 5570, FILMDISK_LOOP};
+    static const uint32_t sixteen[] = {16, 816500, 38970, 5570, FILMDISK_LOOP, BLOCKS - 1};
+    static const uint32_t fifteen[] = {15, 815105, 38970, 5570, FILMDISK_LOOP, BLOCKS - 1};
+    static const uint32_t one[] = {1, 72127, 38970, 5570, FILMDISK_LOOP, BLOCKS - 1};
     expect(plan_with(host_plan_loop, 264740), 0, 0);
     expect_numbers(sixteen);
     expect(plan_with(host_plan_loop, 264739), 0, 0);
@@ -282,9 +283,9 @@ static void third_words(void)
 }
 
 /* With the other word the record and its lists are no plan, but for films of 2, 3 or 4 blocks whose two plans are alike. */
-static void turn_over(planner *plan, const uint32_t *numbers, size_t count, int both)
+static void turn_over(planner *plan, const uint32_t *times, uint32_t blocks, int both)
 {
-    open_desk(plan, numbers, count);
+    open_film(plan, times, blocks);
     const uint32_t other = FILMDISK_LOOP - word(PLAN, FILMDISK_PLAN_SHOWING);
     put(DESK, FILMDISK_PLAN_SHOWING, other);
     put(PLAN, FILMDISK_PLAN_SHOWING, other);
@@ -305,17 +306,8 @@ static void words_turned_over(void)
         {4, {5, 4, 3, 2}, 0}, {5, {2, 2, 2, 2, 2}, 0}, {6, {2, 2, 2, 2, 2, 2}, 0}, {7, {9, 8, 7, 6, 5, 4, 3}, 0},
     };
     for (size_t i = 0; i < COUNT(films); i++) {
-        uint32_t numbers[2 + 2 * 7 + 5] = {1, films[i].blocks};
-        size_t count = 2;
-        for (uint32_t zone = 0; zone < films[i].blocks; zone++) {
-            numbers[count++] = 1;
-            numbers[count++] = films[i].times[zone];
-        }
-        const uint32_t film[] = {films[i].blocks, BLOCK_BYTES, 500000, HOP, RETURN};
-        memcpy(numbers + count, film, sizeof film);
-        count += COUNT(film);
-        turn_over(host_plan, numbers, count, films[i].both);
-        turn_over(host_plan_loop, numbers, count, films[i].both);
+        turn_over(host_plan, films[i].times, films[i].blocks, films[i].both);
+        turn_over(host_plan_loop, films[i].times, films[i].blocks, films[i].both);
     }
 }
 

@@ -11,17 +11,17 @@ use Rattle.card.specs.declared.CardRead.{CardRead}
 use Rattle.card.specs.declared.Figures.{Figures}
 use Rattle.card.specs.Card.{totalPositions}
 use Rattle.laws.specs.Runs.{sumBy}
-use Rattle.laws.specs.Greatest.{greatestOf, greatest}
+use Rattle.laws.specs.Greatest.{greatestOf, greatest, firstReaching, earliestOf}
 use Rattle.words.specs.Words.{wordsOf}
 use Rattle.placement.specs.Placement.{place, worstTime}
 use Rattle.placement.specs.Circle.{round, falls, rank, ring, worstRound}
-use Rattle.placement.specs.Showing.{Showing, one, loop}
+use Rattle.placement.specs.Showing.{Showing, one, loop, worstAt}
 use Rattle.placement.specs.Zones.{timeAt}
 use Rattle.pacing.specs.Film.{row as run, span, lead}
 use Rattle.pacing.specs.Streams.{overhead, load, streams, bufferOf}
 use Rattle.pacing.specs.Laid.{slowest, margin}
 use Rattle.plan.specs.declared.Plan.{Plan}
-use Rattle.plan.specs.Plan.{wordOf, timeOf, worst2Of, streamsOf, marginOf, bufferSize, planOf, blankPlan, row, positionsOf, leadsOf}
+use Rattle.plan.specs.Plan.{wordOf, timeOf, worst2Of, worstAtOf, streamsOf, marginOf, bufferSize, planOf, blankPlan, row, positionsOf, leadsOf}
 use Rattle.plan.specs.Answer.{planFault, refusal, planned}
 use Rattle.cases.specs.Story.{Story, story}
 use Rattle.cases.specs.Bench.{entries, film, sixOnes, bench, alike}
@@ -30,10 +30,10 @@ use Rattle.cases.specs.Bench.{entries, film, sixOnes, bench, alike}
 abbrev pub Refuses : List ℕ → ℕ → ℕ → Type 0
 Refuses s number offset = (readCard s .verdict .number ≡ number) × (readCard s .verdict .place ≡ offset)
 
--- the plan of figures in a showing: streams, buffer, worst2 and margin
-abbrev pub Plans : Showing → Figures → ℕ → ℕ → ℕ → ℕ → Type 0
-Plans x f streams buffer worst2 margin =
-    _≡_ {A = Plan} (planOf x f) (record { figures = f; streams = streams; buffer = buffer; worst2 = worst2; margin = margin; showing = wordOf x })
+-- the plan of figures in a showing: streams, buffer, worst2, worstat (T2.3) and margin
+abbrev pub Plans : Showing → Figures → ℕ → ℕ → ℕ → ℕ → ℕ → Type 0
+Plans x f streams buffer worst2 worstat margin =
+    _≡_ {A = Plan} (planOf x f) (record { figures = f; streams = streams; buffer = buffer; worst2 = worst2; margin = margin; showing = wordOf x; worstat = worstat })
 
 -- time(b) of each block
 abbrev pub timesOf : Figures → List ℕ
@@ -62,13 +62,13 @@ pub record Cases : Type 0 where
   pub empty-card : Refuses [] 1 0
   pub longer-form : Refuses (129 ∷ 0 ∷ []) 2 0
   -- the bench film's listing
-  pub bench-plan : Plans one (bench 6 262144) 16 812632 37990 6550
+  pub bench-plan : Plans one (bench 6 262144) 16 812632 37990 0 6550
   pub bench-positions : positionsOf one (bench 6 262144) ≡ 0 ∷ 5 ∷ 1 ∷ 4 ∷ 2 ∷ 3 ∷ []
   pub bench-times : timesOf (bench 6 262144) ≡ 22270 ∷ 15720 ∷ 20550 ∷ 16700 ∷ 19090 ∷ 17810 ∷ []
   pub bench-leads : leadsOf one (bench 6 262144) ≡ 6550 ∷ 0 ∷ 3110 ∷ 0 ∷ 190 ∷ 0 ∷ []
   -- B 260820: 16 streams, buffer 808660. B 260819: 15 streams, buffer 807020
-  pub sixteen-streams : Plans one (bench 6 260820) 16 808660 37990 6550
-  pub fifteen-streams : Plans one (bench 6 260819) 15 807020 37990 6550
+  pub sixteen-streams : Plans one (bench 6 260820) 16 808660 37990 0 6550
+  pub fifteen-streams : Plans one (bench 6 260819) 15 807020 37990 0 6550
   -- N 5: positions 1, 5, 2, 4, 3; worst2 36270, margin 4830
   pub five-positions : positionsOf one (bench 5 262144) ≡ 1 ∷ 5 ∷ 2 ∷ 4 ∷ 3 ∷ []
   pub five-worst2 : worst2Of one (bench 5 262144) ≡ 36270
@@ -84,14 +84,14 @@ pub record Cases : Type 0 where
   pub three-loop-worst2 : worst2Of loop (alike 3 262144) ≡ worst2Of one (alike 3 262144)
   pub three-loop-leads : leadsOf loop (alike 3 262144) ≡ leadsOf one (alike 3 262144)
   -- the bench film as a loop: the last block and the first are its worst pair
-  pub bench-loop-plan : Plans loop (bench 6 262144) 15 807320 38970 5570
+  pub bench-loop-plan : Plans loop (bench 6 262144) 15 807320 38970 5 5570
   pub bench-loop-positions : positionsOf loop (bench 6 262144) ≡ 0 ∷ 5 ∷ 1 ∷ 3 ∷ 2 ∷ 4 ∷ []
   pub bench-loop-leads : leadsOf loop (bench 6 262144) ≡ 5570 ∷ 0 ∷ 2130 ∷ 0 ∷ 0 ∷ 0 ∷ []
   -- the desk case
   pub desk : Story
 
 pub cases : Cases
-unfolding groupsFrom groups continuing joined judged numberIn numberAt first below above outside thenAbove thenBelow faultOf timeFault onFault onNumber fieldAt blankZones blankFigures refusedCard thenField cardEnd filmFrom zonesFrom readCard filmNumbers zoneNumbers numbersOf bytesOf cardOf entries film totalPositions sumBy greatestOf greatest wordsOf place worstTime round falls rank ring worstRound timeAt run span lead overhead load streams bufferOf slowest margin worst2Of streamsOf marginOf bufferSize planOf blankPlan row positionsOf leadsOf planFault refusal planned
+unfolding groupsFrom groups continuing joined judged numberIn numberAt first below above outside thenAbove thenBelow faultOf timeFault onFault onNumber fieldAt blankZones blankFigures refusedCard thenField cardEnd filmFrom zonesFrom readCard filmNumbers zoneNumbers numbersOf bytesOf cardOf entries film totalPositions sumBy greatestOf greatest wordsOf place worstTime round falls rank ring worstRound timeAt run span lead overhead load streams bufferOf slowest margin firstReaching earliestOf worstAt worst2Of worstAtOf streamsOf marginOf bufferSize planOf blankPlan row positionsOf leadsOf planFault refusal planned
 cases = record {
   number-300 = refl;
   number-22270 = refl;

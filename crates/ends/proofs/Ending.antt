@@ -13,8 +13,8 @@ use Rattle.laws.specs.Places.{each-of-allFrom, eachFrom-at}
 use Rattle.numbers.specs.Slots.{free, filling, playing, draining}
 use Rattle.numbers.specs.Showings.{loopWord}
 use Rattle.placement.specs.CircleBest.{round-last, round-next}
-use Rattle.placement.specs.Showing.{Showing, one, loop}
-use Rattle.pacing.specs.Film.{after, isPast}
+use Rattle.placement.specs.Showing.{Showing, one, loop, after}
+use Rattle.pacing.specs.Film.{isPast}
 use Rattle.pacing.specs.Shown.{round-below}
 use Rattle.plan.specs.Plan.{showingOf, showingIn}
 use Rattle.plan.specs.Check.{shows-loop, shows-once}

@@ -5,8 +5,7 @@ use mathlib.Core.Path.{_≡_}
 use mathlib.Core.List.{List}
 use lib.Dec.{eqb}
 use Rattle.numbers.specs.Slots.{filling, playing, draining}
-use Rattle.placement.specs.Showing.{Showing}
-use Rattle.pacing.specs.Film.{after}
+use Rattle.placement.specs.Showing.{Showing, after}
 use Rattle.safety.specs.Supply.{Supply}
 use Rattle.safety.specs.Scheduler as S
 use Rattle.safety.specs.Scheduler.{end}

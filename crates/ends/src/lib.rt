@@ -11,7 +11,7 @@ ghost use Prim.Native.Nat.{ℕ, _+_, _≤_, _<_};
 ghost use lib.Dec.{eqb};
 ghost use Rattle.words.specs.Words.{wordsOf};
 ghost use Rattle.numbers.specs.Slots.{filling, playing, draining};
-ghost use Rattle.pacing.specs.Film.{after};
+ghost use Rattle.placement.specs.Showing.{after};
 ghost use Rattle.plan.specs.Plan.{showingOf};
 ghost use Rattle.safety.specs.Supply.{Supply};
 ghost use Rattle.safety.specs.Scheduler.{endedSlot, ended};

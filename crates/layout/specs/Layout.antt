@@ -36,8 +36,9 @@ figuresOf (zones, (positions, (times, (blocks, (bytes, (rate, (hop, (back, end))
 
 abbrev pub plannedFields : List Field
 plannedFields =
-    -- streams, buffer, worst2, margin, showing
+    -- streams, buffer, worst2, margin, showing, worstat
     word
+    ∷ word
     ∷ word
     ∷ word
     ∷ word
@@ -45,10 +46,18 @@ plannedFields =
     ∷ []
 
 abbrev pub plannedValues : Plan → Values plannedFields
-plannedValues p = p .streams & p .buffer & p .worst2 & p .margin & p .showing & tt
+plannedValues p = p .streams & p .buffer & p .worst2 & p .margin & p .showing & p .worstat & tt
 
 abbrev pub planWith : Figures → Values plannedFields → Plan
-planWith f (streams, (buffer, (worst2, (margin, (showing, end))))) = record { figures = f; streams = streams; buffer = buffer; worst2 = worst2; margin = margin; showing = showing }
+planWith f (streams, (buffer, (worst2, (margin, (showing, (worstat, end)))))) = record {
+  figures = f;
+  streams = streams;
+  buffer = buffer;
+  worst2 = worst2;
+  margin = margin;
+  showing = showing;
+  worstat = worstat;
+}
 
 abbrev pub planFields : List Field
 planFields = figureFields ++ plannedFields

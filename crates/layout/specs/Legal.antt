@@ -10,7 +10,7 @@ use Rattle.card.specs.Card.{Legal}
 use Rattle.placement.specs.Zones.{total, total-turn, total-take}
 use Rattle.placement.specs.Showing.{Showing, one, loop}
 use Rattle.plan.specs.Plan.{wordOf, planOf}
-use Rattle.plan.specs.Legal.{total-is, worst2-small, margin-less, streams-few, buffer-small}
+use Rattle.plan.specs.Legal.{total-is, worst2-small, worstAt-small, margin-less, streams-few, buffer-small}
 use Rattle.layout.specs.Fields.{_&_}
 use Rattle.layout.specs.FieldLaws.{AllFit, packed-fit}
 use Rattle.layout.specs.Layout.{planFields, planValues, planWords}
@@ -49,6 +49,7 @@ module _ (x : Showing) (f : Figures) (ok : Legal f) where
       & omega (arith, worst2-small x f ok)
       & omega (arith, margin-less x f ok, worst2-small x f ok)
       & word-small x
+      & omega (arith, worstAt-small x f ok, ok .blocks)
       & tt
 
   pub legal-words : Words (planWords (planOf x f))

@@ -86,6 +86,7 @@ fn plan_at(list: &[u8]) -> Plan
         worst2: word_at(list, offsets::WORST2),
         margin: word_at(list, offsets::MARGIN),
         showing: word_at(list, offsets::SHOWING),
+        worstat: word_at(list, offsets::WORSTAT),
     }
 }
 
@@ -120,6 +121,7 @@ pub fn write_plan(list: &mut [u8], plan: Plan)
             plan.worst2,
             plan.margin,
             plan.showing,
+            plan.worstat,
         ],
     );
 }

@@ -28,7 +28,9 @@ pub const MARGIN: usize = WORST2 + 1;
 
 pub const SHOWING: usize = MARGIN + 1;
 
-pub const PLAN_WORDS: usize = SHOWING + 1;
+pub const WORSTAT: usize = SHOWING + 1;
+
+pub const PLAN_WORDS: usize = WORSTAT + 1;
 
 // And of a desk; its plan is in front.
 pub const PHASE: usize = PLAN_WORDS;

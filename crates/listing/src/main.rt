@@ -1,4 +1,4 @@
-// Reads a card from standard input and prints its plan, with the argument `loop` its plan as a loop: four named figures, then the position, time
+// Reads a card from standard input and prints its plan, with the argument `loop` its plan as a loop: five named figures, then the position, time
 // and lead of each block.
 mod line; // lines of text
 
@@ -26,6 +26,7 @@ fn print_figures(plan: Plan) {
     print_figure(b"streams", plan.streams);
     print_figure(b"buffer", plan.buffer);
     print_figure(b"worst2", plan.worst2);
+    print_figure(b"worstat", plan.worstat);
     print_figure(b"margin", plan.margin);
 }
 

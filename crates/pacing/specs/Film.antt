@@ -7,8 +7,7 @@ use mathlib.Core.List.{List, []}
 use lib.Dec.{ltb, eqb}
 use Rattle.laws.specs.Greatest.{greatestOf}
 use Rattle.numbers.specs.Refusals.{noSuchBlock}
-use Rattle.placement.specs.Circle.{round}
-use Rattle.placement.specs.Showing.{Showing, one, loop}
+use Rattle.placement.specs.Showing.{Showing, one, loop, after}
 
 -- A names what a slot reads next: a block's number in the base, as `shown` says. Fields that only document 02 needs say what they are there
 pub record Film (A : Type 0) : Type 0 where
@@ -64,11 +63,6 @@ module _ {A : Type 0} (film : Film A) where
   lead w a = greatestOf (runSum w a) (suc (film .longest a))
 
 -- ---- the showings
-
--- the block after b of N (T7.1): in a loop the last is followed by the first
-abbrev pub after : Showing → ℕ → ℕ → ℕ
-after one N = suc
-after loop N = round N
 
 -- past the last block: a loop has no end (T7.8)
 abbrev pub isPast : Showing → ℕ → ℕ → Bool

@@ -10,8 +10,8 @@ use Rattle.numbers.specs.Units.{parts}
 use Rattle.numbers.specs.Limits.{maxStreams}
 use Rattle.placement.specs.Placement.{Laying, Falling, worstTime}
 use Rattle.placement.specs.Circle.{round, worstRound}
-use Rattle.placement.specs.Showing.{Showing, one, loop, laying, worstOf, slowest-first, laying-best}
-use Rattle.pacing.specs.Film.{Film, Paced, lead, after, shown}
+use Rattle.placement.specs.Showing.{Showing, one, loop, laying, worstOf, slowest-first, laying-best, after}
+use Rattle.pacing.specs.Film.{Film, Paced, lead, shown}
 use Rattle.pacing.specs.Shown.{round-below, shown-paced, shown-lead}
 use Rattle.pacing.specs.Streams.{load, streams, streams-best}
 

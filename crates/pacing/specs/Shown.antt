@@ -8,8 +8,8 @@ use native.Mathlib.Decide.{decLt}
 use borrow.Author.Tests.{ltb-true, lt-ltb, le-ltb, eqb-false}
 use Rattle.placement.specs.Circle.{round}
 use Rattle.placement.specs.CircleBest.{round-last, round-next}
-use Rattle.placement.specs.Showing.{Showing, one, loop}
-use Rattle.pacing.specs.Film.{Paced, lead, after, shown}
+use Rattle.placement.specs.Showing.{Showing, one, loop, after}
+use Rattle.pacing.specs.Film.{Paced, lead, shown}
 use Rattle.pacing.specs.Lead.{lead-none, lead-closed}
 
 pub round-below : (N b : ℕ) → b < N → round N b < N

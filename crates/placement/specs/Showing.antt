@@ -1,14 +1,14 @@
 -- The showings of a film: once through as document 01 has it, or document 02's loop. What differs is the laying and the pairs of blocks that
 -- the worst time is taken over; what holds of both stands here once.
 -- Assumes nothing.
-use Prim.Native.Nat.{ℕ, _-_, _≤_, _<_}
-use mathlib.Core.Path.{_≡_, ap, _∙_}
+use Prim.Native.Nat.{ℕ, suc, _+_, _-_, _≤_, _<_}
+use mathlib.Core.Path.{_≡_, refl, ap, _∙_}
 use native.Mathlib.Omega.{arith}
 use native.Mathlib.Nat.{le-antisymm}
-use Rattle.laws.specs.Greatest.{greatestOf, greatestOf-above, greatestOf-least}
+use Rattle.laws.specs.Greatest.{greatestOf, greatestOf-above, greatestOf-least, earliestOf}
 use Rattle.placement.specs.Placement.{place, place-even, Laying, Falling, worstTime}
 use Rattle.placement.specs.Best.{place-laying, place-high, placement-best}
-use Rattle.placement.specs.Circle.{ring, worstRound}
+use Rattle.placement.specs.Circle.{round, ring, worstRound}
 use Rattle.placement.specs.CircleBest.{ring-laying, ring-high, ring-first, circle-best}
 
 -- one showing, or a film that goes round and round (T7.1)
@@ -24,6 +24,36 @@ laying loop = ring
 abbrev pub worstOf : Showing → (ℕ → ℕ) → (ℕ → ℕ) → ℕ → ℕ
 worstOf one = worstTime
 worstOf loop = worstRound
+
+-- ---- the worst pair (document 02, ticket 2)
+
+-- the block after b of N (T7.1): in a loop the last is followed by the first
+abbrev pub after : Showing → ℕ → ℕ → ℕ
+after one N = suc
+after loop N = round N
+
+-- the pairs of successive blocks, each by its first block: a loop has one more, that of its last block and its first
+abbrev pub pairsOf : Showing → ℕ → ℕ
+pairsOf one N = N - 1
+pairsOf loop N = N
+
+pub some-pairs : (x : Showing) (N : ℕ) → 1 < N → (0 < pairsOf x N) × (pairsOf x N ≤ N)
+some-pairs one N h = omega arith
+some-pairs loop N h = omega arith
+
+-- what the pair of block b takes
+abbrev pub pairTime : Showing → (ℕ → ℕ) → (ℕ → ℕ) → ℕ → ℕ → ℕ
+pairTime x τ l N b = τ (l b) + τ (l (after x N b))
+
+-- the first block of the worst pair, the earliest where several are equal (T2.1)
+unfoldable pub worstAt : Showing → (ℕ → ℕ) → (ℕ → ℕ) → ℕ → ℕ
+worstAt x τ l N = earliestOf (pairTime x τ l N) (pairsOf x N)
+
+-- the worst time is the most that a pair takes
+pub worst-pair : (x : Showing) (τ l : ℕ → ℕ) (N : ℕ) → worstOf x τ l N ≡ greatestOf (pairTime x τ l N) (pairsOf x N)
+unfolding worstTime worstRound
+worst-pair one τ l N = refl
+worst-pair loop τ l N = refl
 
 -- ---- both layings
 

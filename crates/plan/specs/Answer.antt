@@ -61,11 +61,11 @@ begins [] ws = true
 begins (v ∷ vs) [] = false
 begins (v ∷ vs) (w ∷ ws) = eqb w v && begins vs ws
 
--- two plans have the same streams, buffer, worst2, margin and showing (T7.7)
+-- two plans have the same streams, buffer, worst2, margin, showing (T7.7) and worstat (T2.2)
 abbrev pub sameNumbers : Plan → Plan → Bool
 sameNumbers p q =
     eqb (p .streams) (q .streams)
-    && (eqb (p .buffer) (q .buffer) && (eqb (p .worst2) (q .worst2) && (eqb (p .margin) (q .margin) && eqb (p .showing) (q .showing))))
+    && (eqb (p .buffer) (q .buffer) && (eqb (p .worst2) (q .worst2) && (eqb (p .margin) (q .margin) && (eqb (p .showing) (q .showing) && eqb (p .worstat) (q .worstat)))))
 
 -- the figures are legal and feed a stream, and the record has their numbers in the showing that it names
 unfoldable pub hasNumbers : Plan → Bool

@@ -17,7 +17,7 @@ use Rattle.words.specs.Laws.{read-written}
 use Rattle.card.specs.declared.Figures.{Figures}
 use Rattle.placement.specs.Showing.{Showing, one, loop}
 use Rattle.plan.specs.declared.Plan.{Plan}
-use Rattle.plan.specs.Plan.{wordOf, showingOf, showingIn, placeOf, leadOf, streamsOf, bufferSize, worst2Of, marginOf, planOf, row, positionsOf, leadsOf}
+use Rattle.plan.specs.Plan.{wordOf, showingOf, showingIn, placeOf, leadOf, streamsOf, bufferSize, worst2Of, worstAtOf, marginOf, planOf, row, positionsOf, leadsOf}
 use Rattle.plan.specs.Answer.{begins, sameNumbers, hasNumbers, hasPositions, hasLeads, isPlan}
 use Rattle.plan.specs.Legal.{place-below, lead-small}
 use Rattle.plan.specs.Rows.{row-length, begins-at, begins-long, take-begins}
@@ -47,8 +47,10 @@ same-plan p x f d e =
     let w = eqb-true (p .worst2) (worst2Of x f) (and-left (eqb (p .worst2) (worst2Of x f)) _ e₂) in
     let e₃ = and-right (eqb (p .worst2) (worst2Of x f)) _ e₂ in
     let m = eqb-true (p .margin) (marginOf x f) (and-left (eqb (p .margin) (marginOf x f)) _ e₃) in
-    let k = eqb-true (p .showing) (wordOf x) (and-right (eqb (p .margin) (marginOf x f)) _ e₃) in
-    λ i. record { figures = d i; streams = s i; buffer = b i; worst2 = w i; margin = m i; showing = k i }
+    let e₄ = and-right (eqb (p .margin) (marginOf x f)) _ e₃ in
+    let k = eqb-true (p .showing) (wordOf x) (and-left (eqb (p .showing) (wordOf x)) _ e₄) in
+    let a = eqb-true (p .worstat) (worstAtOf x f) (and-right (eqb (p .showing) (wordOf x)) _ e₄) in
+    λ i. record { figures = d i; streams = s i; buffer = b i; worst2 = w i; margin = m i; showing = k i; worstat = a i }
 
 numbers-say : (p : Plan) → hasNumbers p ≡ true → (recordFault (p .figures) ≡ 0) × (0 < streamsOf (showingIn p) (p .figures)) × (p ≡ planOf (showingIn p) (p .figures))
 unfolding hasNumbers
@@ -110,7 +112,8 @@ same-numbers-self : (p : Plan) → sameNumbers p p ≡ true
 same-numbers-self p =
     and-both (eq-eqb (p .streams) (p .streams) refl)
     (and-both (eq-eqb (p .buffer) (p .buffer) refl)
-    (and-both (eq-eqb (p .worst2) (p .worst2) refl) (and-both (eq-eqb (p .margin) (p .margin) refl) (eq-eqb (p .showing) (p .showing) refl))))
+    (and-both (eq-eqb (p .worst2) (p .worst2) refl) (and-both (eq-eqb (p .margin) (p .margin) refl)
+    (and-both (eq-eqb (p .showing) (p .showing) refl) (eq-eqb (p .worstat) (p .worstat) refl)))))
 
 row-words : (g : ℕ → ℕ) (b n : ℕ) → ((k : ℕ) → k < b + n → g k < 4294967296) → Words (row g b n)
 unfolding row

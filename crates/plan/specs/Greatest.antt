@@ -1,12 +1,12 @@
--- Lead and streams as document 01 says them, each the greatest of its kind, without the functions that find it.
+-- Lead and streams as document 01 says them, each the greatest of its kind, and the worst pair, without the functions that find them.
 use Prim.Native.Nat.{ℕ, _+_, _*_, _≤_, _<_}
 use mathlib.Core.Path.{_≡_}
 use Rattle.numbers.specs.Limits.{maxStreams}
 use Rattle.numbers.specs.Units.{parts}
 use Rattle.card.specs.declared.Figures.{Figures}
-use Rattle.placement.specs.Showing.{Showing, one, loop}
+use Rattle.placement.specs.Showing.{Showing, one, loop, after, pairsOf}
 use Rattle.pacing.specs.Film.{span}
-use Rattle.plan.specs.Plan.{worst2Of, filmOf}
+use Rattle.plan.specs.Plan.{timeOf, worst2Of, filmOf}
 
 -- ---- runs
 
@@ -47,3 +47,15 @@ module _ (x : Showing) (f : Figures) where
     pub range : (1 ≤ n) × (n ≤ maxStreams)
     pub feeds : Feeds n
     pub most : (k : ℕ) → n < k → k ≤ maxStreams → TooMany k
+
+  -- ---- T2.1: the worst pair
+
+  -- what block b and the one after it take
+  abbrev pub pairOf : ℕ → ℕ
+  pairOf b = timeOf x f b + timeOf x f (after x (f .blocks) b)
+
+  -- the pair of block b takes worst2, and no pair before it does
+  pub record EarliestPair (b : ℕ) : Type 0 where
+    pub pair : b < pairsOf x (f .blocks)
+    pub worst : pairOf b ≡ worst2Of x f
+    pub first : (a : ℕ) → a < b → pairOf a < worst2Of x f

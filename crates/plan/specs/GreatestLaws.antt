@@ -1,4 +1,4 @@
--- Leads and streams are the greatest of their kind, and no other number is; and where 12 is answered.
+-- Leads and streams are the greatest of their kind, the worst pair the earliest, and no other number is; and where 12 is answered.
 -- Assumes nothing.
 use Prim.Native.Nat.{ℕ, zero, suc, _+_, _≤_, _<_}
 use mathlib.Core.Path.{_≡_, refl}
@@ -8,18 +8,20 @@ use native.Mathlib.Nat.{le-refl}
 use lib.Dec.{ltb, eqb}
 use borrow.Author.Tests.{ltb-true, lt-ltb, le-ltb, eqb-true}
 use Rattle.laws.specs.Bools.{and-left, and-right, and-both}
+use Rattle.laws.specs.Greatest.{greatestOf, Earliest, earliest-unique, earliest-is}
 use Rattle.numbers.specs.Limits.{maxStreams}
 use Rattle.numbers.specs.Refusals.{noStream}
 use Rattle.card.specs.declared.Figures.{Figures}
+use Rattle.card.specs.Card.{Legal}
 use Rattle.placement.specs.Circle.{round}
-use Rattle.placement.specs.Showing.{Showing, one, loop}
+use Rattle.placement.specs.Showing.{Showing, one, loop, worstAt, pairsOf, some-pairs, worst-pair}
 use Rattle.pacing.specs.Film.{row, longestRun, shown}
 use Rattle.pacing.specs.Shown.{round-below}
 use Rattle.pacing.specs.Lead.{lead-above, lead-attained, lead-only}
 use Rattle.pacing.specs.Streams.{overhead, overhead-rises, load, streams-le, streams-fits, streams-best, streams-only, streams-none}
-use Rattle.plan.specs.Plan.{placeOf, timeOf, worst2Of, overOf, streamsOf, filmOf, leadOf}
+use Rattle.plan.specs.Plan.{timeOn, placeOf, timeOf, worst2Of, worstAtOf, overOf, streamsOf, filmOf, leadOf}
 use Rattle.plan.specs.Answer.{planFault}
-use Rattle.plan.specs.Greatest.{IsRun, Starts, GreatestRun, TooMany, MostStreams}
+use Rattle.plan.specs.Greatest.{IsRun, Starts, GreatestRun, TooMany, MostStreams, pairOf, EarliestPair}
 
 module _ (N : ℕ) (time position : ℕ → ℕ) where
   -- a run stays within the film
@@ -106,3 +108,24 @@ module _ (x : Showing) (f : Figures) where
   unfolding planFault streamsOf load overhead
   one-fails np nl p l h =
       rw (le-ltb np (f .blocks) p, le-ltb nl (f .blocks) l, streams-none (f .rate) (worst2Of x f) (overOf f) (f .bytes) (overhead-rises (f .hop) (f .back)) h)
+
+  -- ---- the worst pair
+
+  worst-is : worst2Of x f ≡ greatestOf (pairOf x f) (pairsOf x (f .blocks))
+  unfolding worst2Of
+  worst-is = worst-pair x (timeOn f) (placeOf x f) (f .blocks)
+
+  -- the block that the plan names is that one
+  pub pair-earliest : Legal f → EarliestPair x f (worstAtOf x f)
+  unfolding worstAtOf worstAt
+  pair-earliest ok =
+      let e = earliest-is (pairOf x f) (pairsOf x (f .blocks)) (some-pairs x (f .blocks) (omega (arith, ok .blocks)) .0) in
+      record { pair = e .below; worst = omega (arith, e .reached, worst-is); first = λ a u. omega (arith, e .first a u, worst-is) }
+
+  -- and no other is
+  pub earliest-pair : (b : ℕ) → EarliestPair x f b → b ≡ worstAtOf x f
+  unfolding worstAtOf worstAt
+  earliest-pair b p =
+      let here : Earliest (pairOf x f) (pairsOf x (f .blocks)) b =
+      record { below = p .pair; reached = omega (arith, p .worst, worst-is); first = λ a u. omega (arith, p .first a u, worst-is) } in
+      earliest-unique (pairOf x f) (pairsOf x (f .blocks)) b _ here (earliest-is (pairOf x f) (pairsOf x (f .blocks)) (omega (arith, p .pair)))

@@ -6,18 +6,18 @@ use mathlib.Core.Logic.{by-cases}
 use native.Mathlib.Omega.{arith}
 use native.Mathlib.Decide.{decLt}
 use lib.ListN.{take}
-use Rattle.laws.specs.Greatest.{greatestOf-least}
+use Rattle.laws.specs.Greatest.{greatestOf-least, earliest-is}
 use Rattle.numbers.specs.Limits.{maxTime, maxStreams}
 use Rattle.numbers.specs.Units.{parts}
 use Rattle.card.specs.declared.Figures.{Figures}
 use Rattle.card.specs.Card.{Legal, totalPositions}
 use Rattle.placement.specs.Placement.{Laying, Falling}
-use Rattle.placement.specs.Showing.{Showing, laying-lays, slowest-first}
+use Rattle.placement.specs.Showing.{Showing, worstAt, pairTime, pairsOf, some-pairs, laying-lays, slowest-first}
 use Rattle.placement.specs.Zones.{total, total-first, timeAt-positive, timeAt-within, descending-first, zones-falling}
 use Rattle.pacing.specs.Streams.{load, bufferOf, streams-le, streams-fits, buffer-bound}
 use Rattle.pacing.specs.Laid.{slowest, worst-within, time-below, laid-lead, margin-small, margin-quick}
 use Rattle.plan.specs.Disk.{Zoned, Disk}
-use Rattle.plan.specs.Plan.{timeOn, placeOf, timeOf, worst2Of, overOf, streamsOf, marginOf, filmOf, leadOf, bufferSize}
+use Rattle.plan.specs.Plan.{timeOn, placeOf, timeOf, worst2Of, worstAtOf, overOf, streamsOf, marginOf, filmOf, leadOf, bufferSize}
 
 module _ (f : Figures) (ok : Legal f) where
   -- P is the total of all the entries, those past the last zone being zero
@@ -67,6 +67,13 @@ module _ (x : Showing) (f : Figures) (ok : Legal f) where
   pub worst2-small : worst2Of x f ≤ 2 * maxTime
   unfolding worst2Of
   worst2-small = omega (arith, worst-within (timeOn f) (placeOf x f) (f .blocks) x, slowest-small)
+
+  -- worstat is a block
+  pub worstAt-small : worstAtOf x f < f .blocks
+  unfolding worstAtOf worstAt
+  worstAt-small =
+      let n = some-pairs x (f .blocks) (omega (arith, ok .blocks)) in
+      omega (arith, earliest-is (pairTime x (timeOn f) (placeOf x f) (f .blocks)) (pairsOf x (f .blocks)) (n .0) .below, n .1)
 
   -- the margin from the innermost position of the film
   pub margin-is : marginOf x f ≡ 2 * timeOn f (totalPositions f - f .blocks) - worst2Of x f

@@ -9,7 +9,7 @@ use Rattle.card.specs.declared.Figures.{Figures}
 use Rattle.card.specs.Card.{totalPositions}
 use Rattle.card.specs.Read.{blankFigures}
 use Rattle.placement.specs.Zones.{timeAt}
-use Rattle.placement.specs.Showing.{Showing, one, loop, laying, worstOf}
+use Rattle.placement.specs.Showing.{Showing, one, loop, laying, worstOf, worstAt}
 use Rattle.pacing.specs.Film.{Film, lead}
 use Rattle.pacing.specs.Streams.{overhead, streams, bufferOf}
 use Rattle.pacing.specs.Laid.{laidFilm, slowest, margin}
@@ -48,6 +48,10 @@ timeOf x f b = timeOn f (placeOf x f b)
 unfoldable pub worst2Of : Showing → Figures → ℕ
 worst2Of x f = worstOf x (timeOn f) (placeOf x f) (f .blocks)
 
+-- worstat: the first block of the worst pair, the earliest where several are equal (T2.1)
+unfoldable pub worstAtOf : Showing → Figures → ℕ
+worstAtOf x f = worstAt x (timeOn f) (placeOf x f) (f .blocks)
+
 -- what a sweep takes beside the times of its blocks (D11)
 abbrev pub overOf : Figures → ℕ → ℕ
 overOf f = overhead (f .hop) (f .back)
@@ -76,13 +80,13 @@ leadOf x f = lead (filmOf x f) (worst2Of x f)
 unfoldable pub bufferSize : Showing → Figures → ℕ
 bufferSize x f = bufferOf (f .rate) (streamsOf x f) (marginOf x f) (f .bytes)
 
--- the plan record (P9, T7.7)
+-- the plan record (P9, T7.7, T2.2)
 unfoldable pub planOf : Showing → Figures → Plan
-planOf x f = record { figures = f; streams = streamsOf x f; buffer = bufferSize x f; worst2 = worst2Of x f; margin = marginOf x f; showing = wordOf x }
+planOf x f = record { figures = f; streams = streamsOf x f; buffer = bufferSize x f; worst2 = worst2Of x f; margin = marginOf x f; showing = wordOf x; worstat = worstAtOf x f }
 
 -- a plan that is all zero
 unfoldable pub blankPlan : Plan
-blankPlan = record { figures = blankFigures; streams = 0; buffer = 0; worst2 = 0; margin = 0; showing = 0 }
+blankPlan = record { figures = blankFigures; streams = 0; buffer = 0; worst2 = 0; margin = 0; showing = 0; worstat = 0 }
 
 -- ---- the two lists
 

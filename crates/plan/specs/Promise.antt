@@ -11,8 +11,8 @@ use Rattle.numbers.specs.Units.{parts, wholeBytes}
 use Rattle.card.specs.declared.Figures.{Figures}
 use Rattle.card.specs.Card.{Legal, totalPositions}
 use Rattle.placement.specs.Placement.{Laying}
-use Rattle.placement.specs.Showing.{Showing, one, loop, worstOf, laying-best}
-use Rattle.pacing.specs.Film.{Paced, lead, after, isPast}
+use Rattle.placement.specs.Showing.{Showing, one, loop, worstOf, laying-best, after}
+use Rattle.pacing.specs.Film.{Paced, lead, isPast}
 use Rattle.pacing.specs.Lead.{lead-law}
 use Rattle.pacing.specs.Shown.{shown-end}
 use Rattle.pacing.specs.Streams.{overhead-rises, load, bufferOf}

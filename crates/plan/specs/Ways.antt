@@ -16,11 +16,11 @@ use Rattle.card.specs.Card.{Legal, totalPositions, recordFault, judgeRecord}
 use Rattle.card.specs.Read.{readCard}
 use Rattle.round_trip.specs.Legality.{Wide, fault-legal}
 use Rattle.round_trip.specs.RoundTrip.{read-card}
-use Rattle.placement.specs.Showing.{Showing, laying, worstOf}
+use Rattle.placement.specs.Showing.{Showing, laying, worstOf, worstAt}
 use Rattle.words.specs.Words.{Bytes, wordsOf, withWords}
 use Rattle.plan.specs.declared.Plan.{Plan}
 use Rattle.plan.specs.declared.Planned.{Planned}
-use Rattle.plan.specs.Plan.{showingIn, timeOn, placeOf, worst2Of, streamsOf, leadOf, planOf, row, positionsOf, leadsOf}
+use Rattle.plan.specs.Plan.{showingIn, timeOn, placeOf, worst2Of, worstAtOf, streamsOf, leadOf, planOf, row, positionsOf, leadsOf}
 use Rattle.plan.specs.Disk.{Film, leadAt}
 use Rattle.plan.specs.Legal.{total-is, legal-disk, lead-is}
 use Rattle.plan.specs.Answer.{planFault, faultAfter, refusal, answer, filled, planned, positionsAfter, leadsAfter, judged, sameNumbers, hasNumbers}
@@ -100,6 +100,10 @@ module _ (f : Figures) (ok : Legal f) (t : ℕ) (e : t ≡ totalPositions f) whe
   pub worst2-is : (x : Showing) → worstOf x (timeOn f) (laying x t (f .blocks)) (f .blocks) ≡ worst2Of x f
   unfolding worst2Of
   worst2-is x = ap (λ (n : ℕ). worstOf x (timeOn f) (laying x n (f .blocks)) (f .blocks)) e
+
+  pub worstAt-is : (x : Showing) → worstAt x (timeOn f) (laying x t (f .blocks)) (f .blocks) ≡ worstAtOf x f
+  unfolding worstAtOf
+  worstAt-is x = ap (λ (n : ℕ). worstAt x (timeOn f) (laying x n (f .blocks)) (f .blocks)) e
 
   pub positions-are : (x : Showing) → row (laying x t (f .blocks)) 0 (f .blocks) ≡ positionsOf x f
   unfolding positionsOf

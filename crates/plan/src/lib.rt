@@ -11,9 +11,9 @@ ghost use Rattle.card.specs.Card.{Legal, totalPositions};
 ghost use Rattle.placement.specs.Placement.{Laying};
 ghost use Rattle.placement.specs.Showing.{Showing, worstOf};
 ghost use Rattle.pacing.specs.Streams.{load};
-ghost use Rattle.plan.specs.Plan.{timeOn, placeOf, worst2Of, overOf, streamsOf, leadOf, blankPlan};
+ghost use Rattle.plan.specs.Plan.{timeOn, placeOf, worst2Of, worstAtOf, overOf, streamsOf, leadOf, blankPlan};
 ghost use Rattle.plan.specs.Answer.{planFault};
-ghost use Rattle.plan.specs.Greatest.{Starts, GreatestRun, MostStreams, TooMany};
+ghost use Rattle.plan.specs.Greatest.{Starts, GreatestRun, MostStreams, TooMany, EarliestPair};
 ghost use Rattle.plan.specs.Promise.{LeadLaws, Promise};
 
 // A plan; all zero where there is none.
@@ -29,6 +29,8 @@ pub struct Plan {
     pub margin: u32,
     // Which showing it is: 0 once through, 1 round and round.
     pub showing: u32,
+    // The first block of the worst pair, the earliest where several are equal.
+    pub worstat: u32,
 }
 
 // The answer of the planner.
@@ -58,6 +60,7 @@ pub fn blank_plan() -> Plan
         worst2: 0,
         margin: 0,
         showing: 0,
+        worstat: 0,
     }
 }
 
@@ -91,4 +94,10 @@ pub fn streams_are_the_most()
     ensures only { λ _. ⌜ ((x : Showing) (f : Figures) (n : ℕ) → MostStreams x f n → n ≡ streamsOf x f) ⌝ }
     ensures none { λ _. ⌜ ((x : Showing) (f : Figures) (np nl : ℕ) → planFault x f np nl ≡ 12 → (n : ℕ) → 1 ≤ n → n ≤ 256 → TooMany x f n) ⌝ }
     ensures one { λ _. ⌜ ((x : Showing) (f : Figures) (np nl : ℕ) → f .blocks ≤ np → f .blocks ≤ nl → TooMany x f 1 → planFault x f np nl ≡ 12) ⌝ }
+{}
+
+// The block that a plan names is the first of a pair that takes worst2, no pair before it does, and no other block has both.
+pub fn worst_pair_is_the_earliest()
+    ensures earliest { λ _. ⌜ ((x : Showing) (f : Figures) → Legal f → EarliestPair x f (worstAtOf x f)) ⌝ }
+    ensures only { λ _. ⌜ ((x : Showing) (f : Figures) (b : ℕ) → EarliestPair x f b → b ≡ worstAtOf x f) ⌝ }
 {}

@@ -1,15 +1,15 @@
 // Runs the planner on the cases of document 01, on real disks, on loops and on refusals, and the check of a plan on altered plans. Standard input
 // has a case on each line: its name, which has no colon, then a colon, a letter for what is done, and what it is done to. P and L are the
 // bytes of the lists of positions and leads, 65,536 at most. RECORD is zones N B c hop return, then positions and time of each zone; what
-// is missing is 0. PLAN is streams, buffer, worst2, margin and showing, then RECORD.
+// is missing is 0. PLAN is streams, buffer, worst2, margin, showing and worstat, then RECORD.
 //
 //     NAME: r P L RECORD    plans a record, with lists of a pattern; R plans it as a loop
 //     NAME: c P L CARD      plans a card, its bytes in hexadecimal, with lists of a pattern; C plans it as a loop
 //     NAME: k P L PLAN      is this the plan of its figures, with the first bytes of the lists as the last plan left them?
 //     NAME: b P L PLAN      the same with each of the first 28 bytes altered, of the positions and of the leads in turn
 //
-// A line is printed for each: its name and the answer, which of a planned film is streams, buffer, worst2, margin and showing, or the refusal,
-// then a sum of each list.
+// A line is printed for each: its name and the answer, which of a planned film is streams, buffer, worst2, margin, showing and worstat, or the
+// refusal, then a sum of each list.
 use card::Figures;
 use case_text::next_letter;
 use case_text::print;
@@ -56,24 +56,27 @@ fn print_answer(planned: Planned, positions: &[u8], leads: &[u8]) {
     print_number(plan.worst2 as u64);
     print_number(plan.margin as u64);
     print_number(plan.showing as u64);
+    print_number(plan.worstat as u64);
     print_number(sum_of(positions));
     print_number(sum_of(leads));
 }
 
-// A plan: streams, buffer, worst2, margin, showing, and its record.
+// A plan: streams, buffer, worst2, margin, showing, worstat, and its record.
 fn read_plan(text: &[u8], start: usize) -> Plan {
     let streams = read_number(text, start);
     let buffer = read_number(text, streams.next);
     let worst2 = read_number(text, buffer.next);
     let margin = read_number(text, worst2.next);
     let showing = read_number(text, margin.next);
+    let worstat = read_number(text, showing.next);
     Plan {
-        figures: read_record(text, showing.next),
+        figures: read_record(text, worstat.next),
         streams: streams.value,
         buffer: buffer.value,
         worst2: worst2.value,
         margin: margin.value,
         showing: showing.value,
+        worstat: worstat.value,
     }
 }
 

@@ -8,7 +8,7 @@ use streams::buffer_size;
 use streams::count_streams;
 use zones::sum_positions;
 use zones::time_at;
-use zones::worst_time;
+use zones::worst_pair;
 ghost use mathlib.Core.Path.{_≡_};
 ghost use Rattle.card.specs.Card.{Legal};
 ghost use Rattle.plan.specs.Plan.{wordOf, showingOf, planOf};
@@ -30,13 +30,14 @@ pub fn plan_of(figures: Figures, showing: u32) -> Plan
     ensures { λ r. ⌜ r ≡ planOf (showingOf showing) figures ⌝ }
 {
     let total = sum_positions(&figures.positions, figures.zones);
-    let worst2 = worst_time(
+    let worst = worst_pair(
         &figures.positions,
         &figures.times,
         showing,
         total,
         figures.blocks,
     );
+    let worst2 = worst.time;
     let slowest = time_at(&figures.positions, &figures.times, total - figures.blocks);
     let margin = 2 * slowest - worst2;
     let streams = count_streams(
@@ -54,15 +55,19 @@ pub fn plan_of(figures: Figures, showing: u32) -> Plan
         worst2: worst2,
         margin: margin,
         showing: known_word(showing),
+        worstat: worst.first,
     }
 }
 
-// Two plans have the same streams, buffer, worst2, margin and showing.
+// Two plans have the same streams, buffer, worst2, margin, showing and worstat.
 pub fn same_numbers(plan: Plan, own: Plan) -> bool
     ensures { λ r. ⌜ r ≡ sameNumbers plan own ⌝ }
 {
-    let shown = both(plan.margin == own.margin, plan.showing == own.showing);
-    let timed = both(plan.worst2 == own.worst2, shown);
+    let shown = both(plan.showing == own.showing, plan.worstat == own.worstat);
+    let timed = both(
+        plan.worst2 == own.worst2,
+        both(plan.margin == own.margin, shown),
+    );
     both(
         plan.streams == own.streams,
         both(plan.buffer == own.buffer, timed),

@@ -10,13 +10,15 @@ use native.Mathlib.Decide.{decLt}
 use lib.ListN.{getD}
 use lib.Dec.{eqb}
 use borrow.Author.Tests.{eqb-true, eqb-false}
-use Rattle.laws.specs.Greatest.{greatestOf, greatestOf-same}
-use Rattle.placement.specs.Circle.{round, ring, worstRound}
+use Rattle.laws.specs.Greatest.{Peak, peak-higher, peak-lower}
+use Rattle.placement.specs.Circle.{ring}
 use Rattle.placement.specs.CircleBest.{round-last, round-next, ring-first, ring-round}
+use Rattle.placement.specs.Showing.{loop, pairTime}
 use Rattle.placement.specs.Zones.{timeAt}
 use Rattle.plan.specs.Disk.{Film}
 use Rattle.zones.specs.declared.Zone.{Zone}
 use Rattle.zones.specs.declared.Walk.{Walk}
+use Rattle.zones.specs.declared.Pair.{Pair}
 use Rattle.zones.specs.Walk.{Holds, Position, RunEnd, sideOf, Runs}
 use Rattle.zones.proofs.Cursors.{time-held}
 
@@ -66,31 +68,26 @@ module _ (ps ts : List ℕ) (P N : ℕ) (l : ℕ → ℕ) (b : ℕ) (film : Film
 abbrev pub pairOf : List ℕ → List ℕ → (ℕ → ℕ) → ℕ → ℕ
 pairOf ps ts l b = timeAt ps ts (l b) + timeAt ps ts (l (suc b))
 
--- the greatest over a run of one value
-greatest-run : (g : ℕ → ℕ) (b n v w : ℕ) → b < n → w ≡ greatestOf g b → ((k : ℕ) → b ≤ k → k < n → g k ≡ v) → max w v ≡ greatestOf g n
-unfolding greatestOf
-greatest-run g b zero v w u e h = absurd (omega arith)
-greatest-run g b (suc n) v w u e h =
-    by-cases (decLt b n)
-    (λ l. omega (arith, greatest-run g b n v w l e (λ k i j. h k i (omega arith)), h n (omega arith) (omega arith)))
-    (λ l. let d : b ≡ n = omega arith in omega (arith, rw d at e, h n (omega arith) (omega arith)))
+-- one pair more or a run of them, as code takes in the worse
+module _ (g : ℕ → ℕ) (b n v at w : ℕ) (found : Pair) (u : b < n) (same : (k : ℕ) → b ≤ k → k < n → g k ≡ v) (p : Peak g b at w) where
+  pub peak-on : (w < v → (found .time ≡ v) × (found .first ≡ b)) → (v ≤ w → (found .time ≡ w) × (found .first ≡ at)) → Peak g n (found .first) (found .time)
+  peak-on higher lower = by-cases (decLt w v)
+      (λ h. rw (higher h .0, higher h .1) (peak-higher g b n v at w u same p h))
+      (λ h. let l : v ≤ w = omega arith in rw (lower l .0, lower l .1) (peak-lower g b n v at w u same p l))
 
 -- all pairs within a run take the same time
-pub worst-run : {ps ts : List ℕ} {l : ℕ → ℕ} {N b w : ℕ} {r : Walk} → Runs ps ts l N b r → suc b < N → w ≡ greatestOf (pairOf ps ts l) b
-    → max w (r .even + r .odd) ≡ greatestOf (pairOf ps ts l) (r .until - 1)
-worst-run {ps} {ts} {l} {N} {b} {w} {r} h u e =
-    greatest-run (pairOf ps ts l) b (r .until - 1) (r .even + r .odd) w (omega arith) e
-    (λ k i v. omega (arith, h .times k i (omega arith), h .times (suc k) (omega arith) (omega arith), both-sides (r .even) (r .odd) k))
+pub worst-run : {ps ts : List ℕ} {l : ℕ → ℕ} {N b : ℕ} {r : Walk} → Runs ps ts l N b r → (k : ℕ) → b ≤ k → k < r .until - 1 → pairOf ps ts l k ≡ r .even + r .odd
+worst-run {ps} {ts} {l} {N} {b} {r} h k i v =
+    omega (arith, h .times k i (omega arith), h .times (suc k) (omega arith) (omega arith), both-sides (r .even) (r .odd) k)
 
--- a loop's last pair is that of its last block and its first
-pub worst-closed : (ps ts : List ℕ) (P N w : ℕ) → 0 < N → w ≡ greatestOf (pairOf ps ts (ring P N)) (N - 1)
-    → max w (pairOf ps ts (ring P N) (N - 1)) ≡ worstRound (timeAt ps ts) (ring P N) N
-unfolding worstRound greatestOf
-worst-closed ps ts P zero w some e = absurd (omega arith)
-worst-closed ps ts P (suc n) w some e =
-    let d : suc n - 1 ≡ n = omega arith in
-    let last : round (suc n) n ≡ 0 = round-last (suc n) n refl in
-    let first : ring P (suc n) (suc n) ≡ ring P (suc n) 0 = ring-round P (suc n) some ∙ sym (ring-first P (suc n)) in
-    let before : greatestOf (pairOf ps ts (ring P (suc n))) n ≡ greatestOf (λ b. timeAt ps ts (ring P (suc n) b) + timeAt ps ts (ring P (suc n) (round (suc n) b))) n =
-    greatestOf-same (pairOf ps ts (ring P (suc n))) _ n (λ b u. ap (λ (k : ℕ). timeAt ps ts (ring P (suc n) b) + timeAt ps ts (ring P (suc n) k)) (sym (round-next (suc n) b (omega arith)))) in
-    rw (last, d, first) (omega (arith, rw d at e, before))
+-- the pairs of a loop but for its last, and that, which is of its last block and its first
+module _ (ps ts : List ℕ) (P N : ℕ) (some : 0 < N) where
+  pub before-last : (b : ℕ) → b < N - 1 → pairOf ps ts (ring P N) b ≡ pairTime loop (timeAt ps ts) (ring P N) N b
+  before-last b u = ap (λ (k : ℕ). timeAt ps ts (ring P N b) + timeAt ps ts (ring P N k)) (sym (round-next N b (omega arith)))
+
+  pub last-pair : (k : ℕ) → N - 1 ≤ k → k < N → pairTime loop (timeAt ps ts) (ring P N) N k ≡ pairOf ps ts (ring P N) (N - 1)
+  last-pair k l u =
+      let d : k ≡ N - 1 = omega arith in
+      let e : suc (N - 1) ≡ N = omega arith in
+      let first : ring P N 0 ≡ ring P N (suc (N - 1)) = ring-first P N ∙ sym (ring-round P N some) ∙ ap (ring P N) (sym e) in
+      rw d (ap (λ (q : ℕ). timeAt ps ts (ring P N (N - 1)) + timeAt ps ts q) (ap (ring P N) (round-last N (N - 1) e) ∙ first))

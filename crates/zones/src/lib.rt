@@ -1,12 +1,12 @@
 // The zones of a disk, and one walk over a film in either showing: how long each block takes where it lies.
 use numbers::showings::LOOP;
 ghost use mathlib.Core.Path.{_≡_};
-ghost use Prim.Native.Nat.{_≤_, _<_, min, max};
+ghost use Prim.Native.Nat.{_≤_, _<_, min};
 ghost use lib.ListN.{take};
 ghost use Rattle.numbers.specs.Limits.{maxPositions};
 ghost use Rattle.placement.specs.Placement.{place};
 ghost use Rattle.placement.specs.Circle.{falls, rank, ring};
-ghost use Rattle.placement.specs.Showing.{laying, worstOf};
+ghost use Rattle.placement.specs.Showing.{laying, worstOf, worstAt};
 ghost use Rattle.placement.specs.Zones.{total, timeAt};
 ghost use Rattle.plan.specs.Plan.{showingOf};
 ghost use Rattle.plan.specs.Disk.{Zoned, Film};
@@ -29,13 +29,10 @@ pub struct Walk {
     pub until: u32,
 }
 
-fn greater(a: u32, b: u32) -> u32
-    ensures { λ r. ⌜ r ≡ max a b ⌝ }
-{
-    if a < b {
-        return b;
-    }
-    a
+// Two successive blocks: the time that they take, and the first of them.
+pub struct Pair {
+    pub time: u32,
+    pub first: u32,
 }
 
 fn lesser(a: u32, b: u32) -> u32
@@ -280,29 +277,44 @@ pub fn walk_on<'a>(
     }
 }
 
-// The greatest time of two successive blocks; `total` is P. In a loop the first block follows the last.
-pub fn worst_time<'a>(
+// The worse of two pairs, of equal ones the one found before.
+fn worse(found: Pair, time: u32, first: u32) -> Pair
+    ensures higher { λ r. ⌜ (found .time < time → (r .time ≡ time) × (r .first ≡ first)) ⌝ }
+    ensures lower { λ r. ⌜ (time ≤ found .time → (r .time ≡ found .time) × (r .first ≡ found .first)) ⌝ }
+{
+    if found.time < time {
+        return Pair {
+            time: time,
+            first: first,
+        };
+    }
+    found
+}
+
+// The worst pair of successive blocks, the earliest where several are equal; `total` is P. In a loop the first block follows the last.
+pub fn worst_pair<'a>(
     sizes: &'a [u32; 64],
     times: &'a [u32; 64],
     showing: u32,
     total: u32,
     blocks: u32,
-) -> u32
+) -> Pair
     requires { ⌜ Film (now sizes) (now times) total blocks ⌝ }
-    ensures { λ r. ⌜ r ≡ worstOf (showingOf showing) (timeAt (now (sizes .entry)) (now (times .entry))) (laying (showingOf showing) total blocks) blocks ⌝ }
+    ensures time { λ r. ⌜ r .time ≡ worstOf (showingOf showing) (timeAt (now (sizes .entry)) (now (times .entry))) (laying (showingOf showing) total blocks) blocks ⌝ }
+    ensures first { λ r. ⌜ r .first ≡ worstAt (showingOf showing) (timeAt (now (sizes .entry)) (now (times .entry))) (laying (showingOf showing) total blocks) blocks ⌝ }
 {
     let last = blocks - 1;
     let mut walk = set_out(sizes);
-    let mut worst: u32 = 0;
+    let mut worst = Pair { time: 0, first: 0 };
     let mut b: u32 = 0;
     while b < last {
         walk = walk_on(sizes, times, showing, total, blocks, walk, b);
-        worst = greater(worst, walk.even + walk.odd);
+        worst = worse(worst, walk.even + walk.odd, b);
         b = walk.until - 1;
     }
     if showing != LOOP {
         return worst;
     }
     let closing = walk_on(sizes, times, showing, total, blocks, walk, last);
-    greater(worst, closing.even + closing.odd)
+    worse(worst, closing.even + closing.odd, last)
 }

@@ -18,6 +18,12 @@ pub fn figures_of(zones: &[(u32, u32)], blocks: u32, bytes: u32, rate: u32) -> F
     figures
 }
 
+/// A film on positions with these times, innermost first, each a zone.
+pub fn film_of(times: &[u32]) -> Figures {
+    let zones: Vec<(u32, u32)> = times.iter().map(|&time| (1, time)).collect();
+    figures_of(&zones, times.len() as u32, 262_144, 500_000)
+}
+
 /// The bench film of 01.
 pub fn bench_film() -> Figures {
     let zones = [(1, 22270), (1, 20550), (1, 19090), (1, 17810), (1, 16700), (1, 15720)];
@@ -100,6 +106,8 @@ pub fn fixed_cards() -> Vec<Vec<u8>> {
         barracuda(3600),
         deskstar(),
         figures_of(&[(2, 2), (1, 1)], 3, 262_144, 500_000),
+        film_of(&[9, 9, 9, 5, 5, 3, 3, 3]),
+        film_of(&[9, 9, 9, 9, 9, 3, 3, 3]),
     ];
     let mut cards: Vec<Vec<u8>> = records.iter().map(card_bytes).collect();
     cards.push(Vec::new());

@@ -7,7 +7,7 @@ use std::fmt::Write;
 /// What the program says of any argument but `loop`.
 pub const USAGE: &str = "usage: listing [loop]\n";
 
-/// Four named figures, a header, then block, position, time and lead of each block.
+/// Five named figures, a header, then block, position, time and lead of each block.
 pub fn plan_text(planned: &Planned) -> String {
     let plan = &planned.plan;
     let mut text = String::new();
@@ -15,6 +15,7 @@ pub fn plan_text(planned: &Planned) -> String {
         ("streams", plan.streams),
         ("buffer", plan.buffer),
         ("worst2", plan.worst2),
+        ("worstat", plan.worstat),
         ("margin", plan.margin),
     ] {
         writeln!(text, "{name} {figure}").unwrap();

@@ -51,12 +51,22 @@ pub struct Plan {
     pub worst2: u32,
     /// Twice the greatest time, less worst2.
     pub margin: u32,
+    /// First block of the worst pair (request 2 of 02).
+    pub worstat: u32,
 }
 
 impl Plan {
     /// The plan in a refused answer.
     pub fn zero() -> Plan {
-        Plan { figures: Figures::zero(), showing: 0, streams: 0, buffer: 0, worst2: 0, margin: 0 }
+        Plan {
+            figures: Figures::zero(),
+            showing: 0,
+            streams: 0,
+            buffer: 0,
+            worst2: 0,
+            margin: 0,
+            worstat: 0,
+        }
     }
 }
 
@@ -141,23 +151,32 @@ pub fn times(figures: &Figures, showing: Showing) -> Vec<u32> {
     (0..figures.blocks).map(|block| time(figures, showing, block)).collect()
 }
 
-/// Greatest sum of the times of two successive blocks. One showing does not wrap; in a loop the
-/// last block is followed by the first.
-fn greatest_pair(times: &[u32], showing: Showing) -> u32 {
-    let mut greatest = match showing {
-        Showing::Once => 0,
-        Showing::Loop => times[times.len() - 1] + times[0],
-    };
-    for b in 0..times.len() - 1 {
-        greatest = greatest.max(times[b] + times[b + 1]);
+/// Sums of the times of two successive blocks, each by its first block. One showing does not wrap;
+/// in a loop the last block is followed by the first, and that pair's first block is N - 1.
+fn pair_times(times: &[u32], showing: Showing) -> Vec<u32> {
+    let mut pairs: Vec<u32> = times.windows(2).map(|pair| pair[0] + pair[1]).collect();
+    if showing == Showing::Loop {
+        pairs.push(times[times.len() - 1] + times[0]);
     }
-    greatest
+    pairs
+}
+
+/// Greatest sum of the times of two successive blocks.
+fn greatest_pair(times: &[u32], showing: Showing) -> u32 {
+    pair_times(times, showing).into_iter().max().expect("two blocks or more")
 }
 
 /// worst2: the greatest time(b) + time(b+1) for b from 0 to N - 2; in a loop time(N-1) + time(0)
 /// too.
 pub fn worst2(figures: &Figures, showing: Showing) -> u32 {
     greatest_pair(&times(figures, showing), showing)
+}
+
+/// worstat: the first block of the worst pair, the earliest where several are equal.
+pub fn worstat(times: &[u32], showing: Showing) -> u32 {
+    let worst2 = greatest_pair(times, showing);
+    let earliest = pair_times(times, showing).into_iter().position(|pair| pair == worst2);
+    earliest.expect("a pair takes worst2") as u32
 }
 
 /// The formula of streams: c × (n × worst2 + 2 × (n × hop + return)) at most 2,000,000 × B.
@@ -250,11 +269,12 @@ pub fn plan_of(figures: &Figures, showing: Showing) -> Option<Planned> {
     let streams = streams(figures, worst2)?;
     let margin = margin(&times, worst2);
     let buffer = buffer(figures, streams, margin);
+    let worstat = worstat(&times, showing);
     let figures = figures.clone();
     Some(Planned {
         positions: positions(&figures, showing),
         leads: leads(&times, showing, worst2),
-        plan: Plan { figures, showing: showing.word(), streams, buffer, worst2, margin },
+        plan: Plan { figures, showing: showing.word(), streams, buffer, worst2, margin, worstat },
     })
 }
 

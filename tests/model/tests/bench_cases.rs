@@ -1,4 +1,4 @@
-//! Every bench case of 01.
+//! Every bench case of 01, with the listing line of request 2 of 02.
 
 use film_disk_model::bench::{
     bench_blocks, bench_bytes, bench_film, bench_zero_time, three_alike, two_alike,
@@ -35,6 +35,7 @@ fn bench_listing() {
 streams 16
 buffer 812632
 worst2 37990
+worstat 0
 margin 6550
 block position time lead
 0 0 22270 6550

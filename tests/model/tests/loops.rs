@@ -2,7 +2,7 @@
 //! plans, desks and books.
 
 use film_disk_model::bench::{
-    bench_blocks, bench_film, bench_zero_time, figures_of, three_alike, two_alike,
+    bench_blocks, bench_film, bench_zero_time, figures_of, film_of, three_alike, two_alike,
 };
 use film_disk_model::desk::{drawn_in, ASKED, FILLING, FREE, PLAYING, SWEEPING, TAIL};
 use film_disk_model::plan::{is_laying, leads_by_runs, plan_of, positions, time_at, times};
@@ -36,6 +36,7 @@ fn bench_listing_of_a_loop() {
 streams 15
 buffer 807320
 worst2 38970
+worstat 5
 margin 5570
 block position time lead
 0 0 22270 5570
@@ -229,8 +230,7 @@ fn all_unsound(desk: &Desk, planned: &Planned) -> bool {
 #[test]
 fn words_turned_over() {
     for times in (2..=7).flat_map(falling_times) {
-        let zones: Vec<(u32, u32)> = times.iter().map(|&time| (1, time)).collect();
-        let figures = figures_of(&zones, times.len() as u32, BLOCK, 500_000);
+        let figures = film_of(&times);
         let same = differ_in_the_word_alone(&times);
         let plans = Showing::ALL.map(|showing| plan_of(&figures, showing).unwrap());
         assert_eq!(turned(&plans[0]) == plans[1], same, "{times:?}");

@@ -9,8 +9,8 @@ use film_disk_model::plan::TWO_MILLION;
 use film_disk_model::rng::borders::{border_card, border_plan_for};
 use film_disk_model::rng::cards::any_card;
 use film_disk_model::rng::desks::{alter_plan, any_step, longer_list, sound_desk, spoiled_list};
-use film_disk_model::rng::figures::{desk_plan_for, large_desk_plan_for};
-use film_disk_model::{read_card, Desk, Planned, Rng, Showing, Step};
+use film_disk_model::rng::figures::{desk_plan_for, large_desk_plan_for, uneven_plan_for};
+use film_disk_model::{card_bytes, read_card, Desk, Plan, Planned, Rng, Showing, Step};
 
 /// Bytes of no meaning.
 pub fn noise(rng: &mut Rng, length: usize) -> Vec<u8> {
@@ -97,10 +97,15 @@ fn written_list(rng: &mut Rng, blocks: usize) -> Vec<u8> {
     bytes
 }
 
-/// Any card, for one showing or as a loop.
+/// Any card, for one showing or as a loop; at times of a film that has its worst pair anywhere.
 pub fn plan_case(rng: &mut Rng) -> (Call, Strings) {
+    let showing = rng.pick(&Showing::ALL);
     let mut strings = Strings::default();
-    strings[CARD] = if rng.once_in(4) { border_card(rng) } else { any_card(rng) };
+    strings[CARD] = match rng.below(8) {
+        0 | 1 => border_card(rng),
+        2 | 3 => card_bytes(&uneven_plan_for(rng, showing).plan.figures),
+        _ => any_card(rng),
+    };
     let blocks = match read_card(&strings[CARD]) {
         Ok(figures) => figures.blocks as usize,
         Err(_) => 1 + rng.below(10),
@@ -108,7 +113,7 @@ pub fn plan_case(rng: &mut Rng) -> (Call, Strings) {
     strings[PLAN] = written_string(rng, PLAN_BYTES);
     strings[POSITIONS] = written_list(rng, blocks);
     strings[LEADS] = written_list(rng, blocks);
-    (Call::Plan(rng.pick(&Showing::ALL)), strings)
+    (Call::Plan(showing), strings)
 }
 
 /// A plan for a desk, for one showing or a loop; rarely a great one, often one whose products are great or carry.
@@ -117,6 +122,7 @@ pub fn some_plan(rng: &mut Rng) -> Planned {
     match rng.below(40) {
         0 => large_desk_plan_for(rng, showing),
         1..=10 => border_plan_for(rng, showing),
+        11..=19 => uneven_plan_for(rng, showing),
         _ => desk_plan_for(rng, showing),
     }
 }
@@ -186,6 +192,17 @@ fn set_tail(rng: &mut Rng, desk: &mut Desk) {
     desk.held[slot] = rng.between(1, desk.plan.buffer);
 }
 
+/// The step on the desk, or at times an opening of its plan.
+fn opening_or_step(rng: &mut Rng, desk: &Desk, step: &Step) -> (Call, Strings) {
+    let (call, mut strings) = step_strings(rng, desk_bytes(desk), step, 100);
+    if !rng.once_in(4) {
+        return (call, strings);
+    }
+    strings[PLAN] = plan_bytes(&desk.plan);
+    strings[DESK] = written_string(rng, DESK_BYTES);
+    (Call::Open, strings)
+}
+
 /// An opening or a call on a desk whose showing is another: the word turned over, or a third word. Or there is a tail where a loop
 /// has none, with the word or without.
 pub fn showing_case(rng: &mut Rng) -> (Call, Strings) {
@@ -200,13 +217,23 @@ pub fn showing_case(rng: &mut Rng) -> (Call, Strings) {
         let turned = 1 - planned.plan.showing;
         desk.plan.showing = rng.pick(&[turned, turned, turned, 2, 3, 256, 65_536, u32::MAX]);
     }
-    let (call, mut strings) = step_strings(rng, desk_bytes(&desk), &step, 100);
-    if !rng.once_in(4) {
-        return (call, strings);
-    }
-    strings[PLAN] = plan_bytes(&desk.plan);
-    strings[DESK] = written_string(rng, DESK_BYTES);
-    (Call::Open, strings)
+    opening_or_step(rng, &desk, &step)
+}
+
+/// Another block, one beside the right one, the last, or any word. It may be right after all.
+fn other_worstat(rng: &mut Rng, plan: &Plan) -> u32 {
+    let (right, blocks) = (plan.worstat, plan.figures.blocks);
+    let (block, other) = (rng.between(0, blocks - 1), rng.other_than(right));
+    rng.pick(&[block, block, right + 1, right.wrapping_sub(1), blocks - 1, blocks, 0, other])
+}
+
+/// An opening or a call on a desk whose worst pair is another: often one that is as bad, and not the earliest.
+pub fn worst_pair_case(rng: &mut Rng) -> (Call, Strings) {
+    let planned = some_plan(rng);
+    let (_, step) = any_step(rng, &planned);
+    let mut desk = sound_desk(rng, &planned);
+    desk.plan.worstat = other_worstat(rng, &planned.plan);
+    opening_or_step(rng, &desk, &step)
 }
 
 /// The floor with the leads of the first few asked slots, in whole bytes, rounded up.

@@ -24,8 +24,9 @@ fn film(rng: &mut Rng, blocks: u32, zones: u32, showing: Showing) -> Planned {
     let mut sizes: Vec<u32> = (0..zones).map(|_| rng.between(1, 2 * each)).collect();
     let total: u32 = sizes.iter().sum();
     sizes[zones as usize / 2] += blocks.saturating_sub(total);
-    let fall = rng.pick(&[0, 1, 300]);
-    let timed = |(zone, size): (usize, &u32)| (*size, 40_000 - fall * zone as u32);
+    // Evenly, or faster and faster, so that the worst pair is in mid film.
+    let (fall, power) = rng.pick(&[(0, 1), (1, 1), (300, 1), (5, 2)]);
+    let timed = |(zone, size): (usize, &u32)| (*size, 40_000 - fall * (zone as u32).pow(power));
     let zones: Vec<(u32, u32)> = sizes.iter().enumerate().map(timed).collect();
     let mut figures = figures_of(&zones, blocks, 1, RATE);
     let streams = if blocks <= SHORT { rng.between(1, 3) } else { rng.pick(&[1, 16, 256]) };

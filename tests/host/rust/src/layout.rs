@@ -2,8 +2,8 @@
 
 use film_disk_model::{Desk, Entry, Figures, Plan, SLOTS};
 
-pub const PLAN_BYTES: usize = 556;
-pub const DESK_BYTES: usize = 3632;
+pub const PLAN_BYTES: usize = 560;
+pub const DESK_BYTES: usize = 3636;
 pub const ENTRY_BYTES: usize = 4;
 pub const FETCH_BYTES: usize = 12;
 
@@ -23,7 +23,7 @@ fn plan_words(plan: &Plan) -> Vec<u32> {
     words.extend(figures.positions);
     words.extend(figures.times);
     words.extend([figures.blocks, figures.block_bytes, figures.rate, figures.hop, figures.ret]);
-    words.extend([plan.streams, plan.buffer, plan.worst2, plan.margin, plan.showing]);
+    words.extend([plan.streams, plan.buffer, plan.worst2, plan.margin, plan.showing, plan.worstat]);
     words
 }
 
@@ -50,6 +50,7 @@ fn plan_in(words: &[u32]) -> Plan {
         worst2: words[136],
         margin: words[137],
         showing: words[138],
+        worstat: words[139],
     }
 }
 
@@ -57,7 +58,7 @@ pub fn plan_bytes(plan: &Plan) -> Vec<u8> {
     bytes_of(&plan_words(plan))
 }
 
-/// The plan in a string of 556 bytes.
+/// The plan in a string of 560 bytes.
 pub fn read_plan(bytes: &[u8]) -> Plan {
     plan_in(&words_of(bytes))
 }
@@ -71,15 +72,15 @@ pub fn desk_bytes(desk: &Desk) -> Vec<u8> {
     bytes_of(&words)
 }
 
-/// The desk in a string of 3,632 bytes.
+/// The desk in a string of 3,636 bytes.
 pub fn read_desk(bytes: &[u8]) -> Desk {
     let words = words_of(bytes);
     Desk {
         plan: plan_in(&words),
-        phase: words[139],
-        kinds: array(&words, 140),
-        next: array(&words, 140 + SLOTS),
-        held: array(&words, 140 + 2 * SLOTS),
+        phase: words[140],
+        kinds: array(&words, 141),
+        next: array(&words, 141 + SLOTS),
+        held: array(&words, 141 + 2 * SLOTS),
     }
 }
 

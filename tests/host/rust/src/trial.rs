@@ -1,14 +1,17 @@
 //! A call made of the library and of the model, and the tally of what was answered.
 
-use crate::call::{Call, Outcome, Strings, NAMES, SORTS};
+use crate::call::{Call, Outcome, Strings, NAMES, PLAN, SORTS};
 use crate::expected::expected;
+use crate::layout::read_plan;
 use crate::library::{Lending, Library};
-use film_disk_model::Rng;
+use film_disk_model::{Plan, Rng};
 
 /// Numbers of answers, 0 to 26.
 const NUMBERS: usize = 27;
 /// A slot of some loop must go round so many times.
 const MANY_ROUNDS: u128 = 5;
+/// Where the worst pair of a film may be.
+const PLACES: [&str; 3] = ["at block 0", "in mid film", "at the last block"];
 
 pub struct Trial {
     library: Library,
@@ -16,6 +19,17 @@ pub struct Trial {
     tally: [[u64; NUMBERS]; SORTS.len()],
     /// The most times that a slot of a loop has got the whole film since its join.
     rounds: u128,
+    /// For each place, how many planned films have their worst pair there.
+    worst_pairs: [u64; PLACES.len()],
+}
+
+/// The place of the worst pair.
+fn worst_place(plan: &Plan) -> usize {
+    match plan.worstat {
+        0 => 0,
+        block if block + 1 < plan.figures.blocks => 1,
+        _ => 2,
+    }
 }
 
 /// The call and the lengths of what it was lent.
@@ -29,7 +43,12 @@ fn describe(call: Call, strings: &Strings) -> String {
 
 impl Trial {
     pub fn new() -> Trial {
-        Trial { library: Library::new(), tally: [[0; NUMBERS]; SORTS.len()], rounds: 0 }
+        Trial {
+            library: Library::new(),
+            tally: [[0; NUMBERS]; SORTS.len()],
+            rounds: 0,
+            worst_pairs: [0; PLACES.len()],
+        }
     }
 
     /// Makes the call of both and compares the answer and every byte of every string.
@@ -41,11 +60,18 @@ impl Trial {
     ) -> Result<(Outcome, Outcome), String> {
         let lending = Lending { at_start: rng.once_in(2), empty_is_null: rng.once_in(2) };
         let wanted = expected(call, strings);
-        self.tally[call.sort()][wanted.number as usize] += 1;
+        self.note(call, &wanted);
         let got = self.library.call(call, strings, lending);
         let got = got.map_err(|words| format!("{}: {words}", describe(call, strings)))?;
         got.compare(&wanted).map_err(|words| format!("{}: {words}", describe(call, strings)))?;
         Ok((got, wanted))
+    }
+
+    fn note(&mut self, call: Call, wanted: &Outcome) {
+        self.tally[call.sort()][wanted.number as usize] += 1;
+        if matches!(call, Call::Plan(_)) && wanted.number == 0 {
+            self.worst_pairs[worst_place(&read_plan(&wanted.strings[PLAN]))] += 1;
+        }
     }
 
     /// A call that both accept.
@@ -74,11 +100,14 @@ impl Trial {
             let words: Vec<String> = met.map(|n| format!("{n} x {}", counts[n])).collect();
             println!("{sort}: {} calls; numbers {}", counts.iter().sum::<u64>(), words.join(", "));
         }
+        let worst = PLACES.iter().zip(&self.worst_pairs);
+        let words: Vec<String> = worst.map(|(place, count)| format!("{place} x {count}")).collect();
+        println!("worst pairs: {}", words.join(", "));
         println!("loops: a slot went round {} times", self.rounds);
     }
 
-    /// The numbers that each sort of call can answer and that no call was answered; and loops, if
-    /// none went round often enough.
+    /// The numbers that each sort of call can answer and that no call was answered; places where no
+    /// worst pair was; and loops, if none went round often enough.
     pub fn missing(&self) -> Vec<String> {
         let plan: Vec<usize> = (0..=13).chain([26]).collect();
         let answers: [&[usize]; SORTS.len()] = [
@@ -95,6 +124,9 @@ impl Trial {
             for &number in numbers.iter().filter(|&&number| self.tally[sort][number] == 0) {
                 missing.push(format!("{} {number}", SORTS[sort]));
             }
+        }
+        for (place, _) in PLACES.iter().zip(self.worst_pairs).filter(|&(_, count)| count == 0) {
+            missing.push(format!("a worst pair {place}"));
         }
         if self.rounds < MANY_ROUNDS {
             missing.push(format!("a loop gone round {MANY_ROUNDS} times"));

@@ -274,12 +274,13 @@ pub fn sound_desk(rng: &mut Rng, planned: &Planned) -> Desk {
 
 /// Alters one figure of a plan record.
 pub fn alter_plan(rng: &mut Rng, plan: &mut Plan) {
-    let figure = match rng.below(8) {
+    let figure = match rng.below(9) {
         0 => &mut plan.streams,
         1 => &mut plan.buffer,
         2 => &mut plan.worst2,
         3 => &mut plan.margin,
         4 => &mut plan.showing,
+        5 => &mut plan.worstat,
         _ => return alter_figure(rng, &mut plan.figures),
     };
     *figure = rng.other_than(*figure);

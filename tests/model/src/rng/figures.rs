@@ -172,6 +172,30 @@ pub fn large_desk_plan_for(rng: &mut Rng, showing: Showing) -> Planned {
     plan_of(&figures, showing).expect("n streams fit")
 }
 
+/// Times that fall faster and faster, so that pairs are worse in mid film.
+fn sinking_times(rng: &mut Rng, zones: u32) -> Vec<u32> {
+    let slowest = rng.between(10_000, MAX_TIME);
+    let fall = rng.between(1, slowest / (MAX_ZONES * MAX_ZONES));
+    (0..zones).map(|zone| slowest - fall * zone * zone).collect()
+}
+
+/// A plan for desks of a film that takes all positions of many small zones: any pair of it may be
+/// the worst.
+pub fn uneven_plan_for(rng: &mut Rng, showing: Showing) -> Planned {
+    let mut figures = Figures::zero();
+    let zones = rng.between(2, 14);
+    let counts: Vec<u32> = (0..zones).map(|_| rng.pick(&[1, 1, 1, 2])).collect();
+    set_zones(rng, &mut figures, &counts);
+    if rng.once_in(2) {
+        figures.times[..counts.len()].copy_from_slice(&sinking_times(rng, zones));
+    }
+    figures.blocks = figures.total_positions() as u32;
+    set_others(rng, &mut figures);
+    let n = rng.pick(&[1, 2, 5, 16, 256]);
+    tighten(rng, &mut figures, showing, n);
+    plan_of(&figures, showing).expect("n streams fit")
+}
+
 /// Alters one figure, used or not.
 pub fn alter_figure(rng: &mut Rng, figures: &mut Figures) {
     let used = figures.zones.clamp(1, MAX_ZONES) as usize;

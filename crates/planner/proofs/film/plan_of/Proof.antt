@@ -8,7 +8,7 @@ use Rattle.pacing.specs.Streams.{streams, bufferOf}
 use Rattle.placement.specs.Showing.{Showing}
 use Rattle.plan.specs.Plan.{showingOf, timeOn, overOf, worst2Of, marginOf, streamsOf, bufferSize, planOf}
 use Rattle.plan.specs.Legal.{total-is, total-zones, legal-zoned, worst2-small, time-small, margin-is, margin-exact, margin-less, streams-few, buffer-small}
-use Rattle.plan.specs.Ways.{film-on, worst2-is}
+use Rattle.plan.specs.Ways.{film-on, worst2-is, worstAt-is}
 use borrow.Author.Needs.{needs}
 use Rattle.planner.proofs.film.plan_of.Statement.{statement}
 use Rattle.planner.proofs.film.plan_of.Tie as tie
@@ -29,14 +29,14 @@ record Found (x : Showing) (f : Figures) (w t : ℕ) : Type 0 where
 abbrev shown : (c : tie.After-time-at) → Showing
 shown c = showingOf (start c .args .showing)
 
-found : (c : tie.After-time-at) → Found (shown c) (start c .args .t1) (c .before .before .before .before .worst-time .result) (c .time-at .result)
+found : (c : tie.After-time-at) → Found (shown c) (start c .args .t1) (c .before .before .before .before .worst-pair .result .time) (c .time-at .result)
 found c =
     let s = start c in
     let x = shown c in
     let f = s .args .t1 in
     let ok = s .pre in
     let sum = total (c .before .before .before .before .before .before .before .before) in
-    let pair : c .before .before .before .before .worst-time .result ≡ worst2Of x f = c .before .before .before .before .worst-time .ensures ∙ worst2-is f ok _ sum x in
+    let pair : c .before .before .before .before .worst-pair .result .time ≡ worst2Of x f = c .before .before .before .before .worst-pair .ensures .0 ∙ worst2-is f ok _ sum x in
     let time : c .time-at .result ≡ timeOn f (totalPositions f - f .blocks) = c .time-at .ensures ∙ ap (λ (P : ℕ). timeOn f (P - f .blocks)) sum in
     record {
       pair = pair;
@@ -45,7 +45,7 @@ found c =
       margin = omega (arith, margin-is x f ok);
     }
 
-streams-are : (c : tie.After-time-at) → (let f = start c .args .t1 in streams (f .rate) (c .before .before .before .before .worst-time .result) (overOf f) (f .bytes) ≡ streamsOf (shown c) f)
+streams-are : (c : tie.After-time-at) → (let f = start c .args .t1 in streams (f .rate) (c .before .before .before .before .worst-pair .result .time) (overOf f) (f .bytes) ≡ streamsOf (shown c) f)
 unfolding streamsOf
 streams-are c = let f = start c .args .t1 in ap (λ (w : ℕ). streams (f .rate) w (overOf f) (f .bytes)) (found c .pair)
 
@@ -56,8 +56,8 @@ buffer-are x f = refl
 sum-positions-requires : tie.Need-sum-positions-requires
 sum-positions-requires c κs = let s = c .before .before in (legal-zoned (s .args .t1) (s .pre), s .pre .zones .1)
 
-worst-time-requires : tie.Need-worst-time-requires
-worst-time-requires c κs = let t = c .before .before .before in
+worst-pair-requires : tie.Need-worst-pair-requires
+worst-pair-requires c κs = let t = c .before .before .before in
     let s = t .before .before .before in
     film-on (s .args .t1) (s .pre) _ (total t)
 
@@ -96,16 +96,17 @@ unfolding planOf
 returns c = let t = c .before .before .before in
     let f = start t .args .t1 in
     let w = found t in
+    let first = t .before .before .before .before .worst-pair .ensures .1 ∙ worstAt-is f (start t .pre) _ (total (t .before .before .before .before .before .before .before .before)) (shown t) in
     let n = c .before .before .count-streams .ensures ∙ streams-are t in
     let b = c .before .buffer-size .ensures ∙ ap₂ (λ (n m : ℕ). bufferOf (f .rate) n m (f .bytes)) n (w .margin) ∙ buffer-are (shown t) f in
-    λ i. record { figures = f; streams = n i; buffer = b i; worst2 = w .pair i; margin = w .margin i; showing = c .known-word .ensures i }
+    λ i. record { figures = f; streams = n i; buffer = b i; worst2 = w .pair i; margin = w .margin i; showing = c .known-word .ensures i; worstat = first i }
 
 pub plan-of-spec : {M : Type 1} → statement M
 plan-of-spec =
     tie.close
     (tie.spec
     sum-positions-requires
-    worst-time-requires
+    worst-pair-requires
     sub-time-at
     time-at-requires
     mul-margin
