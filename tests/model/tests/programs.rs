@@ -19,7 +19,7 @@ fn run(comparison: &str, arguments: &[&str]) -> (String, Option<i32>) {
 #[test]
 fn own_listing_passes() {
     let (text, status) = run(LISTING_CASES, &[LISTING, "5", "300"]);
-    assert_eq!(text, "seed 5\n354 passed, 0 failed\n");
+    assert_eq!(text, "seed 5\n362 passed, 0 failed\n");
     assert_eq!(status, Some(0));
 }
 
@@ -53,7 +53,7 @@ fn silent_program_fails() {
     assert!(text.starts_with("seed 5\narguments [], input 01 06 01 FE AD 01 "), "{text}");
     assert!(text.contains("line 1: expected \"streams 16\\n\", got nothing\n"), "{text}");
     assert!(text.contains("usage: listing_cases LISTING SEED COUNT\n"), "{text}");
-    assert!(text.ends_with("\n0 passed, 57 failed\n"), "{text}");
+    assert!(text.ends_with("\n0 passed, 65 failed\n"), "{text}");
     assert_eq!(status, Some(1));
 }
 

@@ -116,7 +116,7 @@ fn worst_pairs_of_random_films() {
         met[case % 2][place] += 1;
     }
     assert!(met[0][0] > 200 && met[0][1] == 0 && met[0][2] > 200, "{met:?}");
-    assert!(met[1].iter().all(|&count| count > 200), "{met:?}");
+    assert!(met[1].iter().all(|&count| count > 100), "{met:?}");
 }
 
 /// Shown once, the first block of the worst pair is an even one.
