@@ -80,10 +80,10 @@ enum filmdisk_fetch_word { FILMDISK_FETCH_POSITION, FILMDISK_FETCH_SLOT, FILMDIS
 #define FILMDISK_STACK_PLAN 4800
 #define FILMDISK_STACK_PLAN_LOOP 4800
 #define FILMDISK_STACK_OPEN 8300
-#define FILMDISK_STACK_JOIN 10000
-#define FILMDISK_STACK_LEAVE 10000
-#define FILMDISK_STACK_BEGIN 24100
-#define FILMDISK_STACK_END 15900
+#define FILMDISK_STACK_JOIN 9000
+#define FILMDISK_STACK_LEAVE 9000
+#define FILMDISK_STACK_BEGIN 21500
+#define FILMDISK_STACK_END 12800
 
 /* The showing of a plan: the film once through, or as a loop, whose last block is followed by the first. */
 enum filmdisk_showing { FILMDISK_ONCE = 0, FILMDISK_LOOP = 1 };

@@ -5,9 +5,9 @@ use mathlib.Core.Path.{_≡_, refl, ap, _∙_}
 use mathlib.Core.List.{List, []}
 use native.Mathlib.Omega.{arith}
 use Rattle.plan.specs.Answer.{isPlan}
-use Rattle.safety.specs.Scheduler.{Call}
-use Rattle.safety.specs.Calls as C
-use Rattle.safety.specs.Calls.{State}
+use Rattle.rules.specs.Scheduler.{Call}
+use Rattle.rules.specs.Calls as C
+use Rattle.rules.specs.Calls.{State}
 use Rattle.safety.specs.Lists.{refused-changes-nothing}
 use Rattle.desk.specs.declared.Desk.{Desk}
 use Rattle.desk.specs.Desk.{supplyOf, rulesOf, orderOf, Queue, viewOf, deskOf, answerOf}

@@ -7,7 +7,6 @@ use desk::blank_desk;
 use desk::fresh_desk;
 use desk::verdict;
 use desk::with_slot;
-use desk::zeros;
 use numbers::refusals::ACCEPTED;
 use numbers::refusals::NO_SUCH_BLOCK;
 use numbers::refusals::NO_SUCH_SLOT;
@@ -18,7 +17,7 @@ use numbers::slots::BETWEEN;
 use numbers::slots::FREE;
 use numbers::slots::WAITING;
 use plan::Plan;
-use soundness::test_record;
+use soundness::is_sound;
 ghost use mathlib.Core.Path.{_≡_};
 ghost use Rattle.desk.specs.Desk.{openDesk, joinDesk, leaveDesk};
 ghost use Rattle.desk.specs.View.{Wide};
@@ -50,9 +49,7 @@ fn judge_slot<'a>(
     ensures passed { λ r. ⌜ (r .number ≡ 0 → SlotPassed (recordOf plan phase (now (kinds .entry)) (now (next .entry)) (now (held .entry))) (now (positions .entry)) (now (leads .entry)) slot) ⌝ }
     ensures refused { λ r. ⌜ ((r .number ≡ 0 → ⊥) → SlotRefused (recordOf plan phase (now (kinds .entry)) (now (next .entry)) (now (held .entry))) (now (positions .entry)) (now (leads .entry)) slot r) ⌝ }
 {
-    let mut found = zeros();
-    let tested = test_record(plan, phase, kinds, next, held, positions, leads, &mut found);
-    if !tested.sound {
+    if !is_sound(plan, phase, kinds, next, held, positions, leads) {
         return verdict(NOT_SOUND, 0);
     }
     if phase != BETWEEN {
@@ -91,7 +88,7 @@ pub fn judge_join(desk: Desk, positions: &[u8], leads: &[u8], slot: u32, block: 
     verdict(ACCEPTED, 0)
 }
 
-// A free slot becomes asked (safety: waiting), with its start block: 14 to 18. A refused call answers the desk it was given.
+// A free slot becomes asked (rules: waiting), with its start block: 14 to 18. A refused call answers the desk it was given.
 pub fn join(desk: Desk, positions: &[u8], leads: &[u8], slot: u32, block: u32) -> Answer
     ensures { λ r. ⌜ r ≡ joinDesk desk (now (positions .entry)) (now (leads .entry)) slot block ⌝ }
 {

@@ -19,12 +19,12 @@ use Rattle.pacing.specs.Streams.{overhead, load, streams, bufferOf}
 use Rattle.pacing.specs.Laid.{slowest, margin}
 use Rattle.plan.specs.Plan.{showingOf, worst2Of, worstAtOf, streamsOf, marginOf, leadOf, bufferSize, planOf, row, positionsOf, leadsOf}
 use Rattle.plan.specs.Answer.{begins, hasNumbers, hasPositions, hasLeads, isPlan}
-use Rattle.safety.specs.Scheduler as S
-use Rattle.safety.specs.Sound.{isZero, soundSlot, sound}
-use Rattle.safety.specs.Refusals.{drawAllowed, drawHeld, judged, verdict}
-use Rattle.safety.specs.Order.{bySlot}
-use Rattle.safety.specs.Calls.{refusals, accepted, answer}
-use Rattle.safety.specs.Arrays.{slotsOf}
+use Rattle.rules.specs.Scheduler as S
+use Rattle.rules.specs.Sound.{isZero, soundSlot, sound}
+use Rattle.rules.specs.Refusals.{drawAllowed, drawHeld, judged, verdict}
+use Rattle.rules.specs.Order.{bySlot}
+use Rattle.rules.specs.Calls.{refusals, accepted, answer}
+use Rattle.rules.specs.Arrays.{slotsOf}
 use Rattle.desk.specs.declared.Desk.{Desk}
 use Rattle.desk.specs.declared.Begun.{Begun}
 use Rattle.desk.specs.Desk.{supplyOf, slotsIn, viewOf, deskOf, zeros, freshDesk, openDesk, answerOf, answered, joinDesk, beginDesk, endDesk, array, fetchesOf}

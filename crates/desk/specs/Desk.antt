@@ -1,4 +1,4 @@
--- The calls of the desk on its record: each is the abstract scheduler's answer (crate safety, where document 01's rules stand) over the
+-- The calls of the desk on its record: each is the abstract scheduler's answer (crate rules, where document 01's rules stand) over the
 -- supply of the record's plan.
 use Prim.Native.Nat.{ℕ, suc, _+_, _-_}
 use mathlib.Core.List.{List, [], _∷_, _++_, map}
@@ -10,11 +10,11 @@ use Rattle.words.specs.Words.{wordsOf, withWords}
 use Rattle.plan.specs.declared.Plan.{Plan}
 use Rattle.plan.specs.Plan.{showingIn, worst2Of, overOf, filmOf, blankPlan}
 use Rattle.plan.specs.Answer.{isPlan}
-use Rattle.safety.specs.Supply.{Supply}
-use Rattle.safety.specs.Scheduler.{Slot, Entry, Call, join, leave, begin, end}
-use Rattle.safety.specs.Order.{Scheduler, Order, bySlot}
-use Rattle.safety.specs.Calls as C
-use Rattle.safety.specs.Arrays.{slotsOf}
+use Rattle.rules.specs.Supply.{Supply}
+use Rattle.rules.specs.Scheduler.{Slot, Entry, Call, join, leave, begin, end}
+use Rattle.rules.specs.Order.{Scheduler, Order, bySlot}
+use Rattle.rules.specs.Calls as C
+use Rattle.rules.specs.Arrays.{slotsOf}
 use Rattle.desk.specs.Supply.{Rates, supplied}
 use Rattle.desk.specs.declared.Desk.{Desk}
 use Rattle.desk.specs.declared.Answer.{Answer}

@@ -5,7 +5,8 @@ use mathlib.Core.Path.{_≡_, refl, sym, ap, ap₂, _∙_}
 use mathlib.Core.List.{List, [], _∷_, map}
 use native.Mathlib.Omega.{arith}
 use lib.ListN.{length, getD, replicate, length-map, List·getD-append, List·getD-map}
-use Rattle.safety.specs.Scheduler.{Entry}
+use Rattle.numbers.specs.Limits.{maxStreams}
+use Rattle.rules.specs.Scheduler.{Entry}
 use Rattle.desk.specs.declared.Fetches.{Fetches}
 use Rattle.desk.specs.Desk.{fetchesOf, array}
 
@@ -60,7 +61,7 @@ unfolding array
 array-at g z es j u =
     let here : 0 + j ≡ j = omega arith in
     rw here
-    (List·getD-append (map g es) (replicate (256 - length (map g es)) 0) 0 j (omega (arith, length-map es g))
+    (List·getD-append (map g es) (replicate (maxStreams - length (map g es)) 0) 0 j (omega (arith, length-map es g))
     ∙ ap (getD (map g es) j) (sym z)
     ∙ List·getD-map g es j blankEntry)
 

@@ -14,7 +14,7 @@ use Rattle.plan.specs.declared.Plan.{Plan}
 use Rattle.plan.specs.Plan.{worst2Of, streamsOf, slowestOf, filmOf, planOf}
 use Rattle.plan.specs.Check.{showing-back}
 use Rattle.plan.specs.Promise.{promise}
-use Rattle.safety.specs.Supply.{Lawful, Named}
+use Rattle.rules.specs.Supply.{Lawful, Named}
 use Rattle.safety.specs.Orderly.{Orderly}
 use Rattle.safety.specs.BySlot.{bySlot-orderly}
 use Rattle.desk.specs.Supply.{paced-lawful}

@@ -3,13 +3,14 @@
 use Prim.Native.Nat.{ℕ, _+_, _*_, _-_, _≤_, _<_}
 use mathlib.Core.Path.{_≡_, ap}
 use native.Mathlib.Omega.{arith}
+use Rattle.numbers.specs.Limits.{maxBytes, maxStreams}
 use Rattle.card.specs.Card.{Legal}
 use Rattle.plan.specs.declared.Plan.{Plan}
 use Rattle.plan.specs.Plan.{showingIn, streamsOf, planOf}
 use Rattle.plan.specs.Legal.{streams-few, buffer-small}
 use Rattle.plan.specs.Promise.{buffer-formula}
-use Rattle.safety.specs.Supply.{Lawful}
-use Rattle.safety.specs.Sound.{Sound}
+use Rattle.rules.specs.Supply.{Lawful}
+use Rattle.turns.specs.Facts.{Sound}
 use Rattle.desk.specs.declared.Desk.{Desk}
 use Rattle.desk.specs.Desk.{supplyOf, orderOf, viewOf}
 use Rattle.desk.specs.View.{Wide, same-length}
@@ -29,7 +30,7 @@ ready-lawful d r = rw (r .planned) (plan-lawful (showingIn (d .plan)) (d .plan .
 -- ---- the sizes of a plan record
 
 -- n is at most the slots
-pub streams-are : (d : Desk) → Ready d → d .plan .streams ≤ 256
+pub streams-are : (d : Desk) → Ready d → d .plan .streams ≤ maxStreams
 unfolding planOf
 streams-are d r = omega (arith, ap (λ (x : Plan). x .streams) (r .planned), streams-few (showingIn (d .plan)) (d .plan .figures) (r .legal))
 
@@ -39,7 +40,7 @@ unfolding planOf
 buffer-has q e = omega (arith, ap (λ (x : Plan). x .buffer) e, buffer-formula (showingIn q) (q .figures))
 
 -- and is at most four of the largest
-pub buffer-most : (q : Plan) → Legal (q .figures) → q ≡ planOf (showingIn q) (q .figures) → q .buffer ≤ 16777216
+pub buffer-most : (q : Plan) → Legal (q .figures) → q ≡ planOf (showingIn q) (q .figures) → q .buffer ≤ 4 * maxBytes
 unfolding planOf
 buffer-most q ok e = omega (arith, ap (λ (x : Plan). x .buffer) e, buffer-small (showingIn q) (q .figures) ok, ok .bytes .1)
 

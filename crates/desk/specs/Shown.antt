@@ -4,21 +4,23 @@ use Prim.Native.Nat.{ℕ, _≤_, _<_}
 use mathlib.Core.Path.{_≡_}
 use mathlib.Core.List.{List}
 use lib.ListN.{length, getD}
-use Rattle.numbers.specs.Limits.{maxPositions, maxTime}
-use Rattle.safety.specs.Supply.{Supply}
-use Rattle.safety.specs.Arrays.{slotsOf, SameLength}
-use Rattle.safety.specs.Sound.{FreeFrom}
+use Rattle.numbers.specs.Limits.{maxPositions, maxTime, maxStreams}
+use Rattle.numbers.specs.Slots.{waiting, playing}
+use Rattle.rules.specs.Supply.{Supply}
+use Rattle.rules.specs.Arrays.{slotsOf}
+use Rattle.turns.specs.ArrayLaws.{SameLength}
+use Rattle.turns.specs.Facts.{FreeFrom}
 use Rattle.desk.specs.declared.Gathered.{Gathered}
 
 -- 256 slots, of which those from n on are free
 pub record Slots (p : Supply ℕ) (n : ℕ) (ks xs hs : List ℕ) : Type 0 where
-  pub long : length ks ≡ 256
+  pub long : length ks ≡ maxStreams
   pub same : SameLength p ks xs hs
   pub unused : FreeFrom p n (slotsOf p ks xs hs)
 
 -- vs has f of the next block of each asked, filling or playing slot
 abbrev pub OfNext : Supply ℕ → (ℕ → ℕ) → List ℕ → List ℕ → List ℕ → Type 0
-OfNext p f ks xs vs = (i : ℕ) → i < 256 → 1 ≤ getD ks i 0 → getD ks i 0 ≤ 3 → getD vs i 0 ≡ f (getD xs i (p .none))
+OfNext p f ks xs vs = (i : ℕ) → i < maxStreams → waiting ≤ getD ks i 0 → getD ks i 0 ≤ playing → getD vs i 0 ≡ f (getD xs i (p .none))
 
 -- time and position of these blocks were gathered
 pub record Gathers (p : Supply ℕ) (ks xs : List ℕ) (g : Gathered) : Type 0 where

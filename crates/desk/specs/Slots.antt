@@ -4,21 +4,23 @@ use Prim.Native.Nat.{ℕ, zero, suc}
 use mathlib.Core.Path.{_≡_, refl, sym, ap, _∙_}
 use mathlib.Core.List.{List, [], _∷_, map}
 use lib.ListN.{length, getD, set, length-replicate, List·getD-map}
-use Rattle.safety.specs.Scheduler.{Slot, freeSlot, at}
-use Rattle.safety.specs.Arrays.{slotOf, length-slots, slot-at}
+use Rattle.numbers.specs.Limits.{maxStreams}
+use Rattle.rules.specs.Scheduler.{Slot, freeSlot, at}
+use Rattle.rules.specs.Arrays.{slotOf}
+use Rattle.turns.specs.ArrayLaws.{length-slots, slot-at}
 use Rattle.desk.specs.declared.Desk.{Desk}
 use Rattle.desk.specs.Desk.{supplyOf, slotsIn, viewOf, deskOf, zeros}
 use Rattle.desk.specs.View.{Wide, same-length, desk-of-view}
 
-pub length-zeros : length zeros ≡ 256
+pub length-zeros : length zeros ≡ maxStreams
 unfolding zeros
-length-zeros = length-replicate {A = ℕ} 256 0
+length-zeros = length-replicate {A = ℕ} maxStreams 0
 
 -- the record with other slots
 abbrev pub withSlots : Desk → List (Slot ℕ) → Desk
 withSlots d ss = deskOf (d .plan) (record { phase = d .phase; slots = ss; queue = tt })
 
-pub length-in : (d : Desk) → Wide d → length (slotsIn d) ≡ 256
+pub length-in : (d : Desk) → Wide d → length (slotsIn d) ≡ maxStreams
 length-in d w = length-slots (supplyOf (d .plan)) (d .kinds) (d .next) (d .held) ∙ w .kinds
 
 -- a load

@@ -5,10 +5,11 @@ use Prim.Native.Nat.{ℕ, _+_, _*_, _-_, _≤_, _<_}
 use mathlib.Core.Path.{_≡_}
 use mathlib.Core.Bool.{true}
 use native.Mathlib.Omega.{arith}
+use Rattle.numbers.specs.Units.{parts}
 use Rattle.pacing.specs.Film.{Film, Paced, lead}
 use Rattle.pacing.specs.Lead.{lead-closed, lead-law}
 use Rattle.pacing.specs.Streams.{load, bufferOf}
-use Rattle.safety.specs.Supply.{Supply, Lawful}
+use Rattle.rules.specs.Supply.{Supply, Lawful}
 
 -- what a plan says of its film beside the laying: B, c, the overhead of a sweep of so many blocks, the fetch entries of a block, n,
 -- margin and buffer
@@ -50,7 +51,7 @@ module _ {A : Type 0} (film : Film A) (w : ℕ) (r : Rates) where
   pub record Rated (m : ℕ) : Type 0 where
     pub bytes : 0 < r .B
     pub rises : (j k : ℕ) → j ≤ k → r .overhead j ≤ r .overhead k
-    pub fits : load (r .c) w (r .overhead) (r .n) ≤ 2000000 * r .B
+    pub fits : load (r .c) w (r .overhead) (r .n) ≤ parts * r .B
     pub margin : 2 * m - w ≤ r .margin
     pub buffer : bufferOf (r .c) (r .n) (r .margin) (r .B) ≤ r .buffer
 

@@ -3,17 +3,18 @@
 use Prim.Native.Nat.{ℕ}
 use mathlib.Core.Path.{_≡_, sym, _∙_}
 use lib.ListN.{length}
+use Rattle.numbers.specs.Limits.{maxStreams}
 use Rattle.plan.specs.declared.Plan.{Plan}
-use Rattle.safety.specs.Order.{Scheduler}
-use Rattle.safety.specs.Arrays.{SameLength, slots-back, kinds-of-slots, nexts-of-slots, helds-of-slots}
+use Rattle.rules.specs.Order.{Scheduler}
+use Rattle.turns.specs.ArrayLaws.{SameLength, slots-back, kinds-of-slots, nexts-of-slots, helds-of-slots}
 use Rattle.desk.specs.declared.Desk.{Desk}
 use Rattle.desk.specs.Desk.{supplyOf, Queue, viewOf, deskOf}
 
 -- a record's three arrays have 256 entries
 pub record Wide (d : Desk) : Type 0 where
-  pub kinds : length (d .kinds) ≡ 256
-  pub next : length (d .next) ≡ 256
-  pub held : length (d .held) ≡ 256
+  pub kinds : length (d .kinds) ≡ maxStreams
+  pub next : length (d .next) ≡ maxStreams
+  pub held : length (d .held) ≡ maxStreams
 
 pub same-length : (d : Desk) → Wide d → SameLength (supplyOf (d .plan)) (d .kinds) (d .next) (d .held)
 same-length d w = record { nexts = w .next ∙ sym (w .kinds); helds = w .held ∙ sym (w .kinds) }

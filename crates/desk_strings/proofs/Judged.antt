@@ -28,7 +28,7 @@ use Rattle.layout.specs.declared.FilmdiskAnswer.{FilmdiskAnswer}
 use Rattle.layout.specs.Answers.{verdictAnswer}
 use Rattle.layout.specs.Layout.{deskWords, deskIn, deskSize}
 use Rattle.layout.specs.RoundTrip.{DeskSized, desk-kept}
-use Rattle.desk_strings.specs.Laws.{enough, said-sized, right-answer, right-string, other-answer, other-string}
+use Rattle.desk_strings.specs.ByLength.{enough, said-sized, right-answer, right-string, other-answer, other-string}
 use Rattle.desk_strings.specs.Calls.{refusedBy, said, answerBy, stringBy}
 
 -- ---- sizes

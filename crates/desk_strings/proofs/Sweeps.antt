@@ -32,7 +32,7 @@ use Rattle.layout.specs.RoundTrip.{DeskSized}
 use Rattle.card.specs.declared.Verdict.{Verdict}
 use Rattle.desk_strings.specs.Calls.{refusedBy, said, roomIn, begunAnswer, beginAnswer, beginString, fetchString, endAnswer, endString}
 use Rattle.desk_strings.specs.Inner.{FetchesFit, sweptAnswer}
-use Rattle.desk_strings.specs.Laws.{said-sized, right-answer}
+use Rattle.desk_strings.specs.ByLength.{said-sized, right-answer}
 use Rattle.desk_strings.proofs.Judged.{wide-of, slim-of, other-call, Judged, judged-said, said-number, judged-answer, written-string, refused-string}
 
 -- ---- begin, with the fetch string F

@@ -13,14 +13,15 @@ use borrow.Author.Count.{below-more}
 use Rattle.laws.specs.Places.{allFrom}
 use Rattle.numbers.specs.Refusals.{drawCount, drawAboveLimit, drawAboveHeld}
 use Rattle.numbers.specs.Slots.{playing, draining}
-use Rattle.safety.specs.Supply.{Supply}
-use Rattle.safety.specs.Scheduler.{Slot, at, mostDrawn, drawLimit, end}
-use Rattle.safety.specs.Order.{Scheduler}
-use Rattle.safety.specs.Arrays.{slotOf, length-slots, slot-at}
-use Rattle.safety.specs.Refusals as R
-use Rattle.safety.specs.Refusals.{judged, drawAllowed}
-use Rattle.safety.specs.Rows.{end-length, end-excess, end-overdrawn, end-accepted}
-use Rattle.safety.specs.Turns.{draws-allowed, draw-excess, draws-held, draw-overdrawn}
+use Rattle.rules.specs.Supply.{Supply}
+use Rattle.rules.specs.Scheduler.{Slot, at, mostDrawn, drawLimit, end}
+use Rattle.rules.specs.Order.{Scheduler}
+use Rattle.rules.specs.Arrays.{slotOf}
+use Rattle.turns.specs.ArrayLaws.{length-slots, slot-at}
+use Rattle.rules.specs.Refusals as R
+use Rattle.rules.specs.Refusals.{judged, drawAllowed}
+use Rattle.turns.specs.Rows.{end-length, end-excess, end-overdrawn, end-accepted}
+use Rattle.turns.specs.Turns.{draws-allowed, draw-excess, draws-held, draw-overdrawn}
 use Rattle.desk.specs.Desk.{Queue, verdict}
 use Rattle.draws.specs.Draws.{FirstAbove, kindLimit, Sweeps, judgedDraws}
 

@@ -8,11 +8,11 @@ use lib.ListN.{length, getD}
 use lib.Dec.{eqb}
 use Rattle.card.specs.declared.Verdict.{Verdict}
 use Rattle.numbers.specs.Slots.{playing, draining, sweeping}
-use Rattle.safety.specs.Supply.{Supply}
-use Rattle.safety.specs.Scheduler.{end, mostDrawn}
-use Rattle.safety.specs.Order.{Scheduler}
-use Rattle.safety.specs.Arrays.{slotsOf}
-use Rattle.safety.specs.Refusals.{judged}
+use Rattle.rules.specs.Supply.{Supply}
+use Rattle.rules.specs.Scheduler.{end, mostDrawn}
+use Rattle.rules.specs.Order.{Scheduler}
+use Rattle.rules.specs.Arrays.{slotsOf}
+use Rattle.rules.specs.Refusals.{judged}
 use Rattle.desk.specs.Desk.{Queue, verdict}
 use Rattle.desk.specs.Shown.{Slots}
 

@@ -17,8 +17,8 @@ ghost use lib.ListN.{length, getD};
 ghost use Rattle.words.specs.Words.{wordsOf};
 ghost use Rattle.numbers.specs.Limits.{maxStreams};
 ghost use Rattle.numbers.specs.Units.{micros};
-ghost use Rattle.safety.specs.Supply.{Supply};
-ghost use Rattle.safety.specs.Order.{Scheduler};
+ghost use Rattle.rules.specs.Supply.{Supply};
+ghost use Rattle.rules.specs.Order.{Scheduler};
 ghost use Rattle.desk.specs.Desk.{Queue};
 ghost use Rattle.draws.specs.Draws.{FirstAbove, kindLimit, Sweeps, judgedDraws};
 

@@ -18,13 +18,13 @@ use Rattle.pacing.specs.Film.{isPast}
 use Rattle.pacing.specs.Shown.{round-below}
 use Rattle.plan.specs.Plan.{showingOf, showingIn}
 use Rattle.plan.specs.Check.{shows-loop, shows-once}
-use Rattle.safety.specs.Supply.{Supply}
-use Rattle.safety.specs.Scheduler as S
-use Rattle.safety.specs.Scheduler.{freeSlot, at, leads, endedSlot, ended, mostDrawn}
-use Rattle.safety.specs.Sound.{Good, good-free}
-use Rattle.safety.specs.Refusals.{drawAllowed, drawHeld}
-use Rattle.safety.specs.Slots.{fetched-full, fetched-other}
-use Rattle.safety.specs.Turns.{ended-fetched, ended-last, ended-empty, ended-other, endedTo, endedTo-none, endedTo-at, endedTo-next, endedTo-rest}
+use Rattle.rules.specs.Supply.{Supply}
+use Rattle.rules.specs.Scheduler as S
+use Rattle.rules.specs.Scheduler.{freeSlot, at, leads, endedSlot, ended, mostDrawn}
+use Rattle.turns.specs.Facts.{Good, good-free}
+use Rattle.rules.specs.Refusals.{drawAllowed, drawHeld}
+use Rattle.turns.specs.Slots.{fetched-full, fetched-other}
+use Rattle.turns.specs.Turns.{ended-fetched, ended-last, ended-empty, ended-other, endedTo, endedTo-none, endedTo-at, endedTo-next, endedTo-rest}
 use Rattle.safety.specs.Safety.{Drawable, drawable-of}
 use Rattle.desk.specs.declared.Desk.{Desk}
 use Rattle.desk.specs.Desk.{supplyOf, slotsIn, viewOf}

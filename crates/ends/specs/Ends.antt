@@ -6,10 +6,10 @@ use mathlib.Core.List.{List}
 use lib.Dec.{eqb}
 use Rattle.numbers.specs.Slots.{filling, playing, draining}
 use Rattle.placement.specs.Showing.{Showing, after}
-use Rattle.safety.specs.Supply.{Supply}
-use Rattle.safety.specs.Scheduler as S
-use Rattle.safety.specs.Scheduler.{end}
-use Rattle.safety.specs.Calls.{Allowed}
+use Rattle.rules.specs.Supply.{Supply}
+use Rattle.rules.specs.Scheduler as S
+use Rattle.rules.specs.Scheduler.{end}
+use Rattle.rules.specs.Calls.{Allowed}
 use Rattle.desk.specs.declared.Desk.{Desk}
 use Rattle.desk.specs.Desk.{supplyOf, orderOf, viewOf}
 use Rattle.ends.specs.declared.Slot.{Slot}

@@ -9,10 +9,11 @@ use native.Mathlib.Decide.{ℕ-discrete}
 use lib.ListN.{length, getD, take}
 use Rattle.numbers.specs.Slots.{playing}
 use Rattle.numbers.specs.Units.{parts}
-use Rattle.safety.specs.Supply.{Supply}
-use Rattle.safety.specs.Scheduler.{Slot, at}
-use Rattle.safety.specs.Arrays.{slotsOf, length-slots, slot-at}
-use Rattle.safety.specs.Turns.{leastHeld, least-next, least-skip, least-rest}
+use Rattle.rules.specs.Supply.{Supply}
+use Rattle.rules.specs.Scheduler.{Slot, at}
+use Rattle.rules.specs.Arrays.{slotsOf}
+use Rattle.turns.specs.ArrayLaws.{length-slots, slot-at}
+use Rattle.turns.specs.Turns.{leastHeld, least-next, least-skip, least-rest}
 use Rattle.desk.specs.Shown.{Slots}
 
 module _ (p : Supply ℕ) (n : ℕ) (ks xs hs : List ℕ) (w : Slots p n ks xs hs) where

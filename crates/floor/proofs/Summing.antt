@@ -7,49 +7,61 @@ use mathlib.Core.List.{List}
 use native.Mathlib.Omega.{arith}
 use native.Mathlib.Decide.{decLe}
 use lib.ListN.{length, getD, take}
+use Rattle.numbers.specs.Limits.{maxStreams}
 use Rattle.numbers.specs.Slots.{filling, playing}
-use Rattle.safety.specs.Supply.{Supply}
-use Rattle.safety.specs.Scheduler.{Slot, at, leads}
-use Rattle.safety.specs.Arrays.{slotsOf, length-slots, slot-at}
-use Rattle.safety.specs.Turns.{leads-none, leads-next, leads-skip, leads-rest}
-use Rattle.desk.specs.Shown.{Slots, OfNext}
-use Rattle.floor.specs.Floor.{mostLead}
+use Rattle.rules.specs.Supply.{Supply}
+use Rattle.rules.specs.Scheduler.{Slot, at, leads}
+use Rattle.rules.specs.Arrays.{slotsOf}
+use Rattle.turns.specs.ArrayLaws.{length-slots, slot-at}
+use Rattle.turns.specs.Turns.{leads-none, leads-next, leads-skip, leads-rest}
+use Rattle.desk.specs.Shown.{Slots}
+use Rattle.floor.specs.Floor.{mostLead, Listed, LeadsOf, Added}
 
 -- the leads of the first i slots are added up
-pub record Summed (ks vs : List ℕ) (n sum i : ℕ) : Type 0 where
+pub record Summed (ws ks xs : List ℕ) (n sum i : ℕ) : Type 0 where
   pub few : i ≤ n
   pub most : sum ≤ i * mostLead
-  pub sums : (p : Supply ℕ) (xs hs : List ℕ) → Slots p n ks xs hs → OfNext p (p .lead) ks xs vs → sum ≡ leads p (take i (slotsOf p ks xs hs))
+  pub sums : (p : Supply ℕ) (hs : List ℕ) → Slots p n ks xs hs → LeadsOf p ws ks xs n → sum ≡ leads p (take i (slotsOf p ks xs hs))
 
-module _ (ks vs : List ℕ) (n : ℕ) where
-  pub summed-none : Summed ks vs n 0 0
-  summed-none = record { few = omega arith; most = omega arith; sums = λ p xs hs w u. sym (leads-none p (slotsOf p ks xs hs)) }
+module _ (ws ks xs : List ℕ) (n : ℕ) where
+  pub summed-none : Summed ws ks xs n 0 0
+  summed-none = record { few = omega arith; most = omega arith; sums = λ p hs w u. sym (leads-none p (slotsOf p ks xs hs)) }
 
-  module _ (sum i : ℕ) (inv : Summed ks vs n sum i) where
-    -- v is what slot i adds
-    pub summed-next : (v : ℕ) → i < n → i < 256 → v ≤ mostLead → (filling ≤ getD ks i 0 → getD ks i 0 ≤ playing → v ≡ getD vs i 0)
-        → ((filling ≤ getD ks i 0 → getD ks i 0 ≤ playing → ⊥) → v ≡ 0) → Summed ks vs n (sum + v) (i + 1)
-    summed-next v l h m a b = record {
+  -- a is what slot i adds
+  module _ (q : Listed ws ks xs n) (i a : ℕ) (l : i < n) (r : filling ≤ getD ks i 0 → getD ks i 0 ≤ playing → a ≡ getD ws (getD xs i 0) 0)
+      (o : (filling ≤ getD ks i 0 → getD ks i 0 ≤ playing → ⊥) → a ≡ 0) where
+    pub added-small : a ≤ mostLead
+    added-small =
+        by-cases (decLe filling (getD ks i 0))
+        (λ c. by-cases (decLe (getD ks i 0) playing)
+        (λ d. omega (arith, r c d, q .small i l (omega arith) d))
+        (λ d. omega (arith, o (λ _ e. d e))))
+        (λ c. omega (arith, o (λ e _. c e)))
+
+    pub summed-next : (sum : ℕ) → Summed ws ks xs n sum i → i < 256 → Summed ws ks xs n (sum + a) (i + 1)
+    summed-next sum inv h = record {
       few = omega arith;
-      most = omega (arith, inv .most);
-      sums = λ p xs hs w u.
+      most = omega (arith, inv .most, added-small);
+      sums = λ p hs w u.
           let ss = slotsOf p ks xs hs in
           let s = slot-at p ks xs hs (w .same) i in
           let k : at p ss i .kind ≡ getD ks i 0 = ap (λ (s : Slot ℕ). s .kind) s in
           let x : p .lead (at p ss i .next) ≡ p .lead (getD xs i (p .none)) = ap (λ (s : Slot ℕ). p .lead (s .next)) s in
           let long : i < length ss = omega (arith, length-slots p ks xs hs, w .long) in
-          let now = inv .sums p xs hs w u in
-          let skips : (filling ≤ getD ks i 0 → getD ks i 0 ≤ playing → ⊥) → sum + v ≡ leads p (take (i + 1) ss) =
-          λ n. omega (arith, now, b n, leads-skip p ss i long (λ c d. n (omega (arith, k)) (omega (arith, k))))
+          let now = inv .sums p hs w u in
+          let skips : (filling ≤ getD ks i 0 → getD ks i 0 ≤ playing → ⊥) → sum + a ≡ leads p (take (i + 1) ss) =
+          λ n. omega (arith, now, o n, leads-skip p ss i long (λ c d. n (omega (arith, k)) (omega (arith, k))))
           in
           by-cases (decLe filling (getD ks i 0))
           (λ c. by-cases (decLe (getD ks i 0) playing)
-          (λ d. omega (arith, now, a c d, u i h (omega arith) d, x, leads-next p ss i long (omega (arith, k)) (omega (arith, k))))
+          (λ d. omega (arith, now, r c d, u i l (omega arith) d, x, leads-next p ss i long (omega (arith, k)) (omega (arith, k))))
           (λ d. skips (λ _ e. d e)))
           (λ c. skips (λ e _. c e));
     }
 
-    -- the slots from n on add nothing
-    pub summed-end : i ≡ n → (p : Supply ℕ) (xs hs : List ℕ) → Slots p n ks xs hs → OfNext p (p .lead) ks xs vs → sum ≡ leads p (slotsOf p ks xs hs)
-    summed-end e p xs hs w u =
-        inv .sums p xs hs w u ∙ ap (λ (m : ℕ). leads p (take m (slotsOf p ks xs hs))) e ∙ leads-rest p n (slotsOf p ks xs hs) (w .unused)
+  -- the slots from n on add nothing
+  pub summed-end : (sum i : ℕ) → Summed ws ks xs n sum i → i ≡ n → n ≤ maxStreams → Added ws ks xs n sum
+  summed-end sum i inv e h = record {
+    sums = λ p hs w u. inv .sums p hs w u ∙ ap (λ (m : ℕ). leads p (take m (slotsOf p ks xs hs))) e ∙ leads-rest p n (slotsOf p ks xs hs) (w .unused);
+    most = omega (arith, inv .most);
+  }

@@ -8,12 +8,12 @@ use Rattle.numbers.specs.Limits.{maxStreams}
 use Rattle.numbers.specs.Slots.{waiting, playing}
 use Rattle.numbers.specs.Units.{parts}
 use Rattle.plan.specs.declared.Plan.{Plan}
-use Rattle.safety.specs.Supply.{Supply}
-use Rattle.safety.specs.Scheduler.{leads, lowWater}
-use Rattle.safety.specs.Arrays.{slotsOf}
+use Rattle.rules.specs.Supply.{Supply}
+use Rattle.rules.specs.Scheduler.{leads, lowWater}
+use Rattle.rules.specs.Arrays.{slotsOf}
 use Rattle.desk.specs.declared.Desk.{Desk}
 use Rattle.desk.specs.Desk.{supplyOf, slotsIn}
-use Rattle.desk.specs.Shown.{OfNext}
+use Rattle.desk.specs.Shown.{Slots, OfNext}
 
 -- no lead of a plan is above it: twice the greatest time, less a worst time that is greater than it
 abbrev pub mostLead : ℕ
@@ -27,9 +27,19 @@ ample = 1000000000000
 abbrev pub leadSum : Desk → ℕ
 leadSum d = leads (supplyOf (d .plan)) (slotsIn d)
 
--- a list of leads ws has the next block of each asked, filling or playing slot of the first n: kinds ks, next blocks xs
-abbrev pub Listed : List ℕ → List ℕ → List ℕ → ℕ → Type 0
-Listed ws ks xs n = (i : ℕ) → i < n → waiting ≤ getD ks i 0 → getD ks i 0 ≤ playing → getD xs i 0 < length ws
+-- a list of leads ws has the next block of each asked, filling or playing slot of the first n, its lead in its range: kinds ks, next blocks xs
+pub record Listed (ws ks xs : List ℕ) (n : ℕ) : Type 0 where
+  pub here : (i : ℕ) → i < n → waiting ≤ getD ks i 0 → getD ks i 0 ≤ playing → getD xs i 0 < length ws
+  pub small : (i : ℕ) → i < n → waiting ≤ getD ks i 0 → getD ks i 0 ≤ playing → getD ws (getD xs i 0) 0 ≤ mostLead
+
+-- the leads there are those of a supply p
+abbrev pub LeadsOf : Supply ℕ → List ℕ → List ℕ → List ℕ → ℕ → Type 0
+LeadsOf p ws ks xs n = (i : ℕ) → i < n → waiting ≤ getD ks i 0 → getD ks i 0 ≤ playing → getD ws (getD xs i 0) 0 ≡ p .lead (getD xs i (p .none))
+
+-- sum is what the leads of the filling and playing slots add up to, for every supply that the list has the leads of
+pub record Added (ws ks xs : List ℕ) (n sum : ℕ) : Type 0 where
+  pub sums : (p : Supply ℕ) (hs : List ℕ) → Slots p n ks xs hs → LeadsOf p ws ks xs n → sum ≡ leads p (slotsOf p ks xs hs)
+  pub most : sum ≤ maxStreams * mostLead
 
 -- vs has the leads of these blocks, and nothing for the other kinds
 pub record Taken (ws ks xs : List ℕ) (n : ℕ) (vs : List ℕ) : Type 0 where

@@ -1,4 +1,4 @@
-// The leads of slots, and the floor of document 01 (safety: the low-water mark) that they give.
+// The leads of slots, and the floor of document 01 (rules: the low-water mark) that they give.
 use numbers::slots::FILLING;
 use numbers::slots::PLAYING;
 use numbers::slots::WAITING;
@@ -13,12 +13,11 @@ ghost use Rattle.words.specs.Words.{wordsOf};
 ghost use Rattle.numbers.specs.Limits.{maxBytes, maxRate, maxStreams};
 ghost use Rattle.numbers.specs.Slots.{waiting, filling, playing};
 ghost use Rattle.numbers.specs.Units.{parts};
-ghost use Rattle.safety.specs.Supply.{Supply};
-ghost use Rattle.safety.specs.Scheduler.{leads};
-ghost use Rattle.safety.specs.Arrays.{slotsOf};
-ghost use Rattle.safety.specs.Turns.{leastHeld};
-ghost use Rattle.desk.specs.Shown.{Slots, OfNext};
-ghost use Rattle.floor.specs.Floor.{mostLead, ample, Listed, Taken};
+ghost use Rattle.rules.specs.Supply.{Supply};
+ghost use Rattle.rules.specs.Arrays.{slotsOf};
+ghost use Rattle.turns.specs.Turns.{leastHeld};
+ghost use Rattle.desk.specs.Shown.{Slots};
+ghost use Rattle.floor.specs.Floor.{ample, Listed, Added, Taken};
 
 // Stands for the least that a playing slot holds where none plays, in two-millionths of a byte: above every floor.
 const AMPLE: u64 = 2000000000000000000;
@@ -45,48 +44,55 @@ fn next_lead(kind: u32, next: u32, leads: &[u8]) -> u32
     }
 }
 
-// Puts the lead of the next block of each of the first `streams` slots into `found`; 0 for free slots and tails.
+// What a slot adds to the sum: the lead of its next block where it is filling or playing.
+fn added_lead(kind: u32, next: u32, leads: &[u8]) -> u32
+    requires { ⌜ (filling ≤ kind → kind ≤ playing → next < length (wordsOf (now leads))) ⌝ }
+    ensures reads { λ r. ⌜ (filling ≤ kind → kind ≤ playing → r ≡ getD (wordsOf (now (leads .entry))) next 0) ⌝ }
+    ensures other { λ r. ⌜ ((filling ≤ kind → kind ≤ playing → ⊥) → r ≡ 0) ⌝ }
+{
+    match kind {
+        FILLING => lead_at(leads, next),
+        PLAYING => lead_at(leads, next),
+        _ => 0,
+    }
+}
+
+// The leads at the next blocks of the filling and playing slots, added up. The slots from `streams` on are free.
+pub fn sum_leads<'a>(
+    kinds: &'a [u32; 256],
+    next: &'a [u32; 256],
+    streams: usize,
+    leads: &[u8],
+) -> u32
+    requires { ⌜ (streams ≤ maxStreams) × (Listed (wordsOf (now leads)) (now kinds) (now next) streams) ⌝ }
+    ensures { λ r. ⌜ Added (wordsOf (now (leads .entry))) (now (kinds .entry)) (now (next .entry)) streams r ⌝ }
+{
+    let mut sum: u32 = 0;
+    let mut i: usize = 0;
+    while i < streams {
+        sum += added_lead(kinds[i], next[i], leads);
+        i += 1;
+    }
+    sum
+}
+
+// The same, and the lead of the next block of each of the first `streams` slots goes into `found`; 0 for free slots and tails.
 pub fn gather_leads<'a>(
     kinds: &'a [u32; 256],
     next: &'a [u32; 256],
     streams: usize,
     leads: &[u8],
     found: &mut [u32; 256],
-)
+) -> u32
     requires { ⌜ (streams ≤ maxStreams) × (Listed (wordsOf (now leads)) (now kinds) (now next) streams) × (length (now found) ≡ maxStreams) ⌝ }
-    ensures { λ _. ⌜ Taken (wordsOf (now (leads .entry))) (now (kinds .entry)) (now (next .entry)) streams (now (found .exit)) ⌝ }
-{
-    let mut i: usize = 0;
-    while i < streams {
-        found[i] = next_lead(kinds[i], next[i], leads);
-        i += 1;
-    }
-}
-
-// What a slot adds to the sum: its lead where it is filling or playing.
-fn added(kind: u32, lead: u32) -> u32
-    ensures reads { λ r. ⌜ (filling ≤ kind → kind ≤ playing → r ≡ lead) ⌝ }
-    ensures other { λ r. ⌜ ((filling ≤ kind → kind ≤ playing → ⊥) → r ≡ 0) ⌝ }
-    ensures most { λ r. ⌜ r ≤ lead ⌝ }
-{
-    match kind {
-        FILLING => lead,
-        PLAYING => lead,
-        _ => 0,
-    }
-}
-
-// The leads at the next blocks of the filling and playing slots, added up, of what was gathered. The slots from `streams` on are free.
-pub fn sum_leads(kinds: &[u32; 256], found: &[u32; 256], streams: usize) -> u32
-    requires { ⌜ (streams ≤ maxStreams) × ((i : ℕ) → i < streams → getD (now found) i 0 ≤ mostLead) ⌝ }
-    ensures sum { λ r. ⌜ ((p : Supply ℕ) (xs hs : List ℕ) → Slots p streams (now (kinds .entry)) xs hs
-        → OfNext p (p .lead) (now (kinds .entry)) xs (now (found .entry)) → r ≡ leads p (slotsOf p (now (kinds .entry)) xs hs)) ⌝ }
-    ensures most { λ r. ⌜ r ≤ maxStreams * mostLead ⌝ }
+    ensures sum { λ r. ⌜ Added (wordsOf (now (leads .entry))) (now (kinds .entry)) (now (next .entry)) streams r ⌝ }
+    ensures found { λ _. ⌜ Taken (wordsOf (now (leads .entry))) (now (kinds .entry)) (now (next .entry)) streams (now (found .exit)) ⌝ }
 {
     let mut sum: u32 = 0;
     let mut i: usize = 0;
     while i < streams {
-        sum += added(kinds[i], found[i]);
+        sum += added_lead(kinds[i], next[i], leads);
+        found[i] = next_lead(kinds[i], next[i], leads);
         i += 1;
     }
     sum

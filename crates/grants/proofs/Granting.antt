@@ -13,14 +13,15 @@ use lib.Dec.{leb, eqb}
 use borrow.Author.Tests.{eqb-true, eq-eqb}
 use Rattle.laws.specs.Bools.{and-left, and-right}
 use Rattle.laws.specs.Map.{store-next}
-use Rattle.safety.specs.Supply.{Supply}
+use Rattle.rules.specs.Supply.{Supply}
 use Rattle.numbers.specs.Limits.{maxBytes, maxRate}
 use Rattle.numbers.specs.Slots.{waiting, filling}
 use Rattle.numbers.specs.Units.{parts}
-use Rattle.safety.specs.Scheduler.{Slot, freeSlot, at, leads, lowWater, startedSlot, started, playersHold, fillingSlot, tries}
-use Rattle.safety.specs.Arrays.{slotOf, slotsOf, SameLength, length-slots, slot-at, slots-set-kind}
-use Rattle.safety.specs.Turns.{startedTo, startedTo-none, startedTo-rest, least-holds}
-use Rattle.safety.specs.Turns.{tries-none, tries-past, tries-other, tries-waits, tries-granted, tries-rest}
+use Rattle.rules.specs.Scheduler.{Slot, freeSlot, at, leads, lowWater, startedSlot, started, playersHold, fillingSlot, tries}
+use Rattle.rules.specs.Arrays.{slotOf, slotsOf}
+use Rattle.turns.specs.ArrayLaws.{SameLength, length-slots, slot-at, slots-set-kind}
+use Rattle.turns.specs.Turns.{startedTo, startedTo-none, startedTo-rest, least-holds}
+use Rattle.turns.specs.Turns.{tries-none, tries-past, tries-other, tries-waits, tries-granted, tries-rest}
 use Rattle.desk.specs.Shown.{Slots}
 use Rattle.floor.specs.Floor.{mostLead, ample}
 use Rattle.grants.specs.Grants.{Asks}

@@ -4,12 +4,13 @@ use Prim.Native.Nat.{ℕ, _*_, _<_}
 use mathlib.Core.Path.{_≡_}
 use mathlib.Core.List.{List}
 use lib.ListN.{getD}
-use Rattle.safety.specs.Supply.{Supply}
+use Rattle.numbers.specs.Limits.{maxStreams}
+use Rattle.rules.specs.Supply.{Supply}
 use Rattle.numbers.specs.Slots.{waiting}
 use Rattle.numbers.specs.Units.{parts}
-use Rattle.safety.specs.Scheduler.{leads}
-use Rattle.safety.specs.Arrays.{slotsOf}
-use Rattle.safety.specs.Turns.{leastHeld}
+use Rattle.rules.specs.Scheduler.{leads}
+use Rattle.rules.specs.Arrays.{slotsOf}
+use Rattle.turns.specs.Turns.{leastHeld}
 use Rattle.floor.specs.Floor.{ample}
 
 -- B and c are the supply's, sum and level those of the slots, and ls has the lead of each asked slot's next block
@@ -18,4 +19,4 @@ pub record Asks (p : Supply ℕ) (B c sum level : ℕ) (ls ks xs hs : List ℕ) 
   pub rate : c ≡ p .c
   pub leads : sum ≡ leads p (slotsOf p ks xs hs)
   pub least : level ≡ parts * leastHeld p ample (slotsOf p ks xs hs)
-  pub own : (i : ℕ) → i < 256 → getD ks i 0 ≡ waiting → getD ls i 0 ≡ p .lead (getD xs i (p .none))
+  pub own : (i : ℕ) → i < maxStreams → getD ks i 0 ≡ waiting → getD ls i 0 ≡ p .lead (getD xs i (p .none))

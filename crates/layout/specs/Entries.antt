@@ -4,7 +4,7 @@ use Prim.Native.Nat.{ℕ, zero, suc}
 use mathlib.Core.Path.{_≡_, refl, ap, _∙_}
 use mathlib.Core.List.{List, [], _∷_}
 use lib.ListN.{getD}
-use Rattle.safety.specs.Scheduler.{Entry}
+use Rattle.rules.specs.Scheduler.{Entry}
 use Rattle.desk.specs.declared.Fetches.{Fetches}
 use Rattle.desk.specs.Desk.{fetchesOf, entryWords}
 use Rattle.desk.specs.Entries.{entriesFrom, entriesIn, entries-in}

@@ -15,17 +15,17 @@ use Rattle.laws.specs.Bools.{bit, clash, and-left, and-right, and-both, bool-ex
 use Rattle.laws.specs.Map.{mapFrom}
 use Rattle.laws.specs.Each.{Each, Both, both-set, both-at}
 use Rattle.numbers.specs.Units.{micros}
-use Rattle.safety.specs.Supply.{Supply, Lawful}
+use Rattle.rules.specs.Supply.{Supply, Lawful}
 use Rattle.numbers.specs.Slots.{draining, sweeping}
-use Rattle.safety.specs.Scheduler.{Slot, Entry, Call, join, leave, begin, end, freeSlot, waitingSlot, at}
-use Rattle.safety.specs.Scheduler.{before, insert, sorted, entriesAt, lowWater, joined, left, isFetched, entriesFrom, entries}
-use Rattle.safety.specs.Scheduler.{leads, times, fetchCount, bound, sweptBy, releaseBy, released, endedSlot, ended, mostDrawn}
-use Rattle.safety.specs.Order.{Scheduler, Order}
-use Rattle.safety.specs.Sound.{Good, Sound}
+use Rattle.rules.specs.Scheduler.{Slot, Entry, Call, join, leave, begin, end, freeSlot, waitingSlot, at}
+use Rattle.rules.specs.Scheduler.{before, insert, sorted, entriesAt, lowWater, joined, left, isFetched, entriesFrom, entries}
+use Rattle.rules.specs.Scheduler.{leads, times, fetchCount, bound, sweptBy, releaseBy, released, endedSlot, ended, mostDrawn}
+use Rattle.rules.specs.Order.{Scheduler, Order}
+use Rattle.turns.specs.Facts.{Good, Sound}
 use Rattle.safety.specs.Orderly.{Kept, Orderly}
-use Rattle.safety.specs.Slots.{fetched-kind, fetched-other}
-use Rattle.safety.specs.Ledger.{Line, blank, lineAt, openedLine, closeBy, isNamed, markedLine, drawnLine, settledLine, recorded}
-use Rattle.safety.specs.Calls.{Allowed, accepted}
+use Rattle.turns.specs.Slots.{fetched-kind, fetched-other}
+use Rattle.rules.specs.Ledger.{Line, blank, lineAt, openedLine, closeBy, isNamed, markedLine, drawnLine, settledLine, recorded}
+use Rattle.rules.specs.Calls.{Allowed, accepted}
 use Rattle.safety.specs.Safety.{Drawable, Drawables, drawables-of, Swept, swept-of, leads-after, leads-le, fetches-le}
 
 -- ---- whom the entries name

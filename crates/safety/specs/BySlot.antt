@@ -1,7 +1,7 @@
 -- Document 01's order, slot by slot, is orderly.
 -- Assumes nothing.
 use Prim.Native.Nat.{ℕ, zero, suc, _+_, _*_, _≤_}
-use mathlib.Core.Path.{_≡_, refl, sym, _∙_}
+use mathlib.Core.Path.{_≡_, refl}
 use mathlib.Core.Bool.{Bool, true, false, _&&_}
 use mathlib.Core.List.{List, [], _∷_}
 use native.Mathlib.Omega.{arith}
@@ -9,42 +9,33 @@ use lib.ListN.{length}
 use lib.Dec.{leb, eqb}
 use borrow.Author.Tests.{leb-true, eqb-true, eq-eqb}
 use Rattle.laws.specs.Bools.{implies, implied, and-left, and-right}
-use Rattle.laws.specs.Runs.{sumBy, allBy}
+use Rattle.laws.specs.Runs.{allBy}
 use Rattle.laws.specs.Each.{Both, each-map, both-refl}
 use Rattle.numbers.specs.Units.{parts}
-use Rattle.safety.specs.Supply.{Supply}
+use Rattle.rules.specs.Supply.{Supply}
 use Rattle.numbers.specs.Slots.{waiting, filling, playing}
-use Rattle.safety.specs.Scheduler.{Slot, at, leadOf, leads, lowWater, holds}
-use Rattle.safety.specs.Scheduler.{fillingSlot, startBy, startedSlot, started, playersHold, grantable, granted, grantBy, tried, tries, begun}
-use Rattle.safety.specs.Order.{bySlot}
+use Rattle.rules.specs.Scheduler.{Slot, at, leads, lowWater, holds}
+use Rattle.rules.specs.Scheduler.{startBy, startedSlot, started, playersHold, grantable, granted, grantBy, tried, tries, begun}
+use Rattle.rules.specs.Order.{bySlot}
 use Rattle.safety.specs.Orderly.{Kept, kept-refl, Floored, Began, Orderly, began-then, began-none}
-use Rattle.safety.specs.Slots.{reading-lead, other-lead}
+use Rattle.turns.specs.Turns.{started-leads, granted-leads}
 
 module _ {A : Type 0} (p : Supply A) where
   -- ---- filling slots start to play
 
-  started-one : (x : ℕ) (s : Slot A) → Kept s (startedSlot p x s) × (leadOf p (startedSlot p x s) ≡ leadOf p s)
+  started-one : (x : ℕ) (s : Slot A) → Kept s (startedSlot p x s)
   unfolding startedSlot
   started-one x s = go (eqb (s .kind) filling && holds p x s) refl
     where
-      go : (t : Bool) → (eqb (s .kind) filling && holds p x s) ≡ t → Kept s (startBy p t s) × (leadOf p (startBy p t s) ≡ leadOf p s)
-      go true e =
-          let k = eqb-true (s .kind) filling (and-left (eqb (s .kind) filling) _ e) in (
-            record { buffered = refl; next = refl; rises = omega arith; occupied = omega arith; bounded = omega arith },
-            reading-lead p (startBy p true s) (omega arith) (omega arith) ∙ sym (reading-lead p s (omega arith) (omega arith)),
-          )
-      go false e = (kept-refl s, refl)
+      go : (t : Bool) → (eqb (s .kind) filling && holds p x s) ≡ t → Kept s (startBy p t s)
+      go true e = let k = eqb-true (s .kind) filling (and-left (eqb (s .kind) filling) _ e) in
+          record { buffered = refl; next = refl; rises = omega arith; occupied = omega arith; bounded = omega arith }
+      go false e = kept-refl s
 
   pub started-kept : (x : ℕ) (ss : List (Slot A)) → Both Kept ss (started p x ss)
   unfolding started
   started-kept x [] = tt
-  started-kept x (s ∷ ss) = (started-one x s .0, started-kept x ss)
-
-  -- their leads counted before
-  pub started-leads : (x : ℕ) (ss : List (Slot A)) → leads p (started p x ss) ≡ leads p ss
-  unfolding started leads sumBy
-  started-leads x [] = refl
-  started-leads x (s ∷ ss) = omega (arith, started-one x s .1, started-leads x ss)
+  started-kept x (s ∷ ss) = (started-one x s, started-kept x ss)
 
   -- who plays then did before, or holds x
   pub started-floored : (x L : ℕ) (ss : List (Slot A)) → lowWater p L ≤ x → Floored p L ss → Floored p L (started p x ss)
@@ -60,7 +51,7 @@ module _ {A : Type 0} (p : Supply A) where
   pub started-began : (x : ℕ) (ss : List (Slot A)) → lowWater p (leads p ss) ≤ x → Floored p (leads p ss) ss → Began p ss (started p x ss)
   started-began x ss h f = record {
     kept = started-kept x ss;
-    floored = rw (started-leads x ss) (started-floored x (leads p ss) ss h f);
+    floored = rw (started-leads p x ss) (started-floored x (leads p ss) ss h f);
   }
 
   -- ---- an asked slot is granted
@@ -73,14 +64,6 @@ module _ {A : Type 0} (p : Supply A) where
         λ k. leb-true (lowWater p L) (parts * s .buffered) (implied (eqb (s .kind) playing) _ (and-left t _ e) (eq-eqb (s .kind) playing k)),
         floored-of-test L ss (and-right t _ e),
       )
-
-  -- its lead joins the others
-  pub granted-leads : (ss : List (Slot A)) (i : ℕ) → at p ss i .kind ≡ waiting → leads p (granted p ss i) ≡ leads p ss + p .lead (at p ss i .next)
-  unfolding leads sumBy granted
-  granted-leads [] i k = absurd (omega arith)
-  granted-leads (s ∷ ss) zero k =
-      omega (arith, other-lead p s (λ a b. omega arith), reading-lead p (fillingSlot p s) (omega arith) (omega arith))
-  granted-leads (s ∷ ss) (suc i) k = omega (arith, granted-leads ss i k)
 
   granted-kept : (ss : List (Slot A)) (i : ℕ) → at p ss i .kind ≡ waiting → Both Kept ss (granted p ss i)
   unfolding granted
@@ -104,7 +87,7 @@ module _ {A : Type 0} (p : Supply A) where
       let L : ℕ = leads p ss + p .lead (at p ss i .next) in
       record {
         kept = granted-kept ss i k;
-        floored = rw (granted-leads ss i k) (granted-floored L ss i (floored-of-test L ss (and-right (eqb (at p ss i .kind) waiting) _ e)));
+        floored = rw (granted-leads p ss i k) (granted-floored L ss i (floored-of-test L ss (and-right (eqb (at p ss i .kind) waiting) _ e)));
       }
 
   -- ---- in slot order

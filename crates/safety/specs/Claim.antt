@@ -13,19 +13,21 @@ use Rattle.laws.specs.Each.{each-at, both-at}
 use Rattle.numbers.specs.Units.{micros}
 use Rattle.numbers.specs.Limits.{maxStreams}
 use Rattle.numbers.specs.Refusals.{notSound}
-use Rattle.safety.specs.Supply.{Supply, Lawful, Named}
+use Rattle.rules.specs.Supply.{Supply, Lawful, Named}
 use Rattle.numbers.specs.Slots.{free, playing}
-use Rattle.safety.specs.Scheduler.{Slot, Call, begin, freeSlot, at, leads}
-use Rattle.safety.specs.Order.{Scheduler, Order, bySlot, opened}
-use Rattle.safety.specs.Sound.{sound, Good, good-free, replicate-free, sound-says, says-sound}
+use Rattle.rules.specs.Scheduler.{Slot, Call, begin, freeSlot, at, leads}
+use Rattle.rules.specs.Order.{Scheduler, Order, bySlot, opened}
+use Rattle.rules.specs.Sound.{sound}
+use Rattle.turns.specs.Facts.{Good, good-free, replicate-free, sound-says, says-sound}
 use Rattle.safety.specs.Orderly.{Orderly}
 use Rattle.safety.specs.BySlot.{bySlot-orderly}
-use Rattle.safety.specs.Refusals.{verdict}
-use Rattle.safety.specs.Ledger.{Line, blank, lineAt}
-use Rattle.safety.specs.Calls.{Given, Answer, State, isAccepted, refusals, accepted, opening, answerBy, answer, turn, after}
+use Rattle.rules.specs.Refusals.{verdict}
+use Rattle.rules.specs.Ledger.{Line, blank, lineAt}
+use Rattle.rules.specs.Calls.{Given, Answer, State, isAccepted, refusals, accepted, opening, answerBy, answer, turn, after}
 use Rattle.safety.specs.Safety.{accepted-keeps}
 use Rattle.safety.specs.Accounts.{Agree, agree-free}
-use Rattle.safety.specs.Kinds.{kindAfter, kinds-by-rules}
+use Rattle.rules.specs.Kinds.{kindAfter}
+use Rattle.safety.specs.KindLaws.{kinds-by-rules}
 use Rattle.safety.specs.Verdicts.{refusals-strict, accepted-was-sound, sound-never-unsound}
 use Rattle.safety.specs.Lists.{InStep, accepted-zero, after-last, answer-number, answer-accepted, verdict-zero, every-list-in-step, sweep-starts}
 

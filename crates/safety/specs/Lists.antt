@@ -9,14 +9,15 @@ use lib.ListN.{length, replicate, length-replicate}
 use Rattle.laws.specs.Each.{Each, each-replicate, both-replicate}
 use Rattle.numbers.specs.Units.{micros}
 use Rattle.numbers.specs.Limits.{maxStreams}
-use Rattle.safety.specs.Supply.{Supply, Lawful}
+use Rattle.rules.specs.Supply.{Supply, Lawful}
 use Rattle.numbers.specs.Slots.{playing}
-use Rattle.safety.specs.Scheduler.{Call, join, leave, begin, end, freeSlot, leads, bound, mostDrawn}
-use Rattle.safety.specs.Order.{Scheduler, Order, opened}
-use Rattle.safety.specs.Sound.{Good, good-free, replicate-free, Sound}
+use Rattle.rules.specs.Scheduler.{Call, join, leave, begin, end, freeSlot, leads, bound, mostDrawn}
+use Rattle.rules.specs.Order.{Scheduler, Order, opened}
+use Rattle.turns.specs.Facts.{Good, good-free, replicate-free, Sound}
 use Rattle.safety.specs.Orderly.{Orderly}
-use Rattle.safety.specs.Ledger.{blank, openedLedger, recorded}
-use Rattle.safety.specs.Calls.{State, Rules, Allowed, Strict, isAccepted, accepted, refused, opening, answerBy, answer, turn, after}
+use Rattle.rules.specs.Ledger.{blank, openedLedger, recorded}
+use Rattle.rules.specs.Calls.{State, Rules, Allowed, isAccepted, accepted, refused, opening, answerBy, answer, turn, after}
+use Rattle.safety.specs.Strict.{Strict}
 use Rattle.safety.specs.Safety.{accepted-keeps, accepted-length, players-hold-draw}
 use Rattle.safety.specs.Accounts.{Agree, agree-free, Agrees, recorded-keeps}
 

@@ -11,11 +11,11 @@ use lib.Dec.{eqb}
 use Rattle.laws.specs.Each.{Each, Both, both-refl, both-trans}
 use Rattle.numbers.specs.Units.{parts}
 use Rattle.numbers.specs.Limits.{maxStreams}
-use Rattle.safety.specs.Supply.{Supply}
+use Rattle.rules.specs.Supply.{Supply}
 use Rattle.numbers.specs.Slots.{free, waiting, playing}
-use Rattle.safety.specs.Scheduler.{Slot, freeSlot, at, leads, lowWater, joined, left}
-use Rattle.safety.specs.Order.{Order}
-use Rattle.safety.specs.Sound.{Good}
+use Rattle.rules.specs.Scheduler.{Slot, freeSlot, at, leads, lowWater, joined, left}
+use Rattle.rules.specs.Order.{Order}
+use Rattle.turns.specs.Facts.{Good}
 
 -- what a begin may do to a slot: its kind goes from 1 to 2, from 2 to 3, from 1 to 3, or stays
 pub record Kept {A : Type 0} (s t : Slot A) : Type 0 where

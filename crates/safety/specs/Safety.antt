@@ -16,17 +16,17 @@ use Rattle.laws.specs.Runs.{sumBy}
 use Rattle.laws.specs.Each.{Each, EachFrom, Both, each-set, each-map, both-at, both-length}
 use Rattle.laws.specs.Places.{allFrom, length-mapFrom}
 use Rattle.numbers.specs.Units.{parts, micros}
-use Rattle.safety.specs.Supply.{Supply, Lawful}
+use Rattle.rules.specs.Supply.{Supply, Lawful}
 use Rattle.numbers.specs.Slots.{free, waiting, playing, draining}
-use Rattle.safety.specs.Scheduler.{Slot, Call, join, leave, begin, end, freeSlot, waitingSlot, at}
-use Rattle.safety.specs.Scheduler.{reads, leadOf, leads, lowWater, joined, left, isFetched, timeOf, times, fetchCount, bound}
-use Rattle.safety.specs.Scheduler.{sweptBy, releaseBy, released, endedSlot, ended, mostDrawn, drawLimit}
-use Rattle.safety.specs.Order.{Scheduler, Order}
-use Rattle.safety.specs.Sound.{Good, good-block, good-free, FreeFrom, Sound}
+use Rattle.rules.specs.Scheduler.{Slot, Call, join, leave, begin, end, freeSlot, waitingSlot, at}
+use Rattle.rules.specs.Scheduler.{reads, leadOf, leads, lowWater, joined, left, isFetched, timeOf, times, fetchCount, bound}
+use Rattle.rules.specs.Scheduler.{sweptBy, releaseBy, released, endedSlot, ended, mostDrawn, drawLimit}
+use Rattle.rules.specs.Order.{Scheduler, Order}
+use Rattle.turns.specs.Facts.{Good, good-block, good-free, FreeFrom, Sound}
 use Rattle.safety.specs.Orderly.{Kept, kept-refl, SameWaiting, Floored, Orderly}
-use Rattle.safety.specs.Slots.{reads-kind, reading-lead, other-lead, fetched-other, fetched-kind, fetched-room, unfetched-full}
-use Rattle.safety.specs.Refusals.{drawAllowed, drawHeld}
-use Rattle.safety.specs.Calls.{Allowed, accepted}
+use Rattle.turns.specs.Slots.{reads-kind, reading-lead, other-lead, fetched-other, fetched-kind, fetched-room, unfetched-full}
+use Rattle.rules.specs.Refusals.{drawAllowed, drawHeld}
+use Rattle.rules.specs.Calls.{Allowed, accepted}
 use Rattle.safety.specs.Floors.{room-of-streams, fetched-stays, full-stays, sweep-within}
 
 module _ {A : Type 0} (p : Supply A) where

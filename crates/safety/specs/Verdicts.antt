@@ -14,14 +14,16 @@ use Rattle.laws.specs.Bools.{and-right}
 use Rattle.laws.specs.Each.{each-at}
 use Rattle.laws.specs.Places.{allFrom, lowestFrom, Lowest, lowest-fails, each-of-allFrom, eachFrom-at}
 use Rattle.numbers.specs.Refusals.{tooShort, notSound, wrongPhase, noSuchSlot, slotState, drawCount, drawAboveLimit, drawAboveHeld}
-use Rattle.safety.specs.Supply.{Supply, Lawful, Named}
+use Rattle.rules.specs.Supply.{Supply, Lawful, Named}
 use Rattle.numbers.specs.Slots.{free, playing, draining, between, sweeping}
-use Rattle.safety.specs.Scheduler.{Slot, Call, join, leave, begin, end, freeSlot, at, mostDrawn, drawLimit}
-use Rattle.safety.specs.Order.{Scheduler, Order}
-use Rattle.safety.specs.Sound.{sound, Sound}
-use Rattle.safety.specs.Refusals.{Verdict, accept, unless, drawAllowed, drawHeld, judged, verdict}
-use Rattle.safety.specs.Calls.{Allowed, Strict, refusals}
-use Rattle.safety.specs.Rows.{row-sound}
+use Rattle.rules.specs.Scheduler.{Slot, Call, join, leave, begin, end, freeSlot, at, mostDrawn, drawLimit}
+use Rattle.rules.specs.Order.{Scheduler, Order}
+use Rattle.rules.specs.Sound.{sound}
+use Rattle.turns.specs.Facts.{Sound}
+use Rattle.rules.specs.Refusals.{Verdict, accept, unless, drawAllowed, drawHeld, judged, verdict}
+use Rattle.rules.specs.Calls.{Allowed, refusals}
+use Rattle.safety.specs.Strict.{Strict}
+use Rattle.turns.specs.Rows.{row-sound}
 use Rattle.safety.specs.Safety.{players-hold-draw}
 
 -- ---- one row of the table

@@ -1,1 +1,1 @@
-// The scheduler's rules over any lawful supply of blocks, and the proof that every list of calls is safe; no functions.
+// Every list of calls is safe, over any lawful supply and any lawful order of granting; no functions.

@@ -2,7 +2,7 @@
 -- Assumes nothing.
 use Prim.Native.Nat.{ℕ, _*_, _-_, _/_}
 use mathlib.Core.Path.{_≡_, refl, ap, _∙_}
-use Rattle.safety.specs.Scheduler.{bound, mostDrawn}
+use Rattle.rules.specs.Scheduler.{bound, mostDrawn}
 use Rattle.numbers.specs.Slots.{sweeping}
 use Rattle.numbers.specs.Units.{micros}
 use Rattle.desk.specs.declared.Desk.{Desk}

@@ -9,16 +9,18 @@ use native.Mathlib.Omega.{arith}
 use native.Mathlib.Decide.{ℕ-discrete}
 use lib.ListN.{length}
 use lib.Dec.{eqb}
+use Rattle.numbers.specs.Refusals.{tooShort, notSound, wrongPhase, drawCount, drawAboveLimit, drawAboveHeld}
+use Rattle.numbers.specs.Slots.{between, sweeping}
 use Rattle.card.specs.declared.Verdict.{Verdict}
 use Rattle.words.specs.Words.{wordsOf}
 use Rattle.plan.specs.Answer.{isPlan}
 use Rattle.laws.specs.Places.{allFrom, lowestFrom}
-use Rattle.safety.specs.Scheduler.{Call, mostDrawn, begin, end}
-use Rattle.safety.specs.Refusals as refusals
-use Rattle.safety.specs.Calls as calls
+use Rattle.rules.specs.Scheduler.{Call, mostDrawn, begin, end}
+use Rattle.rules.specs.Refusals as refusals
+use Rattle.rules.specs.Calls as calls
 use Rattle.safety.specs.Lists.{answer-accepted, answer-refused}
 use Rattle.safety.specs.Verdicts.{refusals-strict}
-use Rattle.safety.specs.Rows.{refuse, begin-phase, begin-short, begin-accepted, end-phase}
+use Rattle.turns.specs.Rows.{refuse, begin-phase, begin-short, begin-accepted, end-phase}
 use Rattle.desk.specs.declared.Desk.{Desk}
 use Rattle.desk.specs.declared.Answer.{Answer}
 use Rattle.desk.specs.Desk.{supplyOf, rulesOf, orderOf, viewOf, deskOf, verdict, fetchesOf, answerOf, answered, beginDesk, endDesk}
@@ -34,7 +36,7 @@ module _ (d : Desk) (w : Wide d) (ps ls : List ℕ) where
   abbrev judges : ℕ → Call ℕ → refusals.Verdict
   judges room c = refusals.verdict (supplyOf (d .plan)) (orderOf (d .plan)) (viewOf d) (isPlan (d .plan) ps ls) room c
 
-  unsound-row : (room : ℕ) (c : Call ℕ) → soundDesk d ps ls ≡ false → judges room c ≡ refuse 14 0
+  unsound-row : (room : ℕ) (c : Call ℕ) → soundDesk d ps ls ≡ false → judges room c ≡ refuse notSound 0
   unfolding refusals.verdict
   unsound-row room c e = rw e
 
@@ -71,19 +73,19 @@ module _ (d : Desk) (w : Wide d) (ps ls : List ℕ) where
           fetches = fetchesOf (sym a t .entries);
         }
 
-    pub begin-unsound : soundDesk d ps ls ≡ false → notBegun d 14 ≡ beginDesk d ps ls room
-    begin-unsound e = not-begun 14 (omega arith) (unsound-row room begin e)
+    pub begin-unsound : soundDesk d ps ls ≡ false → notBegun d notSound ≡ beginDesk d ps ls room
+    begin-unsound e = not-begun notSound (omega arith) (unsound-row room begin e)
 
     module _ (s : soundDesk d ps ls ≡ true) where
-      pub begin-in-sweep : d .phase ≢ 0 → notBegun d 15 ≡ beginDesk d ps ls room
+      pub begin-in-sweep : d .phase ≢ between → notBegun d wrongPhase ≡ beginDesk d ps ls room
       unfolding viewOf
-      begin-in-sweep h = not-begun 15 (omega arith) (sound-row room begin s ∙ begin-phase (supplyOf (d .plan)) (viewOf d) room h)
+      begin-in-sweep h = not-begun wrongPhase (omega arith) (sound-row room begin s ∙ begin-phase (supplyOf (d .plan)) (viewOf d) room h)
 
-      pub begin-no-room : d .phase ≡ 0 → room < d .plan .streams → notBegun d 13 ≡ beginDesk d ps ls room
+      pub begin-no-room : d .phase ≡ between → room < d .plan .streams → notBegun d tooShort ≡ beginDesk d ps ls room
       unfolding viewOf supplyOf
-      begin-no-room h l = not-begun 13 (omega arith) (sound-row room begin s ∙ begin-short (supplyOf (d .plan)) (viewOf d) room h (omega arith))
+      begin-no-room h l = not-begun tooShort (omega arith) (sound-row room begin s ∙ begin-short (supplyOf (d .plan)) (viewOf d) room h (omega arith))
 
-      pub begin-begun : d .phase ≡ 0 → d .plan .streams ≤ room → begunDesk d ≡ beginDesk d ps ls room
+      pub begin-begun : d .phase ≡ between → d .plan .streams ≤ room → begunDesk d ≡ beginDesk d ps ls room
       unfolding viewOf supplyOf beginDesk begunDesk calls.accepted
       begin-begun h l =
           let p = supplyOf (d .plan) in
@@ -110,13 +112,13 @@ module _ (d : Desk) (w : Wide d) (ps ls : List ℕ) where
         (λ t. record { verdict = verdict k i; desk = sym (desk-of-view d w) t })
         ∙ λ t. record { verdict = verdict (sym a t .number) (sym a t .place); desk = deskOf (d .plan) (sym a t .scheduler) }
 
-    pub end-unsound : soundDesk d ps ls ≡ false → answers d 14 0 ≡ endDesk d ps ls draws
-    end-unsound e = not-ended 14 0 (omega arith) (unsound-row 0 (end (wordsOf draws)) e)
+    pub end-unsound : soundDesk d ps ls ≡ false → answers d notSound 0 ≡ endDesk d ps ls draws
+    end-unsound e = not-ended notSound 0 (omega arith) (unsound-row 0 (end (wordsOf draws)) e)
 
     module _ (s : soundDesk d ps ls ≡ true) where
-      pub end-between : d .phase ≢ 1 → answers d 15 0 ≡ endDesk d ps ls draws
+      pub end-between : d .phase ≢ sweeping → answers d wrongPhase 0 ≡ endDesk d ps ls draws
       unfolding viewOf
-      end-between h = not-ended 15 0 (omega arith) (sound-row 0 (end (wordsOf draws)) s ∙ end-phase (supplyOf (d .plan)) (viewOf d) 0 (wordsOf draws) h)
+      end-between h = not-ended wrongPhase 0 (omega arith) (sound-row 0 (end (wordsOf draws)) s ∙ end-phase (supplyOf (d .plan)) (viewOf d) 0 (wordsOf draws) h)
 
       -- draws that are turned down
       pub end-refused : drawn .number ≢ 0
@@ -142,7 +144,7 @@ module _ (d : Desk) (w : Wide d) (ps ls : List ℕ) where
           λ t. record { verdict = verdict (sym a t .number) (sym a t .place); desk = deskOf (d .plan) (sym a t .scheduler) }
 
       -- an accepted end names no place
-      placeless : (a b c e : Bool) (i j : ℕ) → (let v = refusals.unless a 15 0 (refusals.unless b 19 0 (refusals.unless c 20 i (refusals.unless e 21 j refusals.accept))) in
+      placeless : (a b c e : Bool) (i j : ℕ) → (let v = refusals.unless a wrongPhase 0 (refusals.unless b drawCount 0 (refusals.unless c drawAboveLimit i (refusals.unless e drawAboveHeld j refusals.accept))) in
           v .number ≡ 0 → v .place ≡ 0)
       placeless true true true true i j h = refl
       placeless true true true false i j h = absurd (omega arith)

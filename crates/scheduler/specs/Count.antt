@@ -6,13 +6,14 @@ use mathlib.Core.Logic.{⊎-elim}
 use mathlib.Core.List.{List}
 use native.Mathlib.Omega.{arith}
 use lib.ListN.{length}
+use Rattle.numbers.specs.Limits.{maxStreams}
 use Rattle.round_trip.specs.Legality as legality
 use Rattle.plan.specs.declared.Plan.{Plan}
-use Rattle.safety.specs.Scheduler.{Slot, begun, entries, fetchCount}
-use Rattle.safety.specs.Order.{bySlot}
-use Rattle.safety.specs.Calls.{accepted}
+use Rattle.rules.specs.Scheduler.{Slot, begun, entries, fetchCount}
+use Rattle.rules.specs.Order.{bySlot}
+use Rattle.rules.specs.Calls.{accepted}
 use Rattle.safety.specs.Safety.{kept-free, fetches-le}
-use Rattle.safety.specs.Sorting.{entries-length}
+use Rattle.turns.specs.Sorting.{entries-length}
 use Rattle.desk.specs.declared.Desk.{Desk}
 use Rattle.desk.specs.declared.Begun.{Begun}
 use Rattle.desk.specs.Promise.{order-orderly}
@@ -46,14 +47,14 @@ begun-few d r =
 
 -- a begin answers at most 256 entries, and no more than there is room for
 pub begin-few : (d : Desk) → Wide d → legality.Wide (d .plan .figures) → (ps ls : List ℕ) (room : ℕ)
-    → (beginDesk d ps ls room .fetches .count ≤ 256) × (beginDesk d ps ls room .fetches .count ≤ room)
+    → (beginDesk d ps ls room .fetches .count ≤ maxStreams) × (beginDesk d ps ls room .fetches .count ≤ room)
 begin-few d w z ps ls room = ⊎-elim refused accepted (begin-ways d w z ps ls room)
   where
     none : (k : ℕ) → notBegun d k .fetches .count ≡ 0
     none k = unfold notBegun fetchesOf in refl
 
-    refused : (k : ℕ) × NotBegun d w z ps ls room k → (beginDesk d ps ls room .fetches .count ≤ 256) × (beginDesk d ps ls room .fetches .count ≤ room)
+    refused : (k : ℕ) × NotBegun d w z ps ls room k → (beginDesk d ps ls room .fetches .count ≤ maxStreams) × (beginDesk d ps ls room .fetches .count ≤ room)
     refused h = omega (arith, none (h .0), ap (λ (b : Begun). b .fetches .count) (h .1 .answer))
 
-    accepted : HasBegun d w z ps ls room → (beginDesk d ps ls room .fetches .count ≤ 256) × (beginDesk d ps ls room .fetches .count ≤ room)
+    accepted : HasBegun d w z ps ls room → (beginDesk d ps ls room .fetches .count ≤ maxStreams) × (beginDesk d ps ls room .fetches .count ≤ room)
     accepted h = omega (arith, begun-few d (h .ready), D.streams-are d (h .ready), h .streams, ap (λ (b : Begun). b .fetches .count) (h .answer))

@@ -7,6 +7,8 @@ use mathlib.Core.Bool.{Bool, true, false}
 use mathlib.Core.List.{List}
 use native.Mathlib.Omega.{arith}
 use native.Mathlib.Decide.{decLe, ℕ-discrete}
+use Rattle.numbers.specs.Refusals.{tooShort, notSound, wrongPhase}
+use Rattle.numbers.specs.Slots.{between, sweeping}
 use Rattle.round_trip.specs.Legality as legality
 use Rattle.words.specs.Words.{wordsOf}
 use Rattle.desk.specs.declared.Desk.{Desk}
@@ -38,12 +40,12 @@ module _ (d : Desk) (w : Wide d) (z : legality.Wide (d .plan .figures)) (ps ls :
       pub answer : begunDesk d ≡ beginDesk d ps ls room
 
     pub begin-ways : ((k : ℕ) × NotBegun k) ⊎ HasBegun
-    begin-ways = go (soundDesk d ps ls) refl (ℕ-discrete (d .phase) 0) (decLe (d .plan .streams) room)
+    begin-ways = go (soundDesk d ps ls) refl (ℕ-discrete (d .phase) between) (decLe (d .plan .streams) room)
       where
-        go : (t : Bool) → soundDesk d ps ls ≡ t → Dec (d .phase ≡ 0) → Dec (d .plan .streams ≤ room) → ((k : ℕ) × NotBegun k) ⊎ HasBegun
-        go false s p l = inl (14, record { some = omega arith; answer = begin-unsound d w ps ls room s })
-        go true s (no p) l = inl (15, record { some = omega arith; answer = begin-in-sweep d w ps ls room s p })
-        go true s (yes p) (no l) = inl (13, record { some = omega arith; answer = begin-no-room d w ps ls room s p (omega arith) })
+        go : (t : Bool) → soundDesk d ps ls ≡ t → Dec (d .phase ≡ between) → Dec (d .plan .streams ≤ room) → ((k : ℕ) × NotBegun k) ⊎ HasBegun
+        go false s p l = inl (notSound, record { some = omega arith; answer = begin-unsound d w ps ls room s })
+        go true s (no p) l = inl (wrongPhase, record { some = omega arith; answer = begin-in-sweep d w ps ls room s p })
+        go true s (yes p) (no l) = inl (tooShort, record { some = omega arith; answer = begin-no-room d w ps ls room s p (omega arith) })
         go true s (yes p) (yes l) = inr (record { ready = sound-ready d ps ls z s; streams = l; answer = begin-begun d w ps ls room s p l })
 
     number-refused : (k : ℕ) → NotBegun k → beginDesk d ps ls room .verdict .number ≡ k
@@ -82,11 +84,11 @@ module _ (d : Desk) (w : Wide d) (z : legality.Wide (d .plan .figures)) (ps ls :
       pub answer : answers (endedDesk d (wordsOf draws)) 0 0 ≡ endDesk d ps ls draws
 
     end-ways : ((k : ℕ) × (i : ℕ) × NotEnded k i) ⊎ HasEnded
-    end-ways = go (soundDesk d ps ls) refl (ℕ-discrete (d .phase) 1) (ℕ-discrete (drawn d w ps ls draws .number) 0)
+    end-ways = go (soundDesk d ps ls) refl (ℕ-discrete (d .phase) sweeping) (ℕ-discrete (drawn d w ps ls draws .number) 0)
       where
-        go : (t : Bool) → soundDesk d ps ls ≡ t → Dec (d .phase ≡ 1) → Dec (drawn d w ps ls draws .number ≡ 0) → ((k : ℕ) × (i : ℕ) × NotEnded k i) ⊎ HasEnded
-        go false s p n = inl (14, 0, record { some = omega arith; answer = end-unsound d w ps ls draws s })
-        go true s (no p) n = inl (15, 0, record { some = omega arith; answer = end-between d w ps ls draws s p })
+        go : (t : Bool) → soundDesk d ps ls ≡ t → Dec (d .phase ≡ sweeping) → Dec (drawn d w ps ls draws .number ≡ 0) → ((k : ℕ) × (i : ℕ) × NotEnded k i) ⊎ HasEnded
+        go false s p n = inl (notSound, 0, record { some = omega arith; answer = end-unsound d w ps ls draws s })
+        go true s (no p) n = inl (wrongPhase, 0, record { some = omega arith; answer = end-between d w ps ls draws s p })
         go true s (yes p) (no n) = inl (drawn d w ps ls draws .number, drawn d w ps ls draws .place, record { some = omega arith; answer = end-refused d w ps ls draws s n })
         go true s (yes p) (yes n) =
             inr (record { ready = sound-ready d ps ls z s; drawn = end-drawn d w ps ls draws s n; answer = end-ended d w ps ls draws s n })

@@ -10,6 +10,7 @@ use desk::zeros;
 use draws::judge_draws;
 use draws::most_drawn;
 use fetches::sweep_bound;
+use floor::gather_leads;
 use gather::gather;
 use layout::write_entries;
 use numbers::refusals::ACCEPTED;
@@ -18,7 +19,7 @@ use numbers::refusals::TOO_SHORT;
 use numbers::refusals::WRONG_PHASE;
 use numbers::slots::BETWEEN;
 use numbers::slots::SWEEPING;
-use soundness::test_record;
+use soundness::is_sound;
 use sweep::Swept;
 use sweep::begin_sweep;
 use sweep::end_sweep;
@@ -34,8 +35,7 @@ ghost use Rattle.sweep.specs.Steps.{sweptOf};
 pub fn judge_begin(desk: Desk, positions: &[u8], leads: &[u8], room: usize) -> Swept
     ensures { λ r. ⌜ r ≡ sweptOf (beginDesk desk (now (positions .entry)) (now (leads .entry)) room) ⌝ }
 {
-    let mut found = zeros();
-    let tested = test_record(
+    let sound = is_sound(
         desk.plan,
         desk.phase,
         &desk.kinds,
@@ -43,9 +43,8 @@ pub fn judge_begin(desk: Desk, positions: &[u8], leads: &[u8], room: usize) -> S
         &desk.held,
         positions,
         leads,
-        &mut found,
     );
-    if !tested.sound {
+    if !sound {
         return not_swept(desk.kinds, NOT_SOUND);
     }
     if desk.phase != BETWEEN {
@@ -55,6 +54,8 @@ pub fn judge_begin(desk: Desk, positions: &[u8], leads: &[u8], room: usize) -> S
     if room < streams {
         return not_swept(desk.kinds, TOO_SHORT);
     }
+    let mut found = zeros();
+    let sum = gather_leads(&desk.kinds, &desk.next, streams, leads, &mut found);
     let figures = desk.plan.figures;
     let g = gather(
         &desk.kinds,
@@ -64,7 +65,7 @@ pub fn judge_begin(desk: Desk, positions: &[u8], leads: &[u8], room: usize) -> S
         positions,
         streams,
     );
-    begin_sweep(desk, g, &found, tested.sum)
+    begin_sweep(desk, g, &found, sum)
 }
 
 // Begins a sweep, where the caller has room for so many fetch entries: 14, 15, 13.
@@ -111,8 +112,7 @@ pub fn begin_into(desk: Desk, positions: &[u8], leads: &[u8], fetches: &mut [u8]
 pub fn judge_end(desk: Desk, positions: &[u8], leads: &[u8], draws: &[u8]) -> Verdict
     ensures { λ r. ⌜ r ≡ endDesk desk (now (positions .entry)) (now (leads .entry)) (now (draws .entry)) .verdict ⌝ }
 {
-    let mut found = zeros();
-    let tested = test_record(
+    let sound = is_sound(
         desk.plan,
         desk.phase,
         &desk.kinds,
@@ -120,9 +120,8 @@ pub fn judge_end(desk: Desk, positions: &[u8], leads: &[u8], draws: &[u8]) -> Ve
         &desk.held,
         positions,
         leads,
-        &mut found,
     );
-    if !tested.sound {
+    if !sound {
         return verdict(NOT_SOUND, 0);
     }
     if desk.phase != SWEEPING {

@@ -15,7 +15,7 @@ use Rattle.placement.specs.Showing.{Showing}
 use Rattle.plan.specs.declared.Plan.{Plan}
 use Rattle.plan.specs.Plan.{leadOf}
 use Rattle.plan.specs.Answer.{isPlan}
-use Rattle.safety.specs.Sound.{sound}
+use Rattle.rules.specs.Sound.{sound}
 use Rattle.desk.specs.declared.Desk.{Desk}
 use Rattle.desk.specs.Desk.{supplyOf, orderOf, viewOf}
 use Rattle.floor.specs.Floor.{mostLead}

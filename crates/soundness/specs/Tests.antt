@@ -1,4 +1,4 @@
--- The facts of a record and the rules' test of it (crate safety): each way that the test in code can take.
+-- The facts of a record and the rules' test of it (crate rules): each way that the test in code can take.
 -- Assumes nothing.
 use Prim.Native.Nat.{ℕ, _+_, _*_, _≤_, _<_}
 use mathlib.Core.Path.{_≡_, refl, sym, ap, _∙_, subst}
@@ -14,11 +14,11 @@ use Rattle.numbers.specs.Units.{parts}
 use Rattle.words.specs.Words.{wordsOf}
 use Rattle.plan.specs.declared.Plan.{Plan}
 use Rattle.plan.specs.Plan.{showingIn}
-use Rattle.safety.specs.Scheduler.{leads, lowWater}
-use Rattle.safety.specs.Order.{bySlot}
-use Rattle.safety.specs.Arrays.{slotOf}
-use Rattle.safety.specs.Sound.{Good, Sound, sound-of-good}
-use Rattle.safety.specs.Turns.{sound-yes, sound-no, sound-at}
+use Rattle.rules.specs.Scheduler.{leads, lowWater}
+use Rattle.rules.specs.Order.{bySlot}
+use Rattle.rules.specs.Arrays.{slotOf}
+use Rattle.turns.specs.Facts.{Good, Sound, sound-of-good}
+use Rattle.turns.specs.Turns.{sound-yes, sound-no, sound-at}
 use Rattle.desk.specs.declared.Desk.{Desk}
 use Rattle.desk.specs.Desk.{supplyOf, orderOf, slotsIn, viewOf}
 use Rattle.desk.specs.View.{Wide, same-length}
@@ -26,7 +26,7 @@ use Rattle.desk.specs.Shown.{Slots, OfNext}
 use Rattle.desk.specs.FilmEnd.{end-says, end-at}
 use Rattle.desk.specs.Promise.{supply-named}
 use Rattle.desk.specs.Slots.{length-in, slot-in, kind-in}
-use Rattle.floor.specs.Floor.{mostLead, leadSum, Listed, Taken, mark-is}
+use Rattle.floor.specs.Floor.{mostLead, leadSum, Listed, LeadsOf, Added, Taken, Leads, mark-is}
 use Rattle.soundness.specs.Facts.{slotsSound, Tells, Tidy, AllTidy, PlayersHold, LeadList}
 
 -- ---- one slot
@@ -94,24 +94,44 @@ module _ (d : Desk) (w : Wide d) where
 
   -- its next blocks are in the list of leads ls, and what is taken from there are their leads
   module _ (t : AllTidy d) (n : d .plan .streams ≤ 256) (ls : List ℕ) (q : LeadList (showingIn (d .plan)) (d .plan .figures) ls) where
+    -- the next block of slot i is one of the film
+    block : (i : ℕ) → i < d .plan .streams → waiting ≤ getD (d .kinds) i 0 → getD (d .kinds) i 0 ≤ playing → getD (d .next) i 0 < d .plan .figures .blocks
+    block i l a b = t .slots i (omega arith) .named a b
+
     pub tidy-listed : Listed (wordsOf ls) (d .kinds) (d .next) (d .plan .streams)
-    tidy-listed i l a b = omega (arith, t .slots i (omega arith) .named a b, q .long)
+    tidy-listed = record {
+      here = λ i l a b. omega (arith, block i l a b, q .long);
+      small = λ i l a b. omega (arith, q .here _ (block i l a b), q .small _ (block i l a b));
+    }
+
+    pub tidy-leads : LeadsOf (supplyOf (d .plan)) (wordsOf ls) (d .kinds) (d .next) (d .plan .streams)
+    unfolding supplyOf
+    tidy-leads i l a b = q .here _ (block i l a b)
 
     module _ (vs : List ℕ) (k : Taken (wordsOf ls) (d .kinds) (d .next) (d .plan .streams) vs) where
       below : (i : ℕ) → i < 256 → waiting ≤ getD (d .kinds) i 0 → i < d .plan .streams
       below i l a = by-cases (decLt i (d .plan .streams)) (λ h. h) (λ h. absurd (omega (arith, t .unused i l (omega arith))))
 
-      pub tidy-each : OfNext (supplyOf (d .plan)) (supplyOf (d .plan) .lead) (d .kinds) (d .next) vs
+      each : OfNext (supplyOf (d .plan)) (supplyOf (d .plan) .lead) (d .kinds) (d .next) vs
       unfolding supplyOf
-      tidy-each i l a b = k .block i (below i l a) a b ∙ q .here _ (t .slots i l .named a b)
+      each i l a b = k .block i (below i l a) a b ∙ tidy-leads i (below i l a) a b
 
-      pub tidy-small : (i : ℕ) → i < d .plan .streams → getD vs i 0 ≤ mostLead
-      tidy-small i l =
+      small : (i : ℕ) → i < d .plan .streams → getD vs i 0 ≤ mostLead
+      small i l =
           by-cases (decLe waiting (getD (d .kinds) i 0))
           (λ a. by-cases (decLe (getD (d .kinds) i 0) playing)
-          (λ b. let x = t .slots i (omega arith) .named a b in omega (arith, k .block i l a b, q .here _ x, q .small _ x))
+          (λ b. omega (arith, k .block i l a b, tidy-listed .small i l a b))
           (λ b. omega (arith, k .none i l (λ _ c. b c))))
           (λ a. omega (arith, k .none i l (λ c _. a c)))
+
+      pub tidy-taken : (sum : ℕ) → Added (wordsOf ls) (d .kinds) (d .next) (d .plan .streams) sum
+          → Leads (supplyOf (d .plan)) (d .plan .streams) (d .kinds) (d .next) (d .held) vs sum
+      tidy-taken sum a = record {
+        each = each;
+        small = small;
+        sums = a .sums (supplyOf (d .plan)) (d .held) (tidy-slots t) tidy-leads;
+        most = a .most;
+      }
 
   sound-players : IsSound → PlayersHold (d .plan .streams) (d .kinds) (d .held) mark
   sound-players h i l k = good-at h i .floored k

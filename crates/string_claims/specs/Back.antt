@@ -21,11 +21,11 @@ use Rattle.plan.specs.Plan.{showingIn, planOf}
 use Rattle.plan.specs.Answer.{isPlan}
 use Rattle.plan.specs.Check.{checked, checked-legal}
 use Rattle.plan.specs.Legal.{buffer-small}
-use Rattle.safety.specs.Scheduler.{Slot, Call, join, leave, begin, end}
-use Rattle.safety.specs.Order.{Scheduler}
-use Rattle.safety.specs.Sound.{Good, Sound, sound-says}
-use Rattle.safety.specs.Arrays.{length-slots}
-use Rattle.safety.specs.Calls as C
+use Rattle.rules.specs.Scheduler.{Slot, Call, join, leave, begin, end}
+use Rattle.rules.specs.Order.{Scheduler}
+use Rattle.turns.specs.Facts.{Good, Sound, sound-says}
+use Rattle.turns.specs.ArrayLaws.{length-slots}
+use Rattle.rules.specs.Calls as C
 use Rattle.safety.specs.Lists.{verdict-zero, answer-accepted}
 use Rattle.safety.specs.Verdicts.{accepted-was-sound}
 use Rattle.safety.specs.Safety.{accepted-length}
@@ -42,7 +42,7 @@ use Rattle.layout.specs.FieldLaws.{words-each}
 use Rattle.layout.specs.Layout.{planWords, deskWords, planIn, deskIn, planSize, deskSize}
 use Rattle.layout.specs.RoundTrip.{PlanSized, plan-sized, DeskSized, desk-fit, desk-written}
 use Rattle.layout.specs.Legal.{legal-words}
-use Rattle.desk_strings.specs.Laws.{enough, said-sized, said-wide, right-answer, right-string}
+use Rattle.desk_strings.specs.ByLength.{enough, said-sized, said-wide, right-answer, right-string}
 use Rattle.desk_strings.specs.Calls.{openedFrom, openAnswer, openString, said, answerBy, stringBy, joinAnswer, joinString, leaveAnswer, leaveString, endAnswer, endString, roomIn, begunAnswer, beginAnswer, beginString}
 use Rattle.string_claims.specs.Kept.{open-number, open-right, open-other}
 

@@ -18,9 +18,9 @@ use Rattle.plan.specs.declared.Plan.{Plan}
 use Rattle.plan.specs.Plan.{showingIn, placeOf, planOf}
 use Rattle.plan.specs.Check.{checked, checked-legal}
 use Rattle.plan.specs.Legal.{place-below, streams-few}
-use Rattle.safety.specs.Scheduler.{Entry, begin, freeSlot, at, leads}
-use Rattle.safety.specs.Order.{Scheduler}
-use Rattle.safety.specs.Sound.{Good, good-free, Sound}
+use Rattle.rules.specs.Scheduler.{Entry, begin, freeSlot, at, leads}
+use Rattle.rules.specs.Order.{Scheduler}
+use Rattle.turns.specs.Facts.{Good, good-free, Sound}
 use Rattle.admission.specs.Refused.{refused-same}
 use Rattle.desk.specs.declared.Desk.{Desk}
 use Rattle.desk.specs.Desk.{supplyOf, orderOf, Queue, deskOf, answerOf, fetchesOf, beginDesk, entriesOf, entryWords, fetchListAfter}
@@ -31,7 +31,7 @@ use Rattle.trace.specs.SlotLaws.{kind-at, next-at}
 use Rattle.scheduler.specs.Count.{begin-few}
 use Rattle.layout.specs.declared.FilmdiskAnswer.{FilmdiskAnswer}
 use Rattle.layout.specs.Layout.{deskSize}
-use Rattle.desk_strings.specs.Laws.{said-wide, right-answer}
+use Rattle.desk_strings.specs.ByLength.{said-wide, right-answer}
 use Rattle.desk_strings.specs.Calls.{said, roomIn, begunAnswer, beginAnswer, fetchString}
 use Rattle.string_claims.specs.Back.{wide, fair, stays-sound}
 use Rattle.string_claims.specs.Lists.{entriesRead}

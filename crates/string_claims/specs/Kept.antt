@@ -15,7 +15,7 @@ use Rattle.words.specs.Words.{Bytes, wordsOf, withWords}
 use Rattle.card.specs.declared.Verdict.{Verdict}
 use Rattle.plan.specs.declared.Plan.{Plan}
 use Rattle.plan.specs.Answer.{isPlan}
-use Rattle.safety.specs.Scheduler.{Entry, Call, join, leave, begin, end}
+use Rattle.rules.specs.Scheduler.{Entry, Call, join, leave, begin, end}
 use Rattle.desk.specs.declared.Desk.{Desk}
 use Rattle.desk.specs.declared.Answer.{Answer}
 use Rattle.desk.specs.Desk.{deskOf, verdict, blankDesk, openBy, openDesk, answerOf, answered, joinDesk, leaveDesk, endDesk, beginDesk, entryWords, fetchListAfter}
@@ -24,7 +24,7 @@ use Rattle.layout.specs.declared.FilmdiskAnswer.{FilmdiskAnswer}
 use Rattle.layout.specs.Answers.{verdictAnswer}
 use Rattle.layout.specs.Layout.{deskWords, planIn, zeroBytes, planSize, deskSize}
 use Rattle.layout.specs.RoundTrip.{desk-kept, desk-zero}
-use Rattle.desk_strings.specs.Laws.{enough, said-wide, right-answer, right-string, other-string}
+use Rattle.desk_strings.specs.ByLength.{enough, said-wide, right-answer, right-string, other-string}
 use Rattle.desk_strings.specs.Calls.{openedFrom, openVerdict, openAnswer, openString, said, answerBy, stringBy, joinAnswer, joinString, leaveAnswer, leaveString, endAnswer, endString, roomIn, begunAnswer, beginAnswer, beginString, fetchString}
 
 -- ---- a desk string D

@@ -10,9 +10,9 @@ use Rattle.words.specs.Words.{Bytes, wordsOf}
 use Rattle.words.specs.Laws.{withWords-length, withWords-bytes}
 use Rattle.plan.specs.declared.Plan.{Plan}
 use Rattle.plan.specs.Answer.{isPlan}
-use Rattle.safety.specs.Scheduler.{Entry, Call, join, leave, begin, end}
-use Rattle.safety.specs.Ledger.{openedLedger, recorded}
-use Rattle.safety.specs.Calls.{isAccepted}
+use Rattle.rules.specs.Scheduler.{Entry, Call, join, leave, begin, end}
+use Rattle.rules.specs.Ledger.{openedLedger, recorded}
+use Rattle.rules.specs.Calls.{isAccepted}
 use Rattle.desk.specs.declared.Desk.{Desk}
 use Rattle.desk.specs.Desk.{deskOf, freshDesk, answerOf, answered, joinDesk, leaveDesk, endDesk, beginDesk}
 use Rattle.trace.specs.List.{Request, joins, leaves, begins, ends, Lent, moveOf, World, Answered, answerTo, called, turn, after, opened}
@@ -22,7 +22,7 @@ use Rattle.trace.specs.Opening.{checked-lawful}
 use Rattle.layout.specs.declared.FilmdiskAnswer.{FilmdiskAnswer}
 use Rattle.layout.specs.Answers.{verdictAnswer}
 use Rattle.layout.specs.Layout.{planIn, deskWords, deskSize}
-use Rattle.desk_strings.specs.Laws.{said-wide, right-answer, right-string}
+use Rattle.desk_strings.specs.ByLength.{said-wide, right-answer, right-string}
 use Rattle.desk_strings.specs.Calls.{openAnswer, openString, openedFrom, said, answerBy, stringBy, joinAnswer, joinString, leaveAnswer, leaveString, endAnswer, endString, roomIn, begunAnswer, beginAnswer, beginString}
 use Rattle.admission.specs.Refused.{refused-desk}
 use Rattle.string_claims.specs.Kept.{call-kept, open-right}

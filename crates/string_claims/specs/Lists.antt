@@ -4,9 +4,9 @@ use mathlib.Core.List.{List, [], _∷_}
 use lib.ListN.{getD, drop}
 use Rattle.words.specs.Words.{wordsOf}
 use Rattle.plan.specs.Answer.{isPlan}
-use Rattle.safety.specs.Scheduler.{Entry, Call, join, leave, begin, end}
-use Rattle.safety.specs.Ledger.{Line, openedLedger, recorded}
-use Rattle.safety.specs.Calls.{isAccepted}
+use Rattle.rules.specs.Scheduler.{Entry, Call, join, leave, begin, end}
+use Rattle.rules.specs.Ledger.{Line, openedLedger, recorded}
+use Rattle.rules.specs.Calls.{isAccepted}
 use Rattle.trace.specs.Safe.{Seen}
 use Rattle.layout.specs.declared.FilmdiskAnswer.{FilmdiskAnswer}
 use Rattle.layout.specs.Layout.{planIn}

@@ -7,15 +7,17 @@ use native.Mathlib.Omega.{arith}
 use lib.ListN.{length, getD}
 use Rattle.laws.specs.Each.{Both, both-at, both-length}
 use Rattle.numbers.specs.Units.{parts}
-use Rattle.safety.specs.Scheduler.{Slot, freeSlot, at, leads, lowWater, started, tries, begun, entries, bound}
-use Rattle.safety.specs.Order.{bySlot}
+use Rattle.rules.specs.Scheduler.{Slot, freeSlot, at, leads, lowWater, started, tries, begun, entries, bound}
+use Rattle.rules.specs.Order.{bySlot}
 use Rattle.safety.specs.Orderly.{Kept, kept-refl}
-use Rattle.safety.specs.Sound.{FreeFrom}
+use Rattle.turns.specs.Facts.{FreeFrom}
 use Rattle.safety.specs.Safety.{kept-free}
-use Rattle.safety.specs.BySlot.{started-kept, started-leads}
-use Rattle.safety.specs.Calls.{accepted}
-use Rattle.safety.specs.Turns.{leastHeld}
-use Rattle.safety.specs.Arrays.{slotsOf, length-slots, slot-at, kinds-of-slots}
+use Rattle.safety.specs.BySlot.{started-kept}
+use Rattle.turns.specs.Turns.{started-leads}
+use Rattle.rules.specs.Calls.{accepted}
+use Rattle.turns.specs.Turns.{leastHeld}
+use Rattle.rules.specs.Arrays.{slotsOf}
+use Rattle.turns.specs.ArrayLaws.{length-slots, slot-at, kinds-of-slots}
 use Rattle.desk.specs.declared.Desk.{Desk}
 use Rattle.desk.specs.declared.Fetches.{Fetches}
 use Rattle.desk.specs.declared.Gathered.{Gathered}

@@ -3,8 +3,8 @@
 use Prim.Native.Nat.{ℕ}
 use mathlib.Core.Path.{_≡_}
 use mathlib.Core.List.{List}
-use Rattle.safety.specs.Scheduler.{ended}
-use Rattle.safety.specs.Calls.{accepted}
+use Rattle.rules.specs.Scheduler.{ended}
+use Rattle.rules.specs.Calls.{accepted}
 use Rattle.desk.specs.declared.Desk.{Desk}
 use Rattle.desk.specs.Desk.{supplyOf, slotsIn, viewOf, deskOf}
 use Rattle.desk.specs.Slots.{withSlots}

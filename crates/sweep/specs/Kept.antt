@@ -4,12 +4,12 @@ use Prim.Native.Nat.{ℕ}
 use mathlib.Core.Path.{_≡_, refl, sym, ap₂, _∙_}
 use mathlib.Core.List.{List, [], _∷_, map}
 use Rattle.laws.specs.Each.{Both, each-map}
-use Rattle.safety.specs.Scheduler.{Slot, begun}
-use Rattle.safety.specs.Order.{bySlot}
+use Rattle.rules.specs.Scheduler.{Slot, begun}
+use Rattle.rules.specs.Order.{bySlot}
 use Rattle.safety.specs.Orderly.{Kept}
 use Rattle.safety.specs.BySlot.{begun-began}
-use Rattle.safety.specs.Calls.{accepted}
-use Rattle.safety.specs.Arrays.{nexts-of-slots, helds-of-slots}
+use Rattle.rules.specs.Calls.{accepted}
+use Rattle.turns.specs.ArrayLaws.{nexts-of-slots, helds-of-slots}
 use Rattle.desk.specs.declared.Desk.{Desk}
 use Rattle.desk.specs.Desk.{supplyOf, slotsIn, viewOf, deskOf}
 use Rattle.desk.specs.View.{Wide, same-length}

@@ -2,8 +2,8 @@
 -- Assumes nothing.
 use Prim.Native.Nat.{ℕ}
 use mathlib.Core.List.{List, []}
-use Rattle.safety.specs.Scheduler.{begin, end}
-use Rattle.safety.specs.Calls.{accepted}
+use Rattle.rules.specs.Scheduler.{begin, end}
+use Rattle.rules.specs.Calls.{accepted}
 use Rattle.desk.specs.declared.Desk.{Desk}
 use Rattle.desk.specs.declared.Begun.{Begun}
 use Rattle.sweep.specs.declared.Swept.{Swept}

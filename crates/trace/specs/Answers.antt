@@ -9,7 +9,7 @@ use Rattle.numbers.specs.Slots.{filling, playing}
 use Rattle.words.specs.Words.{wordsOf}
 use Rattle.plan.specs.declared.Plan.{Plan}
 use Rattle.plan.specs.Plan.{showingIn, placeOf}
-use Rattle.safety.specs.Scheduler.{Entry, at, mostDrawn, drawLimit}
+use Rattle.rules.specs.Scheduler.{Entry, at, mostDrawn, drawLimit}
 use Rattle.desk.specs.declared.Desk.{Desk}
 use Rattle.desk.specs.Desk.{supplyOf, slotsIn, freshDesk, openDesk}
 

@@ -10,14 +10,14 @@ use lib.ListN.{getD}
 use lib.Dec.{leb}
 use borrow.Author.Tests.{leb-true, leb-false}
 use Rattle.laws.specs.Places.{Lowest}
-use Rattle.numbers.specs.Refusals.{drawAboveLimit, drawAboveHeld}
+use Rattle.numbers.specs.Refusals.{notSound, drawAboveLimit, drawAboveHeld}
 use Rattle.words.specs.Words.{wordsOf}
 use Rattle.plan.specs.Answer.{isPlan}
-use Rattle.safety.specs.Scheduler.{Slot, end, freeSlot, at, mostDrawn}
-use Rattle.safety.specs.Sound.{sound}
-use Rattle.safety.specs.Refusals.{Verdict, unless, drawAllowed, drawHeld, judged, verdict}
+use Rattle.rules.specs.Scheduler.{Slot, end, freeSlot, at, mostDrawn}
+use Rattle.rules.specs.Sound.{sound}
+use Rattle.rules.specs.Refusals.{Verdict, unless, drawAllowed, drawHeld, judged, verdict}
 use Rattle.safety.specs.Verdicts.{excess-lowest, overdrawn-lowest}
-use Rattle.safety.specs.Calls as C
+use Rattle.rules.specs.Calls as C
 use Rattle.desk.specs.declared.Desk.{Desk}
 use Rattle.desk.specs.Desk.{supplyOf, orderOf, rulesOf, slotsIn, viewOf, answerOf, answered, endDesk}
 use Rattle.desk.specs.View.{Wide}
@@ -26,7 +26,7 @@ use Rattle.desk.specs.Promise.{supply-named}
 use Rattle.trace.specs.Answers.{drawAt, mayDraw, LowestAbove}
 
 -- one that is not 14 is of the rows after it
-past-sound : (t : Bool) (r : Verdict) (k : ℕ) → k ≢ 14 → unless t 14 0 r .number ≡ k → unless t 14 0 r ≡ r
+past-sound : (t : Bool) (r : Verdict) (k : ℕ) → k ≢ notSound → unless t notSound 0 r .number ≡ k → unless t notSound 0 r ≡ r
 past-sound true r k n e = refl
 past-sound false r k n e = absurd (n (sym e))
 
@@ -35,11 +35,11 @@ module _ (d : Desk) (ps ls draws : List ℕ) where
   judgment = judged (supplyOf (d .plan)) (viewOf d) 0 (end (wordsOf draws))
 
   -- a refused end, but for 14, has their number and place
-  end-judged : (k : ℕ) → 0 < k → k ≢ 14 → endDesk d ps ls draws .verdict .number ≡ k → (judgment .number ≡ k) × (endDesk d ps ls draws .verdict .place ≡ judgment .place)
+  end-judged : (k : ℕ) → 0 < k → k ≢ notSound → endDesk d ps ls draws .verdict .number ≡ k → (judgment .number ≡ k) × (endDesk d ps ls draws .verdict .place ≡ judgment .place)
   unfolding endDesk answered answerOf C.answer C.refusals C.accepted verdict
   end-judged k h n e =
       let t : Bool = isPlan (d .plan) ps ls && sound (supplyOf (d .plan)) (orderOf (d .plan)) (viewOf d) in
-      let v : Verdict = unless t 14 0 judgment in
+      let v : Verdict = unless t notSound 0 judgment in
       let r = refused (v .number) (v .place) e in
       let q = past-sound t judgment k n (r .0) in
       (sym (ap (λ (w : Verdict). w .number) q) ∙ r .0, r .1 ∙ ap (λ (w : Verdict). w .place) q)

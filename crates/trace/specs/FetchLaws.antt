@@ -15,11 +15,12 @@ use Rattle.laws.specs.Runs.{sumBy}
 use Rattle.numbers.specs.Slots.{filling, playing}
 use Rattle.plan.specs.declared.Plan.{Plan}
 use Rattle.plan.specs.Plan.{showingIn, placeOf}
-use Rattle.safety.specs.Supply.{Supply}
-use Rattle.safety.specs.Scheduler.{Slot, Entry, begin, at, entriesAt, reads, isFetched, entriesFrom, entries}
-use Rattle.safety.specs.Order.{Scheduler}
-use Rattle.safety.specs.Sorting.{before-says, rising-at, sameEntry, occurrences, sorted-keeps, entries-rise, entryOf}
-use Rattle.safety.specs.Calls as C
+use Rattle.rules.specs.Supply.{Supply}
+use Rattle.rules.specs.Scheduler.{Slot, Entry, begin, at, entriesAt, reads, isFetched, entriesFrom, entries}
+use Rattle.rules.specs.Order.{Scheduler}
+use Rattle.turns.specs.Sorting.{before-says, rising-at, sorted-keeps, entries-rise, entryOf}
+use Rattle.rules.specs.InOrder.{sameEntry, occurrences}
+use Rattle.rules.specs.Calls as C
 use Rattle.safety.specs.Lists.{verdict-zero, answer-accepted}
 use Rattle.desk.specs.declared.Desk.{Desk}
 use Rattle.desk.specs.Desk.{supplyOf, orderOf, rulesOf, Queue, viewOf, deskOf, answerOf, beginDesk}

@@ -2,9 +2,9 @@
 use Prim.Native.Nat.{ℕ}
 use mathlib.Core.List.{List, [], _∷_}
 use Rattle.words.specs.Words.{wordsOf}
-use Rattle.safety.specs.Scheduler.{Entry, Call, join, leave, begin, end}
-use Rattle.safety.specs.Ledger.{Line, openedLedger, recorded}
-use Rattle.safety.specs.Calls.{isAccepted}
+use Rattle.rules.specs.Scheduler.{Entry, Call, join, leave, begin, end}
+use Rattle.rules.specs.Ledger.{Line, openedLedger, recorded}
+use Rattle.rules.specs.Calls.{isAccepted}
 use Rattle.desk.specs.declared.Desk.{Desk}
 use Rattle.desk.specs.declared.Answer.{Answer}
 use Rattle.desk.specs.declared.Begun.{Begun}

@@ -10,13 +10,13 @@ use Rattle.plan.specs.declared.Plan.{Plan}
 use Rattle.plan.specs.Plan.{showingIn}
 use Rattle.plan.specs.Answer.{isPlan}
 use Rattle.plan.specs.Check.{checked, checked-legal}
-use Rattle.safety.specs.Supply.{Lawful}
-use Rattle.safety.specs.Order.{Scheduler}
-use Rattle.safety.specs.Sound.{sound}
-use Rattle.safety.specs.Refusals.{Verdict, verdict}
-use Rattle.safety.specs.Rows.{row-unfair}
-use Rattle.safety.specs.Calls.{Given}
-use Rattle.safety.specs.Calls as C
+use Rattle.rules.specs.Supply.{Lawful}
+use Rattle.rules.specs.Order.{Scheduler}
+use Rattle.rules.specs.Sound.{sound}
+use Rattle.rules.specs.Refusals.{Verdict, verdict}
+use Rattle.turns.specs.Rows.{row-unfair}
+use Rattle.rules.specs.Calls.{Given}
+use Rattle.rules.specs.Calls as C
 use Rattle.safety.specs.Lists.{verdict-zero}
 use Rattle.safety.specs.Claim as K
 use Rattle.desk.specs.declared.Desk.{Desk}

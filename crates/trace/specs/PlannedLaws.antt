@@ -8,6 +8,7 @@ use native.Mathlib.Omega.{arith}
 use lib.ListN.{length}
 use lib.Dec.{ltb, eqb}
 use borrow.Author.Tests.{ltb-false, eqb-false}
+use Rattle.numbers.specs.Refusals.{noStream, tooShort}
 use Rattle.words.specs.Words.{Bytes, wordsOf, withWords}
 use Rattle.card.specs.declared.Figures.{Figures}
 use Rattle.card.specs.declared.CardRead.{CardRead}
@@ -35,7 +36,7 @@ unfolding planFault
 fault-none x f np nl e = go (ltb np (f .blocks)) refl (ltb nl (f .blocks)) refl (eqb (streamsOf x f) 0) refl e
   where
     go : (s : Bool) → ltb np (f .blocks) ≡ s → (t : Bool) → ltb nl (f .blocks) ≡ t → (u : Bool) → eqb (streamsOf x f) 0 ≡ u
-        → _≡_ {A = ℕ} (cond (s || t) 13 (cond u 12 0)) 0 → (f .blocks ≤ np) × (f .blocks ≤ nl) × (0 < streamsOf x f)
+        → _≡_ {A = ℕ} (cond (s || t) tooShort (cond u noStream 0)) 0 → (f .blocks ≤ np) × (f .blocks ≤ nl) × (0 < streamsOf x f)
     go true a t b u c e = absurd (omega arith)
     go false a true b u c e = absurd (omega arith)
     go false a false b true c e = absurd (omega arith)

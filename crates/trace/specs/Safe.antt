@@ -12,11 +12,11 @@ use Rattle.numbers.specs.Showings.{loopWord}
 use Rattle.numbers.specs.Units.{micros}
 use Rattle.plan.specs.declared.Plan.{Plan}
 use Rattle.plan.specs.Answer.{isPlan}
-use Rattle.safety.specs.Scheduler.{Call, begin}
-use Rattle.safety.specs.Sound.{sound}
-use Rattle.safety.specs.Kinds.{kindAfter}
-use Rattle.safety.specs.Ledger.{Line, lineAt}
-use Rattle.safety.specs.Calls.{isAccepted}
+use Rattle.rules.specs.Scheduler.{Call, begin}
+use Rattle.rules.specs.Sound.{sound}
+use Rattle.rules.specs.Kinds.{kindAfter}
+use Rattle.rules.specs.Ledger.{Line, lineAt}
+use Rattle.rules.specs.Calls.{isAccepted}
 use Rattle.desk.specs.declared.Desk.{Desk}
 use Rattle.desk.specs.Desk.{supplyOf, orderOf, viewOf, freshDesk}
 use Rattle.trace.specs.List.{Lent, moveOf, called, World, after, opened}

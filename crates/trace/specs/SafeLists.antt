@@ -8,16 +8,17 @@ use native.Mathlib.Omega.{arith}
 use lib.ListN.{getD}
 use Rattle.plan.specs.declared.Plan.{Plan}
 use Rattle.plan.specs.Answer.{isPlan}
-use Rattle.safety.specs.Supply.{Lawful}
-use Rattle.safety.specs.Order.{Scheduler, bySlot}
-use Rattle.safety.specs.Order as A
-use Rattle.safety.specs.Scheduler.{leads}
-use Rattle.safety.specs.Sound.{Good, sound, sound-says}
-use Rattle.safety.specs.Turns.{sound-at}
-use Rattle.safety.specs.Kinds.{kindAfter}
-use Rattle.safety.specs.Ledger.{lineAt, recorded}
-use Rattle.safety.specs.Calls as C
-use Rattle.safety.specs.Calls.{Given, isAccepted}
+use Rattle.rules.specs.Supply.{Lawful}
+use Rattle.rules.specs.Order.{Scheduler, bySlot}
+use Rattle.rules.specs.Order as A
+use Rattle.rules.specs.Scheduler.{leads}
+use Rattle.rules.specs.Sound.{sound}
+use Rattle.turns.specs.Facts.{Good, sound-says}
+use Rattle.turns.specs.Turns.{sound-at}
+use Rattle.rules.specs.Kinds.{kindAfter}
+use Rattle.rules.specs.Ledger.{lineAt, recorded}
+use Rattle.rules.specs.Calls as C
+use Rattle.rules.specs.Calls.{Given, isAccepted}
 use Rattle.safety.specs.Claim as K
 use Rattle.desk.specs.declared.Desk.{Desk}
 use Rattle.desk.specs.Desk.{supplyOf, rulesOf, orderOf, Queue, viewOf, deskOf, answerOf, answered, joinDesk, leaveDesk, beginDesk, endDesk, zeros, freshDesk}

@@ -4,8 +4,8 @@ use Prim.Native.Nat.{ℕ}
 use mathlib.Core.Path.{_≡_}
 use lib.ListN.{getD, List·getD-map}
 use Rattle.plan.specs.declared.Plan.{Plan}
-use Rattle.safety.specs.Scheduler.{freeSlot, at}
-use Rattle.safety.specs.Order.{Scheduler}
+use Rattle.rules.specs.Scheduler.{freeSlot, at}
+use Rattle.rules.specs.Order.{Scheduler}
 use Rattle.desk.specs.Desk.{supplyOf, Queue, deskOf}
 
 module _ (q : Plan) (s : Scheduler ℕ Queue) where

@@ -12,7 +12,7 @@ ghost use Rattle.round_trip.specs.Legality.{Wide};
 ghost use Rattle.placement.specs.Showing.{Showing};
 ghost use Rattle.plan.specs.declared.Plan.{Plan};
 ghost use Rattle.plan.specs.Answer.{planned, positionsAfter, leadsAfter, judged};
-ghost use Rattle.safety.specs.Sound.{sound};
+ghost use Rattle.rules.specs.Sound.{sound};
 ghost use Rattle.desk.specs.declared.Desk.{Desk};
 ghost use Rattle.desk.specs.Desk.{supplyOf, orderOf, viewOf, freshDesk, openDesk, beginDesk, endDesk};
 ghost use Rattle.desk.specs.Entries.{entriesIn};

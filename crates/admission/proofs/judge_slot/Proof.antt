@@ -1,11 +1,9 @@
-use mathlib.Core.Path.{_≡_, sym, ap, _∙_}
+use mathlib.Core.Path.{_≡_, sym, _∙_}
 use mathlib.Core.Bool.{true}
 use native.Mathlib.Omega.{arith}
 use borrow.Author.Needs.{needs}
 use borrow.Author.Tests.{not-true, not-false}
-use lib.ListN.{length}
 use Rattle.desk.specs.declared.Desk.{Desk}
-use Rattle.desk.specs.Slots.{length-zeros}
 use Rattle.soundness.specs.Facts.{recordOf, soundDesk}
 use Rattle.admission.proofs.Judging.{slot-unsound, slot-in-sweep, slot-unused, refuses, passes}
 use Rattle.admission.proofs.judge_slot.Statement.{statement}
@@ -15,27 +13,24 @@ use Rattle.admission.proofs.judge_slot.Tie as tie
 abbrev given : tie.Start → Desk
 given c = let a = c .args in recordOf (a .plan) (a .phase) (a .kinds .now) (a .next .now) (a .held .now)
 
-abbrev start : tie.After-test-record → tie.Start
-start c = c .before .before .before .before .before
+abbrev start : tie.After-is-sound → tie.Start
+start c = c .before .before .before
 
 -- past the test of soundness
-passed : (c : tie.Else1) → (let s = start (c .before .before) in soundDesk (given s) (s .args .positions .now) (s .args .leads .now) ≡ true)
-passed c = sym (c .before .before .test-record .ensures .0) ∙ not-false _ (c .if1 .left)
+passed : (c : tie.Else1) → (let s = start (c .before) in soundDesk (given s) (s .args .positions .now) (s .args .leads .now) ≡ true)
+passed c = sym (c .before .is-sound .ensures) ∙ not-false _ (c .if1 .left)
 
-zeros-requires : tie.Need-zeros-requires
-zeros-requires c κs = search needs
-
-test-record-requires : tie.Need-test-record-requires
-test-record-requires c κs = let z = c .before in (z .before .before .before .pre, ap length (z .zeros .ensures) ∙ length-zeros)
+is-sound-requires : tie.Need-is-sound-requires
+is-sound-requires c κs = c .before .before .pre
 
 verdict-requires : tie.Need-verdict-requires
 verdict-requires c κs = search needs
 
 returns : tie.Need-returns
 returns c =
-    let t = c .before .before .before in
+    let t = c .before .before in
     let s = start t in
-    refuses (given s) (s .pre) _ _ _ _ _ _ (omega arith) (slot-unsound (given s) (s .pre) _ _ _ (sym (t .test-record .ensures .0) ∙ not-true _ (c .before .if1 .taken))) (c .verdict .ensures)
+    refuses (given s) (s .pre) _ _ _ _ _ _ (omega arith) (slot-unsound (given s) (s .pre) _ _ _ (sym (t .is-sound .ensures) ∙ not-true _ (c .before .if1 .taken))) (c .verdict .ensures)
 
 verdict-requires-2 : tie.Need-verdict-requires-2
 verdict-requires-2 c κs = search needs
@@ -43,7 +38,7 @@ verdict-requires-2 c κs = search needs
 returns-2 : tie.Need-returns-2
 returns-2 c =
     let e = c .before .before in
-    let s = start (e .before .before) in
+    let s = start (e .before) in
     refuses (given s) (s .pre) _ _ _ _ _ _ (omega arith) (slot-in-sweep (given s) (s .pre) _ _ _ (passed e) (c .before .if2 .taken)) (c .verdict2 .ensures)
 
 verdict-requires-3 : tie.Need-verdict-requires-3
@@ -53,7 +48,7 @@ returns-3 : tie.Need-returns-3
 returns-3 c =
     let p = c .before .before .before in
     let e = p .before in
-    let s = start (e .before .before) in
+    let s = start (e .before) in
     refuses (given s) (s .pre) _ _ _ _ _ _ (omega arith) (slot-unused (given s) (s .pre) _ _ _ (passed e) (p .if2 .left) (c .before .if3 .taken)) (c .verdict3 .ensures)
 
 verdict-requires-4 : tie.Need-verdict-requires-4
@@ -63,15 +58,14 @@ returns-4 : tie.Need-returns-4
 returns-4 c =
     let p = c .before .before .before in
     let e = p .before in
-    let s = start (e .before .before) in
+    let s = start (e .before) in
     passes (given s) (s .pre) _ _ _ _ (record { sound = passed e; phase = p .if2 .left; used = c .before .if3 .left }) (c .verdict4 .ensures)
 
 pub judge-slot-spec : {M : Type 1} → statement M
 judge-slot-spec =
     tie.close
     (tie.spec
-    zeros-requires
-    test-record-requires
+    is-sound-requires
     verdict-requires
     returns
     verdict-requires-2

@@ -5,9 +5,9 @@ use mathlib.Core.List.{List}
 use lib.ListN.{take}
 use borrow.Author.Needs.{needs}
 use Rattle.numbers.specs.Units.{parts}
-use Rattle.safety.specs.Supply.{Supply}
-use Rattle.safety.specs.Arrays.{slotsOf}
-use Rattle.safety.specs.Turns.{leastHeld, least-none}
+use Rattle.rules.specs.Supply.{Supply}
+use Rattle.rules.specs.Arrays.{slotsOf}
+use Rattle.turns.specs.Turns.{leastHeld, least-none}
 use Rattle.desk.specs.Shown.{Slots}
 use Rattle.floor.specs.Floor.{ample}
 use Rattle.floor.proofs.Levels.{least-turn, least-end}

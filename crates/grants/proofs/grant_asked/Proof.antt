@@ -4,7 +4,7 @@ use mathlib.Core.Path.{_≡_, sym, _∙_}
 use mathlib.Core.List.{List}
 use mathlib.Core.Logic.{⊎-elim}
 use lib.ListN.{length, getD, length-set}
-use Rattle.safety.specs.Supply.{Supply}
+use Rattle.rules.specs.Supply.{Supply}
 use Rattle.numbers.specs.Slots.{filling}
 use Rattle.desk.specs.Shown.{Slots}
 use Rattle.floor.specs.Floor.{mostLead}

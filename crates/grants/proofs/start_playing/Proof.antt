@@ -4,9 +4,9 @@ use mathlib.Core.Path.{_≡_, _∙_}
 use mathlib.Core.List.{List}
 use lib.ListN.{length, length-set}
 use borrow.Author.Needs.{needs}
-use Rattle.safety.specs.Supply.{Supply}
-use Rattle.safety.specs.Arrays.{slotsOf}
-use Rattle.safety.specs.Turns.{startedTo}
+use Rattle.rules.specs.Supply.{Supply}
+use Rattle.rules.specs.Arrays.{slotsOf}
+use Rattle.turns.specs.Turns.{startedTo}
 use Rattle.desk.specs.Shown.{Slots}
 use Rattle.grants.proofs.Granting.{started-none, started-turn, started-end}
 use Rattle.grants.proofs.start_playing.Statement.{statement}

@@ -1,7 +1,7 @@
 use native.Mathlib.Omega.{arith}
 use mathlib.Core.Path.{_≡_, sym, ap, _∙_}
-use Rattle.safety.specs.Turns.{starts-playing, starts-not}
-use Rattle.safety.specs.Arrays.{slotOf}
+use Rattle.turns.specs.Turns.{starts-playing, starts-not}
+use Rattle.rules.specs.Arrays.{slotOf}
 use borrow.Author.Needs.{needs}
 use Rattle.grants.proofs.started_kind.Statement.{statement}
 use Rattle.grants.proofs.started_kind.Tie as tie

@@ -9,7 +9,7 @@ use Rattle.desk.specs.View.{Wide}
 use Rattle.desk.specs.Slots.{length-zeros}
 use Rattle.desk.specs.Ready.{Ready, streams-are}
 use Rattle.soundness.specs.Facts.{soundDesk}
-use Rattle.soundness.specs.Ready.{sound-ready, sound-plan}
+use Rattle.soundness.specs.Ready.{sound-ready, sound-plan, sound-listed, sound-taken}
 use Rattle.gather.specs.Ready.{zoned, reached, gathers, in-range}
 use Rattle.sweep.specs.Steps.{sweptOf}
 use Rattle.sweep.specs.Kept.{not-swept}
@@ -25,47 +25,47 @@ slim c = (search needs, search needs)
 
 -- ---- the places, each from a later one
 
+abbrev start : tie.After-is-sound → tie.Start
+start c = c .before .before .before .before .before .before .before .before
+
+abbrev tested : tie.Else1 → tie.After-is-sound
+tested c = c .before
+
 abbrev blank : tie.After-found → tie.After-zeros
-blank c = c .before .before .before .before .before .before
+blank c = c .before .before .before .before
 
-abbrev start : tie.After-test-record → tie.Start
-start c = blank (c .before) .before .before .before
+abbrev taking : tie.After-desk3 → tie.After-gather-leads
+taking c = c .before .before
 
-abbrev tested : tie.Else1 → tie.After-test-record
-tested c = c .before .before
+abbrev gathering : tie.After-gather → tie.After-gather-leads
+gathering c = taking (c .before .before .before .before .before .before)
 
-abbrev roomy : tie.After-desk2 → tie.Else3
-roomy c = c .before .before
-
-abbrev gathering : tie.After-gather → tie.Else3
-gathering c = roomy (c .before .before .before .before .before .before)
+abbrev roomy : tie.After-gather-leads → tie.Else3
+roomy c = blank (c .before) .before
 
 -- ---- what is known there
 
 -- past the test of soundness
 passed : (c : tie.Else1) → (let a = start (tested c) .args in soundDesk (a .t1) (a .positions .now) (a .leads .now) ≡ true)
-passed c = sym (tested c .test-record .ensures .0) ∙ not-false _ (c .if1 .left)
+passed c = sym (tested c .is-sound .ensures) ∙ not-false _ (c .if1 .left)
 
 ready : (c : tie.Else1) → Ready (start (tested c) .args .t1)
 ready c = sound-ready _ _ _ (slim (start (tested c))) (passed c)
 
 -- ---- the needs
 
-zeros-requires : tie.Need-zeros-requires
-zeros-requires c κs = search needs
-
-test-record-requires : tie.Need-test-record-requires
-test-record-requires c κs = let z = blank c in (wide (z .before .before .before), ap length (z .zeros .ensures) ∙ length-zeros)
+is-sound-requires : tie.Need-is-sound-requires
+is-sound-requires c κs = wide (c .before .before .before .before .before .before .before)
 
 not-swept-requires : tie.Need-not-swept-requires
 not-swept-requires c κs = search needs
 
 returns : tie.Need-returns
 returns c =
-    let t = c .before .before .before .before in
+    let t = c .before .before .before in
     let s = start t in
     c .not-swept .ensures ∙ not-swept (s .args .t1) notSound
-    ∙ ap sweptOf (begin-unsound (s .args .t1) (wide s) _ _ _ (sym (t .test-record .ensures .0) ∙ not-true _ (c .before .before .if1 .taken)))
+    ∙ ap sweptOf (begin-unsound (s .args .t1) (wide s) _ _ _ (sym (t .is-sound .ensures) ∙ not-true _ (c .before .before .if1 .taken)))
 
 not-swept-requires-2 : tie.Need-not-swept-requires-2
 not-swept-requires-2 c κs = search needs
@@ -90,9 +90,19 @@ returns-3 c =
     c .not-swept3 .ensures ∙ not-swept (s .args .t1) tooShort
     ∙ ap sweptOf (begin-no-room (s .args .t1) (wide s) _ _ _ (passed e) (p .if2 .left) (c .before .before .if3 .taken))
 
+zeros-requires : tie.Need-zeros-requires
+zeros-requires c κs = search needs
+
+gather-leads-requires : tie.Need-gather-leads-requires
+gather-leads-requires c κs =
+    let z = blank c in
+    let e = z .before .before .before in
+    let s = start (tested e) in
+    (streams-are _ (ready e), sound-listed (s .args .t1) (wide s) _ _ (slim s) (passed e), ap length (z .zeros .ensures) ∙ length-zeros)
+
 gather-requires : tie.Need-gather-requires
 gather-requires c κs =
-    let e = roomy (c .before .before .before .before .before) .before .before in
+    let e = roomy (taking (c .before .before .before .before .before)) .before .before in
     let s = start (tested e) in
     let d = s .args .t1 in
     let p = sound-plan _ _ _ (passed e) in
@@ -101,19 +111,20 @@ gather-requires c κs =
 begin-sweep-requires : tie.Need-begin-sweep-requires
 begin-sweep-requires c κs =
     let g = c .before in
-    let e = gathering g .before .before in
+    let l = gathering g in
+    let e = roomy l .before .before in
     let s = start (tested e) in
     let d = s .args .t1 in
     let p = sound-plan _ _ _ (passed e) in (
       ready e,
       gathers d (wide s) (ready e) _ _ p (g .gather .result) (g .gather .ensures),
       in-range d (wide s) (ready e) _ _ p (g .gather .result) (g .gather .ensures),
-      tested e .test-record .ensures .1 (not-false _ (e .if1 .left)),
+      sound-taken d (wide s) _ _ (slim s) (passed e) _ (l .gather-leads .ensures .1) _ (l .gather-leads .ensures .0),
     )
 
 returns-4 : tie.Need-returns-4
 returns-4 c =
-    let k = gathering (c .before .before) in
+    let k = roomy (gathering (c .before .before)) in
     let e = k .before .before in
     let s = start (tested e) in
     c .begin-sweep .ensures ∙ ap sweptOf (begin-begun (s .args .t1) (wide s) _ _ _ (passed e) (k .before .if2 .left) (k .if3 .left))
@@ -122,8 +133,7 @@ pub judge-begin-spec : {M : Type 1} → statement M
 judge-begin-spec =
     tie.close
     (tie.spec
-    zeros-requires
-    test-record-requires
+    is-sound-requires
     not-swept-requires
     returns
     not-swept-requires-2
@@ -131,6 +141,8 @@ judge-begin-spec =
     cast-streams
     not-swept-requires-3
     returns-3
+    zeros-requires
+    gather-leads-requires
     gather-requires
     begin-sweep-requires
     returns-4)

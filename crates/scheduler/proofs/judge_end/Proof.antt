@@ -3,12 +3,10 @@ use mathlib.Core.Bool.{true}
 use native.Mathlib.Omega.{arith}
 use borrow.Author.Needs.{needs}
 use borrow.Author.Tests.{not-true, not-false}
-use lib.ListN.{length}
 use Rattle.round_trip.specs.Legality as legality
 use Rattle.desk.specs.declared.Answer.{Answer}
 use Rattle.desk.specs.Desk.{supplyOf, viewOf}
 use Rattle.desk.specs.View.{Wide}
-use Rattle.desk.specs.Slots.{length-zeros}
 use Rattle.desk.specs.Ready.{Ready, streams-are, buffer-has}
 use Rattle.soundness.specs.Facts.{soundDesk}
 use Rattle.soundness.specs.Ready.{sound-ready, sound-plan}
@@ -30,14 +28,11 @@ told e = ap (λ (a : Answer). a .verdict) e
 
 -- ---- the places, each from a later one
 
-abbrev blank : tie.After-found → tie.After-zeros
-blank c = c .before .before .before .before .before .before
+abbrev start : tie.After-is-sound → tie.Start
+start c = c .before .before .before .before .before .before .before .before .before
 
-abbrev start : tie.After-test-record → tie.Start
-start c = blank (c .before) .before .before .before .before
-
-abbrev tested : tie.Else1 → tie.After-test-record
-tested c = c .before .before
+abbrev tested : tie.Else1 → tie.After-is-sound
+tested c = c .before
 
 abbrev sweeping : tie.After-desk2 → tie.Else2
 sweeping c = c .before .before
@@ -52,27 +47,24 @@ bounding c = c .before .before .before .before .before .before
 
 -- past the test of soundness
 passed : (c : tie.Else1) → (let a = start (tested c) .args in soundDesk (a .t1) (a .positions .now) (a .leads .now) ≡ true)
-passed c = sym (tested c .test-record .ensures .0) ∙ not-false _ (c .if1 .left)
+passed c = sym (tested c .is-sound .ensures) ∙ not-false _ (c .if1 .left)
 
 ready : (c : tie.Else1) → Ready (start (tested c) .args .t1)
 ready c = sound-ready _ _ _ (slim (start (tested c))) (passed c)
 
 -- ---- the needs
 
-zeros-requires : tie.Need-zeros-requires
-zeros-requires c κs = search needs
-
-test-record-requires : tie.Need-test-record-requires
-test-record-requires c κs = let z = blank c in (wide (z .before .before .before .before), ap length (z .zeros .ensures) ∙ length-zeros)
+is-sound-requires : tie.Need-is-sound-requires
+is-sound-requires c κs = wide (c .before .before .before .before .before .before .before .before)
 
 verdict-requires : tie.Need-verdict-requires
 verdict-requires c κs = search needs
 
 returns : tie.Need-returns
 returns c =
-    let t = c .before .before .before in
+    let t = c .before .before in
     let s = start t in
-    c .verdict .ensures ∙ told (end-unsound (s .args .t1) (wide s) _ _ _ (sym (t .test-record .ensures .0) ∙ not-true _ (c .before .if1 .taken)))
+    c .verdict .ensures ∙ told (end-unsound (s .args .t1) (wide s) _ _ _ (sym (t .is-sound .ensures) ∙ not-true _ (c .before .if1 .taken)))
 
 verdict-requires-2 : tie.Need-verdict-requires-2
 verdict-requires-2 c κs = search needs
@@ -130,8 +122,7 @@ pub judge-end-spec : {M : Type 1} → statement M
 judge-end-spec =
     tie.close
     (tie.spec
-    zeros-requires
-    test-record-requires
+    is-sound-requires
     verdict-requires
     returns
     verdict-requires-2

@@ -1,7 +1,7 @@
 use native.Mathlib.Omega.{arith}
 use mathlib.Core.Path.{_≡_, refl}
-use Rattle.safety.specs.Scheduler.{started, begun}
-use Rattle.safety.specs.Arrays.{slotsOf}
+use Rattle.rules.specs.Scheduler.{started, begun}
+use Rattle.rules.specs.Arrays.{slotsOf}
 use Rattle.desk.specs.View.{Wide}
 use Rattle.desk.specs.Desk.{supplyOf, slotsIn}
 use Rattle.desk.specs.Ready.{streams-are, buffer-has, ready-slots}

@@ -8,7 +8,7 @@ use lib.Dec.{leb, eqb}
 use Rattle.laws.specs.Bools.{bit}
 use Rattle.laws.specs.Map.{mapFrom}
 use Rattle.numbers.specs.Limits.{maxStreams}
-use Rattle.safety.specs.Scheduler.{Entry, Call, join, leave, begin, end}
+use Rattle.rules.specs.Scheduler.{Entry, Call, join, leave, begin, end}
 
 -- a slot's line: open or closed, fetched, drawn and a mark
 pub record Line : Type 0 where

@@ -15,22 +15,22 @@ use lib.Dec.{leb, eqb}
 use borrow.Author.Tests.{leb-true, eqb-true, eq-eqb, ne-eqb, le-leb, lt-leb}
 use Rattle.laws.specs.Bools.{bit, implies, is-false, bool-ext, and-left, and-right, and-both}
 use Rattle.laws.specs.Map.{mapTo, mapTo-none, getD-mapTo, mapTo-store}
-use Rattle.laws.specs.Runs.{allBy}
+use Rattle.laws.specs.Runs.{sumBy, allBy}
 use Rattle.laws.specs.Sums.{sum-none, sum-next, sum-rest}
 use Rattle.laws.specs.Each.{each-at, each-by}
 use Rattle.laws.specs.Places.{mapFrom-at, mapFrom-map, mapTo-rest, allFrom, lowestFrom, all-passed, first-failed}
 use Rattle.numbers.specs.Units.{parts}
-use Rattle.safety.specs.Supply.{Supply, Named}
+use Rattle.rules.specs.Supply.{Supply, Named}
 use Rattle.numbers.specs.Slots.{free, waiting, filling, playing, draining}
-use Rattle.safety.specs.Scheduler.{Slot, freeSlot, at}
-use Rattle.safety.specs.Scheduler.{leadOf, leads, lowWater, holds, playingSlot, fillingSlot, startBy, startedSlot, started, playersHold}
-use Rattle.safety.specs.Scheduler.{grantable, granted, grantBy, tried, tries, isFetched, timeOf, times, fetchCount}
-use Rattle.safety.specs.Scheduler.{sweptBy, releaseBy, released, endedSlot, ended, drawLimit}
-use Rattle.safety.specs.Order.{Scheduler, Order}
-use Rattle.safety.specs.Sound.{soundSlot, sound, Good, good-free, FreeFrom, Sound, good-of-sound, sound-says, says-sound}
-use Rattle.safety.specs.Refusals.{drawAllowed, drawHeld}
-use Rattle.safety.specs.Slots.{reading-lead, other-lead, fetched-yes, fetched-other, fetched-time, unfetched-time, holds-yes, holds-no}
-use Rattle.safety.specs.BySlot.{granted-leads}
+use Rattle.rules.specs.Scheduler.{Slot, freeSlot, at}
+use Rattle.rules.specs.Scheduler.{leadOf, leads, lowWater, holds, playingSlot, fillingSlot, startBy, startedSlot, started, playersHold}
+use Rattle.rules.specs.Scheduler.{grantable, granted, grantBy, tried, tries, isFetched, timeOf, times, fetchCount}
+use Rattle.rules.specs.Scheduler.{sweptBy, releaseBy, released, endedSlot, ended, drawLimit}
+use Rattle.rules.specs.Order.{Scheduler, Order}
+use Rattle.rules.specs.Sound.{soundSlot, sound}
+use Rattle.turns.specs.Facts.{Good, good-free, FreeFrom, Sound, good-of-sound, sound-says, says-sound}
+use Rattle.rules.specs.Refusals.{drawAllowed, drawHeld}
+use Rattle.turns.specs.Slots.{reading-lead, other-lead, fetched-yes, fetched-other, fetched-time, unfetched-time, holds-yes, holds-no}
 
 module _ {A : Type 0} (p : Supply A) where
   -- ---- leads, times and count: added up from slot 0
@@ -186,7 +186,31 @@ module _ {A : Type 0} (p : Supply A) where
   unfolding started
   started-length x ss = length-map ss (startedSlot p x)
 
+  -- their leads counted before
+  started-lead : (x : ℕ) (s : Slot A) → leadOf p (startedSlot p x s) ≡ leadOf p s
+  unfolding startedSlot
+  started-lead x s = go (eqb (s .kind) filling && holds p x s) refl
+    where
+      go : (t : Bool) → (eqb (s .kind) filling && holds p x s) ≡ t → leadOf p (startBy p t s) ≡ leadOf p s
+      go true e =
+          let k = eqb-true (s .kind) filling (and-left (eqb (s .kind) filling) _ e) in
+          reading-lead p (startBy p true s) (omega arith) (omega arith) ∙ sym (reading-lead p s (omega arith) (omega arith))
+      go false e = refl
+
+  pub started-leads : (x : ℕ) (ss : List (Slot A)) → leads p (started p x ss) ≡ leads p ss
+  unfolding started leads sumBy
+  started-leads x [] = refl
+  started-leads x (s ∷ ss) = omega (arith, started-lead x s, started-leads x ss)
+
   -- ---- begin: asked slots are granted in slot order
+
+  -- the lead of one that is granted joins the others
+  pub granted-leads : (ss : List (Slot A)) (i : ℕ) → at p ss i .kind ≡ waiting → leads p (granted p ss i) ≡ leads p ss + p .lead (at p ss i .next)
+  unfolding leads sumBy granted
+  granted-leads [] i k = absurd (omega arith)
+  granted-leads (s ∷ ss) zero k =
+      omega (arith, other-lead p s (λ a b. omega arith), reading-lead p (fillingSlot p s) (omega arith) (omega arith))
+  granted-leads (s ∷ ss) (suc i) k = omega (arith, granted-leads ss i k)
 
   pub tries-none : (ss : List (Slot A)) → tries p ss 0 0 ≡ ss
   unfolding tries
@@ -226,7 +250,7 @@ module _ {A : Type 0} (p : Supply A) where
     where
       go : (t : Bool) → eqb (at p ss i .kind) waiting ≡ t → (u : Bool)
           → leads p (grantBy p (t && u) ss i) ≡ leads p ss + cond (t && u) (p .lead (at p ss i .next)) 0
-      go true e true = granted-leads p ss i (eqb-true (at p ss i .kind) waiting e)
+      go true e true = granted-leads ss i (eqb-true (at p ss i .kind) waiting e)
       go true e false = omega arith
       go false e u = omega arith
 
@@ -329,7 +353,7 @@ module _ {A : Type 0} (p : Supply A) where
   unfolding granted
   tries-granted ss i L q k h = (
     turn ∙ ap (λ (s : Slot A). set ts i (fillingSlot p s)) same,
-    ap (λ (m : ℕ). m + p .lead (at p ss i .next)) q ∙ ap (λ (s : Slot A). leads p ts + p .lead (s .next)) (sym same) ∙ sym (granted-leads p ts i asks) ∙ ap (leads p) (sym turn),
+    ap (λ (m : ℕ). m + p .lead (at p ss i .next)) q ∙ ap (λ (s : Slot A). leads p ts + p .lead (s .next)) (sym same) ∙ sym (granted-leads ts i asks) ∙ ap (leads p) (sym turn),
   )
     where
       ts : List (Slot A)

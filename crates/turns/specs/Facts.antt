@@ -1,9 +1,8 @@
--- Soundness of the scheduler's record, as a test and as facts.
--- That the record is the plan of its figures and that the lent lists begin with its entries comes to a call as one flag (Calls.Given).
+-- Soundness of the scheduler's record, as facts: a record passes the test if and only if they hold.
 -- Assumes nothing.
 use Prim.Native.Nat.{ℕ, zero, suc, _-_, _*_, _≤_}
 use mathlib.Core.Path.{_≡_, refl, sym, ap, _∙_}
-use mathlib.Core.Bool.{Bool, true, _&&_}
+use mathlib.Core.Bool.{true, _&&_}
 use mathlib.Core.List.{List, [], _∷_}
 use native.Mathlib.Omega.{arith}
 use lib.ListN.{getD, drop, replicate}
@@ -13,38 +12,14 @@ use borrow.Author.Tests.{leb-true, eqb-true, eq-eqb, le-leb}
 use Rattle.laws.specs.Bools.{implies, implied, implies-of, and-says, and-both}
 use Rattle.laws.specs.Runs.{allBy}
 use Rattle.laws.specs.Each.{Each, each-map, each-at, each-of-all, all-of-each}
-use Rattle.numbers.specs.Units.{parts}
-use Rattle.safety.specs.Supply.{Supply, Named}
 use Rattle.numbers.specs.Slots.{free, waiting, playing, draining, sweeping}
-use Rattle.safety.specs.Scheduler.{Slot, freeSlot, at, leads, lowWater, holds}
-use Rattle.safety.specs.Order.{Scheduler, Order}
+use Rattle.numbers.specs.Units.{parts}
+use Rattle.rules.specs.Supply.{Supply, Named}
+use Rattle.rules.specs.Scheduler.{Slot, freeSlot, at, leads, lowWater, holds}
+use Rattle.rules.specs.Order.{Scheduler, Order}
+use Rattle.rules.specs.Sound.{isZero, soundSlot, sound}
 
 module _ {A : Type 0} (p : Supply A) where
-  unfoldable pub isZero : Slot A → Bool
-  isZero s = eqb (s .kind) free && (p .isNone (s .next) && eqb (s .buffered) 0)
-
-  -- a slot of a sound record (D16), condition by condition; L is the sum of the leads
-  unfoldable pub soundSlot : ℕ → Slot A → Bool
-  soundSlot L s =
-      leb (s .kind) draining
-      && (implies (eqb (s .kind) free) (isZero s)
-      && (implies (eqb (s .kind) waiting) (eqb (s .buffered) 0)
-      && (implies (leb waiting (s .kind) && leb (s .kind) playing) (p .isBlock (s .next))
-      && (implies (eqb (s .kind) draining) (p .isEnd (s .next))
-      && (implies (eqb (s .kind) draining) (leb 1 (s .buffered))
-      && (leb (s .buffered) (p .buffer)
-      && implies (eqb (s .kind) playing) (holds p (lowWater p L) s)))))))
-
-  -- a sound record (D16): its phase, each slot, and the slots that are not used
-  unfoldable pub sound : {Q : Type 0} → Order A Q → Scheduler A Q → Bool
-  sound o d =
-      leb (d .phase) sweeping
-      && (allBy (soundSlot (leads p (d .slots))) (d .slots)
-      && (allBy isZero (drop (p .n) (d .slots))
-      && o .queueSound (d .queue) (d .slots)))
-
-  -- ---- the same as facts
-
   -- a slot, in the order of its test; some: a tail holds something
   pub record Good (L : ℕ) (s : Slot A) : Type 0 where
     pub kinds : s .kind ≤ draining
@@ -102,24 +77,24 @@ module _ {A : Type 0} (p : Supply A) where
   good-free L = good-zero L (freeSlot p) refl refl refl
 
   module _ (names : Named p) where
-    zero-says : (s : Slot A) → isZero s ≡ true → (s .kind ≡ free) × (s .next ≡ p .none) × (s .buffered ≡ 0)
+    zero-says : (s : Slot A) → isZero p s ≡ true → (s .kind ≡ free) × (s .next ≡ p .none) × (s .buffered ≡ 0)
     unfolding isZero
     zero-says s e =
         let t = and-says (eqb (s .kind) free) _ e in
         let t₁ = and-says (p .isNone (s .next)) _ (t .1) in
         (eqb-true (s .kind) free (t .0), names .none-only (s .next) (t₁ .0), eqb-true (s .buffered) 0 (t₁ .1))
 
-    of-zero : (s : Slot A) → s .kind ≡ free → s .next ≡ p .none → s .buffered ≡ 0 → isZero s ≡ true
+    of-zero : (s : Slot A) → s .kind ≡ free → s .next ≡ p .none → s .buffered ≡ 0 → isZero p s ≡ true
     unfolding isZero
     of-zero s k x b = and-both (eq-eqb (s .kind) free k) (and-both (ap (p .isNone) x ∙ names .none-passes) (eq-eqb (s .buffered) 0 b))
 
     -- a slot that passes is good
-    pub good-of-sound : (L : ℕ) (s : Slot A) → soundSlot L s ≡ true → Good L s
+    pub good-of-sound : (L : ℕ) (s : Slot A) → soundSlot p L s ≡ true → Good L s
     unfolding soundSlot holds
     good-of-sound L s e =
         let k = s .kind in
         let t = and-says (leb k draining) _ e in
-        let t₁ = and-says (implies (eqb k free) (isZero s)) _ (t .1) in
+        let t₁ = and-says (implies (eqb k free) (isZero p s)) _ (t .1) in
         let t₂ = and-says (implies (eqb k waiting) (eqb (s .buffered) 0)) _ (t₁ .1) in
         let t₃ = and-says (implies (leb waiting k && leb k playing) (p .isBlock (s .next))) _ (t₂ .1) in
         let t₄ = and-says (implies (eqb k draining) (p .isEnd (s .next))) _ (t₃ .1) in
@@ -137,13 +112,13 @@ module _ {A : Type 0} (p : Supply A) where
         }
 
     -- and a good one passes
-    pub sound-of-good : (L : ℕ) (s : Slot A) → Good L s → soundSlot L s ≡ true
+    pub sound-of-good : (L : ℕ) (s : Slot A) → Good L s → soundSlot p L s ≡ true
     unfolding soundSlot holds
     sound-of-good L s g =
         let k = s .kind in
         let h = s .buffered in
         and-both (le-leb k draining (g .kinds))
-        (and-both (implies-of (eqb k free) (isZero s) (λ e. let z = g .zeros (eqb-true k free e) in of-zero s (eqb-true k free e) (z .0) (z .1)))
+        (and-both (implies-of (eqb k free) (isZero p s) (λ e. let z = g .zeros (eqb-true k free e) in of-zero s (eqb-true k free e) (z .0) (z .1)))
         (and-both (implies-of (eqb k waiting) (eqb h 0) (λ e. eq-eqb h 0 (g .empty (eqb-true k waiting e))))
         (and-both (implies-of (leb waiting k && leb k playing) (p .isBlock (s .next)) (λ e. let t = and-says (leb waiting k) _ e in g .named (leb-true waiting k (t .0)) (leb-true k playing (t .1))))
         (and-both (implies-of (eqb k draining) (p .isEnd (s .next)) (λ e. g .past (eqb-true k draining e)))
@@ -151,13 +126,13 @@ module _ {A : Type 0} (p : Supply A) where
         (and-both (le-leb h (p .buffer) (g .fits))
         (implies-of (eqb k playing) (leb (lowWater p L) (parts * h)) (λ e. le-leb (lowWater p L) (parts * h) (g .floored (eqb-true k playing e))))))))))
 
-    free-of-zero : (m : ℕ) (ss : List (Slot A)) → allBy isZero (drop m ss) ≡ true → FreeFrom m ss
+    free-of-zero : (m : ℕ) (ss : List (Slot A)) → allBy (isZero p) (drop m ss) ≡ true → FreeFrom m ss
     free-of-zero m ss e i l =
-        let z = each-at (λ s. s .kind ≡ free) (drop m ss) (i - m) (freeSlot p) (each-map _ _ (drop m ss) (λ s u. zero-says s u .0) (each-of-all isZero (drop m ss) e)) refl in
+        let z = each-at (λ s. s .kind ≡ free) (drop m ss) (i - m) (freeSlot p) (each-map _ _ (drop m ss) (λ s u. zero-says s u .0) (each-of-all (isZero p) (drop m ss) e)) refl in
         let q : getD (drop m ss) (i - m) (freeSlot p) ≡ at p ss i = getD-drop m ss (i - m) (freeSlot p) ∙ ap (λ (k : ℕ). at p ss k) (omega arith) in
         sym (ap (λ (s : Slot A). s .kind) q) ∙ z
 
-    zero-of-free : (L m : ℕ) (ss : List (Slot A)) → Each (Good L) ss → FreeFrom m ss → allBy isZero (drop m ss) ≡ true
+    zero-of-free : (L m : ℕ) (ss : List (Slot A)) → Each (Good L) ss → FreeFrom m ss → allBy (isZero p) (drop m ss) ≡ true
     unfolding allBy
     zero-of-free L zero [] g u = refl
     zero-of-free L (suc m) [] g u = refl
@@ -167,24 +142,24 @@ module _ {A : Type 0} (p : Supply A) where
     zero-of-free L (suc m) (s ∷ ss) g u = zero-of-free L m ss (g .1) (λ i l. u (suc i) (omega arith))
 
     -- a record passes the test if and only if the facts hold
-    pub sound-says : {Q : Type 0} (o : Order A Q) (d : Scheduler A Q) → sound o d ≡ true → Sound o d
+    pub sound-says : {Q : Type 0} (o : Order A Q) (d : Scheduler A Q) → sound p o d ≡ true → Sound o d
     unfolding sound
     sound-says o d e =
         let L = leads p (d .slots) in
         let t = and-says (leb (d .phase) sweeping) _ e in
-        let t₁ = and-says (allBy (soundSlot L) (d .slots)) _ (t .1) in
-        let t₂ = and-says (allBy isZero (drop (p .n) (d .slots))) _ (t₁ .1) in
+        let t₁ = and-says (allBy (soundSlot p L) (d .slots)) _ (t .1) in
+        let t₂ = and-says (allBy (isZero p) (drop (p .n) (d .slots))) _ (t₁ .1) in
         record {
           phase = leb-true (d .phase) sweeping (t .0);
-          slots = each-map _ _ (d .slots) (good-of-sound L) (each-of-all (soundSlot L) (d .slots) (t₁ .0));
+          slots = each-map _ _ (d .slots) (good-of-sound L) (each-of-all (soundSlot p L) (d .slots) (t₁ .0));
           unused = free-of-zero (p .n) (d .slots) (t₂ .0);
           queue = t₂ .1;
         }
 
-    pub says-sound : {Q : Type 0} (o : Order A Q) (d : Scheduler A Q) → Sound o d → sound o d ≡ true
+    pub says-sound : {Q : Type 0} (o : Order A Q) (d : Scheduler A Q) → Sound o d → sound p o d ≡ true
     unfolding sound
     says-sound o d h =
         let L = leads p (d .slots) in
         and-both (le-leb (d .phase) sweeping (h .phase))
-        (and-both (all-of-each (soundSlot L) (d .slots) (each-map _ _ (d .slots) (sound-of-good L) (h .slots)))
+        (and-both (all-of-each (soundSlot p L) (d .slots) (each-map _ _ (d .slots) (sound-of-good L) (h .slots)))
         (and-both (zero-of-free L (p .n) (d .slots) (h .slots) (h .unused)) (h .queue)))

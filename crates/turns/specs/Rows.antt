@@ -10,12 +10,12 @@ use lib.ListN.{length}
 use borrow.Author.Tests.{eq-eqb, ne-eqb, lt-ltb, le-ltb, le-leb, lt-leb}
 use Rattle.laws.specs.Places.{allFrom, lowestFrom}
 use Rattle.numbers.specs.Refusals.{tooShort, notSound, wrongPhase, noSuchSlot, slotState, drawCount, drawAboveLimit, drawAboveHeld}
-use Rattle.safety.specs.Supply.{Supply}
+use Rattle.rules.specs.Supply.{Supply}
 use Rattle.numbers.specs.Slots.{free, between, sweeping}
-use Rattle.safety.specs.Scheduler.{Call, join, leave, begin, end, at, mostDrawn}
-use Rattle.safety.specs.Order.{Scheduler, Order}
-use Rattle.safety.specs.Sound.{sound}
-use Rattle.safety.specs.Refusals.{Verdict, accept, drawAllowed, drawHeld, judged, verdict}
+use Rattle.rules.specs.Scheduler.{Call, join, leave, begin, end, at, mostDrawn}
+use Rattle.rules.specs.Order.{Scheduler, Order}
+use Rattle.rules.specs.Sound.{sound}
+use Rattle.rules.specs.Refusals.{Verdict, accept, drawAllowed, drawHeld, judged, verdict}
 
 abbrev pub refuse : ℕ → ℕ → Verdict
 refuse k i = record { number = k; place = i }

@@ -6,12 +6,12 @@ use mathlib.Core.Bool.{Bool, true, false}
 use mathlib.Core.List.{List, [], _∷_}
 use lib.ListN.{length}
 use Rattle.laws.specs.Places.{allFrom}
-use Rattle.safety.specs.Supply.{Supply}
+use Rattle.rules.specs.Supply.{Supply}
 use Rattle.numbers.specs.Slots.{free, between, sweeping}
-use Rattle.safety.specs.Scheduler.{Entry, Call, join, leave, begin, end, at, joined, left, entries, bound, ended, mostDrawn}
-use Rattle.safety.specs.Order.{Scheduler, Order, opened}
-use Rattle.safety.specs.Refusals.{Verdict, verdict, drawAllowed, drawHeld}
-use Rattle.safety.specs.Ledger.{Line, openedLedger, recorded}
+use Rattle.rules.specs.Scheduler.{Entry, Call, join, leave, begin, end, at, joined, left, entries, bound, ended, mostDrawn}
+use Rattle.rules.specs.Order.{Scheduler, Order, opened}
+use Rattle.rules.specs.Refusals.{Verdict, verdict, drawAllowed, drawHeld}
+use Rattle.rules.specs.Ledger.{Line, openedLedger, recorded}
 
 -- what a call is given, which may be anything each time (B1)
 pub record Given (A : Type 0) : Type 0 where
@@ -93,10 +93,6 @@ module _ {A Q : Type 0} (p : Supply A) (o : Order A Q) where
       (d .phase ≡ sweeping) × (length ds ≡ p .n)
       × (allFrom (drawAllowed p (mostDrawn p (d .slots)) ds) 0 (d .slots) ≡ true)
       × (allFrom (drawHeld p ds) 0 (d .slots) ≡ true)
-
-  -- all that safety relies on of the rules: they accept nothing else
-  pub record Strict {X : Type 0} (u : Rules A Q X) : Type 0 where
-    pub strict : (d : Scheduler A Q) (x : X) → u .verdict d x .number ≡ 0 → Allowed d (u .move x)
 
   unfoldable pub opening : State A Q
   opening = record { scheduler = opened p o; ledger = openedLedger }

@@ -10,7 +10,7 @@ use Rattle.laws.specs.Map.{mapFrom}
 use Rattle.laws.specs.Runs.{sumBy, allBy}
 use Rattle.numbers.specs.Slots.{free, waiting, filling, playing, draining}
 use Rattle.numbers.specs.Units.{parts, micros}
-use Rattle.safety.specs.Supply.{Supply}
+use Rattle.rules.specs.Supply.{Supply}
 
 -- a slot (D2); buffered is what it holds
 pub record Slot (A : Type 0) : Type 0 where

@@ -6,8 +6,8 @@ use mathlib.Core.List.{List}
 use lib.ListN.{replicate}
 use Rattle.numbers.specs.Limits.{maxStreams}
 use Rattle.numbers.specs.Slots.{between}
-use Rattle.safety.specs.Supply.{Supply}
-use Rattle.safety.specs.Scheduler.{Slot, freeSlot, begun}
+use Rattle.rules.specs.Supply.{Supply}
+use Rattle.rules.specs.Scheduler.{Slot, freeSlot, begun}
 
 -- the phase (D2), the slots, and what the order keeps: nothing in the base
 pub record Scheduler (A Q : Type 0) : Type 0 where

@@ -10,9 +10,9 @@ use lib.Dec.{eqb}
 use borrow.Author.Tests.{leb-true, leb-false, eqb-true, ne-eqb, le-leb, lt-leb}
 use Rattle.laws.specs.Bools.{and-left, and-right, or-cases}
 use Rattle.numbers.specs.Units.{parts}
-use Rattle.safety.specs.Supply.{Supply}
+use Rattle.rules.specs.Supply.{Supply}
 use Rattle.numbers.specs.Slots.{filling, playing}
-use Rattle.safety.specs.Scheduler.{Slot, reads, leadOf, holds, isFetched, timeOf}
+use Rattle.rules.specs.Scheduler.{Slot, reads, leadOf, holds, isFetched, timeOf}
 
 module _ {A : Type 0} (p : Supply A) where
   -- ---- filling and playing slots read

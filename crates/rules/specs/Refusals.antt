@@ -7,11 +7,11 @@ use lib.ListN.{length, getD}
 use lib.Dec.{leb, ltb, eqb}
 use Rattle.laws.specs.Places.{allFrom, lowestFrom}
 use Rattle.numbers.specs.Refusals.{tooShort, notSound, wrongPhase, noSuchSlot, slotState, drawCount, drawAboveLimit, drawAboveHeld}
-use Rattle.safety.specs.Supply.{Supply}
+use Rattle.rules.specs.Supply.{Supply}
 use Rattle.numbers.specs.Slots.{free, between, sweeping}
-use Rattle.safety.specs.Scheduler.{Slot, Call, join, leave, begin, end, at, mostDrawn, drawLimit}
-use Rattle.safety.specs.Order.{Scheduler, Order}
-use Rattle.safety.specs.Sound.{sound}
+use Rattle.rules.specs.Scheduler.{Slot, Call, join, leave, begin, end, at, mostDrawn, drawLimit}
+use Rattle.rules.specs.Order.{Scheduler, Order}
+use Rattle.rules.specs.Sound.{sound}
 
 -- number 0 and place 0 where the call is accepted
 pub record Verdict : Type 0 where

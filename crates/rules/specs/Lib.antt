@@ -1,0 +1,10 @@
+pub mod Supply
+pub mod Scheduler
+pub mod Order
+pub mod Sound
+pub mod Refusals
+pub mod Ledger
+pub mod Calls
+pub mod Kinds
+pub mod Arrays
+pub mod InOrder
