@@ -1,6 +1,6 @@
 use borrow.Author.Tests.{eq-eqb, ne-eqb}
-use Rattle.block_lists.proofs.side.Statement.{statement}
-use Rattle.block_lists.proofs.side.Tie as tie
+use Rattle.zones.proofs.side.Statement.{statement}
+use Rattle.zones.proofs.side.Tie as tie
 
 returns : tie.Need-returns
 returns c = simp (eq-eqb _ _ (c .if1 .taken))
