@@ -6,14 +6,14 @@ use Rattle.placement.specs.Showing.{Showing, one, loop}
 use Rattle.pacing.specs.Film.{span}
 use Rattle.pacing.specs.Laid.{laidFilm}
 
--- how many places a window of k blocks of N has (T9.7): once 0 to N − k, in a loop 0 to N − 1
+-- how many places a window of k blocks of N has (T9.6): once 0 to N − k, in a loop 0 to N − 1
 abbrev pub placesOf : Showing → ℕ → ℕ → ℕ
 placesOf one N k = suc N - k
 placesOf loop N k = N
 
 -- the film of N blocks laid by l, τ being the time of a position
 module _ (x : Showing) (τ l : ℕ → ℕ) (N k : ℕ) where
-  -- the time of k successive blocks, b the first (T9.2); a loop goes on with its first block after its last (T9.7)
+  -- the time of k successive blocks, b the first (T9.2); a loop goes on with its first block after its last (T9.6)
   abbrev pub windowTime : ℕ → ℕ
   windowTime b = span (laidFilm x τ l N) k b
 

@@ -13,7 +13,7 @@ use Rattle.pacing.specs.Shown.{once-in, loop-in}
 use Rattle.pacing.specs.Laid.{laidFilm, slowest, laid-paced}
 use Rattle.pacing.specs.Window.{placesOf, windowTime, worstWindow, windowAt}
 
--- ---- even windows of any paced film (T9.8)
+-- ---- even windows of any paced film (T9.7)
 
 module _ {A : Type 0} (film : Film A) (w m : ℕ) (ok : Paced film w m) where
   -- twice j blocks in a row are j pairs
@@ -41,7 +41,7 @@ module _ (τ l : ℕ → ℕ) (N : ℕ) where
   window-row one k b u = once-in N (λ b. τ (l b)) l k b (omega arith)
   window-row loop k b u = loop-in N (λ b. τ (l b)) l k b u
 
-  -- AN EVEN WINDOW takes at most half its blocks times the worst time of two (T9.8)
+  -- AN EVEN WINDOW takes at most half its blocks times the worst time of two (T9.7)
   pub even-window : (x : Showing) (k : ℕ) → k % 2 ≡ 0 → worstWindow x τ l N k ≤ k / 2 * worstOf x τ l N
   unfolding worstWindow
   even-window x k even = greatestOf-least (windowTime x τ l N k) (placesOf x N k) (k / 2 * worstOf x τ l N)

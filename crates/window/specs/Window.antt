@@ -24,15 +24,15 @@ module _ (x : Showing) (f : Figures) (k : ℕ) where
 
 -- ---- the answer
 
--- a plan and its positions list are of its figures (T9.6); a shorter list is not
+-- a plan and its positions list are of its figures (T9.5); a shorter list is not
 unfoldable pub isLaid : Plan → List ℕ → Bool
 isLaid p ps = hasNumbers p && hasPositions p ps
 
--- a window of k blocks is out of range for a film of N (T9.9): 0 blocks, above 64 or above N
+-- a window of k blocks is out of range for a film of N (T9.8): 0 blocks, above 64 or above N
 unfoldable pub isOutside : ℕ → ℕ → Bool
 isOutside k N = eqb k 0 || (ltb maxWindow k || ltb N k)
 
--- 14, then 27 (T9.9); 0 where neither is so
+-- 14, then 27 (T9.8); 0 where neither is so
 unfoldable pub windowFault : Plan → List ℕ → ℕ → ℕ
 windowFault p ps k = cond (isLaid p ps) (cond (isOutside k (p .figures .blocks)) wrongWindow 0) notSound
 

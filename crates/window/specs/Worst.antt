@@ -6,7 +6,7 @@ use Rattle.placement.specs.Showing.{Showing, one, loop}
 use Rattle.pacing.specs.Film.{span}
 use Rattle.plan.specs.Plan.{filmOf}
 
--- k successive blocks of N may start at b (T9.7): once all of them are in the film, in a loop b is
+-- k successive blocks of N may start at b (T9.6): once all of them are in the film, in a loop b is
 abbrev pub IsPlace : Showing → ℕ → ℕ → ℕ → Type 0
 IsPlace one N k b = b + k ≤ N
 IsPlace loop N k b = b < N

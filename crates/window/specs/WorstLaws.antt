@@ -1,6 +1,6 @@
 -- The worst window is the greatest and the earliest, and no other pair of numbers is; and what it is for two blocks.
 -- Assumes nothing.
-use Prim.Native.Nat.{ℕ, _*_, _-_, _/_, _%_, _≤_, _<_}
+use Prim.Native.Nat.{ℕ, _*_, _/_, _%_, _≤_, _<_}
 use mathlib.Core.Path.{_≡_, refl, sym, ap, _∙_}
 use mathlib.Core.Bool.{Bool, true, false, cond, _||_}
 use mathlib.Core.List.{List}
@@ -62,7 +62,7 @@ module _ (x : Showing) (f : Figures) (k : ℕ) where
       let here : Earliest g n b = record { below = u; reached = w .takes ∙ e; first = λ a v. omega (arith, w .first a v, e) } in
       (e, earliest-unique g n b _ here (earliest-is g n (omega (arith, u))))
 
-  -- an even window takes at most half its blocks times worst2 (T9.8)
+  -- an even window takes at most half its blocks times worst2 (T9.7)
   pub even-worst : k % 2 ≡ 0 → worstWindowOf x f k ≤ k / 2 * worst2Of x f
   unfolding worstWindowOf worst2Of
   even-worst even = even-window (timeOn f) (placeOf x f) (f .blocks) x k even

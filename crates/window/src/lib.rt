@@ -35,7 +35,7 @@ pub struct Window {
 }
 
 // A refusal.
-fn refused(number: u32) -> Window
+pub fn refused(number: u32) -> Window
     ensures { λ r. ⌜ r ≡ refusal number ⌝ }
 {
     Window {
