@@ -13,9 +13,10 @@ use plan::Plan;
 use planner::has_numbers;
 use zones::sum_positions;
 ghost use mathlib.Core.Path.{_≡_};
-ghost use mathlib.Core.Bool.{true};
+ghost use mathlib.Core.Bool.{true, cond};
 ghost use mathlib.Core.List.{List};
 ghost use Prim.Native.Nat.{ℕ, suc, _*_, _/_, _%_, _≤_, _<_};
+ghost use Rattle.numbers.specs.Refusals.{notSound, wrongWindow};
 ghost use Rattle.card.specs.declared.Figures.{Figures};
 ghost use Rattle.placement.specs.Showing.{Showing};
 ghost use Rattle.pacing.specs.Film.{Film, Paced, row, span};
@@ -73,6 +74,27 @@ fn is_outside(count: u32, blocks: u32) -> bool
     blocks < count
 }
 
+// The number of the refusal: 14, then 27; 0 for neither.
+fn fault(laid: bool, outside: bool) -> u32
+    ensures { λ r. ⌜ r ≡ cond laid (cond outside wrongWindow 0) notSound ⌝ }
+{
+    if !laid {
+        return NOT_SOUND;
+    }
+    if outside {
+        return WRONG_WINDOW;
+    }
+    ACCEPTED
+}
+
+// The bytes of a window.
+fn window_bytes(count: u32, bytes: u32) -> u32
+    requires { ⌜ count * bytes < 4294967296 ⌝ }
+    ensures { λ r. ⌜ r ≡ count * bytes ⌝ }
+{
+    count * bytes
+}
+
 // The last block that a window may start at.
 fn last_place(showing: u32, blocks: u32, count: u32) -> u32
     requires { ⌜ (0 < count) × (count ≤ blocks) ⌝ }
@@ -88,11 +110,12 @@ fn last_place(showing: u32, blocks: u32, count: u32) -> u32
 pub fn worst_window(plan: Plan, positions: &[u8], count: u32) -> Window
     ensures { λ r. ⌜ r ≡ windowAnswer plan (now (positions .entry)) count ⌝ }
 {
-    if !is_laid(plan, positions) {
-        return refused(NOT_SOUND);
-    }
-    if is_outside(count, plan.figures.blocks) {
-        return refused(WRONG_WINDOW);
+    let number = fault(
+        is_laid(plan, positions),
+        is_outside(count, plan.figures.blocks),
+    );
+    if number != ACCEPTED {
+        return refused(number);
     }
     let total = sum_positions(&plan.figures.positions, plan.figures.zones);
     let worst = worst_row(
@@ -106,12 +129,12 @@ pub fn worst_window(plan: Plan, positions: &[u8], count: u32) -> Window
     );
     Window {
         verdict: Verdict {
-            number: ACCEPTED,
+            number: number,
             place: 0,
         },
         time: worst.time,
         first: worst.first,
-        bytes: count * plan.figures.bytes,
+        bytes: window_bytes(count, plan.figures.bytes),
     }
 }
 

@@ -3,8 +3,8 @@ use native.Mathlib.Omega.{arith}
 use lib.ListN.{length}
 use lib.Seq.{length-take-le}
 use borrow.Author.Needs.{needs}
-use Rattle.listing.proofs.line.write.Statement.{statement}
-use Rattle.listing.proofs.line.write.Tie as tie
+use Rattle.lines.proofs.write.Statement.{statement}
+use Rattle.lines.proofs.write.Tie as tie
 
 room : (c : tie.Start) → length (c .args .line .bytes) ≡ 64
 room c = search needs
