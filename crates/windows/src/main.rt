@@ -17,7 +17,7 @@ use planner::plan_card;
 use planner::plan_loop_card;
 use window::worst_window;
 ghost use mathlib.Core.Path.{_≡_};
-ghost use Prim.Native.Nat.{_*_, _/_, _≤_, _<_, min};
+ghost use Prim.Native.Nat.{_*_, _/_, _<_, min};
 ghost use Rattle.numbers.specs.Limits.{maxWindow};
 ghost use Rattle.numbers.specs.Units.{micros};
 
