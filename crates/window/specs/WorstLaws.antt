@@ -47,7 +47,7 @@ module _ (x : Showing) (f : Figures) (k : ℕ) where
         place = in-place x (f .blocks) k _ (e .below);
         takes = e .reached;
         most = λ a p. greatestOf-above (windowOf x f k) (placesOf x (f .blocks) k) a (place-in x (f .blocks) k a p);
-        first = e .first;
+        first = λ a v. omega (arith, e .first a v);
       }
 
   -- and no others are
