@@ -8,7 +8,7 @@ use native.Mathlib.Omega.{arith}
 use lib.Dec.{ltb, eqb}
 use borrow.Author.Tests.{eqb-false, ltb-false}
 use Rattle.laws.specs.Bools.{and-left}
-use Rattle.laws.specs.Greatest.{Peak, peak-place, peak-same}
+use Rattle.laws.specs.Greatest.{Peak, peak-earliest, peak-same}
 use Rattle.numbers.specs.Limits.{maxWindow}
 use Rattle.numbers.specs.Refusals.{notSound, wrongWindow}
 use Rattle.card.specs.declared.Figures.{Figures}
@@ -17,7 +17,7 @@ use Rattle.round_trip.specs.Legality.{Wide}
 use Rattle.placement.specs.Showing.{Showing, laying}
 use Rattle.pacing.specs.Window.{placesOf, windowTime, worstWindow, windowAt}
 use Rattle.plan.specs.declared.Plan.{Plan}
-use Rattle.plan.specs.Plan.{showingIn, timeOn, placeOf}
+use Rattle.plan.specs.Plan.{showingIn, timeOn, positionOf}
 use Rattle.plan.specs.Answer.{hasNumbers}
 use Rattle.plan.specs.Check.{numbered}
 use Rattle.window.specs.declared.Window.{Window}
@@ -30,12 +30,12 @@ pub worst-is : (x : Showing) (f : Figures) (k P n at w : ℕ) → P ≡ totalPos
     → Peak (rowTime (f .positions) (f .times) (laying x P (f .blocks)) (f .blocks) k) n at w → (w ≡ worstWindowOf x f k) × (at ≡ windowAtOf x f k)
 unfolding worstWindowOf windowAtOf worstWindow windowAt
 worst-is x f k P n at w e d p =
-    let g = windowTime x (timeOn f) (placeOf x f) (f .blocks) k in
+    let g = windowTime x (timeOn f) (positionOf x f) (f .blocks) k in
     let m = placesOf x (f .blocks) k in
     let p₁ = subst (λ (Q : ℕ). Peak (rowTime (f .positions) (f .times) (laying x Q (f .blocks)) (f .blocks) k) n at w) e p in
-    let p₂ = subst (λ (i : ℕ). Peak (rowTime (f .positions) (f .times) (placeOf x f) (f .blocks) k) i at w) d p₁ in
-    let q = peak-same _ g m at w (λ b u. row-window (f .positions) (f .times) (placeOf x f) (f .blocks) x k b u) p₂ in
-    (q .value, peak-place g m at w q)
+    let p₂ = subst (λ (i : ℕ). Peak (rowTime (f .positions) (f .times) (positionOf x f) (f .blocks) k) i at w) d p₁ in
+    let q = peak-same _ g m at w (λ b u. row-window (f .positions) (f .times) (positionOf x f) (f .blocks) x k b u) p₂ in
+    (q .value, peak-earliest g m at w q)
 
 module _ (p : Plan) (ps : List ℕ) (k n : ℕ) (e : n ≡ windowFault p ps k) where
   -- refused

@@ -9,18 +9,18 @@ use Rattle.card.specs.declared.Figures.{Figures}
 use Rattle.placement.specs.Showing.{Showing}
 use Rattle.pacing.specs.Window.{worstWindow, windowAt}
 use Rattle.plan.specs.declared.Plan.{Plan}
-use Rattle.plan.specs.Plan.{showingIn, timeOn, placeOf}
+use Rattle.plan.specs.Plan.{showingIn, timeOn, positionOf}
 use Rattle.plan.specs.Answer.{hasNumbers, hasPositions}
 use Rattle.window.specs.declared.Window.{Window}
 
 module _ (x : Showing) (f : Figures) (k : ℕ) where
   -- the worst time of k successive blocks (T9.2)
   unfoldable pub worstWindowOf : ℕ
-  worstWindowOf = worstWindow x (timeOn f) (placeOf x f) (f .blocks) k
+  worstWindowOf = worstWindow x (timeOn f) (positionOf x f) (f .blocks) k
 
   -- the earliest place where they take it (T9.3)
   unfoldable pub windowAtOf : ℕ
-  windowAtOf = windowAt x (timeOn f) (placeOf x f) (f .blocks) k
+  windowAtOf = windowAt x (timeOn f) (positionOf x f) (f .blocks) k
 
 -- ---- the answer
 

@@ -17,7 +17,7 @@ use Rattle.placement.specs.Showing.{Showing, one, loop}
 use Rattle.pacing.specs.Window.{placesOf, worstWindow, windowAt}
 use Rattle.pacing.specs.WindowLaws.{even-window, two-worst, two-at}
 use Rattle.plan.specs.declared.Plan.{Plan}
-use Rattle.plan.specs.Plan.{showingIn, timeOn, placeOf, worst2Of, worstAtOf, planOf}
+use Rattle.plan.specs.Plan.{showingIn, timeOn, positionOf, worst2Of, worstAtOf, planOf}
 use Rattle.plan.specs.Answer.{hasNumbers}
 use Rattle.plan.specs.Check.{numbers-say}
 use Rattle.window.specs.Window.{worstWindowOf, windowAtOf, isLaid, isOutside, windowFault, refusal, answerBy, windowAnswer}
@@ -65,7 +65,7 @@ module _ (x : Showing) (f : Figures) (k : ℕ) where
   -- an even window takes at most half its blocks times worst2 (T9.7)
   pub even-worst : k % 2 ≡ 0 → worstWindowOf x f k ≤ k / 2 * worst2Of x f
   unfolding worstWindowOf worst2Of
-  even-worst even = even-window (timeOn f) (placeOf x f) (f .blocks) x k even
+  even-worst even = even-window (timeOn f) (positionOf x f) (f .blocks) x k even
 
 -- ---- the answer
 
@@ -93,6 +93,6 @@ two-is-worst2 p ps e =
     let x = showingIn p in
     let f = p .figures in
     let q = numbers-say p (and-left (hasNumbers p) _ e) .2 in (
-      two-worst (timeOn f) (placeOf x f) (f .blocks) x ∙ sym (ap (λ (r : Plan). r .worst2) q),
-      two-at (timeOn f) (placeOf x f) (f .blocks) x ∙ sym (ap (λ (r : Plan). r .worstat) q),
+      two-worst (timeOn f) (positionOf x f) (f .blocks) x ∙ sym (ap (λ (r : Plan). r .worst2) q),
+      two-at (timeOn f) (positionOf x f) (f .blocks) x ∙ sym (ap (λ (r : Plan). r .worstat) q),
     )
