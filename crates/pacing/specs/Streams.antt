@@ -1,9 +1,9 @@
 -- Streams (P4) and buffer (P7), over any overhead of a sweep.
 -- Assumes nothing.
-use Prim.Native.Nat.{ℕ, _+_, _*_, _-_, _≤_, _<_}
+use Prim.Native.Nat.{ℕ, _+_, _*_, _-_, _/_, _≤_, _<_}
 use mathlib.Core.Path.{_≡_, refl}
 use mathlib.Core.Bool.{Bool}
-use native.Mathlib.Nat.{mul-le-mul-left, mul-le-mul-right, le-refl}
+use native.Mathlib.Nat.{mul-le-mul-left, mul-le-mul-right, le-refl, le-div-iff-mul-le, div-lt-iff-lt-mul}
 use native.Mathlib.Omega.{arith}
 use native.Mathlib.Decide.{decLt}
 use lib.Dec.{leb}
@@ -20,9 +20,13 @@ pub overhead-rises : (hop ret j k : ℕ) → j ≤ k → overhead hop ret j ≤ 
 unfolding overhead
 overhead-rises hop ret j k h = omega (arith, mul-le-mul-right hop h)
 
--- the left side of the formula of streams (P4), w being worst2 and over the overhead
+-- the longest that two successive sweeps of n blocks take, w being worst2 and over the overhead
+abbrev pub twoSweeps : ℕ → (ℕ → ℕ) → ℕ → ℕ
+twoSweeps w over n = n * w + 2 * over n
+
+-- the left side of the formula of streams (P4)
 unfoldable pub load : ℕ → ℕ → (ℕ → ℕ) → ℕ → ℕ
-load c w over n = c * (n * w + 2 * over n)
+load c w over n = c * twoSweeps w over n
 
 -- n meets the formula of streams
 abbrev pub fits : ℕ → ℕ → (ℕ → ℕ) → ℕ → ℕ → Bool
@@ -98,6 +102,15 @@ module _ (c w : ℕ) (over : ℕ → ℕ) (B : ℕ) where
   pub tried-down : (n : ℕ) → 0 < n → parts * B < load c w over n → tried c w over B n ≡ tried c w over B (n - 1)
   unfolding tried
   tried-down n p l = greatest-down (fits c w over B) n p (lt-leb (load c w over n) (parts * B) l)
+
+  -- both tests by the time that c leaves, for a loop that forms no product with c
+  pub time-fits : (n : ℕ) → 0 < c → twoSweeps w over n ≤ parts * B / c → load c w over n ≤ parts * B
+  unfolding load
+  time-fits n p l = omega (arith, le-div-iff-mul-le {k = c} {x = twoSweeps w over n} {y = parts * B} p .0 l)
+
+  pub time-passes : (n : ℕ) → 0 < c → parts * B / c < twoSweeps w over n → parts * B < load c w over n
+  unfolding load
+  time-passes n p l = omega (arith, div-lt-iff-lt-mul {k = c} {x = parts * B} {y = twoSweeps w over n} p .0 l)
 
   -- no number is left
   pub tried-none : (n : ℕ) → n ≡ 0 → tried c w over B n ≡ 0

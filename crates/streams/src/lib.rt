@@ -9,7 +9,7 @@ use numbers::units::PARTS;
 ghost use mathlib.Core.Path.{_≡_};
 ghost use Prim.Native.Nat.{_+_, _-_, _*_, _≤_, _<_};
 ghost use Rattle.numbers.specs.Limits.{maxNumber, maxTime, maxStreams};
-ghost use Rattle.pacing.specs.Streams.{overhead, load, streams, bufferOf};
+ghost use Rattle.pacing.specs.Streams.{overhead, twoSweeps, streams, bufferOf};
 ghost use Rattle.streams.specs.Ranges.{Ranges};
 
 // The product of two numbers of 32 bits, made of products of their halves. Every product that may pass 32 bits goes through it.
@@ -27,26 +27,27 @@ pub fn overhead(hop: u32, back: u32, count: u32) -> u32
     count * hop + back
 }
 
-// The left side of the formula of streams: c × (n × worst2 + 2 × overhead).
-pub fn load(rate: u32, worst2: u32, hop: u32, back: u32, n: u32) -> u64
+// The longest that two successive sweeps of n blocks take: n × worst2 + 2 × overhead.
+pub fn two_sweeps(worst2: u32, hop: u32, back: u32, n: u32) -> u32
     requires { ⌜ (Ranges worst2 hop back) × (n ≤ maxStreams) ⌝ }
-    ensures { λ r. ⌜ r ≡ load rate worst2 (overhead hop back) n ⌝ }
+    ensures { λ r. ⌜ r ≡ twoSweeps worst2 (overhead hop back) n ⌝ }
 {
-    product(rate, n * worst2 + 2 * overhead(hop, back, n))
+    n * worst2 + 2 * overhead(hop, back, n)
 }
 
-// The greatest number from 1 to 256 that meets the formula; 0 where none does.
+// The greatest number from 1 to 256 that meets the formula; 0 where none does. c × a time is at most 2,000,000 × B exactly where the time is at
+// most the quotient of the two, so that no try forms a product with c.
 pub fn count_streams(rate: u32, worst2: u32, hop: u32, back: u32, bytes: u32) -> u32
-    requires { ⌜ Ranges worst2 hop back ⌝ }
+    requires { ⌜ (Ranges worst2 hop back) × (0 < rate) ⌝ }
     ensures { λ r. ⌜ r ≡ streams rate worst2 (overhead hop back) bytes ⌝ }
 {
-    let room = product(PARTS, bytes);
+    let room = product(PARTS, bytes) / (rate as u64);
     let mut n: u32 = MAX_STREAMS;
     loop {
         if n == 0 {
             break 0;
         }
-        if load(rate, worst2, hop, back, n) <= room {
+        if (two_sweeps(worst2, hop, back, n) as u64) <= room {
             break n;
         }
         n -= 1;

@@ -1,14 +1,21 @@
-use Prim.Native.Nat.{_≤_}
-use mathlib.Core.Path.{_≡_, sym, _∙_}
+use Prim.Native.Nat.{ℕ, _*_, _/_, _≤_, _<_}
+use mathlib.Core.Path.{_≡_, sym, _∙_, ap}
 use native.Mathlib.Omega.{arith}
 use borrow.Author.Needs.{needs}
 use Rattle.numbers.specs.Limits.{maxStreams}
-use Rattle.pacing.specs.Streams.{overhead, load, streams, tried, tried-all, tried-hit, tried-down, tried-none}
+use Rattle.numbers.specs.Units.{parts}
+use Rattle.pacing.specs.Streams.{overhead, twoSweeps, streams, tried, tried-all, tried-hit, tried-down, tried-none, time-fits, time-passes}
 use Rattle.streams.proofs.count_streams.Statement.{statement}
 use Rattle.streams.proofs.count_streams.Tie as tie
 
+-- every number above n has failed, and room is the time that the rate leaves
+record Tries (rate worst2 hop back bytes room n : ℕ) : Type 0 where
+  few : n ≤ maxStreams
+  left : room ≡ parts * bytes / rate
+  same : tried rate worst2 (overhead hop back) bytes n ≡ streams rate worst2 (overhead hop back) bytes
+
 abbrev Inv-loop : tie.InvT-loop
-Inv-loop rate worst2 hop back bytes room n₀ n = (n ≤ maxStreams) × (tried rate worst2 (overhead hop back) bytes n ≡ streams rate worst2 (overhead hop back) bytes)
+Inv-loop rate worst2 hop back bytes room n₀ n = Tries rate worst2 hop back bytes room n
 
 abbrev μ-loop : tie.MeasureT-loop
 μ-loop rate worst2 hop back bytes room n₀ n = n
@@ -16,11 +23,22 @@ abbrev μ-loop : tie.MeasureT-loop
 product-requires : tie.Need-product-requires Inv-loop μ-loop
 product-requires c κs = search needs
 
-loop-holds : tie.Need-loop-holds Inv-loop μ-loop
-loop-holds c = let a = c .before .args in (omega arith, tried-all (a .rate) (a .worst2) (overhead (a .hop) (a .back)) (a .bytes))
+div-room : tie.Need-div-room Inv-loop μ-loop
+div-room c = c .before .pre .1
 
-load-requires : tie.Need-load-requires Inv-loop μ-loop
-load-requires c κs = (c .before .before .before .pre, omega arith)
+loop-holds : tie.Need-loop-holds Inv-loop μ-loop
+loop-holds c = let a = c .before .args in
+    record {
+      few = omega arith;
+      left = ap (λ (m : ℕ). m / a .rate) (c .product .ensures);
+      same = tried-all (a .rate) (a .worst2) (overhead (a .hop) (a .back)) (a .bytes);
+    }
+
+two-sweeps-requires : tie.Need-two-sweeps-requires Inv-loop μ-loop
+two-sweeps-requires c κs = (c .before .before .before .pre .0, c .before .loop .inv .few)
+
+cast-if2 : tie.Need-cast-if2 Inv-loop μ-loop
+cast-if2 c = search needs
 
 sub-n : tie.Need-sub-n Inv-loop μ-loop
 sub-n c = omega arith
@@ -29,16 +47,28 @@ loop-less : tie.Need-loop-less Inv-loop μ-loop
 loop-less c = omega arith
 
 loop-again : tie.Need-loop-again Inv-loop μ-loop
-loop-again c = let a = c .before .before .before .before .before .args in let l = c .before .before .before .loop in
-    (omega arith, sym (tried-down (a .rate) (a .worst2) (overhead (a .hop) (a .back)) (a .bytes) (l .n) (omega arith) (omega (arith, c .before .before .before .before .product .ensures, c .before .load .ensures))) ∙ l .inv .1)
+loop-again c = let s = c .before .before .before .before .before in
+    let a = s .args in
+    let l = c .before .before .before .loop in
+    let over = overhead (a .hop) (a .back) in
+    let late : parts * a .bytes / a .rate < twoSweeps (a .worst2) over (l .n) = omega (arith, l .inv .left, c .before .two-sweeps .ensures) in
+    record {
+      few = omega (arith, l .inv .few);
+      left = l .inv .left;
+      same = sym (tried-down (a .rate) (a .worst2) over (a .bytes) (l .n) (omega arith) (time-passes (a .rate) (a .worst2) over (a .bytes) (l .n) (s .pre .1) late)) ∙ l .inv .same;
+    }
 
 returns : tie.Need-returns Inv-loop μ-loop
 returns c = let a = c .before .before .before .args in let l = c .before .loop in
-    sym (tried-none (a .rate) (a .worst2) (overhead (a .hop) (a .back)) (a .bytes) (l .n) (c .if1 .taken)) ∙ l .inv .1
+    sym (tried-none (a .rate) (a .worst2) (overhead (a .hop) (a .back)) (a .bytes) (l .n) (c .if1 .taken)) ∙ l .inv .same
 
 returns-2 : tie.Need-returns-2 Inv-loop μ-loop
-returns-2 c = let a = c .before .before .before .before .before .args in let l = c .before .before .before .loop in
-    sym (tried-hit (a .rate) (a .worst2) (overhead (a .hop) (a .back)) (a .bytes) (l .n) (omega arith) (omega (arith, c .before .before .before .before .product .ensures, c .before .load .ensures))) ∙ l .inv .1
+returns-2 c = let s = c .before .before .before .before .before in
+    let a = s .args in
+    let l = c .before .before .before .loop in
+    let over = overhead (a .hop) (a .back) in
+    let soon : twoSweeps (a .worst2) over (l .n) ≤ parts * a .bytes / a .rate = omega (arith, l .inv .left, c .before .two-sweeps .ensures) in
+    sym (tried-hit (a .rate) (a .worst2) over (a .bytes) (l .n) (omega arith) (time-fits (a .rate) (a .worst2) over (a .bytes) (l .n) (s .pre .1) soon)) ∙ l .inv .same
 
 pub count-streams-spec : {M : Type 1} → statement M
 count-streams-spec =
@@ -47,8 +77,10 @@ count-streams-spec =
     Inv-loop
     μ-loop
     product-requires
+    div-room
     loop-holds
-    load-requires
+    two-sweeps-requires
+    cast-if2
     sub-n
     loop-less
     loop-again

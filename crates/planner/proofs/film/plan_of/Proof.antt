@@ -78,7 +78,7 @@ sub-margin c = omega (arith, found c .exact)
 
 count-streams-requires : tie.Need-count-streams-requires
 count-streams-requires c κs = let s = start c in
-    record { pair = omega (arith, found c .pair, worst2-small (shown c) (s .args .t1) (s .pre)); hops = s .pre .hop .1; backs = s .pre .back .1 }
+    (record { pair = omega (arith, found c .pair, worst2-small (shown c) (s .args .t1) (s .pre)); hops = s .pre .hop .1; backs = s .pre .back .1 }, s .pre .rate .0)
 
 buffer-size-requires : tie.Need-buffer-size-requires
 buffer-size-requires c κs = let s = start (c .before) in
