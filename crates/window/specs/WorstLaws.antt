@@ -1,4 +1,4 @@
--- The worst window is the greatest and the earliest, and no other pair of numbers is; and what it is for two blocks.
+-- The worst window is the greatest and the earliest, and no other pair of numbers is; what it is for two blocks; and that a planned film has it.
 -- Assumes nothing.
 use Prim.Native.Nat.{ℕ, _*_, _/_, _%_, _≤_, _<_}
 use mathlib.Core.Path.{_≡_, refl, sym, ap, _∙_}
@@ -6,20 +6,23 @@ use mathlib.Core.Bool.{Bool, true, false, cond, _||_}
 use mathlib.Core.List.{List}
 use native.Mathlib.Omega.{arith}
 use native.Mathlib.Nat.{le-antisymm}
+use lib.ListN.{length}
 use lib.Dec.{ltb, eqb}
 use borrow.Author.Tests.{eqb-false, ltb-false}
-use Rattle.laws.specs.Bools.{and-left}
+use Rattle.laws.specs.Bools.{and-left, and-right, and-both}
 use Rattle.laws.specs.Greatest.{greatestOf, greatestOf-above, greatestOf-least, Earliest, earliest-is, earliest-unique}
 use Rattle.numbers.specs.Limits.{maxWindow}
 use Rattle.numbers.specs.Refusals.{notSound, wrongWindow}
+use Rattle.words.specs.Words.{wordsOf, withWords}
 use Rattle.card.specs.declared.Figures.{Figures}
+use Rattle.card.specs.Card.{Legal}
 use Rattle.placement.specs.Showing.{Showing, one, loop}
 use Rattle.pacing.specs.Window.{placesOf, worstWindow, windowAt}
 use Rattle.pacing.specs.WindowLaws.{even-window, two-worst, two-at}
 use Rattle.plan.specs.declared.Plan.{Plan}
-use Rattle.plan.specs.Plan.{showingIn, timeOn, positionOf, worst2Of, worstAtOf, planOf}
-use Rattle.plan.specs.Answer.{hasNumbers}
-use Rattle.plan.specs.Check.{numbers-say}
+use Rattle.plan.specs.Plan.{showingIn, timeOn, positionOf, worst2Of, worstAtOf, streamsOf, planOf, positionsOf}
+use Rattle.plan.specs.Answer.{hasNumbers, hasPositions, isPlan}
+use Rattle.plan.specs.Check.{numbers-say, plan-passes}
 use Rattle.window.specs.Window.{worstWindowOf, windowAtOf, isLaid, isOutside, windowFault, refusal, answerBy, windowAnswer}
 use Rattle.window.specs.Worst.{IsPlace, windowOf, WorstWindow}
 
@@ -96,3 +99,13 @@ two-is-worst2 p ps e =
       two-worst (timeOn f) (positionOf x f) (f .blocks) x ∙ sym (ap (λ (r : Plan). r .worst2) q),
       two-at (timeOn f) (positionOf x f) (f .blocks) x ∙ sym (ap (λ (r : Plan). r .worstat) q),
     )
+
+-- what the planner leaves of a legal film is of its figures, so 27 alone may come
+pub planned-windows : (x : Showing) (f : Figures) → Legal f → 0 < streamsOf x f → (ps : List ℕ) → f .blocks ≤ length (wordsOf ps) → (k : ℕ)
+    → windowFault (planOf x f) (withWords ps 0 (positionsOf x f)) k ≡ cond (isOutside k (f .blocks)) wrongWindow 0
+unfolding windowFault isLaid isPlan planOf
+planned-windows x f ok fed ps h k =
+    let e = plan-passes x f ok fed ps ps h h in
+    let n = and-left (hasNumbers (planOf x f)) _ e in
+    let q = and-left (hasPositions (planOf x f) (withWords ps 0 (positionsOf x f))) _ (and-right (hasNumbers (planOf x f)) _ e) in
+    rw (and-both n q) refl

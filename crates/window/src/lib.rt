@@ -16,14 +16,17 @@ ghost use mathlib.Core.Path.{_≡_};
 ghost use mathlib.Core.Bool.{true, cond};
 ghost use mathlib.Core.List.{List};
 ghost use Prim.Native.Nat.{ℕ, suc, _*_, _/_, _%_, _≤_, _<_};
+ghost use lib.ListN.{length};
 ghost use Rattle.numbers.specs.Refusals.{notSound, wrongWindow};
+ghost use Rattle.words.specs.Words.{wordsOf, withWords};
 ghost use Rattle.card.specs.declared.Figures.{Figures};
+ghost use Rattle.card.specs.Card.{Legal};
 ghost use Rattle.placement.specs.Showing.{Showing};
 ghost use Rattle.pacing.specs.Film.{Film, Paced, row, span};
 ghost use Rattle.pacing.specs.Window.{placesOf};
 ghost use Rattle.plan.specs.declared.Plan.{Plan};
-ghost use Rattle.plan.specs.Plan.{showingOf, showingIn, worst2Of};
-ghost use Rattle.window.specs.Window.{worstWindowOf, windowAtOf, isLaid, isOutside, refusal, windowAnswer};
+ghost use Rattle.plan.specs.Plan.{showingOf, showingIn, worst2Of, streamsOf, planOf, positionsOf};
+ghost use Rattle.window.specs.Window.{worstWindowOf, windowAtOf, isLaid, isOutside, windowFault, refusal, windowAnswer};
 ghost use Rattle.window.specs.Worst.{WorstWindow};
 
 // The answer: any k successive blocks are read in at most `time` microseconds, and those from block `first` on take it, the earliest where
@@ -157,4 +160,10 @@ pub fn even_window_within()
 pub fn window_of_two_is_worst2()
     ensures { λ _. ⌜ ((p : Plan) (ps : List ℕ) → isLaid p ps ≡ true
         → (worstWindowOf (showingIn p) (p .figures) 2 ≡ p .worst2) × (windowAtOf (showingIn p) (p .figures) 2 ≡ p .worstat)) ⌝ }
+{}
+
+// What the planner leaves of a legal film is never 14, in either showing, and each window that is in range is accepted.
+pub fn planned_film_has_windows()
+    ensures { λ _. ⌜ ((x : Showing) (f : Figures) → Legal f → 0 < streamsOf x f → (ps : List ℕ) → f .blocks ≤ length (wordsOf ps) → (k : ℕ)
+        → windowFault (planOf x f) (withWords ps 0 (positionsOf x f)) k ≡ cond (isOutside k (f .blocks)) wrongWindow 0) ⌝ }
 {}
