@@ -2,7 +2,6 @@
 mod rows; // the worst row of blocks
 
 use crate::rows::worst_row;
-use block_lists::same_positions;
 use card::Verdict;
 use numbers::limits::MAX_WINDOW;
 use numbers::refusals::ACCEPTED;
@@ -10,7 +9,7 @@ use numbers::refusals::NOT_SOUND;
 use numbers::refusals::WRONG_WINDOW;
 use numbers::showings::LOOP;
 use plan::Plan;
-use planner::has_numbers;
+use planner::is_laid;
 use zones::sum_positions;
 ghost use mathlib.Core.Path.{_≡_};
 ghost use mathlib.Core.Bool.{true, cond};
@@ -51,17 +50,6 @@ pub fn refused(number: u32) -> Window
         first: 0,
         bytes: 0,
     }
-}
-
-// Are this plan and positions list of the plan's figures, in the showing that it names?
-fn is_laid(plan: Plan, positions: &[u8]) -> bool
-    ensures { λ r. ⌜ r ≡ isLaid plan (now (positions .entry)) ⌝ }
-{
-    if !has_numbers(plan) {
-        return false;
-    }
-    let total = sum_positions(&plan.figures.positions, plan.figures.zones);
-    same_positions(plan.showing, total, plan.figures.blocks, positions)
 }
 
 // Is a window of so many blocks out of range?

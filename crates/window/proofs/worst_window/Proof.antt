@@ -9,7 +9,7 @@ use Rattle.plan.specs.Legal.{legal-zoned, total-zones}
 use Rattle.plan.specs.Plan.{showingIn}
 use Rattle.plan.specs.Ways.{film-on}
 use borrow.Author.Needs.{needs}
-use Rattle.window.specs.Window.{windowFault}
+use Rattle.window.specs.Window.{isLaid, windowFault}
 use Rattle.window.proofs.Ways.{worst-is, refused-by, answered, Accepted, accepted, laid-legal}
 use Rattle.window.proofs.worst_window.Statement.{statement}
 use Rattle.window.proofs.worst_window.Tie as tie
@@ -22,7 +22,7 @@ start c = c .before .before .before .before
 
 -- the number of the refusal
 judged : (c : tie.After-fault) → (let a = start c .args in c .fault .result ≡ windowFault (a .t1) (a .positions .now) (a .count))
-unfolding windowFault
+unfolding windowFault isLaid
 judged c = c .fault .ensures ∙ ap₂ (λ (x y : Bool). cond x (cond y wrongWindow 0) notSound) (c .before .before .is-laid .ensures) (c .before .is-outside .ensures)
 
 -- past the refusals
