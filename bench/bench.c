@@ -269,6 +269,21 @@ static void measure_loops(void)
     }
 }
 
+/* Windows of one showing and of a loop. */
+static void measure_windows(void)
+{
+    static const uint32_t windows[] = { 2, 64 };
+    head("Windows (7 zones, 16 streams)");
+    EACH(blocks, sizes) EACH(window, windows) {
+        uint32_t expected = *window <= *blocks ? FILMDISK_ACCEPTED : FILMDISK_REFUSED_WINDOW;
+        input.window = *window;
+        make_film(&input, *blocks, 7, 16);
+        measure(call_window, false, expected, "once, N %u, %u blocks", *blocks, *window);
+        make_loop(&input, *blocks, 7, 16);
+        measure(call_window, false, expected, "loop, N %u, %u blocks", *blocks, *window);
+    }
+}
+
 /* How cost grows with one of N, zones and streams, the others fixed. */
 static void measure_growth(void)
 {
@@ -325,6 +340,7 @@ static void print_stacks(void)
     print_stack("leave", call_leave, FILMDISK_BETWEEN, 256);
     print_stack("begin", call_begin, FILMDISK_BETWEEN, 256);
     print_stack("end", call_end, FILMDISK_SWEEPING, 256);
+    print_stack("window", call_window, FILMDISK_BETWEEN, 0);
 }
 
 int main(void)
@@ -338,6 +354,7 @@ int main(void)
     measure_joins();
     measure_sweeps();
     measure_loops();
+    measure_windows();
     measure_growth();
     print_stacks();
     printf("\n%d rows, %d above 1.1 x C\n", rows, missed);

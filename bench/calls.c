@@ -46,3 +46,13 @@ filmdisk_answer call_end(const struct twin *t, const struct input *in, struct st
     return t->end(s->desks[i], sizeof s->desks[i], in->positions, in->list_len, in->leads, in->list_len, in->draws,
                   in->draws_len);
 }
+
+filmdisk_answer call_window(const struct twin *t, const struct input *in, struct strings *s, size_t i)
+{
+    filmdisk_window_answer w = t->window(in->plan, sizeof in->plan, in->positions, in->list_len, in->window);
+    (void)i;
+    s->window[0] = w.time;
+    s->window[1] = w.first;
+    s->window[2] = w.bytes;
+    return (filmdisk_answer){ .number = w.number, .place = w.place };
+}

@@ -15,6 +15,7 @@ struct input {
     uint8_t desk[FILMDISK_DESK_BYTES];
     uint8_t draws[FILMDISK_MAX_STREAMS * FILMDISK_ENTRY_BYTES];
     size_t draws_len;
+    uint32_t window; /* blocks of a window */
 };
 
 /* A film over all zones of a disk, its rate the greatest that feeds so many streams; its plan, lists and an open desk. */

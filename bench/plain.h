@@ -18,7 +18,9 @@
     filmdisk_answer prefix##_begin(uint8_t *desk, size_t desk_len, const uint8_t *positions, size_t positions_len, \
                                    const uint8_t *leads, size_t leads_len, uint8_t *fetches, size_t fetches_len); \
     filmdisk_answer prefix##_end(uint8_t *desk, size_t desk_len, const uint8_t *positions, size_t positions_len, \
-                                 const uint8_t *leads, size_t leads_len, const uint8_t *draws, size_t draws_len);
+                                 const uint8_t *leads, size_t leads_len, const uint8_t *draws, size_t draws_len); \
+    filmdisk_window_answer prefix##_window(const uint8_t *plan, size_t plan_len, const uint8_t *positions, size_t positions_len, \
+                                           uint32_t blocks);
 
 DECLARE_TWIN(plain)
 

@@ -10,7 +10,7 @@ DECLARE_TWIN(plain1)
 DECLARE_TWIN(plain2)
 
 #define TWIN(prefix) \
-    { prefix##_plan, prefix##_plan_loop, prefix##_open, prefix##_join, prefix##_leave, prefix##_begin, prefix##_end }
+    { prefix##_plan, prefix##_plan_loop, prefix##_open, prefix##_join, prefix##_leave, prefix##_begin, prefix##_end, prefix##_window }
 
 const struct twin twins[TWINS][COPIES] = {
     { TWIN(library0), TWIN(library1), TWIN(library2) },

@@ -20,6 +20,7 @@ struct twin {
     filmdisk_answer (*leave)(uint8_t *, size_t, const uint8_t *, size_t, const uint8_t *, size_t, uint32_t);
     filmdisk_answer (*begin)(uint8_t *, size_t, const uint8_t *, size_t, const uint8_t *, size_t, uint8_t *, size_t);
     filmdisk_answer (*end)(uint8_t *, size_t, const uint8_t *, size_t, const uint8_t *, size_t, const uint8_t *, size_t);
+    filmdisk_window_answer (*window)(const uint8_t *, size_t, const uint8_t *, size_t, uint32_t);
 };
 
 extern const struct twin twins[TWINS][COPIES];

@@ -13,7 +13,7 @@
  * only read, such as the lists of several desks, may be lent to several calls at a time.
  *
  * Cost: each call on a desk judges its plan and both lists anew, so its time grows with N (docs/BENCH.md: about 2 microseconds at
- * N 1,000, about 25 at N 16,384).
+ * N 1,000, about 25 at N 16,384). So does that of a window.
  *
  * Memory: the stack alone, for each call at most FILMDISK_STACK_ bytes below the caller's frame.
  */
@@ -27,9 +27,9 @@
 extern "C" {
 #endif
 
-#define FILMDISK_VERSION "0.4.0"
+#define FILMDISK_VERSION "0.5.0"
 #define FILMDISK_VERSION_MAJOR 0
-#define FILMDISK_VERSION_MINOR 4
+#define FILMDISK_VERSION_MINOR 5
 #define FILMDISK_VERSION_PATCH 0
 
 /* Limits. */
@@ -37,6 +37,7 @@ extern "C" {
 #define FILMDISK_MAX_ZONES 64
 #define FILMDISK_MAX_BLOCKS 16384
 #define FILMDISK_MAX_STREAMS 256
+#define FILMDISK_MAX_WINDOW 64 /* blocks of a window */
 
 /* The words of a plan, one after the other. */
 enum filmdisk_plan_word {
@@ -79,6 +80,7 @@ enum filmdisk_fetch_word { FILMDISK_FETCH_POSITION, FILMDISK_FETCH_SLOT, FILMDIS
 /* Stack in bytes that a call takes below the caller's frame, at most. */
 #define FILMDISK_STACK_PLAN 4800
 #define FILMDISK_STACK_PLAN_LOOP 4800
+#define FILMDISK_STACK_WINDOW 5300
 #define FILMDISK_STACK_OPEN 8300
 #define FILMDISK_STACK_JOIN 9000
 #define FILMDISK_STACK_LEAVE 9000
@@ -124,16 +126,29 @@ enum filmdisk_number {
     FILMDISK_REFUSED_DRAW_COUNT = 19,
     FILMDISK_REFUSED_DRAW_ABOVE_LIMIT = 20, /* 20 and 21, place: lowest such slot */
     FILMDISK_REFUSED_DRAW_ABOVE_HELD = 21,
-    FILMDISK_REFUSED_ZONE_TIME_HALF_DEAD = 26 /* place: offset of the number in the card */
+    FILMDISK_REFUSED_ZONE_TIME_HALF_DEAD = 26, /* place: offset of the number in the card */
+    FILMDISK_REFUSED_WINDOW = 27
 };
 
-/* The answer of every call. Refused: number and place, the rest 0. Accepted: number and place 0. */
+/* The answer of every call but that of windows. Refused: number and place, the rest 0. Accepted: number and place 0. */
 typedef struct filmdisk_answer {
     uint32_t number; /* 0, or why the call is refused */
     size_t place;
     uint32_t count;  /* begin: fetch entries written */
     uint32_t bound;  /* begin: sweep bound in microseconds */
 } filmdisk_answer;
+
+/*
+ * The answer of filmdisk_window: any window of so many blocks is read in at most `time`, so `bytes` in that time are guaranteed. Refused:
+ * number and place, the rest 0.
+ */
+typedef struct filmdisk_window_answer {
+    uint32_t number; /* 0, or why the call is refused */
+    size_t place;
+    uint32_t time;   /* the worst time of the window's blocks, in microseconds */
+    uint32_t first;  /* the first of the blocks that take it, the earliest where several windows do */
+    uint32_t bytes;  /* the window's bytes: its blocks times B */
+} filmdisk_window_answer;
 
 /* A number's meaning in plain words. */
 static inline const char *filmdisk_meaning(uint32_t number)
@@ -164,6 +179,8 @@ static inline const char *filmdisk_meaning(uint32_t number)
     };
     if (number == FILMDISK_REFUSED_ZONE_TIME_HALF_DEAD)
         return "zone time, times three, below the first zone's time";
+    if (number == FILMDISK_REFUSED_WINDOW)
+        return "window of 0 blocks, above 64 or above the film's";
     return number < sizeof meanings / sizeof meanings[0] ? meanings[number] : "no such number";
 }
 
@@ -255,6 +272,14 @@ filmdisk_answer filmdisk_plan_loop(const uint8_t *card, size_t card_len,
                                    uint8_t *plan, size_t plan_len,
                                    uint8_t *positions, size_t positions_len,
                                    uint8_t *leads, size_t leads_len);
+
+/*
+ * The worst time that `blocks` successive blocks of either plan take, and where; in a loop the first block follows the last. Writes nothing.
+ * Of positions the first N entries are read. Refusals 14, 27.
+ */
+filmdisk_window_answer filmdisk_window(const uint8_t *plan, size_t plan_len,
+                                       const uint8_t *positions, size_t positions_len,
+                                       uint32_t blocks);
 
 /* Opens a desk of either plan and its lists, between sweeps, all slots free: writes the whole desk. Refusals 14, 13. */
 filmdisk_answer filmdisk_open(const uint8_t *plan, size_t plan_len,

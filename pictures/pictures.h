@@ -1,4 +1,4 @@
-/* The four pictures; each is drawn from calls of the library alone. */
+/* The five pictures; each is drawn from calls of the library alone. */
 #ifndef PICTURES_PICTURES_H
 #define PICTURES_PICTURES_H
 
@@ -7,6 +7,7 @@
 void draw_evening(FILE *out);
 void draw_plan(FILE *out);
 void draw_loop(FILE *out);
+void draw_rates(FILE *out);
 void draw_compare(FILE *out);
 
 #endif

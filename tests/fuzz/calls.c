@@ -33,12 +33,13 @@ struct interface {
     __typeof__(filmdisk_leave) *leave;
     __typeof__(filmdisk_begin) *begin;
     __typeof__(filmdisk_end) *end;
+    __typeof__(filmdisk_window) *window;
 };
 
 static const struct interface library = {filmdisk_plan,  filmdisk_plan_loop, filmdisk_open, filmdisk_join,
-                                         filmdisk_leave, filmdisk_begin,     filmdisk_end};
+                                         filmdisk_leave, filmdisk_begin,     filmdisk_end,  filmdisk_window};
 static const struct interface twin = {plain_plan,  plain_plan_loop, plain_open, plain_join,
-                                      plain_leave, plain_begin,     plain_end};
+                                      plain_leave, plain_begin,     plain_end,  plain_window};
 
 static uint8_t contents[STRINGS][MOST_BYTES];
 static size_t lengths[STRINGS];
@@ -93,11 +94,17 @@ static void differ(const struct call *call, const char *words, size_t which)
     abort();
 }
 
+/* Lends all strings to the library. */
+static void lend_all(uint8_t **strings, int edge)
+{
+    for (size_t i = 0; i < STRINGS; i++)
+        strings[i] = guarded_lend(&lent[i], contents[i], lengths[i], edge);
+}
+
 static filmdisk_answer call_library(const struct call *call, int edge)
 {
     uint8_t *strings[STRINGS];
-    for (size_t i = 0; i < STRINGS; i++)
-        strings[i] = guarded_lend(&lent[i], contents[i], lengths[i], edge);
+    lend_all(strings, edge);
     filmdisk_answer answer = make(&library, call, strings);
     for (size_t i = 0; i < STRINGS; i++)
         if (!guarded_beside_kept(&lent[i]))
@@ -128,6 +135,26 @@ static filmdisk_answer call_both(enum sort sort, uint32_t slot, uint32_t block)
         if (lengths[i] > 0 && memcmp(lent[i].bytes, contents[i], lengths[i]) != 0)
             differ(&call, "other contents", i);
     return got;
+}
+
+/* The window of the plan and its positions, or of the plan that the desk begins with. Neither writes a byte. */
+static void window_both(enum lent plan, uint32_t blocks)
+{
+    const size_t length = plan == DESK && lengths[DESK] > FILMDISK_PLAN_BYTES ? FILMDISK_PLAN_BYTES : lengths[plan];
+    uint8_t *s[STRINGS];
+    lend_all(s, (int)(blocks + input_left) & 1);
+    guarded_seal(&lent[plan], 1);
+    guarded_seal(&lent[POSITIONS], 1);
+    filmdisk_window_answer got = library.window(s[plan], length, s[POSITIONS], lengths[POSITIONS], blocks);
+    guarded_seal(&lent[plan], 0);
+    guarded_seal(&lent[POSITIONS], 0);
+    filmdisk_window_answer wanted = twin.window(contents[plan], length, contents[POSITIONS], lengths[POSITIONS], blocks);
+    if (got.number == wanted.number && got.place == wanted.place && got.time == wanted.time && got.first == wanted.first &&
+        got.bytes == wanted.bytes)
+        return;
+    fprintf(stderr, "window of %u blocks: library %u at %zu, %u, %u, %u; twin %u at %zu, %u, %u, %u\n", blocks, got.number, got.place,
+            got.time, got.first, got.bytes, wanted.number, wanted.place, wanted.time, wanted.first, wanted.bytes);
+    abort();
 }
 
 /* Inputs as calls. */
@@ -266,8 +293,12 @@ static void set_slot(void)
 
 static void take_call(void)
 {
-    uint32_t slot, all, one;
-    switch (take() % 12) {
+    uint32_t slot, all, one, choice = take();
+    if (choice >= 240) {
+        window_both(DESK, take_number());
+        return;
+    }
+    switch (choice % 12) {
     case 0:
     case 1:
         slot = take_number();
@@ -344,8 +375,10 @@ int LLVMFuzzerTestOneInput(const uint8_t *data, size_t size)
         return 0;
     size_t list_bytes = (size_t)word(PLAN, FILMDISK_PLAN_BLOCKS) * FILMDISK_ENTRY_BYTES;
     lengths[POSITIONS] = lengths[LEADS] = list_bytes;
-    for (uint32_t more = take(); more >= 200; more = take())
+    uint32_t more = take();
+    for (; more >= 200; more = take())
         damage_plan(more);
+    window_both(PLAN, more % 70);
     if (call_both(CALL_OPEN, 0, 0).number == 0)
         run_desk();
     return 0;

@@ -876,17 +876,24 @@ static void draw_limits_of_a_sweep(void)
     expect(host_end(), 0, 0);
 }
 
+/* Numbers that a call may answer: document 01's, and of document 02's some. */
+static int is_number(uint32_t number)
+{
+    return number <= FILMDISK_REFUSED_DRAW_ABOVE_HELD || number == FILMDISK_REFUSED_ZONE_TIME_HALF_DEAD || number == FILMDISK_REFUSED_WINDOW;
+}
+
 static void a_meaning_for_each_number(void)
 {
-    for (uint32_t number = 0; number <= FILMDISK_REFUSED_DRAW_ABOVE_HELD; number++)
-        for (uint32_t other = 0; other < number; other++)
+    for (uint32_t number = 0; number <= 40; number++) {
+        const int has_meaning = strcmp(filmdisk_meaning(number), "no such number") != 0;
+        check(has_meaning == is_number(number), "%u has a meaning: expected %d, got %d", number, is_number(number), has_meaning);
+        for (uint32_t other = 0; other < number && is_number(number); other++)
             check(strcmp(filmdisk_meaning(number), filmdisk_meaning(other)) != 0, "%u and %u mean the same", other, number);
+    }
     check(strcmp(filmdisk_meaning(FILMDISK_REFUSED_DRAW_ABOVE_HELD), "draw above held") == 0, "21 is the last of document 01");
     check(strcmp(filmdisk_meaning(FILMDISK_REFUSED_ZONE_TIME_HALF_DEAD), "zone time, times three, below the first zone's time") == 0,
           "26 is a zone time");
-    for (uint32_t number = FILMDISK_REFUSED_DRAW_ABOVE_HELD + 1; number <= FILMDISK_REFUSED_ZONE_TIME_HALF_DEAD + 1; number++)
-        if (number != FILMDISK_REFUSED_ZONE_TIME_HALF_DEAD)
-            check(strcmp(filmdisk_meaning(number), "no such number") == 0, "%u is none", number);
+    check(FILMDISK_REFUSED_WINDOW == 27, "27 is a window");
 }
 
 static const test tests[] = {

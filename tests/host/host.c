@@ -359,12 +359,40 @@ filmdisk_answer host_begin(void)
     return answer;
 }
 
+/* A window writes nothing. */
+filmdisk_window_answer host_window(uint32_t blocks)
+{
+    before_call(0);
+    filmdisk_window_answer answer = filmdisk_window(LENT(PLAN), LENT(POSITIONS), blocks);
+    after_call();
+    check_others_kept(0);
+    return answer;
+}
+
 void expect(filmdisk_answer answer, uint32_t number, size_t place)
 {
     check(answer.number == number && answer.place == place, "expected %u (%s) at %zu, got %u (%s) at %zu", number,
           filmdisk_meaning(number), place, answer.number, filmdisk_meaning(answer.number), answer.place);
     if (number != 0)
         check(answer.count == 0 && answer.bound == 0, "a refused answer has count %u, bound %u", answer.count, answer.bound);
+}
+
+/* All parts of a window's answer. */
+static void expect_parts(filmdisk_window_answer got, uint32_t number, uint32_t time, uint32_t first, uint32_t bytes)
+{
+    check(got.number == number && got.place == 0 && got.time == time && got.first == first && got.bytes == bytes,
+          "expected %u (%s) at 0, time %u, first %u, bytes %u; got %u (%s) at %zu, %u, %u, %u", number, filmdisk_meaning(number), time,
+          first, bytes, got.number, filmdisk_meaning(got.number), got.place, got.time, got.first, got.bytes);
+}
+
+void expect_window(filmdisk_window_answer answer, uint32_t time, uint32_t first, uint32_t bytes)
+{
+    expect_parts(answer, 0, time, first, bytes);
+}
+
+void expect_no_window(filmdisk_window_answer answer, uint32_t number)
+{
+    expect_parts(answer, number, 0, 0, 0);
 }
 
 void expect_slot(uint32_t slot, uint32_t its_kind, uint32_t its_next, uint32_t its_held)

@@ -63,9 +63,14 @@ filmdisk_answer host_join(uint32_t slot, uint32_t block);
 filmdisk_answer host_leave(uint32_t slot);
 filmdisk_answer host_begin(void);
 filmdisk_answer host_end(void);
+filmdisk_window_answer host_window(uint32_t blocks);
 
 /* Number and place of an answer; the rest of a refused one is 0. */
 void expect(filmdisk_answer answer, uint32_t number, size_t place);
+
+/* An accepted window, and a refused one. */
+void expect_window(filmdisk_window_answer answer, uint32_t time, uint32_t first, uint32_t bytes);
+void expect_no_window(filmdisk_window_answer answer, uint32_t number);
 
 /* Words of a string from its word `first` on; the words of a slot, and setting them. */
 void expect_words(enum lent which, size_t first, const uint32_t *words, size_t count);

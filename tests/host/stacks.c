@@ -42,6 +42,12 @@ static void call_end(void)
     answer = filmdisk_end(LENT(DESK), LENT(POSITIONS), LENT(LEADS), LENT(DRAWS));
 }
 
+static void call_window(void)
+{
+    const filmdisk_window_answer window = filmdisk_window(LENT(PLAN), LENT(POSITIONS), 2);
+    answer = (filmdisk_answer){.number = window.number, .place = window.place};
+}
+
 /* The accepted call takes no more than the header says, and not less than half of it. */
 static void expect_stack(void (*call)(void), size_t most)
 {
@@ -101,12 +107,21 @@ static void stack_of_begin_and_end(void)
     }
 }
 
+static void stack_of_window(void)
+{
+    for (size_t i = 0; i < COUNT(planners); i++) {
+        open_bench(planners[i]);
+        expect_stack(call_window, FILMDISK_STACK_WINDOW);
+    }
+}
+
 static const test tests[] = {
     TEST(stack_of_plan),
     TEST(stack_of_plan_loop),
     TEST(stack_of_open),
     TEST(stack_of_join_and_leave),
     TEST(stack_of_begin_and_end),
+    TEST(stack_of_window),
 };
 
 int main(int argc, char **argv)

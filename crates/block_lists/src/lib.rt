@@ -5,6 +5,7 @@ use words::put_word;
 use words::word_at;
 use zones::position_of;
 use zones::set_out;
+use zones::side;
 use zones::walk_on;
 ghost use mathlib.Core.Path.{_≡_};
 ghost use mathlib.Core.Bool.{_&&_};
@@ -30,16 +31,6 @@ pub fn write_positions(showing: u32, total: u32, blocks: u32, positions: &mut [u
         put_word(positions, entry, position_of(showing, total, blocks, b));
         b += 1;
     }
-}
-
-// The first of two for an even number, the second for an odd one.
-fn side(b: u32, even: u32, odd: u32) -> u32
-    ensures { λ r. ⌜ r ≡ sideOf even odd b ⌝ }
-{
-    if b % 2 == 0 {
-        return even;
-    }
-    odd
 }
 
 // Writes a run of entries, alike for all even and for all odd numbers.

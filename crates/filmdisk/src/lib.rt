@@ -1,9 +1,11 @@
 // The planner and the desk for C: numbers and byte strings, whose layouts docs/LAYOUT.md fixes. Strings lent to one call share no byte.
 use layout::FilmdiskAnswer;
+use layout::FilmdiskWindowAnswer;
 ghost use mathlib.Core.Path.{_≡_};
 ghost use Rattle.placement.specs.Showing.{one, loop};
 ghost use Rattle.plan_strings.specs.Calls.{planAnswer, planString, positionsString, leadsString};
 ghost use Rattle.desk_strings.specs.Calls.{openAnswer, openString, joinAnswer, joinString, leaveAnswer, leaveString, beginAnswer, beginString, fetchString, endAnswer, endString};
+ghost use Rattle.window_strings.specs.Calls.{windowCall};
 
 // Plans a card for one showing: 1 to 11 and 26, then 13, then 12.
 #[no_mangle]
@@ -35,6 +37,18 @@ pub extern "C" fn filmdisk_plan_loop(
         × (now (leads .exit) ≡ leadsString loop (now (card .entry)) (now (plan .entry)) (now (positions .entry)) (now (leads .entry))) ⌝ }
 {
     plan_strings::plan_loop(card, plan, positions, leads)
+}
+
+// The worst time of so many successive blocks of a plan with its positions list: 14, then 27.
+#[no_mangle]
+pub extern "C" fn filmdisk_window(
+    plan: &[u8],
+    positions: &[u8],
+    blocks: u32,
+) -> FilmdiskWindowAnswer
+    ensures { λ r. ⌜ r ≡ windowCall (now (plan .entry)) (now (positions .entry)) blocks ⌝ }
+{
+    window_strings::worst_window(plan, positions, blocks)
 }
 
 // Opens a desk of a plan and its lists: 14, then 13.

@@ -25,9 +25,9 @@ ghost use Rattle.layout.specs.Fields.{wordCount, unpacked, Same};
 ghost use Rattle.layout.specs.Layout.{figureFields, figureValues, plannedFields, plannedValues, planWords, planIn, planWordCount, planSize, slotFields, slotValues, deskWords, deskIn, deskWordCount, deskSize, withKinds};
 ghost use Rattle.layout.specs.Entries.{rows, listOf};
 ghost use Rattle.layout.specs.RoundTrip.{PlanSized, DeskSized};
-ghost use Rattle.layout.specs.Answers.{verdictAnswer};
+ghost use Rattle.layout.specs.Answers.{verdictAnswer, windowAnswerOf};
 
-// The answer of every call from C: document 01's refusal number and what is returned with it, and what a begin answers. All zero but
+// The answer of every call from C but that of windows: document 01's refusal number and what is returned with it, and what a begin answers. All zero but
 // for what the call says.
 #[repr(C)]
 pub struct FilmdiskAnswer {
@@ -39,6 +39,19 @@ pub struct FilmdiskAnswer {
     pub bound: u32,
 }
 
+// The answer of the window call: refused, number and place, the rest 0.
+#[repr(C)]
+pub struct FilmdiskWindowAnswer {
+    pub number: u32,
+    pub place: usize,
+    // The worst time of the window's blocks, in microseconds.
+    pub time: u32,
+    // The first of the blocks that take it, the earliest where several do.
+    pub first: u32,
+    // The window's bytes, which are guaranteed in that time.
+    pub bytes: u32,
+}
+
 // An answer with no count and no bound.
 pub fn verdict_answer(verdict: Verdict) -> FilmdiskAnswer
     ensures { λ r. ⌜ r ≡ verdictAnswer verdict ⌝ }
@@ -48,6 +61,19 @@ pub fn verdict_answer(verdict: Verdict) -> FilmdiskAnswer
         place: verdict.place,
         count: 0,
         bound: 0,
+    }
+}
+
+// The answer of a window call.
+pub fn window_answer(verdict: Verdict, time: u32, first: u32, bytes: u32) -> FilmdiskWindowAnswer
+    ensures { λ r. ⌜ r ≡ windowAnswerOf verdict time first bytes ⌝ }
+{
+    FilmdiskWindowAnswer {
+        number: verdict.number,
+        place: verdict.place,
+        time: time,
+        first: first,
+        bytes: bytes,
     }
 }
 

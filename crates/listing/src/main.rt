@@ -1,14 +1,14 @@
 // Reads a card from standard input and prints its plan, with the argument `loop` its plan as a loop: five named figures, then the position, time
 // and lead of each block.
-mod line; // lines of text
-
-use crate::line::empty;
-use crate::line::print;
-use crate::line::put_next;
-use crate::line::put_number;
-use crate::line::put_text;
-use card::Verdict;
 use libc::STDIN_FILENO;
+use lines::asks_loop;
+use lines::empty;
+use lines::has_more_arguments;
+use lines::print;
+use lines::print_refusal;
+use lines::put_next;
+use lines::put_number;
+use lines::put_text;
 use plan::Plan;
 use plan::Planned;
 use planner::plan_card;
@@ -28,11 +28,6 @@ fn print_figures(plan: Plan) {
     print_figure(b"worst2", plan.worst2);
     print_figure(b"worstat", plan.worstat);
     print_figure(b"margin", plan.margin);
-}
-
-fn print_refusal(verdict: Verdict) {
-    let number = put_next(put_text(empty(), b"refused"), verdict.number as u64);
-    print(put_next(put_text(number, b" at"), verdict.place as u64));
 }
 
 // The line of block b: its number, position, time and lead.
@@ -86,40 +81,10 @@ fn list(looped: bool, card: &[u8]) {
     print_blocks(plan, &positions, &leads);
 }
 
-// Are two strings the same?
-fn same(a: &[u8], b: &[u8]) -> bool {
-    if a.len() != b.len() {
-        return false;
-    }
-    let mut i: usize = 0;
-    while i < a.len() {
-        if a[i] != b[i] {
-            return false;
-        }
-        i += 1;
-    }
-    true
-}
-
-// Is the first argument `loop`? A longer one than fits is read as none.
-fn asks_loop() -> bool {
-    let mut word = [0u8; 8];
-    let length = os::arg(1, &mut word);
-    same(&word[..length], b"loop")
-}
-
-// How many arguments such a listing has at most, the program's name among them.
-fn most_arguments(looped: bool) -> usize {
-    if looped {
-        return 2;
-    }
-    1
-}
-
 // Every refusal of a card is decided within its first 512 bytes, so what is read is enough of any input.
 fn main() {
     let looped = asks_loop();
-    if most_arguments(looped) < os::arg_count() {
+    if has_more_arguments(looped) {
         print(put_text(empty(), b"usage: listing [loop]"));
         return;
     }

@@ -50,3 +50,7 @@ maxMove = 1000000
 -- n, and the slots of a desk
 abbrev pub maxStreams : ℕ
 maxStreams = 256
+
+-- k, the blocks of a window (document 02, ticket 9)
+abbrev pub maxWindow : ℕ
+maxWindow = 64

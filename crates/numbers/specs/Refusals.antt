@@ -88,3 +88,7 @@ drawAboveHeld = 21
 -- zone time, times three, below the first zone's (document 02, ticket 8)
 abbrev pub halfDeadTime : ℕ
 halfDeadTime = 26
+
+-- window of 0 blocks, above 64 or above N (document 02, ticket 9)
+abbrev pub wrongWindow : ℕ
+wrongWindow = 27

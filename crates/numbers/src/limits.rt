@@ -35,3 +35,6 @@ pub const MAX_MOVE: u32 = 1000000;
 
 // n, and the slots of a desk.
 pub const MAX_STREAMS: u32 = 256;
+
+// Blocks of a window.
+pub const MAX_WINDOW: u32 = 64;

@@ -48,3 +48,6 @@ pub const DRAW_ABOVE_HELD: u32 = 21;
 
 // Cards, by document 02.
 pub const HALF_DEAD_TIME: u32 = 26;
+
+// Windows, by document 02.
+pub const WRONG_WINDOW: u32 = 27;

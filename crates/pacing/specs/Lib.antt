@@ -3,3 +3,5 @@ pub mod Lead
 pub mod Shown
 pub mod Streams
 pub mod Laid
+pub mod Window
+pub mod WindowLaws

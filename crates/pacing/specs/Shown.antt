@@ -1,21 +1,35 @@
 -- Films in either showing, by the numbers of their blocks: what paces them, and their leads.
 -- Assumes nothing.
-use Prim.Native.Nat.{ℕ, suc, _+_, _*_, _-_, _≤_, _<_}
-use mathlib.Core.Path.{_≡_}
+use Prim.Native.Nat.{ℕ, zero, suc, _+_, _*_, _-_, _≤_, _<_}
+use mathlib.Core.Path.{_≡_, refl}
+use mathlib.Core.Bool.{true}
 use mathlib.Core.Logic.{by-cases}
 use native.Mathlib.Omega.{arith}
 use native.Mathlib.Decide.{decLt}
 use borrow.Author.Tests.{ltb-true, lt-ltb, le-ltb, eqb-false}
+use Rattle.laws.specs.Bools.{and-both}
 use Rattle.placement.specs.Circle.{round}
 use Rattle.placement.specs.CircleBest.{round-last, round-next}
 use Rattle.placement.specs.Showing.{Showing, one, loop, after}
-use Rattle.pacing.specs.Film.{Paced, lead, shown}
+use Rattle.pacing.specs.Film.{Paced, row, lead, shown}
 use Rattle.pacing.specs.Lead.{lead-none, lead-closed}
 
 pub round-below : (N b : ℕ) → b < N → round N b < N
 round-below N b u = by-cases (decLt (suc b) N) (λ h. omega (arith, round-next N b h)) (λ h. omega (arith, round-last N b (omega arith)))
 
 module _ (N : ℕ) (time position : ℕ → ℕ) where
+  -- blocks in a row up to the film's end are its blocks
+  pub once-in : (j b : ℕ) → b + j ≤ N → row (shown one N time position) j b ≡ true
+  unfolding row
+  once-in zero b h = refl
+  once-in (suc j) b h = and-both (lt-ltb b N (omega arith)) (once-in j (suc b) (omega arith))
+
+  -- and so are any on the circle
+  pub loop-in : (j b : ℕ) → b < N → row (shown loop N time position) j b ≡ true
+  unfolding row
+  loop-in zero b h = refl
+  loop-in (suc j) b h = and-both (lt-ltb b N h) (loop-in j (round N b) (round-below N b h))
+
   -- paced by what bounds its blocks and its pairs: those of a film shown once, and in a loop that of last and first too
   pub shown-paced : (x : Showing) (w m : ℕ) → ((b : ℕ) → b < N → after x N b < N → time b + time (after x N b) ≤ w) → ((b : ℕ) → b < N → time b ≤ m)
       → Paced (shown x N time position) w m

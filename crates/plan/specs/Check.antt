@@ -52,7 +52,8 @@ same-plan p x f d e =
     let a = eqb-true (p .worstat) (worstAtOf x f) (and-right (eqb (p .showing) (wordOf x)) _ e₄) in
     λ i. record { figures = d i; streams = s i; buffer = b i; worst2 = w i; margin = m i; showing = k i; worstat = a i }
 
-numbers-say : (p : Plan) → hasNumbers p ≡ true → (recordFault (p .figures) ≡ 0) × (0 < streamsOf (showingIn p) (p .figures)) × (p ≡ planOf (showingIn p) (p .figures))
+-- what the test of the numbers says of a record
+pub numbers-say : (p : Plan) → hasNumbers p ≡ true → (recordFault (p .figures) ≡ 0) × (0 < streamsOf (showingIn p) (p .figures)) × (p ≡ planOf (showingIn p) (p .figures))
 unfolding hasNumbers
 numbers-say p e =
     let x = showingIn p in

@@ -6,17 +6,16 @@ use mathlib.Core.Bool.{Bool, true, false, cond, _||_}
 use native.Mathlib.Omega.{arith}
 use native.Mathlib.Nat.{le-refl}
 use lib.Dec.{ltb, eqb}
-use borrow.Author.Tests.{ltb-true, lt-ltb, le-ltb, eqb-true}
-use Rattle.laws.specs.Bools.{and-left, and-right, and-both}
+use borrow.Author.Tests.{ltb-true, le-ltb, eqb-true}
+use Rattle.laws.specs.Bools.{and-left, and-right}
 use Rattle.laws.specs.Greatest.{greatestOf, Earliest, earliest-unique, earliest-is}
 use Rattle.numbers.specs.Limits.{maxStreams}
 use Rattle.numbers.specs.Refusals.{noStream}
 use Rattle.card.specs.declared.Figures.{Figures}
 use Rattle.card.specs.Card.{Legal}
-use Rattle.placement.specs.Circle.{round}
 use Rattle.placement.specs.Showing.{Showing, one, loop, worstAt, pairsOf, some-pairs, worst-pair}
 use Rattle.pacing.specs.Film.{row, longestRun, shown}
-use Rattle.pacing.specs.Shown.{round-below}
+use Rattle.pacing.specs.Shown.{once-in, loop-in}
 use Rattle.pacing.specs.Lead.{lead-above, lead-attained, lead-only}
 use Rattle.pacing.specs.Streams.{overhead, overhead-rises, load, streams-le, streams-fits, streams-best, streams-only, streams-none}
 use Rattle.plan.specs.Plan.{timeOn, positionOf, timeOf, worst2Of, worstAtOf, overOf, streamsOf, filmOf, leadOf}
@@ -25,23 +24,12 @@ use Rattle.plan.specs.Greatest.{IsRun, Starts, GreatestRun, TooMany, Mos
 
 module _ (N : ℕ) (time position : ℕ → ℕ) where
   -- a run stays within the film
-  once-in : (j b : ℕ) → b + j ≤ N → row (shown one N time position) j b ≡ true
-  unfolding row
-  once-in zero b h = refl
-  once-in (suc j) b h = and-both (lt-ltb b N (omega arith)) (once-in j (suc b) (omega arith))
-
   once-out : (j b : ℕ) → b ≤ N → row (shown one N time position) j b ≡ true → b + j ≤ N
   unfolding row
   once-out zero b h e = omega arith
   once-out (suc j) b h e =
       let u = ltb-true b N (and-left (ltb b N) _ e) in
       omega (arith, once-out j (suc b) (omega arith) (and-right (ltb b N) _ e))
-
-  -- and one on the circle on it
-  loop-in : (j b : ℕ) → b < N → row (shown loop N time position) j b ≡ true
-  unfolding row
-  loop-in zero b h = refl
-  loop-in (suc j) b h = and-both (lt-ltb b N h) (loop-in j (round N b) (round-below N b h))
 
 -- the runs that a lead looks at are those of document 01 and document 02
 run-in : (x : Showing) (N : ℕ) (time position : ℕ → ℕ) (j b : ℕ) → Starts x N b → IsRun x N b j → (j ≤ longestRun x N b) × (row (shown x N time position) j b ≡ true)

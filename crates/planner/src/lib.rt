@@ -18,9 +18,10 @@ use plan::Plan;
 use plan::Planned;
 use zones::sum_positions;
 ghost use mathlib.Core.Path.{_≡_};
+ghost use mathlib.Core.Bool.{not, _&&_, _||_};
 ghost use Rattle.card.specs.Read.{readCard};
 ghost use Rattle.placement.specs.Showing.{one, loop};
-ghost use Rattle.plan.specs.Answer.{planned, positionsAfter, leadsAfter, judged, hasNumbers, isPlan};
+ghost use Rattle.plan.specs.Answer.{planned, positionsAfter, leadsAfter, judged, hasNumbers, hasPositions, hasLeads, isPlan};
 
 // Plans a card for one showing: 1 to 11 and 26 as the reader gives them, then 13, then 12. A refusal leaves both lists.
 pub fn plan_card(card: &[u8], positions: &mut [u8], leads: &mut [u8]) -> Planned
@@ -80,15 +81,18 @@ pub fn has_numbers(plan: Plan) -> bool
     both(0 < own.streams, same_numbers(plan, own))
 }
 
-// Is this record the plan of its figures, and do both lists begin with its N entries?
-pub fn is_plan(plan: Plan, positions: &[u8], leads: &[u8]) -> bool
-    ensures { λ r. ⌜ r ≡ isPlan plan (now (positions .entry)) (now (leads .entry)) ⌝ }
+// Is this record the plan of its figures, and do the lists begin with its N entries? The leads are looked at where they are asked for.
+fn is_plan_with(plan: Plan, positions: &[u8], leads: &[u8], asked: bool) -> bool
+    ensures { λ r. ⌜ r ≡ (hasNumbers plan && (hasPositions plan (now (positions .entry)) && (not asked || hasLeads plan (now (leads .entry))))) ⌝ }
 {
     if !has_numbers(plan) {
         return false;
     }
     let total = sum_positions(&plan.figures.positions, plan.figures.zones);
     let placed = same_positions(plan.showing, total, plan.figures.blocks, positions);
+    if !asked {
+        return placed;
+    }
     let led = same_leads(
         &plan.figures.positions,
         &plan.figures.times,
@@ -99,4 +103,18 @@ pub fn is_plan(plan: Plan, positions: &[u8], leads: &[u8]) -> bool
         leads,
     );
     both(placed, led)
+}
+
+// Is this record the plan of its figures, and do both lists begin with its N entries?
+pub fn is_plan(plan: Plan, positions: &[u8], leads: &[u8]) -> bool
+    ensures { λ r. ⌜ r ≡ isPlan plan (now (positions .entry)) (now (leads .entry)) ⌝ }
+{
+    is_plan_with(plan, positions, leads, true)
+}
+
+// The same for a call that has no leads.
+pub fn is_laid(plan: Plan, positions: &[u8]) -> bool
+    ensures { λ r. ⌜ r ≡ (hasNumbers plan && hasPositions plan (now (positions .entry))) ⌝ }
+{
+    is_plan_with(plan, positions, positions, false)
 }

@@ -1,3 +1,3 @@
 mod Cursors
 mod Layings
-mod Runs
+pub mod Runs

@@ -10,7 +10,7 @@ ghost use Rattle.placement.specs.Showing.{laying, worstOf, worstAt};
 ghost use Rattle.placement.specs.Zones.{total, timeAt};
 ghost use Rattle.plan.specs.Plan.{showingOf};
 ghost use Rattle.plan.specs.Disk.{Zoned, Film};
-ghost use Rattle.zones.specs.Walk.{ZoneOf, Seeks, Holds, Position, Ends, firstPast, RunEnd, Cursors, Runs};
+ghost use Rattle.zones.specs.Walk.{ZoneOf, Seeks, Holds, Position, Ends, firstPast, RunEnd, Cursors, sideOf, Runs};
 
 // A zone by its number, with its first position and the first after it.
 pub struct Zone {
@@ -29,7 +29,7 @@ pub struct Walk {
     pub until: u32,
 }
 
-// Two successive blocks: the time that they take, and the first of them.
+// Successive blocks, two of them for worst2: the time that they take, and the first of them.
 pub struct Pair {
     pub time: u32,
     pub first: u32,
@@ -277,8 +277,18 @@ pub fn walk_on<'a>(
     }
 }
 
-// The worse of two pairs, of equal ones the one found before.
-fn worse(found: Pair, time: u32, first: u32) -> Pair
+// What a walk has for block b: the first of two for an even number, the second for an odd one.
+pub fn side(b: u32, even: u32, odd: u32) -> u32
+    ensures { λ r. ⌜ r ≡ sideOf even odd b ⌝ }
+{
+    if b % 2 == 0 {
+        return even;
+    }
+    odd
+}
+
+// The worse of two times and where they begin, of equal ones the one found before.
+pub fn worse(found: Pair, time: u32, first: u32) -> Pair
     ensures higher { λ r. ⌜ (found .time < time → (r .time ≡ time) × (r .first ≡ first)) ⌝ }
     ensures lower { λ r. ⌜ (time ≤ found .time → (r .time ≡ found .time) × (r .first ≡ found .first)) ⌝ }
 {

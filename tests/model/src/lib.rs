@@ -7,6 +7,7 @@
 //!   loop.
 //! - `desk`: soundness and the calls open, join, leave, begin and end.
 //! - `book`: lists of calls, the book of demand 3 and the checker of its claim.
+//! - `window`: the worst time of several successive blocks, and the text of the windows program.
 //! - `listing`: the text of the listing program. `text`: the card of a text of figures.
 //! - `bench`: fixed cards. `rng`: random inputs of every sort from a seed.
 //! - `programs`: a program run on inputs and compared with the model.
@@ -24,6 +25,7 @@ pub mod programs;
 pub mod refusal;
 pub mod rng;
 pub mod text;
+pub mod window;
 
 pub use book::{answer, check_claim, Answer, Book, Call, Row, Run, Step};
 pub use card::{card_bytes, judge_record, read_card, write_card, Figures};
@@ -36,3 +38,4 @@ pub use plan::{
 pub use refusal::{cause, Refusal};
 pub use rng::Rng;
 pub use text::{card_of_text, mkcard, TextRefusal};
+pub use window::{window, windows_with, Window};

@@ -1,6 +1,8 @@
 //! A program compared with the model: it is run on many inputs, and what it writes is held against
 //! what the model writes, byte by byte.
 
+pub mod cards;
+
 use crate::rng::Rng;
 use std::io::{Result, Write};
 use std::process::{Command, ExitCode, Stdio};

@@ -32,6 +32,7 @@ pub mod cause {
     pub const DRAW_ABOVE_LIMIT: u32 = 20;
     pub const DRAW_ABOVE_HELD: u32 = 21;
     pub const HALF_DEAD: u32 = 26;
+    pub const WINDOW: u32 = 27;
 }
 
 /// The answer of a refused call.

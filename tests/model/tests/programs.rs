@@ -1,4 +1,5 @@
-//! The comparisons of listing and mkcard programs, tried on the model's own ones and on others.
+//! The comparisons of listing, windows and mkcard programs, tried on the model's own ones and on
+//! others.
 
 use film_disk_model::bench::bench_film;
 use film_disk_model::listing::listing_with;
@@ -7,6 +8,8 @@ use std::process::Command;
 
 const LISTING: &str = env!("CARGO_BIN_EXE_listing");
 const LISTING_CASES: &str = env!("CARGO_BIN_EXE_listing_cases");
+const WINDOWS: &str = env!("CARGO_BIN_EXE_windows");
+const WINDOWS_CASES: &str = env!("CARGO_BIN_EXE_windows_cases");
 const MKCARD: &str = env!("CARGO_BIN_EXE_mkcard");
 const MKCARD_CASES: &str = env!("CARGO_BIN_EXE_mkcard_cases");
 
@@ -19,6 +22,13 @@ fn run(comparison: &str, arguments: &[&str]) -> (String, Option<i32>) {
 #[test]
 fn own_listing_passes() {
     let (text, status) = run(LISTING_CASES, &[LISTING, "5", "300"]);
+    assert_eq!(text, "seed 5\n362 passed, 0 failed\n");
+    assert_eq!(status, Some(0));
+}
+
+#[test]
+fn own_windows_pass() {
+    let (text, status) = run(WINDOWS_CASES, &[WINDOWS, "5", "300"]);
     assert_eq!(text, "seed 5\n362 passed, 0 failed\n");
     assert_eq!(status, Some(0));
 }
@@ -66,9 +76,23 @@ fn other_program_fails() {
     assert_eq!(status, Some(1));
 }
 
+/// The listing program prints no windows: only what it says of refused cards is the same.
+#[test]
+fn listing_is_no_windows() {
+    let (text, status) = run(WINDOWS_CASES, &[LISTING, "5", "0"]);
+    assert!(
+        text.contains(
+            "line 1: expected \"blocks time first bytes rate\\n\", got \"streams 16\\n\"\n"
+        ),
+        "{text}"
+    );
+    assert!(text.ends_with("\n18 passed, 44 failed\n"), "{text}");
+    assert_eq!(status, Some(1));
+}
+
 #[test]
 fn bad_arguments() {
-    for comparison in [LISTING_CASES, MKCARD_CASES] {
+    for comparison in [LISTING_CASES, WINDOWS_CASES, MKCARD_CASES] {
         assert_eq!(run(comparison, &[LISTING, "5"]).1, Some(2));
         assert_eq!(run(comparison, &[LISTING, "5", "1", "1"]).1, Some(2));
         assert_eq!(run(comparison, &["no such program", "5", "1"]).1, Some(2));

@@ -21,6 +21,7 @@ pub enum Call {
     Leave { slot: u32 },
     Begin,
     End,
+    Window { blocks: u32 },
 }
 
 impl Call {
@@ -34,6 +35,7 @@ impl Call {
             Call::Leave { .. } => 4,
             Call::Begin => 5,
             Call::End => 6,
+            Call::Window { .. } => 7,
         }
     }
 
@@ -47,32 +49,40 @@ impl Call {
             }
             Call::Begin => &[(DESK, true), (POSITIONS, false), (LEADS, false), (FETCHES, true)],
             Call::End => &[(DESK, true), (POSITIONS, false), (LEADS, false), (DRAWS, false)],
+            Call::Window { .. } => &[(PLAN, false), (POSITIONS, false)],
         }
     }
 }
 
-pub const SORTS: [&str; 7] = ["plan", "plan_loop", "open", "join", "leave", "begin", "end"];
+pub const SORTS: [&str; 8] =
+    ["plan", "plan_loop", "open", "join", "leave", "begin", "end", "window"];
+
+/// What a call answers; a part that it does not have is 0.
+#[derive(Clone, Copy, Debug, Default, PartialEq, Eq)]
+pub struct Answer {
+    pub number: u32,
+    pub place: u64,
+    /// Of a begin.
+    pub count: u32,
+    pub bound: u32,
+    /// Of a window.
+    pub time: u32,
+    pub first: u32,
+    pub bytes: u32,
+}
 
 /// The answer of a call and all strings after it.
 #[derive(Clone, Debug, PartialEq, Eq)]
 pub struct Outcome {
-    pub number: u32,
-    pub place: u64,
-    pub count: u32,
-    pub bound: u32,
+    pub answer: Answer,
     pub strings: Strings,
 }
 
 impl Outcome {
-    fn answer(&self) -> String {
-        let Outcome { number, place, count, bound, .. } = self;
-        format!("number {number}, place {place}, count {count}, bound {bound}")
-    }
-
     /// What differs from the expected outcome, if anything does.
     pub fn compare(&self, expected: &Outcome) -> Result<(), String> {
-        if self.answer() != expected.answer() {
-            return Err(format!("expected {}; got {}", expected.answer(), self.answer()));
+        if self.answer != expected.answer {
+            return Err(format!("expected {:?}; got {:?}", expected.answer, self.answer));
         }
         for (name, (got, wanted)) in NAMES.iter().zip(self.strings.iter().zip(&expected.strings)) {
             if let Some(at) = (0..wanted.len()).find(|&at| got.get(at) != wanted.get(at)) {

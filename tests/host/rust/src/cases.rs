@@ -54,7 +54,7 @@ fn written_string(rng: &mut Rng, right: usize) -> Vec<u8> {
 }
 
 /// A record that is read: rarely with a byte changed, or cut off, or with bytes after it.
-fn read_string(rng: &mut Rng, mut bytes: Vec<u8>) -> Vec<u8> {
+pub fn read_string(rng: &mut Rng, mut bytes: Vec<u8>) -> Vec<u8> {
     match rng.below(16) {
         0..=2 => change_byte(rng, &mut bytes),
         3 => {
@@ -128,7 +128,7 @@ pub fn some_plan(rng: &mut Rng) -> Planned {
 }
 
 /// One of the plan's lists, longer or spoiled at times.
-fn some_list(rng: &mut Rng, list: &[u32]) -> Vec<u8> {
+pub fn some_list(rng: &mut Rng, list: &[u32]) -> Vec<u8> {
     let list = match rng.below(8) {
         0 => longer_list(rng, list),
         1 => spoiled_list(rng, list),

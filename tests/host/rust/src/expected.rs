@@ -1,21 +1,25 @@
 //! The outcome of a call by the model, with docs/LAYOUT.md's lengths and what is left in each string.
 
-use crate::call::{Call, Outcome, Strings, CARD, DESK, DRAWS, FETCHES, LEADS, PLAN, POSITIONS};
+use crate::call::{
+    Answer, Call, Outcome, Strings, CARD, DESK, DRAWS, FETCHES, LEADS, PLAN, POSITIONS,
+};
 use crate::layout::{
     bytes_of, desk_bytes, fetch_bytes, plan_bytes, read_desk, read_plan, words_of, DESK_BYTES,
     ENTRY_BYTES, FETCH_BYTES, PLAN_BYTES,
 };
 use film_disk_model::plan::plan_card_for;
-use film_disk_model::{answer, cause, fill_lent, open, read_card, Refusal, Showing};
+use film_disk_model::{
+    answer, cause, fill_lent, open, read_card, window, Refusal, Showing, Window,
+};
 
 /// An accepted call with nothing more to say.
 fn accepted(strings: Strings) -> Outcome {
-    Outcome { number: 0, place: 0, count: 0, bound: 0, strings }
+    Outcome { answer: Answer::default(), strings }
 }
 
 fn refused(strings: &Strings, refusal: Refusal) -> Outcome {
     let Refusal { number, place } = refusal;
-    Outcome { number, place, count: 0, bound: 0, strings: strings.clone() }
+    Outcome { answer: Answer { number, place, ..Answer::default() }, strings: strings.clone() }
 }
 
 /// Refused, and a string that has its length is all zero.
@@ -77,7 +81,7 @@ pub fn model_call(call: Call, strings: &Strings) -> film_disk_model::Call {
             film_disk_model::Call::Begin { fetch_list: strings[FETCHES].len() / FETCH_BYTES }
         }
         Call::End => film_disk_model::Call::End { draws: words_of(&strings[DRAWS]) },
-        Call::Plan(_) | Call::Open => unreachable!("no call on a desk"),
+        Call::Plan(_) | Call::Open | Call::Window { .. } => unreachable!("no call on a desk"),
     }
 }
 
@@ -91,12 +95,21 @@ fn expected_desk_call(call: Call, strings: &Strings) -> Outcome {
     let mut after = strings.clone();
     fill_lent(&mut after[DESK], &desk_bytes(&answer.desk));
     fill_lent(&mut after[FETCHES], &fetch_bytes(&answer.entries));
-    Outcome {
-        number: answer.number,
-        place: answer.place,
-        count: answer.count,
-        bound: answer.bound,
-        strings: after,
+    let film_disk_model::Answer { number, place, count, bound, .. } = answer;
+    Outcome { answer: Answer { number, place, count, bound, ..Answer::default() }, strings: after }
+}
+
+/// A window writes nothing.
+fn expected_window(strings: &Strings, blocks: u32) -> Outcome {
+    if strings[PLAN].len() != PLAN_BYTES {
+        return refused(strings, Refusal { number: cause::NOT_SOUND, place: 0 });
+    }
+    match window(&read_plan(&strings[PLAN]), &words_of(&strings[POSITIONS]), blocks) {
+        Err(refusal) => refused(strings, refusal),
+        Ok(Window { time, first, bytes }) => Outcome {
+            answer: Answer { time, first, bytes, ..Answer::default() },
+            strings: strings.clone(),
+        },
     }
 }
 
@@ -104,6 +117,7 @@ pub fn expected(call: Call, strings: &Strings) -> Outcome {
     match call {
         Call::Plan(showing) => expected_plan(showing, strings),
         Call::Open => expected_open(strings),
+        Call::Window { blocks } => expected_window(strings, blocks),
         _ => expected_desk_call(call, strings),
     }
 }

@@ -1,8 +1,9 @@
-//! Films at the borders of N and of the zones, for one showing and as loops. Each is planned and opened, and some screens play it past
-//! its last block; short loops they play several times round.
+//! Films at the borders of N and of the zones, for one showing and as loops. Each is planned and opened, its windows are tried, and some
+//! screens play it past its last block; short loops they play several times round.
 
 use crate::lists::List;
 use crate::trial::Trial;
+use crate::windows::film_windows;
 use film_disk_model::bench::figures_of;
 use film_disk_model::plan::{plan_of, worst2};
 use film_disk_model::rng::desks::{fair_draws, Draw};
@@ -47,10 +48,9 @@ fn play(rng: &mut Rng, trial: &mut Trial, planned: &Planned) -> Result<(), Strin
     let mut list = List::open(rng, trial, planned)?;
     let mut call = |list: &mut List, rng: &mut Rng, call| {
         let got = list.call(rng, trial, &step(planned, call), usize::MAX)?;
-        if got.number == 0 {
-            Ok(())
-        } else {
-            Err(format!("refused {}", got.number))
+        match got.answer.number {
+            0 => Ok(()),
+            number => Err(format!("refused {number}")),
         }
     };
     for slot in 0..SCREENS.min(planned.plan.streams) {
@@ -85,5 +85,6 @@ pub fn film_case(
 ) -> Result<(), String> {
     let mut rng = Rng::new((blocks * 100 + zones) as u64);
     let planned = film(&mut rng, blocks, zones, showing);
+    film_windows(&mut rng, trial, &planned)?;
     play(&mut rng, trial, &planned)
 }

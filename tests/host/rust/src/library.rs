@@ -1,7 +1,7 @@
 //! The static library, called over guarded strings.
 
 use crate::call::{
-    Call, Outcome, Strings, CARD, DESK, DRAWS, FETCHES, LEADS, NAMES, PLAN, POSITIONS,
+    Answer, Call, Outcome, Strings, CARD, DESK, DRAWS, FETCHES, LEADS, NAMES, PLAN, POSITIONS,
 };
 use film_disk_model::Showing;
 use std::ffi::{c_char, c_int, CString};
@@ -17,6 +17,29 @@ struct FilmdiskAnswer {
     bound: u32,
 }
 
+#[repr(C)]
+struct FilmdiskWindowAnswer {
+    number: u32,
+    place: usize,
+    time: u32,
+    first: u32,
+    bytes: u32,
+}
+
+impl From<FilmdiskAnswer> for Answer {
+    fn from(answer: FilmdiskAnswer) -> Answer {
+        let FilmdiskAnswer { number, place, count, bound } = answer;
+        Answer { number, place: place as u64, count, bound, ..Answer::default() }
+    }
+}
+
+impl From<FilmdiskWindowAnswer> for Answer {
+    fn from(answer: FilmdiskWindowAnswer) -> Answer {
+        let FilmdiskWindowAnswer { number, place, time, first, bytes } = answer;
+        Answer { number, place: place as u64, time, first, bytes, ..Answer::default() }
+    }
+}
+
 type Read = *const u8;
 type Write = *mut u8;
 
@@ -29,6 +52,7 @@ extern "C" {
     fn filmdisk_leave(desk: Write, desk_len: usize, positions: Read, positions_len: usize, leads: Read, leads_len: usize, slot: u32) -> FilmdiskAnswer;
     fn filmdisk_begin(desk: Write, desk_len: usize, positions: Read, positions_len: usize, leads: Read, leads_len: usize, fetches: Write, fetches_len: usize) -> FilmdiskAnswer;
     fn filmdisk_end(desk: Write, desk_len: usize, positions: Read, positions_len: usize, leads: Read, leads_len: usize, draws: Read, draws_len: usize) -> FilmdiskAnswer;
+    fn filmdisk_window(plan: Read, plan_len: usize, positions: Read, positions_len: usize, blocks: u32) -> FilmdiskWindowAnswer;
 }
 
 /// guarded.h
@@ -114,17 +138,18 @@ impl Library {
 
     /// SAFETY: the strings of the call are lent.
     #[rustfmt::skip]
-    unsafe fn make(&self, call: Call) -> FilmdiskAnswer {
+    unsafe fn make(&self, call: Call) -> Answer {
         let p = |which: usize| self.pointers[which];
         let n = |which: usize| self.lent[which].length;
         match call {
-            Call::Plan(Showing::Once) => filmdisk_plan(p(CARD), n(CARD), p(PLAN), n(PLAN), p(POSITIONS), n(POSITIONS), p(LEADS), n(LEADS)),
-            Call::Plan(Showing::Loop) => filmdisk_plan_loop(p(CARD), n(CARD), p(PLAN), n(PLAN), p(POSITIONS), n(POSITIONS), p(LEADS), n(LEADS)),
-            Call::Open => filmdisk_open(p(PLAN), n(PLAN), p(POSITIONS), n(POSITIONS), p(LEADS), n(LEADS), p(DESK), n(DESK)),
-            Call::Join { slot, block } => filmdisk_join(p(DESK), n(DESK), p(POSITIONS), n(POSITIONS), p(LEADS), n(LEADS), slot, block),
-            Call::Leave { slot } => filmdisk_leave(p(DESK), n(DESK), p(POSITIONS), n(POSITIONS), p(LEADS), n(LEADS), slot),
-            Call::Begin => filmdisk_begin(p(DESK), n(DESK), p(POSITIONS), n(POSITIONS), p(LEADS), n(LEADS), p(FETCHES), n(FETCHES)),
-            Call::End => filmdisk_end(p(DESK), n(DESK), p(POSITIONS), n(POSITIONS), p(LEADS), n(LEADS), p(DRAWS), n(DRAWS)),
+            Call::Plan(Showing::Once) => filmdisk_plan(p(CARD), n(CARD), p(PLAN), n(PLAN), p(POSITIONS), n(POSITIONS), p(LEADS), n(LEADS)).into(),
+            Call::Plan(Showing::Loop) => filmdisk_plan_loop(p(CARD), n(CARD), p(PLAN), n(PLAN), p(POSITIONS), n(POSITIONS), p(LEADS), n(LEADS)).into(),
+            Call::Open => filmdisk_open(p(PLAN), n(PLAN), p(POSITIONS), n(POSITIONS), p(LEADS), n(LEADS), p(DESK), n(DESK)).into(),
+            Call::Join { slot, block } => filmdisk_join(p(DESK), n(DESK), p(POSITIONS), n(POSITIONS), p(LEADS), n(LEADS), slot, block).into(),
+            Call::Leave { slot } => filmdisk_leave(p(DESK), n(DESK), p(POSITIONS), n(POSITIONS), p(LEADS), n(LEADS), slot).into(),
+            Call::Begin => filmdisk_begin(p(DESK), n(DESK), p(POSITIONS), n(POSITIONS), p(LEADS), n(LEADS), p(FETCHES), n(FETCHES)).into(),
+            Call::End => filmdisk_end(p(DESK), n(DESK), p(POSITIONS), n(POSITIONS), p(LEADS), n(LEADS), p(DRAWS), n(DRAWS)).into(),
+            Call::Window { blocks } => filmdisk_window(p(PLAN), n(PLAN), p(POSITIONS), n(POSITIONS), blocks).into(),
         }
     }
 
@@ -144,7 +169,6 @@ impl Library {
         for &(which, _) in call.lent() {
             after[which] = self.take_back(which)?;
         }
-        let FilmdiskAnswer { number, place, count, bound } = answer;
-        Ok(Outcome { number, place: place as u64, count, bound, strings: after })
+        Ok(Outcome { answer, strings: after })
     }
 }

@@ -26,13 +26,13 @@ fn open_desk(rng: &mut Rng, trial: &mut Trial, planned: &Planned) -> Result<Vec<
 
 /// Feeds the book what the playout process sees of a call.
 fn feed(book: &mut Book, call: Call, before: &Strings, got: &Outcome) -> Result<(), String> {
-    let entries = read_fetches(&got.strings[FETCHES], got.count);
-    book.feed(&model_call(call, before), got.number == 0, &entries)
+    let entries = read_fetches(&got.strings[FETCHES], got.answer.count);
+    book.feed(&model_call(call, before), got.answer.number == 0, &entries)
 }
 
 /// The bound of an accepted begin.
 fn begun(call: Call, got: &Outcome) -> Option<u32> {
-    (call == Call::Begin && got.number == 0).then_some(got.bound)
+    (call == Call::Begin && got.answer.number == 0).then_some(got.answer.bound)
 }
 
 /// One list of calls from one opening.

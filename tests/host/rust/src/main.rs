@@ -12,6 +12,7 @@ mod layout;
 mod library;
 mod lists;
 mod trial;
+mod windows;
 
 use cases::{desk_case, edge_case, open_case, plan_case, showing_case, worst_pair_case};
 use film_disk_model::Rng;
@@ -20,6 +21,7 @@ use library::set_scene;
 use lists::list_case;
 use std::process::ExitCode;
 use trial::Trial;
+use windows::window_case;
 
 /// A run of so many cases or more must meet every number of every call, worst pairs everywhere, and loops gone round.
 const MANY_CASES: u64 = 5000;
@@ -28,13 +30,14 @@ const SHOWN: u64 = 10;
 
 fn run_case(trial: &mut Trial, seed: u64) -> Result<(), String> {
     let mut rng = Rng::new(seed);
-    let (call, strings) = match rng.below(12) {
+    let (call, strings) = match rng.below(14) {
         0..=2 => plan_case(&mut rng),
         3 => open_case(&mut rng),
         4 | 5 => desk_case(&mut rng),
         6..=8 => edge_case(&mut rng),
         9 => showing_case(&mut rng),
         10 => worst_pair_case(&mut rng),
+        11 | 12 => window_case(&mut rng),
         _ => return list_case(&mut rng, trial),
     };
     trial.both(&mut rng, call, &strings).map(|_| ())

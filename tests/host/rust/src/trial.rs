@@ -6,12 +6,14 @@ use crate::layout::read_plan;
 use crate::library::{Lending, Library};
 use film_disk_model::{Plan, Rng};
 
-/// Numbers of answers, 0 to 26.
-const NUMBERS: usize = 27;
+/// Numbers of answers, 0 to 27.
+const NUMBERS: usize = 28;
 /// A slot of some loop must go round so many times.
 const MANY_ROUNDS: u128 = 5;
 /// Where the worst pair of a film may be.
 const PLACES: [&str; 3] = ["at block 0", "in mid film", "at the last block"];
+/// Where the worst window of a film may be.
+const WINDOWS: [&str; 3] = ["at block 0", "in mid film", "past the last block"];
 
 pub struct Trial {
     library: Library,
@@ -21,6 +23,8 @@ pub struct Trial {
     rounds: u128,
     /// For each place, how many planned films have their worst pair there.
     worst_pairs: [u64; PLACES.len()],
+    /// For each place, how many worst windows of more than one block are there.
+    windows: [u64; WINDOWS.len()],
 }
 
 /// The place of the worst pair.
@@ -28,6 +32,15 @@ fn worst_place(plan: &Plan) -> usize {
     match plan.worstat {
         0 => 0,
         block if block + 1 < plan.figures.blocks => 1,
+        _ => 2,
+    }
+}
+
+/// The place of a window that has so many blocks.
+fn window_place(plan: &Plan, first: u32, blocks: u32) -> usize {
+    match first {
+        0 => 0,
+        _ if first + blocks <= plan.figures.blocks => 1,
         _ => 2,
     }
 }
@@ -41,6 +54,12 @@ fn describe(call: Call, strings: &Strings) -> String {
     format!("{call:?} with {}", lengths.join(", "))
 }
 
+/// Places, each with how often it was met.
+fn tallied(places: &[&str], counts: &[u64]) -> String {
+    let words = places.iter().zip(counts).map(|(place, count)| format!("{place} x {count}"));
+    words.collect::<Vec<_>>().join(", ")
+}
+
 impl Trial {
     pub fn new() -> Trial {
         Trial {
@@ -48,6 +67,7 @@ impl Trial {
             tally: [[0; NUMBERS]; SORTS.len()],
             rounds: 0,
             worst_pairs: [0; PLACES.len()],
+            windows: [0; WINDOWS.len()],
         }
     }
 
@@ -68,9 +88,20 @@ impl Trial {
     }
 
     fn note(&mut self, call: Call, wanted: &Outcome) {
-        self.tally[call.sort()][wanted.number as usize] += 1;
-        if matches!(call, Call::Plan(_)) && wanted.number == 0 {
-            self.worst_pairs[worst_place(&read_plan(&wanted.strings[PLAN]))] += 1;
+        let number = wanted.answer.number;
+        self.tally[call.sort()][number as usize] += 1;
+        if number != 0 {
+            return;
+        }
+        match call {
+            Call::Plan(_) => {
+                self.worst_pairs[worst_place(&read_plan(&wanted.strings[PLAN]))] += 1;
+            }
+            Call::Window { blocks } if blocks > 1 => {
+                let plan = read_plan(&wanted.strings[PLAN]);
+                self.windows[window_place(&plan, wanted.answer.first, blocks)] += 1;
+            }
+            _ => {}
         }
     }
 
@@ -82,8 +113,8 @@ impl Trial {
         strings: &Strings,
     ) -> Result<Outcome, String> {
         let (got, _) = self.both(rng, call, strings)?;
-        if got.number != 0 {
-            return Err(format!("{}: refused {}", describe(call, strings), got.number));
+        if got.answer.number != 0 {
+            return Err(format!("{}: refused {}", describe(call, strings), got.answer.number));
         }
         Ok(got)
     }
@@ -100,14 +131,13 @@ impl Trial {
             let words: Vec<String> = met.map(|n| format!("{n} x {}", counts[n])).collect();
             println!("{sort}: {} calls; numbers {}", counts.iter().sum::<u64>(), words.join(", "));
         }
-        let worst = PLACES.iter().zip(&self.worst_pairs);
-        let words: Vec<String> = worst.map(|(place, count)| format!("{place} x {count}")).collect();
-        println!("worst pairs: {}", words.join(", "));
+        println!("worst pairs: {}", tallied(&PLACES, &self.worst_pairs));
+        println!("worst windows: {}", tallied(&WINDOWS, &self.windows));
         println!("loops: a slot went round {} times", self.rounds);
     }
 
     /// The numbers that each sort of call can answer and that no call was answered; places where no
-    /// worst pair was; and loops, if none went round often enough.
+    /// worst pair or window was; and loops, if none went round often enough.
     pub fn missing(&self) -> Vec<String> {
         let plan: Vec<usize> = (0..=13).chain([26]).collect();
         let answers: [&[usize]; SORTS.len()] = [
@@ -118,6 +148,7 @@ impl Trial {
             &[0, 14, 15, 16, 17],
             &[0, 13, 14, 15],
             &[0, 14, 15, 19, 20, 21],
+            &[0, 14, 27],
         ];
         let mut missing = Vec::new();
         for (sort, numbers) in answers.iter().enumerate() {
@@ -127,6 +158,9 @@ impl Trial {
         }
         for (place, _) in PLACES.iter().zip(self.worst_pairs).filter(|&(_, count)| count == 0) {
             missing.push(format!("a worst pair {place}"));
+        }
+        for (place, _) in WINDOWS.iter().zip(self.windows).filter(|&(_, count)| count == 0) {
+            missing.push(format!("a worst window {place}"));
         }
         if self.rounds < MANY_ROUNDS {
             missing.push(format!("a loop gone round {MANY_ROUNDS} times"));

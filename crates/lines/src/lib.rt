@@ -1,0 +1,104 @@
+// What the programs that plan a card share: lines of text, put together by value and written in one call, the line of a refusal, and the
+// argument `loop`.
+use card::Verdict;
+use libc::STDOUT_FILENO;
+
+// A line as far as it is put together. A byte past its room is dropped; no line of the programs has more than 50.
+pub struct Line {
+    pub bytes: [u8; 64],
+    pub length: usize,
+}
+
+pub fn empty() -> Line {
+    Line {
+        bytes: [0u8; 64],
+        length: 0,
+    }
+}
+
+pub fn put_byte(line: Line, byte: u8) -> Line {
+    let mut next = line;
+    let at = next.length;
+    if at < 64 {
+        next.bytes[at] = byte;
+        next.length = at + 1;
+    }
+    next
+}
+
+pub fn put_text(line: Line, text: &[u8]) -> Line {
+    let mut next = line;
+    let mut i: usize = 0;
+    while i < text.len() {
+        next = put_byte(next, text[i]);
+        i += 1;
+    }
+    next
+}
+
+// The number's decimal digits.
+pub fn put_number(line: Line, number: u64) -> Line {
+    let mut digits = [0u8; 20];
+    let count = io::decimal(number, &mut digits);
+    put_text(line, &digits[..count])
+}
+
+// One space and the number's decimal digits.
+pub fn put_next(line: Line, number: u64) -> Line {
+    put_number(put_byte(line, b' '), number)
+}
+
+// Writes the line as it is.
+fn write(line: Line) {
+    let bytes = line.bytes;
+    let length = line.length;
+    if length <= 64 {
+        io::write_all(STDOUT_FILENO, &bytes[..length]);
+    }
+}
+
+// Writes the line and a line feed.
+pub fn print(line: Line) {
+    write(put_byte(line, b'\n'));
+}
+
+// The line of a refused card.
+pub fn print_refusal(verdict: Verdict) {
+    let number = put_next(put_text(empty(), b"refused"), verdict.number as u64);
+    print(put_next(put_text(number, b" at"), verdict.place as u64));
+}
+
+// Are two strings the same?
+fn same(a: &[u8], b: &[u8]) -> bool {
+    if a.len() != b.len() {
+        return false;
+    }
+    let mut i: usize = 0;
+    while i < a.len() {
+        if a[i] != b[i] {
+            return false;
+        }
+        i += 1;
+    }
+    true
+}
+
+// Is the first argument `loop`? A longer one than fits is read as none.
+pub fn asks_loop() -> bool {
+    let mut word = [0u8; 8];
+    let length = os::arg(1, &mut word);
+    same(&word[..length], b"loop")
+}
+
+// How many arguments a program has at most, its name among them.
+fn most_arguments(looped: bool) -> usize {
+    if looped {
+        return 2;
+    }
+    1
+}
+
+// Has the program more arguments than it reads?
+pub fn has_more_arguments(looped: bool) -> bool {
+    most_arguments(looped) < os::arg_count()
+}

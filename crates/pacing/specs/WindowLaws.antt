@@ -1,0 +1,69 @@
+-- Laws of windows: an even one takes at most half its blocks times what bounds the pairs, for any paced film, and one of two blocks is the
+-- worst pair.
+-- Assumes nothing.
+use Prim.Native.Nat.{ℕ, zero, suc, _+_, _*_, _/_, _%_, _≤_, _<_}
+use mathlib.Core.Path.{_≡_, refl, sym, ap₂, _∙_}
+use mathlib.Core.Bool.{true, _&&_}
+use native.Mathlib.Omega.{arith}
+use Rattle.laws.specs.Bools.{and-left, and-right}
+use Rattle.laws.specs.Greatest.{greatestOf, greatestOf-least, earliestOf}
+use Rattle.placement.specs.Showing.{Showing, one, loop, after, worstOf, worstAt, pairTime, pairsOf, worst-pair}
+use Rattle.pacing.specs.Film.{Film, Paced, row, span}
+use Rattle.pacing.specs.Shown.{once-in, loop-in}
+use Rattle.pacing.specs.Laid.{laidFilm, slowest, laid-paced}
+use Rattle.pacing.specs.Window.{placesOf, windowTime, worstWindow, windowAt}
+
+-- ---- even windows of any paced film (T9.7)
+
+module _ {A : Type 0} (film : Film A) (w m : ℕ) (ok : Paced film w m) where
+  -- twice j blocks in a row are j pairs
+  pairs-row : (j : ℕ) (a : A) → row film (2 * j) a ≡ true → span film (2 * j) a ≤ j * w
+  unfolding row span
+  pairs-row zero a e = omega arith
+  pairs-row (suc j) a e = go (2 * suc j) (omega arith) e (λ r. pairs-row j (film .next (film .next a)) r)
+    where
+      go : (n : ℕ) → n ≡ suc (suc (2 * j)) → row film n a ≡ true
+          → (row film (2 * j) (film .next (film .next a)) ≡ true → span film (2 * j) (film .next (film .next a)) ≤ j * w) → span film n a ≤ suc j * w
+      go n q e ih =
+          let d : (film .isBlock a && (film .isBlock (film .next a) && row film (2 * j) (film .next (film .next a)))) ≡ true = rw q at e in
+          let r = and-right (film .isBlock a) _ d in
+          rw q (omega (arith, ok .pairs a (and-left (film .isBlock a) _ d) (and-left (film .isBlock (film .next a)) _ r), ih (and-right (film .isBlock (film .next a)) _ r)))
+
+  -- AN EVEN NUMBER OF BLOCKS IN A ROW takes at most half as many times w
+  pub even-row : (k : ℕ) (a : A) → k % 2 ≡ 0 → row film k a ≡ true → span film k a ≤ k / 2 * w
+  even-row k a even e = let q : k ≡ 2 * (k / 2) = omega arith in rw (sym q) at (pairs-row (k / 2) a (rw q at e))
+
+-- ---- windows of a film as it is laid
+
+module _ (τ l : ℕ → ℕ) (N : ℕ) where
+  -- the blocks of a window are the film's
+  window-row : (x : Showing) (k b : ℕ) → b < placesOf x N k → row (laidFilm x τ l N) k b ≡ true
+  window-row one k b u = once-in N (λ b. τ (l b)) l k b (omega arith)
+  window-row loop k b u = loop-in N (λ b. τ (l b)) l k b u
+
+  -- AN EVEN WINDOW takes at most half its blocks times the worst time of two (T9.7)
+  pub even-window : (x : Showing) (k : ℕ) → k % 2 ≡ 0 → worstWindow x τ l N k ≤ k / 2 * worstOf x τ l N
+  unfolding worstWindow
+  even-window x k even = greatestOf-least (windowTime x τ l N k) (placesOf x N k) (k / 2 * worstOf x τ l N)
+      (λ b u. even-row (laidFilm x τ l N) (worstOf x τ l N) (slowest τ l N) (laid-paced τ l N x) k b even (window-row x k b u))
+
+  -- a window of two blocks is a pair
+  two-time : (x : Showing) → windowTime x τ l N 2 ≡ pairTime x τ l N
+  unfolding span
+  two-time x = λ i b. plus-none (τ (l b)) (τ (l (after x N b))) i
+    where
+      plus-none : (s t : ℕ) → s + (t + 0) ≡ s + t
+      plus-none s t = omega arith
+
+  two-places : (x : Showing) → placesOf x N 2 ≡ pairsOf x N
+  two-places one = omega arith
+  two-places loop = refl
+
+  -- so the worst one is the worst pair
+  pub two-worst : (x : Showing) → worstWindow x τ l N 2 ≡ worstOf x τ l N
+  unfolding worstWindow
+  two-worst x = ap₂ greatestOf (two-time x) (two-places x) ∙ sym (worst-pair x τ l N)
+
+  pub two-at : (x : Showing) → windowAt x τ l N 2 ≡ worstAt x τ l N
+  unfolding windowAt worstAt
+  two-at x = ap₂ earliestOf (two-time x) (two-places x)

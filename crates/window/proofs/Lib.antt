@@ -1,0 +1,2 @@
+mod Slide
+mod Ways

@@ -1,0 +1,79 @@
+use mathlib.Core.Path.{_≡_, sym, ap₂, _∙_}
+use mathlib.Core.Bool.{Bool, cond}
+use native.Mathlib.Omega.{arith}
+use native.Mathlib.Nat.{mul-le-mul}
+use Rattle.numbers.specs.Refusals.{notSound, wrongWindow}
+use Rattle.card.specs.Card.{Legal, totalPositions}
+use Rattle.round_trip.specs.Legality.{Wide}
+use Rattle.plan.specs.Legal.{legal-zoned, total-zones}
+use Rattle.plan.specs.Plan.{showingIn}
+use Rattle.plan.specs.Ways.{film-on}
+use borrow.Author.Needs.{needs}
+use Rattle.window.specs.Window.{isLaid, windowFault}
+use Rattle.window.proofs.Ways.{worst-is, refused-by, answered, Accepted, accepted, laid-legal}
+use Rattle.window.proofs.worst_window.Statement.{statement}
+use Rattle.window.proofs.worst_window.Tie as tie
+
+wide : (c : tie.Start) → Wide (c .args .t1 .figures)
+wide c = (search needs, search needs)
+
+abbrev start : (c : tie.After-fault) → tie.Start
+start c = c .before .before .before .before
+
+-- the number of the refusal
+judged : (c : tie.After-fault) → (let a = start c .args in c .fault .result ≡ windowFault (a .t1) (a .positions .now) (a .count))
+unfolding windowFault isLaid
+judged c = c .fault .ensures ∙ ap₂ (λ (x y : Bool). cond x (cond y wrongWindow 0) notSound) (c .before .before .is-laid .ensures) (c .before .is-outside .ensures)
+
+-- past the refusals
+passed : (c : tie.Else1) → (let a = start (c .before) .args in Accepted (a .t1) (a .positions .now) (a .count))
+passed c = let a = start (c .before) .args in accepted (a .t1) (a .positions .now) (a .count) (sym (judged (c .before)) ∙ c .if1 .left)
+
+legal : (c : tie.Else1) → Legal (start (c .before) .args .t1 .figures)
+legal c = let s = start (c .before) in laid-legal (s .args .t1) (s .args .positions .now) (wide s) (passed c .laid)
+
+sum : (c : tie.After-sum-positions) → c .sum-positions .result ≡ totalPositions (start (c .before .before .before .before) .args .t1 .figures)
+sum c = let d = c .before .before .before in c .sum-positions .ensures ∙ total-zones (start (d .before) .args .t1 .figures) (legal d)
+
+returns : tie.Need-returns
+returns c = let f = c .before .before in
+    let a = start f .args in
+    c .refused .ensures ∙ refused-by (a .t1) (a .positions .now) (a .count) _ (judged f) (c .before .if1 .taken)
+
+sum-positions-requires : tie.Need-sum-positions-requires
+sum-positions-requires c κs = let ok = legal (c .before .before) in (legal-zoned _ ok, ok .zones .1)
+
+last-place-requires : tie.Need-last-place-requires
+last-place-requires c κs = let w = passed (c .before .before .before .before .before .before) in (w .some, w .room)
+
+worst-row-requires : tie.Need-worst-row-requires
+worst-row-requires c κs = let t = c .before .before .before .before in
+    let d = t .before .before .before in
+    (film-on _ (legal d) _ (sum t), passed d .most, c .last-place .ensures .1)
+
+window-bytes-requires : tie.Need-window-bytes-requires
+window-bytes-requires c κs = let d = c .before .before .before .before .before .before .before .before in
+    omega (arith, mul-le-mul (passed d .most) (legal d .bytes .1))
+
+returns-2 : tie.Need-returns-2
+returns-2 c = let r = c .before in
+    let t = r .before .before .before .before .before in
+    let d = t .before .before .before in
+    let a = start (d .before) .args in
+    answered (a .t1) (a .positions .now) (a .count) _ (judged (d .before)) _ _ _ (d .if1 .left)
+    (worst-is (showingIn (a .t1)) (a .t1 .figures) (a .count) _ _ _ _ (sum t) (r .before .last-place .ensures .0) (r .worst-row .ensures)) (c .window-bytes .ensures)
+
+pub worst-window-spec : {M : Type 1} → statement M
+worst-window-spec =
+    tie.close
+    (tie.spec
+    (λ c κs. search needs)
+    (λ c κs. search needs)
+    (λ c κs. search needs)
+    (λ c κs. search needs)
+    returns
+    sum-positions-requires
+    last-place-requires
+    worst-row-requires
+    window-bytes-requires
+    returns-2)

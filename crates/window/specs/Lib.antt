@@ -1,0 +1,4 @@
+pub mod Rows
+pub mod Window
+pub mod Worst
+pub mod WorstLaws

@@ -1,0 +1,80 @@
+//! Windows of every number of blocks, on plans and lists that are good, damaged or another film's.
+
+use crate::call::{Call, Strings, PLAN, POSITIONS};
+use crate::cases::{read_string, some_list, some_plan};
+use crate::layout::{bytes_of, plan_bytes};
+use crate::trial::Trial;
+use film_disk_model::plan::plan_of;
+use film_disk_model::rng::desks::alter_plan;
+use film_disk_model::window::MAX_WINDOW;
+use film_disk_model::{Planned, Rng, Showing};
+
+/// Up to so many blocks every window is tried.
+const SHORT: u32 = 256;
+
+/// Blocks of a window: a number that it may have, one about the borders, or any.
+fn some_blocks(rng: &mut Rng, film: u32) -> u32 {
+    let (good, any) = (rng.between(1, film.min(MAX_WINDOW)), rng.any());
+    let borders = [0, 1, 2, MAX_WINDOW, MAX_WINDOW + 1, film - 1, film, film + 1, any];
+    if rng.once_in(2) {
+        good
+    } else {
+        rng.pick(&borders)
+    }
+}
+
+/// The list of the film shown the other way, or of another film.
+fn foreign_positions(rng: &mut Rng, planned: &Planned) -> Vec<u32> {
+    let others = Showing::ALL.into_iter().filter(|how| how.word() != planned.plan.showing);
+    let turned = others.flat_map(|how| plan_of(&planned.plan.figures, how)).next();
+    match turned {
+        Some(other) if rng.once_in(2) => other.positions,
+        _ => some_plan(rng).positions,
+    }
+}
+
+/// A window of the plan of its figures, or of another record.
+pub fn window_case(rng: &mut Rng) -> (Call, Strings) {
+    let planned = some_plan(rng);
+    let blocks = some_blocks(rng, planned.plan.figures.blocks);
+    let mut plan = planned.plan.clone();
+    if rng.once_in(6) {
+        alter_plan(rng, &mut plan);
+    }
+    let mut positions = match rng.below(8) {
+        0 => foreign_positions(rng, &planned),
+        _ => planned.positions.clone(),
+    };
+    if rng.once_in(10) {
+        let last = positions.len() - 1;
+        positions[last] = rng.other_than(positions[last]);
+    }
+    let mut strings = Strings::default();
+    strings[PLAN] = read_string(rng, plan_bytes(&plan));
+    strings[POSITIONS] = some_list(rng, &positions);
+    (Call::Window { blocks }, strings)
+}
+
+/// Every number of blocks of a short film, and those about the borders of a long one.
+fn all_blocks(film: u32) -> Vec<u32> {
+    let middle = if film <= SHORT { 3..=62 } else { 31..=32 };
+    [0, 1, 2].into_iter().chain(middle).chain([63, 64, 65, 66, film, film + 1, u32::MAX]).collect()
+}
+
+/// The windows of a film with its own list, each accepted or 27.
+pub fn film_windows(rng: &mut Rng, trial: &mut Trial, planned: &Planned) -> Result<(), String> {
+    let film = planned.plan.figures.blocks;
+    let mut strings = Strings::default();
+    strings[PLAN] = plan_bytes(&planned.plan);
+    strings[POSITIONS] = bytes_of(&planned.positions);
+    for blocks in all_blocks(film) {
+        let (got, _) = trial.both(rng, Call::Window { blocks }, &strings)?;
+        let is_window = (1..=film.min(MAX_WINDOW)).contains(&blocks);
+        let expected = if is_window { 0 } else { 27 };
+        if got.answer.number != expected {
+            let number = got.answer.number;
+            return Err(format!("window of {blocks} blocks: expected {expected}, got {number}"));
+        }
+    }
+    Ok(())
+}
