@@ -10,7 +10,7 @@ use native.Mathlib.Numerals.{add-one}
 use lib.ListN.{length, getD, set, take, drop, length-append, length-take, drop-of-length-le}
 use lib.Seq.{drop-cons, getD-take, take-append-seam, set-split}
 use lib.Dec.{ltb}
-use borrow.Author.Tests.{lt-ltb, le-ltb, le-leb, lt-leb, eq-eqb, ne-eqb, ltb-true, ltb-false}
+use borrow.Author.Tests.{lt-ltb, le-ltb, eq-eqb, ne-eqb, ltb-true, ltb-false}
 use Rattle.laws.specs.Overwrite.{overwrite, overwrite-more, overwrite-front, overwrite-length}
 use Rattle.numbers.specs.Limits.{noNumber}
 use Rattle.decimal.specs.Decimal.{capped, grown}
