@@ -61,16 +61,17 @@ fn number_of(read: RowRead) -> u32
     }
 }
 
-fn refused_rows(number: u32, line: usize) -> Rows
-    ensures { λ r. ⌜ (r .number ≡ number) × (r .line ≡ line) ⌝ }
+// The refusal of the row after those that are read. Line one is line 1, so the line of a row is two more than the rows before it.
+fn refused_rows(rows: Rows, number: u32) -> Rows
+    ensures { λ r. ⌜ (r .number ≡ number) × (r .line ≡ rows .count + 2) ⌝ }
 {
-    let mut rows = no_rows();
-    rows.number = number;
-    rows.line = line;
-    rows
+    let mut next = rows;
+    next.number = number;
+    next.line = rows.count as usize + 2;
+    next
 }
 
-// The rows from an offset on. Line one is line 1, so the line of a row is two more than the rows before it.
+// The rows from an offset on.
 pub fn read_rows(text: &[u8], start: usize) -> Rows
     ensures { λ r. ⌜ Holds r (rowsFrom (length (now (text .entry))) (now (text .entry)) start []) ⌝ }
 {
@@ -80,7 +81,7 @@ pub fn read_rows(text: &[u8], start: usize) -> Rows
     while at < text.len() {
         let read = read_row(text, at, first);
         let RowRead::Zone(last, track, next) = read else {
-            return refused_rows(number_of(read), rows.count as usize + 2);
+            return refused_rows(rows, number_of(read));
         };
         rows = keep_row(rows, last - first + 1, track);
         first = last + 1;

@@ -13,10 +13,10 @@ track-in : (c : tie.Else4) → within maxTrack (c .before .before .before .befor
 track-in c = sym (c .before .is-within .ensures) ∙ not-false _ (c .if4 .left)
 
 returns : tie.Need-returns
-returns c = row-gap _ _ _ _ _ (c .if1 .taken)
+returns c = row-gap _ _ _ _ _ (λ e. omega arith)
 
 returns-2 : tie.Need-returns-2
-returns-2 c = row-falls _ _ _ _ _ (c .before .if1 .left) (c .if2 .taken)
+returns-2 c = row-falls _ _ _ _ _ (omega arith) (omega arith)
 
 cast-if3 : tie.Need-cast-if3
 cast-if3 c = search needs

@@ -32,17 +32,14 @@ enum-told c = search needs
 number-of-requires : tie.Need-number-of-requires Inv-loop μ-loop
 number-of-requires c κs = search needs
 
-cast-refused-rows : tie.Need-cast-refused-rows Inv-loop μ-loop
-cast-refused-rows c = search needs
-
-add-refused-rows : tie.Need-add-refused-rows Inv-loop μ-loop
-add-refused-rows c = let l = c .before .before .before .before .before .before .loop in omega (arith, l .inv .kept .count, l .inv .few, l .inv .near)
-
 refused-rows-requires : tie.Need-refused-rows-requires Inv-loop μ-loop
 refused-rows-requires c κs = search needs
 
 returns : tie.Need-returns Inv-loop μ-loop
-returns c = let r = c .before .before .before .before .before in let l = r .before .before .loop in reading-stop _ _ _ _ _ (l .inv) _ (r .read-row .ensures) (omega arith) (c .before .before .before .enum-told .given .1) _ (c .refused-rows .ensures .0 ∙ c .before .before .number-of .ensures, c .refused-rows .ensures .1)
+returns c =
+    let r = c .before .before .before .before in
+    let l = r .before .before .loop in
+    reading-stop _ _ _ _ _ (l .inv) _ (r .read-row .ensures) (omega arith) (c .before .before .enum-told .given .1) _ (c .refused-rows .ensures .0 ∙ c .before .number-of .ensures, c .refused-rows .ensures .1)
 
 -- what the row has shown
 facts : (c : tie.After-known-told Inv-loop μ-loop) → let l = c .before .before .before .before .before .loop in (l .first ≤ c .before .read .given .0 .0) × (c .before .read .given .0 .0 ≤ maxCylinder) × (l .rows .count ≤ l .first)
@@ -81,8 +78,6 @@ read-rows-spec =
     enum-known-read
     enum-told
     number-of-requires
-    cast-refused-rows
-    add-refused-rows
     refused-rows-requires
     returns
     sub-keep-row
