@@ -1,5 +1,5 @@
--- The lines of a maker's text (document 02: T1.1 to T1.4): numbers in decimal with one space between and a line feed after each line.
--- The form of a line goes before its range (T1.12).
+-- The lines of a maker's text (document 02: T1.2 to T1.4): numbers in decimal with one space between and a line feed after each line.
+-- The form of a line goes before its range (T1.13).
 use Prim.Native.Nat.{ℕ, _+_}
 use mathlib.Core.List.{List}
 use mathlib.Core.Bool.{Bool, cond, _&&_}

@@ -38,7 +38,7 @@ figuresOf d zs n c hop ret = filled (length zs) (padded (map (positionsOf d) zs)
 
 -- ---- the answer
 
--- a refused text: number and line, and figures that are all zero (T1.11, T1.14)
+-- a refused text: number and line, and figures that are all zero (T1.12, T1.15)
 unfoldable pub refusedText : ℕ → ℕ → MakerRead
 refusedText k line = record { verdict = record { number = k; place = line }; figures = blankFigures }
 
@@ -47,7 +47,7 @@ unfoldable pub answered : ℕ → Figures → MakerRead
 answered zero f = record { verdict = accepted; figures = f }
 answered (suc k) f = refusedText (suc k) 0
 
--- judged as a record's: 4 to 10, and 26 right after 7; 12 is not judged
+-- judged as a record's: 4 to 10, and 26 right after 7; 12 is not judged (T1.10, T1.14)
 unfoldable pub judgedFigures : Figures → MakerRead
 judgedFigures f = answered (recordFault f) f
 

@@ -1,4 +1,4 @@
--- The rows of a maker's text, outermost zone first, to its end (document 02: T1.3, T1.8, T1.12, T1.13).
+-- The rows of a maker's text, outermost zone first, to its end (document 02: T1.3, T1.8, T1.12 to T1.14).
 use Prim.Native.Nat.{ℕ, zero, suc, _+_, _-_}
 use mathlib.Core.List.{List, [], _∷_}
 use mathlib.Core.Bool.{cond}

@@ -1,5 +1,6 @@
 use Prim.Native.Nat.{ℕ}
 use mathlib.Core.Path.{ap, _∙_}
+use native.Mathlib.Omega.{arith}
 use borrow.Author.Needs.{needs}
 use Rattle.maker.specs.Maker.{refusedText, judgedFigures}
 use Rattle.maker.proofs.MakerWays.{answer-heading, answer-row, answer-many, drive-fits, answer-figures}
@@ -47,7 +48,7 @@ returns-3 c =
     let e = c .before .before .before in
     let r = e .before .before in
     let h = r .before .before in
-    c .refused-text3 .ensures ∙ answer-many _ _ _ _ _ _ (h .before .before .read-heading .ensures) (h .heading .given .1) _ (r .read-rows .ensures) (e .if1 .left) (c .before .if2 .taken)
+    c .refused-text3 .ensures ∙ answer-many _ _ _ _ _ _ (h .before .before .read-heading .ensures) (h .heading .given .1) _ (r .read-rows .ensures) (omega arith) (c .before .if2 .taken)
 
 zones-of-requires : tie.Need-zones-of-requires
 zones-of-requires c κs =
