@@ -20,10 +20,10 @@ run:
 	@sh tests/progress 'the listing' target/run.log rt check listing
 	@target/bin/listing <crates/listing/stdin
 
-# target/bin/listing and target/bin/mkcard, proved and tried
+# target/bin/listing, target/bin/makercard and target/bin/mkcard, proved and tried
 programs:
 	@sh tests/tools rt
-	@sh tests/progress 'the programs' target/programs.log rt check listing mkcard
+	@sh tests/progress 'the programs' target/programs.log rt check listing makercard mkcard
 
 # target/staticlib/libfilmdisk.a, proved; made again where a crate has changed
 library: target/staticlib/libfilmdisk.a
@@ -36,24 +36,25 @@ build: programs library
 
 # Installs what `make build` made; it needs neither rt nor a compiler.
 install:
-	@for made in target/bin/listing target/bin/mkcard target/staticlib/libfilmdisk.a; do \
+	@for made in target/bin/listing target/bin/makercard target/bin/mkcard target/staticlib/libfilmdisk.a; do \
 	    [ -f $$made ] || { echo "no $$made: run 'make build' first"; exit 1; }; done
 	install -d '$(DESTDIR)$(BINDIR)' '$(DESTDIR)$(LIBDIR)' '$(DESTDIR)$(INCLUDEDIR)' \
 	    '$(DESTDIR)$(PKGCONFIGDIR)' '$(DESTDIR)$(MANDIR)/man1' '$(DESTDIR)$(MANDIR)/man3'
-	install -m 755 target/bin/listing target/bin/mkcard '$(DESTDIR)$(BINDIR)'
+	install -m 755 target/bin/listing target/bin/makercard target/bin/mkcard '$(DESTDIR)$(BINDIR)'
 	install -m 644 target/staticlib/libfilmdisk.a '$(DESTDIR)$(LIBDIR)'
 	install -m 644 include/filmdisk.h '$(DESTDIR)$(INCLUDEDIR)'
 	sed -e 's|@PREFIX@|$(PREFIX)|' -e 's|@LIBDIR@|$(LIBDIR)|' -e 's|@INCLUDEDIR@|$(INCLUDEDIR)|' \
 	    -e 's|@VERSION@|$(VERSION)|' filmdisk.pc.in >'$(DESTDIR)$(PKGCONFIGDIR)/filmdisk.pc'
 	sed 's|@VERSION@|$(VERSION)|' man/listing.1 >'$(DESTDIR)$(MANDIR)/man1/listing.1'
+	sed 's|@VERSION@|$(VERSION)|' man/makercard.1 >'$(DESTDIR)$(MANDIR)/man1/makercard.1'
 	sed 's|@VERSION@|$(VERSION)|' man/mkcard.1 >'$(DESTDIR)$(MANDIR)/man1/mkcard.1'
 	sed 's|@VERSION@|$(VERSION)|' man/filmdisk.3 >'$(DESTDIR)$(MANDIR)/man3/filmdisk.3'
 
 # Removes what `make install` with the same places put there; folders stay, as others may use them.
 uninstall:
-	rm -f '$(DESTDIR)$(BINDIR)/listing' '$(DESTDIR)$(BINDIR)/mkcard' '$(DESTDIR)$(LIBDIR)/libfilmdisk.a' \
+	rm -f '$(DESTDIR)$(BINDIR)/listing' '$(DESTDIR)$(BINDIR)/makercard' '$(DESTDIR)$(BINDIR)/mkcard' '$(DESTDIR)$(LIBDIR)/libfilmdisk.a' \
 	    '$(DESTDIR)$(INCLUDEDIR)/filmdisk.h' '$(DESTDIR)$(PKGCONFIGDIR)/filmdisk.pc' \
-	    '$(DESTDIR)$(MANDIR)/man1/listing.1' '$(DESTDIR)$(MANDIR)/man1/mkcard.1' \
+	    '$(DESTDIR)$(MANDIR)/man1/listing.1' '$(DESTDIR)$(MANDIR)/man1/makercard.1' '$(DESTDIR)$(MANDIR)/man1/mkcard.1' \
 	    '$(DESTDIR)$(MANDIR)/man3/filmdisk.3'
 
 # The library against the model for some minutes, from another seed each time; CASES is another count.
