@@ -85,6 +85,18 @@ drawAboveLimit = 20
 abbrev pub drawAboveHeld : ℕ
 drawAboveHeld = 21
 
+-- a line of a maker's text of another form, or no line at all (document 02, ticket 1)
+abbrev pub lineForm : ℕ
+lineForm = 22
+
+-- its first line out of range
+abbrev pub wrongHeading : ℕ
+wrongHeading = 23
+
+-- a row out of range, with its last cylinder below its first, or not following on the cylinder before
+abbrev pub wrongRow : ℕ
+wrongRow = 24
+
 -- zone time, times three, below the first zone's (document 02, ticket 8)
 abbrev pub halfDeadTime : ℕ
 halfDeadTime = 26

@@ -46,6 +46,13 @@ pub const DRAW_ABOVE_LIMIT: u32 = 20;
 
 pub const DRAW_ABOVE_HELD: u32 = 21;
 
+// Makers' texts, by document 02.
+pub const LINE_FORM: u32 = 22;
+
+pub const WRONG_HEADING: u32 = 23;
+
+pub const WRONG_ROW: u32 = 24;
+
 // Cards, by document 02.
 pub const HALF_DEAD_TIME: u32 = 26;
 
