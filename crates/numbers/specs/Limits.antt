@@ -50,3 +50,7 @@ maxMove = 1000000
 -- n, and the slots of a desk
 abbrev pub maxStreams : ℕ
 maxStreams = 256
+
+-- the blocks of a film of which every laying is tried (document 02, ticket 12)
+abbrev pub maxTried : ℕ
+maxTried = 8

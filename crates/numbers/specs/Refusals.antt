@@ -88,3 +88,7 @@ drawAboveHeld = 21
 -- zone time, times three, below the first zone's (document 02, ticket 8)
 abbrev pub halfDeadTime : ℕ
 halfDeadTime = 26
+
+-- film of more blocks than are tried (document 02, ticket 12)
+abbrev pub filmTooLong : ℕ
+filmTooLong = 29

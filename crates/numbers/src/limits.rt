@@ -35,3 +35,6 @@ pub const MAX_MOVE: u32 = 1000000;
 
 // n, and the slots of a desk.
 pub const MAX_STREAMS: u32 = 256;
+
+// The blocks of a film of which every laying is tried.
+pub const MAX_TRIED: u32 = 8;

@@ -48,3 +48,6 @@ pub const DRAW_ABOVE_HELD: u32 = 21;
 
 // Cards, by document 02.
 pub const HALF_DEAD_TIME: u32 = 26;
+
+// The second planner, by document 02.
+pub const FILM_TOO_LONG: u32 = 29;
