@@ -2,11 +2,15 @@
 -- Assumes nothing.
 use Prim.Native.Nat.{ℕ, zero, suc, _+_, _*_, _-_, _/_, _%_, _≤_, _<_}
 use mathlib.Core.Path.{_≡_, refl, sym, ap, ap₂, _∙_}
+use mathlib.Core.Logic.{by-cases}
 use mathlib.Core.List.{List, [], _∷_, map}
 use native.Mathlib.Omega.{arith}
-use native.Mathlib.Nat.{mul-pos, mod-lt, div-lt-iff-lt-mul}
+use native.Mathlib.Decide.{decLe}
+use native.Mathlib.Numerals.{add-one}
+use native.Mathlib.Nat.{mul-pos, mul-le-mul-right, mul-div-cancel-left, mod-lt, div-lt-iff-lt-mul}
 use lib.ListN.{length, getD, set, take, length-map, length-set}
 use lib.Seq.{take-nil, getD-take, take-set-lt}
+use Rattle.numbers.specs.Limits.{maxTried}
 use Rattle.laws.specs.Members.{upto, each, map-at, each-length, each-at}
 use Rattle.layings.specs.Layings.{others, arrangements}
 
@@ -18,6 +22,31 @@ pub factorial-pos : (n : ℕ) → 0 < factorial n
 unfolding factorial
 factorial-pos zero = omega arith
 factorial-pos (suc n) = mul-pos (omega arith) (factorial-pos n)
+
+pub factorial-rises : (m n : ℕ) → m ≤ n → factorial m ≤ factorial n
+unfolding factorial
+factorial-rises m zero h = let e : m ≡ 0 = omega arith in rw e (omega arith)
+factorial-rises m (suc n) h = by-cases (decLe m n)
+    (λ l. omega (arith, factorial-rises m n l, mul-le-mul-right (factorial n) one-more))
+    (λ l. let e : m ≡ suc n = omega arith in rw e (omega arith))
+  where
+    one-more : 1 ≤ suc n
+    one-more = omega arith
+
+-- so many are the most that are tried
+pub factorial-most : (n : ℕ) → n ≤ maxTried → factorial n ≤ 40320
+unfolding factorial
+factorial-most n h = factorial-rises n 8 h
+
+-- one factor more, and one less
+pub factorial-next : (n : ℕ) → factorial (n + 1) ≡ (n + 1) * factorial n
+unfolding factorial
+factorial-next n = rw (add-one n)
+
+pub factorial-down : (n : ℕ) → 0 < n → factorial n / n ≡ factorial (n - 1)
+unfolding factorial
+factorial-down zero h = absurd (omega arith)
+factorial-down (suc n) h = let e : suc n - 1 ≡ n = omega arith in rw e (mul-div-cancel-left (factorial n) h)
 
 -- the order that stands at place r
 unfoldable pub numbered : ℕ → ℕ → List ℕ → List ℕ
