@@ -114,6 +114,12 @@ upto-at a zero i d h = absurd (omega arith)
 upto-at a (suc n) zero d h = omega arith
 upto-at a (suc n) (suc i) d h = omega (arith, upto-at (suc a) n i d (omega arith))
 
+-- one number more
+pub upto-more : (a n : ℕ) → upto a (suc n) ≡ upto a n ++ ((a + n) ∷ [])
+unfolding upto
+upto-more a zero = let e : a + 0 ≡ a = omega arith in rw e
+upto-more a (suc n) = let e : suc a + n ≡ a + suc n = omega arith in rw (← e) (ap (λ ns. a ∷ ns) (upto-more (suc a) n))
+
 pub in-upto : (a n x : ℕ) → a ≤ x → x < a + n → In x (upto a n)
 unfolding upto
 in-upto a zero x h k = absurd (omega arith)
