@@ -148,46 +148,54 @@ once (suc n) xs l u =
 
 -- ---- the layings of a film
 
-positions-length : (P N : ℕ) → length (filmPositions P N) ≡ N
+pub positions-length : (P N : ℕ) → length (filmPositions P N) ≡ N
 unfolding filmPositions
-positions-length P N = upto-length (P - N) N
+positions-length P N = upto-length _ N
 
 positions-unique : (P N : ℕ) → Unique (filmPositions P N)
 unfolding filmPositions
-positions-unique P N = unique-upto (P - N) N
+positions-unique P N = unique-upto _ N
+
+in-film : (P N p : ℕ) → N ≤ P → P - N ≤ p → p < P → In p (filmPositions P N)
+unfolding filmPositions
+in-film P N p np h u = in-upto _ N p (omega arith) (omega arith)
+
+of-film : (P N p : ℕ) → N ≤ P → In p (filmPositions P N) → (P - N ≤ p) × (p < P)
+unfolding filmPositions
+of-film P N p np h = let b = of-upto _ N p h in omega arith
 
 -- EVERY LAYING ON THE FILM'S POSITIONS IS IN THE LIST
 pub laying-listed : (P N : ℕ) → N ≤ P → (l : ℕ → ℕ) → OnFilm P N l → In (listed l N) (layings P N)
-unfolding layings filmPositions
+unfolding layings
 laying-listed P N np l o =
-    arranged N (upto (P - N) N) (listed l N) (upto-length (P - N) N) (record {
+    arranged N (filmPositions P N) (listed l N) (positions-length P N) (record {
       size = length-map (upto 0 N) l ∙ upto-length 0 N;
       apart = unique-map l (upto 0 N) (λ a b p q e. o .laying .apart a b (omega (arith, of-upto 0 N a p)) (omega (arith, of-upto 0 N b q)) e) (unique-upto 0 N);
       from = λ a h. here a (of-map l a (upto 0 N) h);
     })
   where
-    here : (a : ℕ) → (b : ℕ) × In b (upto 0 N) × (a ≡ l b) → In a (upto (P - N) N)
+    here : (a : ℕ) → (b : ℕ) × In b (upto 0 N) × (a ≡ l b) → In a (filmPositions P N)
     here a (b, h, e) =
         let u : b < N = omega (arith, of-upto 0 N b h) in
-        in-upto (P - N) N a (omega (arith, o .high b u)) (omega (arith, o .laying .into b u))
+        in-film P N a np (omega (arith, o .high b u)) (omega (arith, o .laying .into b u))
 
 -- AND NOTHING ELSE IS
 pub listed-laying : (P N : ℕ) → N ≤ P → (ys : List ℕ) → In ys (layings P N) → (length ys ≡ N) × OnFilm P N (laid ys)
-unfolding layings filmPositions
+unfolding layings
 listed-laying P N np ys h =
-    let o = ordered N (upto (P - N) N) ys (upto-length (P - N) N) (unique-upto (P - N) N) h in (
+    let o = ordered N (filmPositions P N) ys (positions-length P N) (positions-unique P N) h in (
       o .size,
       record {
         laying = record {
-          into = λ b u. omega (arith, within o b u);
+          into = λ b u. within o b u .1;
           apart = λ a b u v e. unique-at ys 0 (o .apart) a b (omega (arith, o .size)) (omega (arith, o .size)) e;
         };
-        high = λ b u. omega (arith, within o b u);
+        high = λ b u. within o b u .0;
       },
     )
   where
-    within : Order N (upto (P - N) N) ys → (b : ℕ) → b < N → (P - N ≤ laid ys b) × (laid ys b < P - N + N)
-    within o b u = of-upto (P - N) N (laid ys b) (o .from (laid ys b) (in-at ys b 0 (omega (arith, o .size))))
+    within : Order N (filmPositions P N) ys → (b : ℕ) → b < N → (P - N ≤ laid ys b) × (laid ys b < P)
+    within o b u = of-film P N (laid ys b) np (o .from (laid ys b) (in-at ys b 0 (omega (arith, o .size))))
 
 -- EACH ONCE
 pub layings-once : (P N : ℕ) → Unique (layings P N)

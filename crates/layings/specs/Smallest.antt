@@ -10,6 +10,7 @@ use lib.Dec.{eqb}
 use borrow.Author.Tests.{eq-eqb, ne-eqb}
 use Rattle.laws.specs.Bools.{bit}
 use Rattle.laws.specs.Members.{In}
+use Rattle.numbers.specs.Limits.{maxNumber}
 use Rattle.layings.specs.Layings.{smallest, howMany}
 
 -- ---- what they are
@@ -46,37 +47,34 @@ unfolding howMany
 howMany-more w v [] = omega arith
 howMany-more w v (u ∷ us) = omega (arith, howMany-more w v us)
 
--- ---- the best of those met so far: none, or the smallest and how many it is
+-- ---- the best of those met so far
+
+-- the smallest and how many it is; of none it is greater than any that will come
 pub record Best (ws : List ℕ) (least count : ℕ) : Type 0 where
   pub few : count ≤ length ws
-  pub none : length ws ≡ 0 → count ≡ 0
-  pub some : 0 < length ws → (0 < count) × (least ≡ smallest ws) × (count ≡ howMany (smallest ws) ws)
+  pub none : length ws ≡ 0 → least ≡ maxNumber
+  pub some : 0 < length ws → (least ≡ smallest ws) × (count ≡ howMany (smallest ws) ws)
 
-pub best-none : (least : ℕ) → Best [] least 0
-best-none least = record { few = omega arith; none = λ e. refl; some = λ h. absurd (omega arith) }
+pub best-none : Best [] maxNumber 0
+best-none = record { few = omega arith; none = λ e. refl; some = λ h. absurd (omega arith) }
 
 module _ (least count v : ℕ) where
-  -- the first one
-  pub best-first : (ws : List ℕ) → count ≡ 0 → Best ws least count → Best (ws ++ (v ∷ [])) v 1
-  unfolding smallest howMany
-  best-first [] e b = record { few = omega arith; none = λ z. absurd (omega arith); some = λ h. (omega arith, refl, rw (eq-eqb v v refl) (omega arith)) }
-  best-first (w ∷ ws) e b = absurd (omega (arith, b .some (omega arith) .0))
-
   -- one that is smaller
-  pub best-less : (ws : List ℕ) → 0 < count → v < least → Best ws least count → Best (ws ++ (v ∷ [])) v 1
-  best-less [] p h b = absurd (omega (arith, b .none refl))
-  best-less (w ∷ ws) p h b =
+  pub best-less : (ws : List ℕ) → v < least → Best ws least count → Best (ws ++ (v ∷ [])) v 1
+  unfolding smallest howMany
+  best-less [] h b = record { few = omega arith; none = λ z. absurd (omega arith); some = λ k. (refl, rw (eq-eqb v v refl) (omega arith)) }
+  best-less (w ∷ ws) h b =
       let m = smallest-more w v ws in
       let s = b .some (omega arith) in
       let q : smallest ((w ∷ ws) ++ (v ∷ [])) ≡ v = omega arith in
       record {
         few = omega (arith, length-append (w ∷ ws) (v ∷ []));
         none = λ z. absurd (omega (arith, length-append (w ∷ ws) (v ∷ [])));
-        some = λ k. (omega arith, sym q, rw q (rw (howMany-more v v (w ∷ ws), eq-eqb v v refl, howMany-none v (w ∷ ws) (omega arith)) (omega arith)));
+        some = λ k. (sym q, rw q (rw (howMany-more v v (w ∷ ws), eq-eqb v v refl, howMany-none v (w ∷ ws) (omega arith)) (omega arith)));
       }
 
   -- one that is as small
-  pub best-equal : (ws : List ℕ) → 0 < count → v ≡ least → Best ws least count → Best (ws ++ (v ∷ [])) least (count + 1)
+  pub best-equal : (ws : List ℕ) → v < maxNumber → v ≡ least → Best ws least count → Best (ws ++ (v ∷ [])) least (count + 1)
   best-equal [] p h b = absurd (omega (arith, b .none refl))
   best-equal (w ∷ ws) p h b =
       let m = smallest-more w v ws in
@@ -85,15 +83,11 @@ module _ (least count v : ℕ) where
       record {
         few = omega (arith, length-append (w ∷ ws) (v ∷ []), b .few);
         none = λ z. absurd (omega (arith, length-append (w ∷ ws) (v ∷ [])));
-        some = λ k. (
-          omega arith,
-          omega arith,
-          rw q (rw (howMany-more (smallest (w ∷ ws)) v (w ∷ ws), eq-eqb v (smallest (w ∷ ws)) (omega arith)) (omega arith)),
-        );
+        some = λ k. (omega arith, rw q (rw (howMany-more (smallest (w ∷ ws)) v (w ∷ ws), eq-eqb v (smallest (w ∷ ws)) (omega arith)) (omega arith)));
       }
 
   -- one that is greater
-  pub best-more : (ws : List ℕ) → 0 < count → least < v → Best ws least count → Best (ws ++ (v ∷ [])) least count
+  pub best-more : (ws : List ℕ) → v < maxNumber → least < v → Best ws least count → Best (ws ++ (v ∷ [])) least count
   best-more [] p h b = absurd (omega (arith, b .none refl))
   best-more (w ∷ ws) p h b =
       let m = smallest-more w v ws in
@@ -102,9 +96,5 @@ module _ (least count v : ℕ) where
       record {
         few = omega (arith, length-append (w ∷ ws) (v ∷ []), b .few);
         none = λ z. absurd (omega (arith, length-append (w ∷ ws) (v ∷ [])));
-        some = λ k. (
-          omega arith,
-          omega arith,
-          rw q (rw (howMany-more (smallest (w ∷ ws)) v (w ∷ ws), ne-eqb v (smallest (w ∷ ws)) (omega arith)) (omega arith)),
-        );
+        some = λ k. (omega arith, rw q (rw (howMany-more (smallest (w ∷ ws)) v (w ∷ ws), ne-eqb v (smallest (w ∷ ws)) (omega arith)) (omega arith)));
       }

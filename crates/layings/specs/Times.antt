@@ -17,7 +17,7 @@ use Rattle.plan.specs.Plan.{timeOn, placeOf, worst2Of}
 use Rattle.plan.specs.Legal.{legal-laying}
 use Rattle.plan.specs.Promise.{best-time, own-time}
 use Rattle.layings.specs.Layings.{arrangements, filmPositions, layings, listed, laid, worstIn, worstTimes, smallest, timesTried, leastOf}
-use Rattle.layings.specs.Arranged.{laying-listed, listed-laying}
+use Rattle.layings.specs.Arranged.{positions-length, laying-listed, listed-laying}
 use Rattle.layings.specs.Numbered.{factorial, numbered, arrangements-length, arrangement-at, numbered-map, numbered-length}
 use Rattle.layings.specs.Smallest.{smallest-le, smallest-least}
 
@@ -89,13 +89,10 @@ orders-are x τ P N =
     tried : length (map (worstIn x τ N) (arrangements N (filmPositions P N))) ≡ length (arrangements N (filmPositions P N))
     tried = length-map (arrangements N (filmPositions P N)) (worstIn x τ N)
 
-    size : length (filmPositions P N) ≡ N
-    size = unfold filmPositions in upto-length (P - N) N
-
     each : (r : ℕ) → r < factorial N → getD (ordersTried x N (map τ (filmPositions P N))) r 0 ≡ getD (map (worstIn x τ N) (arrangements N (filmPositions P N))) r 0
     each r h =
         let ys = numbered N r (filmPositions P N) in
         orders-at x N r (map τ (filmPositions P N)) h
-        ∙ ap (worstIn x (λ t. t) N) (numbered-map τ N r (filmPositions P N) (omega (arith, size)) h)
+        ∙ ap (worstIn x (λ t. t) N) (numbered-map τ N r (filmPositions P N) (omega (arith, positions-length P N)) h)
         ∙ sym (worst-same x τ (λ t. t) (laid ys) (laid (map τ ys)) N (λ b u. sym (map-at τ ys b 0 0 (omega (arith, numbered-length N r (filmPositions P N))))))
         ∙ sym (map-at (worstIn x τ N) (arrangements N (filmPositions P N)) r [] 0 (omega (arith, arrangements-length N (filmPositions P N))) ∙ ap (worstIn x τ N) (arrangement-at N r (filmPositions P N) h))

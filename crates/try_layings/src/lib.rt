@@ -6,6 +6,7 @@ mod worst; // the worst time of one order
 use crate::orders::factorial;
 use crate::orders::order;
 use crate::worst::worst_of;
+use numbers::limits::MAX_NUMBER;
 ghost use mathlib.Core.Path.{_≡_};
 ghost use mathlib.Core.List.{List, _++_, _∷_, []};
 ghost use Prim.Native.Nat.{ℕ, _≤_, _<_};
@@ -17,7 +18,7 @@ ghost use Rattle.layings.specs.Layings.{smallest, howMany};
 ghost use Rattle.layings.specs.Smallest.{Best};
 ghost use Rattle.layings.specs.Times.{ordersTried};
 
-// The smallest worst time met so far, and how many orders have it; no order has been met where that is 0.
+// The smallest worst time met so far, and how many orders have it; before the first it is the greatest number.
 pub struct Found {
     pub least: u32,
     pub count: u32,
@@ -25,15 +26,9 @@ pub struct Found {
 
 // One more order, of this worst time.
 fn met(found: Found, time: u32) -> Found
-    requires { ⌜ found .count < maxNumber ⌝ }
+    requires { ⌜ (time < maxNumber) × (found .count < maxNumber) ⌝ }
     ensures { λ r. ⌜ ((ws : List ℕ) → Best ws (found .least) (found .count) → Best (ws ++ (time ∷ [])) (r .least) (r .count)) ⌝ }
 {
-    if found.count == 0 {
-        return Found {
-            least: time,
-            count: 1,
-        };
-    }
     if time < found.least {
         return Found {
             least: time,
@@ -56,7 +51,10 @@ pub fn try_layings(times: [u32; 8], blocks: u32, showing: u32) -> Found
     ensures count { λ r. ⌜ r .count ≡ howMany (r .least) (ordersTried (showingOf showing) blocks (take blocks times)) ⌝ }
 {
     let total = factorial(blocks);
-    let mut found = Found { least: 0, count: 0 };
+    let mut found = Found {
+        least: MAX_NUMBER,
+        count: 0,
+    };
     let mut number: u32 = 0;
     while number < total {
         let row = order(times, blocks, number);

@@ -1,7 +1,7 @@
 // The worst time of one order.
 use numbers::showings::LOOP;
 ghost use mathlib.Core.Path.{_≡_};
-ghost use Prim.Native.Nat.{ℕ, _≤_, _<_, max};
+ghost use Prim.Native.Nat.{ℕ, _*_, _≤_, _<_, max};
 ghost use Rattle.laws.specs.Each.{Each};
 ghost use Rattle.numbers.specs.Limits.{maxTried, maxTime};
 ghost use Rattle.placement.specs.Circle.{round};
@@ -43,7 +43,8 @@ fn count_pairs(blocks: u32, showing: u32) -> u32
 // The worst time of two successive blocks; the row has each block's time.
 pub fn worst_of(row: [u32; 8], blocks: u32, showing: u32) -> u32
     requires { ⌜ (1 < blocks) × (blocks ≤ maxTried) × Each (λ (t : ℕ). t ≤ maxTime) row ⌝ }
-    ensures { λ r. ⌜ r ≡ worstIn (showingOf showing) (λ t. t) blocks row ⌝ }
+    ensures worst { λ r. ⌜ r ≡ worstIn (showingOf showing) (λ t. t) blocks row ⌝ }
+    ensures small { λ r. ⌜ r ≤ 2 * maxTime ⌝ }
 {
     let pairs = count_pairs(blocks, showing);
     let mut worst: u32 = 0;

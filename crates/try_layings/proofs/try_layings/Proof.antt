@@ -32,7 +32,7 @@ abbrev μ-loop : tie.MeasureT-loop
 μ-loop times blocks showing total found₀ number₀ found number = total - number
 
 loop-holds : tie.Need-loop-holds Inv-loop μ-loop
-loop-holds c = record { all = c .factorial .ensures; within = omega arith; best = best-none _ }
+loop-holds c = record { all = c .factorial .ensures; within = omega arith; best = best-none }
 
 -- one more order is there
 more : (c : tie.In-loop Inv-loop μ-loop) → (c .before .loop .number < factorial (c .before .before .before .args .blocks)) × (c .before .loop .number < 40320)
@@ -53,7 +53,7 @@ met-requires c κs =
     let i = c .before .before in
     let l = i .before .loop in
     let a = i .before .before .before .args in
-    omega (arith, more i .1, l .inv .best .few, length-take (l .number) (tries (a .showing) (a .blocks) (a .times)))
+    (omega (arith, c .worst-of .ensures .1), omega (arith, more i .1, l .inv .best .few, length-take (l .number) (tries (a .showing) (a .blocks) (a .times))))
 
 loop-again : tie.Need-loop-again Inv-loop μ-loop
 loop-again c =
@@ -64,7 +64,7 @@ loop-again c =
     let a = i .before .before .before .args in
     let ws = tries (a .showing) (a .blocks) (a .times) in
     let x = showingOf (a .showing) in
-    let e = w .worst-of .ensures ∙ tried-at x (a .blocks) (l .number) (a .times) (o .order .result) (more i .0) (o .order .ensures .0) in
+    let e = w .worst-of .ensures .0 ∙ tried-at x (a .blocks) (l .number) (a .times) (o .order .result) (more i .0) (o .order .ensures .0) in
     record {
       all = l .inv .all;
       within = omega (arith, i .loop-test .taken);
@@ -79,7 +79,7 @@ returns c =
     let n = orders-length (showingOf (a .showing)) (a .blocks) (take (a .blocks) (a .times)) in
     let b = rw (take-all (l .number) ws (omega (arith, l .inv .all, c .loop-test .left))) at (l .inv .best) in
     let s = b .some (omega (arith, factorial-pos (a .blocks))) in
-    (s .1, s .2 ∙ ap (λ (w : ℕ). howMany w ws) (sym (s .1)))
+    (s .0, s .1 ∙ ap (λ (w : ℕ). howMany w ws) (sym (s .0)))
 
 pub try-layings-spec : {M : Type 1} → statement M
 try-layings-spec =
