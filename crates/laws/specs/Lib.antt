@@ -6,6 +6,6 @@ pub mod Insertion
 pub mod Map
 pub mod Members
 pub mod Overwrite
-pub mod Places
+pub mod Indices
 pub mod Runs
 pub mod Sums

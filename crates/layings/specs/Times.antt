@@ -13,7 +13,7 @@ use Rattle.card.specs.declared.Figures.{Figures}
 use Rattle.card.specs.Card.{Legal, totalPositions}
 use Rattle.placement.specs.Showing.{Showing, one, loop, worstOf, after, pairsOf, pairTime, worst-pair, laying-high}
 use Rattle.pacing.specs.Shown.{round-below}
-use Rattle.plan.specs.Plan.{timeOn, placeOf, worst2Of}
+use Rattle.plan.specs.Plan.{timeOn, positionOf, worst2Of}
 use Rattle.plan.specs.Legal.{legal-laying}
 use Rattle.plan.specs.Promise.{best-time, own-time}
 use Rattle.layings.specs.Layings.{arrangements, filmPositions, layings, listed, laid, worstIn, worstTimes, smallest, timesTried, leastOf}
@@ -48,15 +48,15 @@ unfolding leastOf timesTried worstTimes
 least-is-planned x f ok =
     smallest-of (map (worstIn x (timeOn f) (f .blocks)) (layings (totalPositions f) (f .blocks))) (worst2Of x f) has low
   where
-    own : worst2Of x f ≡ worstIn x (timeOn f) (f .blocks) (listed (placeOf x f) (f .blocks))
+    own : worst2Of x f ≡ worstIn x (timeOn f) (f .blocks) (listed (positionOf x f) (f .blocks))
     own = sym (own-time x f)
-        ∙ worst-same x (timeOn f) (timeOn f) (placeOf x f) (laid (listed (placeOf x f) (f .blocks))) (f .blocks)
-        (λ b h. ap (timeOn f) (sym (listed-at (placeOf x f) (f .blocks) b h)))
+        ∙ worst-same x (timeOn f) (timeOn f) (positionOf x f) (laid (listed (positionOf x f) (f .blocks))) (f .blocks)
+        (λ b h. ap (timeOn f) (sym (listed-at (positionOf x f) (f .blocks) b h)))
 
     has : In (worst2Of x f) (map (worstIn x (timeOn f) (f .blocks)) (layings (totalPositions f) (f .blocks)))
     has = rw own
-        (in-map (worstIn x (timeOn f) (f .blocks)) (listed (placeOf x f) (f .blocks)) (layings (totalPositions f) (f .blocks))
-        (laying-listed (totalPositions f) (f .blocks) (ok .room) (placeOf x f)
+        (in-map (worstIn x (timeOn f) (f .blocks)) (listed (positionOf x f) (f .blocks)) (layings (totalPositions f) (f .blocks))
+        (laying-listed (totalPositions f) (f .blocks) (ok .room) (positionOf x f)
         (record { laying = legal-laying x f ok; high = λ b u. laying-high x (totalPositions f) (f .blocks) b (ok .room) u })))
 
     low : (v : ℕ) → In v (map (worstIn x (timeOn f) (f .blocks)) (layings (totalPositions f) (f .blocks))) → worst2Of x f ≤ v
