@@ -35,7 +35,7 @@ form-small f e =
     let ok = fault-legal f (long, wide₂) (eqb-true (recordFault f) 0 (and-left (eqb (recordFault f) 0) _ e)) in
     record {
       legal = ok;
-      zones = leb-true (f .zones) 3 (and-left (leb (f .zones) 3) _ few);
+      zones = omega (arith, leb-true (f .zones) 3 (and-left (leb (f .zones) 3) _ few));
       positions = λ i h. leb-true (getD (f .positions) i 0) 3 (all-at 0 (λ (p : ℕ). leb p 3) (f .positions) i (and-left (allBy (λ (p : ℕ). leb p 3) (f .positions)) _ low) (omega (arith, ok .zones)));
       times = λ i h. leb-true (getD (f .times) i 0) 3 (all-at 0 (λ (t : ℕ). leb t 3) (f .times) i (and-right (allBy (λ (p : ℕ). leb p 3) (f .positions)) _ low) (omega (arith, ok .zones)));
       blocks = leb-true (f .blocks) 8 (and-right (leb (f .zones) 3) _ few);
