@@ -26,8 +26,8 @@ use Rattle.placement.specs.Zones.{timeAt-within}
 use Rattle.pacing.specs.Laid.{slowest, worst-within}
 use Rattle.pacing.specs.Streams.{overhead, load, streams-best}
 use Rattle.plan.specs.declared.Planned.{Planned}
-use Rattle.plan.specs.Plan.{timeOn, placeOf, timeOf, worst2Of, overOf, streamsOf}
-use Rattle.plan.specs.Legal.{total-zones, place-below}
+use Rattle.plan.specs.Plan.{timeOn, positionOf, timeOf, worst2Of, overOf, streamsOf}
+use Rattle.plan.specs.Legal.{total-zones, position-below}
 use Rattle.plan.specs.Ways.{by-none, some-stream}
 use Rattle.plan.specs.Answer.{planned}
 use Rattle.try_all.specs.Answer.{tried}
@@ -82,10 +82,10 @@ agree x f small =
 worst-six : (x : Showing) (f : Figures) → Small f → worst2Of x f ≤ 6
 unfolding worst2Of slowest
 worst-six x f small =
-    omega (arith, worst-within (timeOn f) (placeOf x f) (f .blocks) x, greatestOf-least (timeOf x f) (f .blocks) 3 (λ b u. three b u))
+    omega (arith, worst-within (timeOn f) (positionOf x f) (f .blocks) x, greatestOf-least (timeOf x f) (f .blocks) 3 (λ b u. three b u))
   where
     three : (b : ℕ) → b < f .blocks → timeOf x f b ≤ 3
-    three b u = timeAt-within (f .positions) (f .times) (f .zones) (placeOf x f b) 3 (small .times) (omega (arith, place-below x f (small .legal) b u, total-zones f (small .legal)))
+    three b u = timeAt-within (f .positions) (f .times) (f .zones) (positionOf x f b) 3 (small .times) (omega (arith, position-below x f (small .legal) b u, total-zones f (small .legal)))
 
 -- so a stream fits
 one-fits : (c w h r B : ℕ) → c ≡ 1000 → h ≡ 1 → r ≡ 1 → B ≡ 1000 → w ≤ 6 → load c w (overhead h r) 1 ≤ parts * B
