@@ -1,8 +1,9 @@
--- The rows of document 01's bench cases that are marked (p), each an equation that computes; and document 02's one-zone case as a loop, with
--- the bench film as one.
+-- The rows of document 01's bench cases that are marked (p), each an equation that computes; document 02's one-zone case as a loop, with
+-- the bench film as one; and the number of its small cards.
 use Prim.Native.Nat.{ℕ}
 use mathlib.Core.Path.{_≡_, refl}
 use mathlib.Core.List.{List, [], _∷_}
+use lib.ListN.{length}
 use Rattle.leb128.specs.Number.{groupsFrom, groups, continuing, joined, judged, numberIn, numberAt}
 use Rattle.card.specs.Ranges.{first, below, above, outside, thenAbove, thenBelow, faultOf, timeFault}
 use Rattle.card.specs.Read.{onFault, onNumber, fieldAt, blankZones, blankFigures, accepted, refusedCard, thenField, cardEnd, filmFrom, zonesFrom, readCard}
@@ -23,6 +24,8 @@ use Rattle.pacing.specs.Laid.{slowest, margin}
 use Rattle.plan.specs.declared.Plan.{Plan}
 use Rattle.plan.specs.Plan.{wordOf, timeOf, worst2Of, worstAtOf, streamsOf, marginOf, bufferSize, planOf, blankPlan, row, positionsOf, leadsOf}
 use Rattle.plan.specs.Answer.{planFault, refusal, planned}
+use Rattle.small_cards.specs.Cards.{smallCards}
+use Rattle.small_cards.specs.Computed.{how-many}
 use Rattle.cases.specs.Story.{Story, story}
 use Rattle.cases.specs.Bench.{entries, film, sixOnes, bench, alike}
 
@@ -87,6 +90,8 @@ pub record Cases : Type 0 where
   pub bench-loop-plan : Plans loop (bench 6 262144) 15 807320 38970 5 5570
   pub bench-loop-positions : positionsOf loop (bench 6 262144) ≡ 0 ∷ 5 ∷ 1 ∷ 3 ∷ 2 ∷ 4 ∷ []
   pub bench-loop-leads : leadsOf loop (bench 6 262144) ≡ 5570 ∷ 0 ∷ 2130 ∷ 0 ∷ 0 ∷ 0 ∷ []
+  -- document 02: there are 1511 small cards (T13.4)
+  pub small-cards : length smallCards ≡ 1511
   -- the desk case
   pub desk : Story
 
@@ -120,5 +125,6 @@ cases = record {
   bench-loop-plan = refl;
   bench-loop-positions = refl;
   bench-loop-leads = refl;
+  small-cards = how-many;
   desk = story;
 }

@@ -1,0 +1,117 @@
+-- The writer makes the card of small figures, and both planners agree on it.
+-- Assumes nothing.
+use Prim.Native.Nat.{ℕ, _*_, _≤_, _<_}
+use mathlib.Core.Path.{_≡_, refl, sym, ap, _∙_}
+use mathlib.Core.List.{List}
+use native.Mathlib.Omega.{arith}
+use lib.ListN.{length, take, drop, length-append}
+use lib.Seq.{take-append-seam}
+use borrow.Author.Tests.{le-leb, eq-eqb}
+use Rattle.numbers.specs.Units.{parts}
+use Rattle.words.specs.Words.{wordsOf}
+use Rattle.words.specs.Laws.{words-length}
+use Rattle.card.specs.declared.Figures.{Figures}
+use Rattle.card.specs.declared.CardRead.{CardRead}
+use Rattle.card.specs.declared.Verdict.{Verdict}
+use Rattle.card.specs.declared.CardWritten.{CardWritten}
+use Rattle.card.specs.Ranges.{first}
+use Rattle.card.specs.Card.{Legal, cardOf, writeFault, writtenCard, bufferAfter}
+use Rattle.card.specs.Read.{accepted, readCard}
+use Rattle.round_trip.specs.Legality.{legal-fault}
+use Rattle.round_trip.specs.RoundTrip.{legal-read}
+use Rattle.round_trip.specs.Size.{legal-size}
+use Rattle.laws.specs.Greatest.{greatestOf-least}
+use Rattle.placement.specs.Showing.{Showing}
+use Rattle.placement.specs.Zones.{timeAt-within}
+use Rattle.pacing.specs.Laid.{slowest, worst-within}
+use Rattle.pacing.specs.Streams.{overhead, load, streams-best}
+use Rattle.plan.specs.declared.Planned.{Planned}
+use Rattle.plan.specs.Plan.{timeOn, positionOf, timeOf, worst2Of, overOf, streamsOf}
+use Rattle.plan.specs.Legal.{total-zones, position-below}
+use Rattle.plan.specs.Ways.{by-none, some-stream}
+use Rattle.plan.specs.Answer.{planned}
+use Rattle.try_all.specs.Answer.{tried}
+use Rattle.try_all.specs.Ways.{same-answer}
+use Rattle.small_cards.specs.Cards.{Small}
+use Rattle.compare_planners.specs.Compare.{unequalOf, eight, unequalOn}
+
+-- ---- the card is written
+
+module _ (f : Figures) (ok : Legal f) (out : List ℕ) (room : 467 ≤ length out) where
+  no-fault : writeFault f (length out) ≡ 0
+  unfolding writeFault first
+  no-fault = rw (legal-fault f ok, le-leb (length (cardOf f)) (length out) (omega (arith, legal-size f ok .1)))
+
+  pub written-length : (w : CardWritten) → w ≡ writtenCard f out → w .length ≡ length (cardOf f)
+  unfolding writtenCard
+  written-length w e = ap (λ (v : CardWritten). v .length) (rw no-fault at e)
+
+  -- the first bytes of the buffer are the card
+  pub written-card : (out′ : List ℕ) (n : ℕ) → out′ ≡ bufferAfter f out → n ≡ length (cardOf f) → take n out′ ≡ cardOf f
+  unfolding bufferAfter
+  written-card out′ n e d = rw (d, rw no-fault at e) (take-append-seam (cardOf f) (drop (length (cardOf f)) out))
+
+  pub written-short : (out′ : List ℕ) (n : ℕ) → out′ ≡ bufferAfter f out → n ≡ length (cardOf f) → n ≤ length out′
+  unfolding bufferAfter
+  written-short out′ n e d = rw (d, rw no-fault at e) (omega (arith, length-append (cardOf f) (drop (length (cardOf f)) out)))
+
+-- ---- and both planners agree on it
+
+eight-long : length eight ≡ 32
+unfolding eight
+eight-long = refl
+
+eight-room : (f : Figures) → Small f → f .blocks ≤ length (wordsOf eight)
+eight-room f small = omega (arith, words-length eight, eight-long, small .blocks)
+
+pub agree : (x : Showing) (f : Figures) → Small f → unequalOn x (cardOf f) ≡ 0
+unfolding unequalOf unequalOn
+agree x f small =
+    rw (legal-read f (small .legal))
+    (rw (eq-eqb (planned x read eight eight .plan .worst2) (tried x read .worst2) (sym (same-answer x read (λ z. small .legal) eight eight (small .blocks) room room .1))))
+  where
+    read : CardRead
+    read = record { verdict = accepted; figures = f }
+
+    room : f .blocks ≤ length (wordsOf eight)
+    room = eight-room f small
+
+-- ---- and neither refuses it
+
+-- no two blocks take more than 6
+worst-six : (x : Showing) (f : Figures) → Small f → worst2Of x f ≤ 6
+unfolding worst2Of slowest
+worst-six x f small =
+    omega (arith, worst-within (timeOn f) (positionOf x f) (f .blocks) x, greatestOf-least (timeOf x f) (f .blocks) 3 (λ b u. three b u))
+  where
+    three : (b : ℕ) → b < f .blocks → timeOf x f b ≤ 3
+    three b u = timeAt-within (f .positions) (f .times) (f .zones) (positionOf x f b) 3 (small .times) (omega (arith, position-below x f (small .legal) b u, total-zones f (small .legal)))
+
+-- so a stream fits
+one-fits : (c w h r B : ℕ) → c ≡ 1000 → h ≡ 1 → r ≡ 1 → B ≡ 1000 → w ≤ 6 → load c w (overhead h r) 1 ≤ parts * B
+unfolding load overhead
+one-fits c w h r B ec eh er eb l = rw (ec, eh, er, eb) (omega arith)
+
+fed : (x : Showing) (f : Figures) → Small f → streamsOf x f ≡ 0 → ⊥
+unfolding streamsOf
+fed x f small z =
+    let m = small .measures in
+    omega (
+      arith,
+      one-fits (f .rate) (worst2Of x f) (f .hop) (f .back) (f .bytes) (m .1) (m .2) (m .3) (m .0) (worst-six x f small),
+      streams-best (f .rate) (worst2Of x f) (overOf f) (f .bytes) (worst2Of x f) 1 (omega arith) (omega arith) (omega arith),
+    )
+
+pub accepted-both : (x : Showing) (f : Figures) → Small f → (planned x (readCard (cardOf f)) eight eight .verdict .number ≡ 0) × (tried x (readCard (cardOf f)) .verdict .number ≡ 0)
+accepted-both x f small =
+    rw (legal-read f (small .legal))
+    (number, ap (λ (v : Verdict). v .number) (same-answer x read (λ z. small .legal) eight eight (small .blocks) room room .0) ∙ number)
+  where
+    read : CardRead
+    read = record { verdict = accepted; figures = f }
+
+    room : f .blocks ≤ length (wordsOf eight)
+    room = eight-room f small
+
+    number : planned x read eight eight .verdict .number ≡ 0
+    number = ap (λ (a : Planned). a .verdict .number) (sym (by-none x read eight eight refl (some-stream x f (length (wordsOf eight)) (length (wordsOf eight)) room room (fed x f small)) .0))

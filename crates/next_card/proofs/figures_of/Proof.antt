@@ -1,0 +1,19 @@
+use Rattle.small_cards.specs.Cards.{smallFigures}
+use Rattle.small_cards.specs.Next.{figuresOf}
+use borrow.Author.Needs.{needs}
+use Rattle.next_card.proofs.figures_of.Statement.{statement}
+use Rattle.next_card.proofs.figures_of.Tie as tie
+
+enter-requires : tie.Need-enter-requires
+enter-requires c κs = search needs
+
+enter-requires-2 : tie.Need-enter-requires-2
+enter-requires-2 c κs = search needs
+
+returns : tie.Need-returns
+unfolding figuresOf smallFigures
+returns c = let a = c .before .before .before .before .args .card in
+    λ i. record { zones = a .zones; positions = c .before .enter .ensures i; times = c .enter2 .ensures i; blocks = a .blocks; bytes = 1000; rate = 1000; hop = 1; back = 1 }
+
+pub figures-of-spec : {M : Type 1} → statement M
+figures-of-spec = tie.close (tie.spec enter-requires enter-requires-2 returns)
