@@ -10,6 +10,7 @@ use numbers::limits::TABLE_LENGTH;
 ghost use mathlib.Core.Path.{_≡_};
 ghost use Prim.Native.Nat.{_+_, _≤_};
 ghost use lib.ListN.{length};
+ghost use mathlib.Core.List.{[], _∷_};
 ghost use Rattle.laws.specs.Overwrite.{overwrite};
 ghost use Rattle.numbers.specs.Limits.{maxZones, tableLength};
 ghost use Rattle.card.specs.Card.{tableNumbers, filmNumbers, zoneNumbers, bytesOf, cardOf, notWritten};
@@ -91,14 +92,22 @@ fn write_entries(table: &[u32; 257], out: &mut [u8], start: usize)
     }
 }
 
+// Hop and return from an offset on.
+fn write_moves(hop: u32, back: u32, out: &mut [u8], start: usize)
+    requires { ⌜ start + length (bytesOf (hop ∷ back ∷ [])) ≤ length (now out) ⌝ }
+    ensures { λ _. ⌜ now (out .exit) ≡ overwrite (now (out .entry)) start (bytesOf (hop ∷ back ∷ [])) ⌝ }
+{
+    let at = write_number(out, start, hop);
+    write_number(out, at, back);
+}
+
 // The overheads from an offset on: hop and return, or the whole table.
 fn write_table(kind: u32, table: &[u32; 257], out: &mut [u8], start: usize)
     requires { ⌜ (length (now table) ≡ tableLength) × (start + length (bytesOf (tableNumbers kind (now table))) ≤ length (now out)) ⌝ }
     ensures { λ _. ⌜ now (out .exit) ≡ overwrite (now (out .entry)) start (bytesOf (tableNumbers kind (now (table .entry)))) ⌝ }
 {
     if kind == STRAIGHT {
-        let at = write_number(out, start, hop_in(table));
-        write_number(out, at, table[0]);
+        write_moves(hop_in(table), table[0], out, start);
         return;
     }
     write_entries(table, out, start);
