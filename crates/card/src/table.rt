@@ -51,13 +51,13 @@ fn fault_of_line(table: &[u32; 257], hop: u32, back: u32) -> u32
     ensures { λ r. ⌜ r ≡ cond (isLine tableLength 0 (now (table .entry)) hop back) 0 wrongMeasure ⌝ }
 {
     let mut number: u32 = 0;
-    let mut value = back;
+    let mut expected = back;
     let mut k: usize = 0;
     while k < TABLE_LENGTH as usize {
-        if table[k] != value {
+        if table[k] != expected {
             number = WRONG_MEASURE;
         }
-        value += hop;
+        expected += hop;
         k += 1;
     }
     number

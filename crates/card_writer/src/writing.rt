@@ -47,10 +47,10 @@ fn table_length(kind: u32, table: &[u32; 257]) -> usize
     requires { ⌜ length (now table) ≡ tableLength ⌝ }
     ensures { λ r. ⌜ (r ≡ length (bytesOf (tableNumbers kind (now (table .entry))))) × (r ≤ 1285) ⌝ }
 {
-    if kind == STRAIGHT {
-        return number_length(hop_in(table)) + number_length(table[0]);
+    if kind != STRAIGHT {
+        return entries_length(table);
     }
-    entries_length(table)
+    number_length(hop_in(table)) + number_length(table[0])
 }
 
 // The bytes of the film's numbers.

@@ -15,16 +15,16 @@ use Rattle.card.proofs.table.fault_of_line.Tie as tie
 abbrev On : List ℕ → ℕ → ℕ → ℕ → Type 0
 On table hop back k = getD table k 0 ≡ hop * k + back
 
-record Compared (table : List ℕ) (hop back number value k : ℕ) : Type 0 where
+record Compared (table : List ℕ) (hop back number expected k : ℕ) : Type 0 where
   few : k ≤ tableLength
-  next : value ≡ hop * k + back
+  next : expected ≡ hop * k + back
   seen : Seen wrongMeasure tableLength (On table hop back) number k
 
 abbrev Inv-loop : tie.InvT-loop
-Inv-loop table hop back number₀ value₀ k₀ number value k = Compared table hop back number value k
+Inv-loop table hop back number₀ expected₀ k₀ number expected k = Compared table hop back number expected k
 
 abbrev μ-loop : tie.MeasureT-loop
-μ-loop table hop back number₀ value₀ k₀ number value k = tableLength - k
+μ-loop table hop back number₀ expected₀ k₀ number expected k = tableLength - k
 
 loop-holds : tie.Need-loop-holds Inv-loop μ-loop
 loop-holds c = record { few = omega arith; next = omega arith; seen = seen-none _ _ _ }
@@ -38,8 +38,8 @@ mul-if1 c = search needs
 element-copy-out-if1 : tie.Need-element-copy-out-if1 Inv-loop μ-loop
 element-copy-out-if1 c = search needs
 
-add-value : tie.Need-add-value Inv-loop μ-loop
-add-value c =
+add-expected : tie.Need-add-expected Inv-loop μ-loop
+add-expected c =
     let t = c .before .before in
     let a = t .before .before in
     omega (arith, line-fits (a .args .hop) (a .args .back) (t .before .loop .k) (a .pre .0) (a .pre .1) (t .loop-test .taken), t .before .loop .inv .next)
@@ -79,7 +79,7 @@ fault-of-line-spec =
     cast-loop
     mul-if1
     element-copy-out-if1
-    add-value
+    add-expected
     add-k
     loop-less
     loop-again
