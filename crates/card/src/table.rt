@@ -52,13 +52,13 @@ fn fault_of_line(table: &[u32; 257], hop: u32, back: u32) -> u32
 {
     let mut number: u32 = 0;
     let mut expected = back;
-    let mut k: usize = 0;
-    while k < TABLE_LENGTH as usize {
-        if table[k] != expected {
+    let mut i: usize = 0;
+    while i < TABLE_LENGTH as usize {
+        if table[i] != expected {
             number = WRONG_MEASURE;
         }
         expected += hop;
-        k += 1;
+        i += 1;
     }
     number
 }

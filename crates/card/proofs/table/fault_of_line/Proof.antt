@@ -21,10 +21,10 @@ record Compared (table : List ℕ) (hop back number expected k : ℕ) : Type 0 w
   seen : Seen wrongMeasure tableLength (On table hop back) number k
 
 abbrev Inv-loop : tie.InvT-loop
-Inv-loop table hop back number₀ expected₀ k₀ number expected k = Compared table hop back number expected k
+Inv-loop table hop back number₀ expected₀ i₀ number expected i = Compared table hop back number expected i
 
 abbrev μ-loop : tie.MeasureT-loop
-μ-loop table hop back number₀ expected₀ k₀ number expected k = tableLength - k
+μ-loop table hop back number₀ expected₀ i₀ number expected i = tableLength - i
 
 loop-holds : tie.Need-loop-holds Inv-loop μ-loop
 loop-holds c = record { few = omega arith; next = omega arith; seen = seen-none _ _ _ }
@@ -42,10 +42,10 @@ add-expected : tie.Need-add-expected Inv-loop μ-loop
 add-expected c =
     let t = c .before .before in
     let a = t .before .before in
-    omega (arith, line-fits (a .args .hop) (a .args .back) (t .before .loop .k) (a .pre .0) (a .pre .1) (t .loop-test .taken), t .before .loop .inv .next)
+    omega (arith, line-fits (a .args .hop) (a .args .back) (t .before .loop .i) (a .pre .0) (a .pre .1) (t .loop-test .taken), t .before .loop .inv .next)
 
-add-k : tie.Need-add-k Inv-loop μ-loop
-add-k c = search needs
+add-i : tie.Need-add-i Inv-loop μ-loop
+add-i c = search needs
 
 loop-less : tie.Need-loop-less Inv-loop μ-loop
 loop-less c = search needs
@@ -59,15 +59,15 @@ loop-again c =
       few = omega arith;
       next = omega (arith, l .inv .next);
       seen = ⊎-elim
-          (λ w. subst (λ (m : ℕ). Seen wrongMeasure tableLength (On (a .table .now) (a .hop) (a .back)) m (l .k + 1)) (sym (w .1)) (seen-bad wrongMeasure tableLength _ (l .k) (omega arith) (t .loop-test .taken) (λ e. w .0 .taken (e ∙ sym (l .inv .next)))))
-          (λ w. subst (λ (m : ℕ). Seen wrongMeasure tableLength (On (a .table .now) (a .hop) (a .back)) m (l .k + 1)) (sym (w .1)) (seen-good wrongMeasure tableLength _ _ (l .k) (w .0 .left ∙ l .inv .next) (l .inv .seen)))
+          (λ w. subst (λ (m : ℕ). Seen wrongMeasure tableLength (On (a .table .now) (a .hop) (a .back)) m (l .i + 1)) (sym (w .1)) (seen-bad wrongMeasure tableLength _ (l .i) (omega arith) (t .loop-test .taken) (λ e. w .0 .taken (e ∙ sym (l .inv .next)))))
+          (λ w. subst (λ (m : ℕ). Seen wrongMeasure tableLength (On (a .table .now) (a .hop) (a .back)) m (l .i + 1)) (sym (w .1)) (seen-good wrongMeasure tableLength _ _ (l .i) (w .0 .left ∙ l .inv .next) (l .inv .seen)))
           (c .if1 .came);
     }
 
 returns : tie.Need-returns Inv-loop μ-loop
 returns c =
     let l = c .before .loop in
-    line-judged _ _ _ (l .number) (seen-all _ _ _ (l .number) (l .k) (c .loop-test .left) (l .inv .seen))
+    line-judged _ _ _ (l .number) (seen-all _ _ _ (l .number) (l .i) (c .loop-test .left) (l .inv .seen))
 
 pub fault-of-line-spec : {M : Type 1} → statement M
 fault-of-line-spec =
@@ -80,7 +80,7 @@ fault-of-line-spec =
     mul-if1
     element-copy-out-if1
     add-expected
-    add-k
+    add-i
     loop-less
     loop-again
     returns)
