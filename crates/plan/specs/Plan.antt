@@ -14,6 +14,8 @@ use Rattle.pacing.specs.Film.{Film, lead}
 use Rattle.pacing.specs.Streams.{overhead, streams, bufferOf}
 use Rattle.pacing.specs.Laid.{laidFilm, slowest, margin}
 use Rattle.plan.specs.declared.Plan.{Plan}
+use Rattle.plan.specs.declared.Numbers.{Numbers}
+use Rattle.plan.specs.declared.Scalars.{Scalars}
 
 -- ---- which showing it is (T7.7)
 
@@ -83,6 +85,16 @@ bufferSize x f = bufferOf (f .rate) (streamsOf x f) (marginOf x f) (f .bytes)
 -- the plan record (P9, T7.7, T2.2)
 unfoldable pub planOf : Showing → Figures → Plan
 planOf x f = record { figures = f; streams = streamsOf x f; buffer = bufferSize x f; worst2 = worst2Of x f; margin = marginOf x f; showing = wordOf x; worstat = worstAtOf x f }
+
+-- ---- records by their parts
+
+-- figures of single numbers and of the arrays of positions and times
+abbrev pub figuresFrom : Scalars → List ℕ → List ℕ → Figures
+figuresFrom s ps ts = record { zones = s .zones; positions = ps; times = ts; blocks = s .blocks; bytes = s .bytes; rate = s .rate; hop = s .hop; back = s .back }
+
+-- a plan of its figures and its numbers
+abbrev pub planFrom : Figures → Numbers → Plan
+planFrom f m = record { figures = f; streams = m .streams; buffer = m .buffer; worst2 = m .worst2; margin = m .margin; showing = m .showing; worstat = m .worstat }
 
 -- a plan that is all zero
 unfoldable pub blankPlan : Plan

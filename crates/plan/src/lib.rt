@@ -33,6 +33,26 @@ pub struct Plan {
     pub worstat: u32,
 }
 
+// The figures that are single numbers; a program that lends their arrays hands them over so.
+pub struct Scalars {
+    pub zones: u32,
+    pub blocks: u32,
+    pub bytes: u32,
+    pub rate: u32,
+    pub hop: u32,
+    pub back: u32,
+}
+
+// The numbers of a plan beside its figures.
+pub struct Numbers {
+    pub streams: u32,
+    pub buffer: u32,
+    pub worst2: u32,
+    pub margin: u32,
+    pub showing: u32,
+    pub worstat: u32,
+}
+
 // The answer of the planner.
 pub struct Planned {
     pub verdict: Verdict,
