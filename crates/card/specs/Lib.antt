@@ -2,3 +2,5 @@ pub mod Card
 pub mod RangeLaws
 pub mod Ranges
 pub mod Read
+pub mod Table
+pub mod TableLaws

@@ -3,8 +3,8 @@ use crate::Figures;
 use crate::fields::Rule;
 use crate::fields::fault;
 use crate::fields::fault_of_time;
+use crate::table::fault_of_table;
 use numbers::limits::MAX_BYTES;
-use numbers::limits::MAX_MOVE;
 use numbers::limits::MAX_RATE;
 use numbers::limits::MAX_TIME;
 use numbers::limits::MAX_ZONES;
@@ -13,14 +13,23 @@ ghost use mathlib.Core.Path.{_≡_};
 ghost use Prim.Native.Nat.{_≤_};
 ghost use mathlib.Core.Bool.{cond};
 ghost use lib.ListN.{length};
-ghost use Rattle.numbers.specs.Limits.{maxZones, maxTime};
+ghost use Rattle.numbers.specs.Limits.{maxZones, maxTime, tableLength};
 ghost use Rattle.numbers.specs.Refusals.{wrongZones};
-ghost use Rattle.card.specs.Card.{filmFault, zoneFaults, zerosFrom, recordFault};
-ghost use Rattle.card.specs.Read.{blankFigures, withFilm};
+ghost use Rattle.card.specs.declared.Figures.{Figures};
+ghost use Rattle.card.specs.Card.{filmFault, zoneFaults, faultWith, zerosFrom, recordFault};
+ghost use Rattle.card.specs.Read.{withZones, withFilm, withTable};
 
-// N, B, c, hop, return.
-fn fault_of_film(total: u32, blocks: u32, bytes: u32, rate: u32, hop: u32, back: u32) -> u32
-    ensures { λ r. ⌜ r ≡ filmFault (withFilm blankFigures blocks bytes rate hop back) total ⌝ }
+// N, B, c, then the overheads.
+fn fault_of_film(
+    total: u32,
+    blocks: u32,
+    bytes: u32,
+    rate: u32,
+    kind: u32,
+    table: &[u32; 257],
+) -> u32
+    requires { ⌜ length (now table) ≡ tableLength ⌝ }
+    ensures { λ r. ⌜ r ≡ filmFault (withTable (withFilm (withZones kind 0) blocks bytes rate) (now (table .entry))) total ⌝ }
 {
     let few = fault(Rule::Blocks, total, blocks);
     if few != 0 {
@@ -34,46 +43,39 @@ fn fault_of_film(total: u32, blocks: u32, bytes: u32, rate: u32, hop: u32, back:
     if slow != 0 {
         return slow;
     }
-    let far = fault(Rule::Measure, MAX_MOVE, hop);
-    if far != 0 {
-        return far;
-    }
-    fault(Rule::Measure, MAX_MOVE, back)
+    fault_of_table(kind, table)
 }
 
-// Each zone's positions, then its time; then the film.
-fn fault_of_zones(figures: Figures) -> u32
-    requires { ⌜ figures .zones ≤ maxZones ⌝ }
-    ensures { λ r. ⌜ r ≡ zoneFaults (figures .zones) 0 figures 0 maxTime ⌝ }
+// P, the positions of all zones, or the refusal's number.
+pub enum Judged {
+    Total(u32),
+    Refused(u32),
+}
+
+// Each zone's positions, then its time.
+fn fault_of_zones<'a>(zones: u32, positions: &'a [u32; 64], times: &'a [u32; 64]) -> Judged
+    requires { ⌜ (zones ≤ maxZones) × (length (now positions) ≡ maxZones) × (length (now times) ≡ maxZones) ⌝ }
+    ensures { λ r. ⌜ ((f : Figures) → f .positions ≡ now (positions .entry) → f .times ≡ now (times .entry)
+        → faultWith f r ≡ zoneFaults zones 0 f 0 maxTime) ⌝ }
 {
-    let zones = figures.zones as usize;
-    let innermost = figures.times[0];
+    let innermost = times[0];
     let mut total: u32 = 0;
     let mut before: u32 = MAX_TIME;
     let mut i: usize = 0;
-    while i < zones {
-        let positions = figures.positions[i];
-        let time = figures.times[i];
-        let few = fault(Rule::Positions, total, positions);
+    while i < zones as usize {
+        let few = fault(Rule::Positions, total, positions[i]);
         if few != 0 {
-            return few;
+            return Judged::Refused(few);
         }
-        let slow = fault_of_time(innermost, before, time);
+        let slow = fault_of_time(innermost, before, times[i]);
         if slow != 0 {
-            return slow;
+            return Judged::Refused(slow);
         }
-        total += positions;
-        before = time;
+        total += positions[i];
+        before = times[i];
         i += 1;
     }
-    fault_of_film(
-        total,
-        figures.blocks,
-        figures.bytes,
-        figures.rate,
-        figures.hop,
-        figures.back,
-    )
+    Judged::Total(total)
 }
 
 // 4 where an entry past the zone count is not zero, else 0.
@@ -98,6 +100,10 @@ fn fault_of_unused<'a>(zones: u32, positions: &'a [u32; 64], times: &'a [u32; 64
 pub fn fault_of_record(figures: Figures) -> u32
     ensures { λ r. ⌜ r ≡ recordFault figures ⌝ }
 {
+    let kind = fault(Rule::Kind, 0, figures.kind);
+    if kind != 0 {
+        return kind;
+    }
     let zones = fault(Rule::Zones, 0, figures.zones);
     if zones != 0 {
         return zones;
@@ -106,5 +112,16 @@ pub fn fault_of_record(figures: Figures) -> u32
     if unused != 0 {
         return unused;
     }
-    fault_of_zones(figures)
+    let judged = fault_of_zones(figures.zones, &figures.positions, &figures.times);
+    match judged {
+        Judged::Refused(number) => number,
+        Judged::Total(total) => fault_of_film(
+            total,
+            figures.blocks,
+            figures.bytes,
+            figures.rate,
+            figures.kind,
+            &figures.table,
+        ),
+    }
 }
