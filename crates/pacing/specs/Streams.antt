@@ -12,7 +12,7 @@ use lib.Dec.{leb}
 use borrow.Author.Tests.{leb-true, leb-false, le-leb, lt-leb}
 use Rattle.laws.specs.Greatest.{greatest, greatest-le, greatest-above, greatest-fits, greatest-hit, greatest-down}
 use Rattle.numbers.specs.Units.{parts, wholeBytes}
-use Rattle.numbers.specs.Limits.{maxStreams}
+use Rattle.numbers.specs.Limits.{maxStreams, tableLength}
 
 -- what a sweep that fetches k blocks takes beside their times (D11, T3.5): the table's entry. No sweep fetches more than 256; past them it
 -- stays at the last entry. All else knows only that it never falls
@@ -24,7 +24,7 @@ unfolding overhead
 overhead-entry table k h = let e : min k maxStreams ≡ k = omega arith in ap (λ (i : ℕ). getD table i 0) e
 
 -- where no entry is below the one before, it never falls
-pub overhead-rises : (table : List ℕ) → ((i j : ℕ) → i ≤ j → j ≤ maxStreams → getD table i 0 ≤ getD table j 0)
+pub overhead-rises : (table : List ℕ) → ((j k : ℕ) → j ≤ k → k < tableLength → getD table j 0 ≤ getD table k 0)
     → (j k : ℕ) → j ≤ k → overhead table j ≤ overhead table k
 unfolding overhead
 overhead-rises table rises j k h = rises (min j maxStreams) (min k maxStreams) (omega arith) (omega arith)

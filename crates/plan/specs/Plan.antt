@@ -54,9 +54,9 @@ worst2Of x f = worstOf x (timeOn f) (placeOf x f) (f .blocks)
 unfoldable pub worstAtOf : Showing → Figures → ℕ
 worstAtOf x f = worstAt x (timeOn f) (placeOf x f) (f .blocks)
 
--- what a sweep takes beside the times of its blocks (D11)
+-- what a sweep takes beside the times of its blocks (D11, T3.5): the table's entry
 abbrev pub overOf : Figures → ℕ → ℕ
-overOf f = overhead (f .hop) (f .back)
+overOf f = overhead (f .table)
 
 -- streams (P4, T7.5); 0 where not even one fits
 unfoldable pub streamsOf : Showing → Figures → ℕ
@@ -88,9 +88,9 @@ planOf x f = record { figures = f; streams = streamsOf x f; buffer = bufferSize 
 
 -- ---- records by their parts
 
--- figures of single numbers and of the arrays of positions and times
-abbrev pub figuresFrom : Scalars → List ℕ → List ℕ → Figures
-figuresFrom s ps ts = record { zones = s .zones; positions = ps; times = ts; blocks = s .blocks; bytes = s .bytes; rate = s .rate; hop = s .hop; back = s .back }
+-- figures of single numbers, of the positions and times of the zones, and of the table of overheads
+abbrev pub figuresFrom : Scalars → List ℕ → List ℕ → List ℕ → Figures
+figuresFrom s ps ts os = record { kind = s .kind; zones = s .zones; positions = ps; times = ts; blocks = s .blocks; bytes = s .bytes; rate = s .rate; table = os }
 
 -- a plan of its figures and its numbers
 abbrev pub planFrom : Figures → Numbers → Plan

@@ -62,15 +62,15 @@ pub fn plan_figures(read: CardRead, showing: u32, positions: &mut [u8], leads: &
     }
     let own = plan_numbers(
         Scalars {
+            kind: read.figures.kind,
             zones: read.figures.zones,
             blocks: read.figures.blocks,
             bytes: read.figures.bytes,
             rate: read.figures.rate,
-            hop: read.figures.hop,
-            back: read.figures.back,
         },
         &read.figures.positions,
         &read.figures.times,
+        &read.figures.table,
         showing,
     );
     let number = stream_fault(own.streams);

@@ -30,23 +30,18 @@ pub fn plan_numbers<'a>(
     figures: Scalars,
     sizes: &'a [u32; 64],
     times: &'a [u32; 64],
+    table: &'a [u32; 257],
     showing: u32,
 ) -> Numbers
-    requires { ⌜ Legal (figuresFrom figures (now sizes) (now times)) ⌝ }
-    ensures { λ r. ⌜ (let f = figuresFrom figures (now (sizes .entry)) (now (times .entry)) in planFrom f r ≡ planOf (showingOf showing) f) ⌝ }
+    requires { ⌜ Legal (figuresFrom figures (now sizes) (now times) (now table)) ⌝ }
+    ensures { λ r. ⌜ (let f = figuresFrom figures (now (sizes .entry)) (now (times .entry)) (now (table .entry)) in planFrom f r ≡ planOf (showingOf showing) f) ⌝ }
 {
     let total = sum_positions(sizes, figures.zones);
     let worst = worst_pair(sizes, times, showing, total, figures.blocks);
     let worst2 = worst.time;
     let slowest = time_at(sizes, times, total - figures.blocks);
     let margin = 2 * slowest - worst2;
-    let streams = count_streams(
-        figures.rate,
-        worst2,
-        figures.hop,
-        figures.back,
-        figures.bytes,
-    );
+    let streams = count_streams(figures.rate, worst2, table, figures.bytes);
     let buffer = buffer_size(figures.rate, streams, margin, figures.bytes);
     Numbers {
         streams: streams,

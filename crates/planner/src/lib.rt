@@ -21,7 +21,7 @@ use plan::Scalars;
 use zones::sum_positions;
 ghost use mathlib.Core.Path.{_≡_};
 ghost use lib.ListN.{length};
-ghost use Rattle.numbers.specs.Limits.{maxZones};
+ghost use Rattle.numbers.specs.Limits.{maxZones, tableLength};
 ghost use Rattle.card.specs.Read.{readCard};
 ghost use Rattle.placement.specs.Showing.{one, loop};
 ghost use Rattle.plan.specs.Plan.{figuresFrom, planFrom};
@@ -78,25 +78,26 @@ fn has_numbers<'a>(
     figures: Scalars,
     sizes: &'a [u32; 64],
     times: &'a [u32; 64],
+    table: &'a [u32; 257],
     plan: Numbers,
 ) -> bool
-    requires { ⌜ (length (now sizes) ≡ maxZones) × (length (now times) ≡ maxZones) ⌝ }
-    ensures { λ r. ⌜ r ≡ hasNumbers (planFrom (figuresFrom figures (now (sizes .entry)) (now (times .entry))) plan) ⌝ }
+    requires { ⌜ (length (now sizes) ≡ maxZones) × (length (now times) ≡ maxZones) × (length (now table) ≡ tableLength) ⌝ }
+    ensures { λ r. ⌜ r ≡ hasNumbers (planFrom (figuresFrom figures (now (sizes .entry)) (now (times .entry)) (now (table .entry))) plan) ⌝ }
 {
     let verdict = card::judge_figures(Figures {
+        kind: figures.kind,
         zones: figures.zones,
         positions: *sizes,
         times: *times,
         blocks: figures.blocks,
         bytes: figures.bytes,
         rate: figures.rate,
-        hop: figures.hop,
-        back: figures.back,
+        table: *table,
     });
     if verdict.number != ACCEPTED {
         return false;
     }
-    let own = plan_numbers(figures, sizes, times, plan.showing);
+    let own = plan_numbers(figures, sizes, times, table, plan.showing);
     both(0 < own.streams, same_numbers(plan, own))
 }
 
@@ -105,12 +106,11 @@ pub fn is_plan(plan: Plan, positions: &[u8], leads: &[u8]) -> bool
     ensures { λ r. ⌜ r ≡ isPlan plan (now (positions .entry)) (now (leads .entry)) ⌝ }
 {
     let figures = Scalars {
+        kind: plan.figures.kind,
         zones: plan.figures.zones,
         blocks: plan.figures.blocks,
         bytes: plan.figures.bytes,
         rate: plan.figures.rate,
-        hop: plan.figures.hop,
-        back: plan.figures.back,
     };
     let numbers = Numbers {
         streams: plan.streams,
@@ -124,6 +124,7 @@ pub fn is_plan(plan: Plan, positions: &[u8], leads: &[u8]) -> bool
         figures,
         &plan.figures.positions,
         &plan.figures.times,
+        &plan.figures.table,
         numbers,
     ) {
         return false;

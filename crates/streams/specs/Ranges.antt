@@ -2,8 +2,8 @@
 use Prim.Native.Nat.{ℕ, _*_, _≤_}
 use mathlib.Core.List.{List}
 use lib.ListN.{getD}
-use Rattle.numbers.specs.Limits.{maxTime}
+use Rattle.numbers.specs.Limits.{maxTime, maxOverhead}
 
 pub record Ranges (worst2 : ℕ) (table : List ℕ) : Type 0 where
   pub pair : worst2 ≤ 2 * maxTime
-  pub moves : (i : ℕ) → getD table i 0 ≤ 257000000
+  pub moves : (i : ℕ) → getD table i 0 ≤ maxOverhead

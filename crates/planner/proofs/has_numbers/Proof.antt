@@ -14,10 +14,10 @@ use Rattle.planner.proofs.has_numbers.Tie as tie
 
 -- the plan that is lent
 abbrev given : tie.Start → Plan
-given c = let a = c .args in planFrom (figuresFrom (a .figures) (a .sizes .now) (a .times .now)) (a .plan)
+given c = let a = c .args in planFrom (figuresFrom (a .figures) (a .sizes .now) (a .times .now) (a .table .now)) (a .plan)
 
 abbrev start : tie.After-judge-figures → tie.Start
-start c = c .before .before .before
+start c = c .before .before .before .before
 
 -- what the judge says
 fault : (c : tie.After-judge-figures) → c .judge-figures .result .number ≡ recordFault (given (start c) .figures)
@@ -31,7 +31,7 @@ returns : tie.Need-returns
 returns c = let j = c .before .before in not-legal (given (start j)) (λ e. c .if1 .taken (fault j ∙ e))
 
 plan-numbers-requires : tie.Need-plan-numbers-requires
-plan-numbers-requires c κs = let s = start (c .before .before) in fault-legal (given s .figures) (s .pre .0, s .pre .1) (clear c)
+plan-numbers-requires c κs = let s = start (c .before .before) in fault-legal (given s .figures) (s .pre .0, s .pre .1, s .pre .2) (clear c)
 
 returns-2 : tie.Need-returns-2
 returns-2 c = let o = c .before .before .before in

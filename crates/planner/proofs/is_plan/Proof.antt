@@ -16,10 +16,10 @@ use Rattle.planner.proofs.is_plan.Statement.{statement}
 use Rattle.planner.proofs.is_plan.Tie as tie
 
 abbrev start : (c : tie.After-has-numbers) → tie.Start
-start c = c .before .before .before .before .before .before
+start c = c .before .before .before .before .before .before .before
 
 wide : (c : tie.Start) → Wide (c .args .t1 .figures)
-wide c = (search needs, search needs)
+wide c = (search needs, search needs, search needs)
 
 passed : (c : tie.Else1) → hasNumbers (start (c .before) .args .t1) ≡ true
 passed c = sym (c .before .has-numbers .ensures) ∙ not-false _ (c .if1 .left)
@@ -34,7 +34,7 @@ sum : (c : tie.After-sum-positions) → c .sum-positions .result ≡ totalPositi
 sum c = c .sum-positions .ensures ∙ total-zones (start (first c .before) .args .t1 .figures) (has (first c) .legal)
 
 has-numbers-requires : tie.Need-has-numbers-requires
-has-numbers-requires c κs = wide (c .before .before .before .before .before)
+has-numbers-requires c κs = wide (c .before .before .before .before .before .before)
 
 returns : tie.Need-returns
 unfolding isPlan

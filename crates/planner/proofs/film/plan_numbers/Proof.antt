@@ -4,6 +4,7 @@ use native.Mathlib.Omega.{arith}
 use Rattle.numbers.specs.Limits.{maxTime}
 use Rattle.card.specs.declared.Figures.{Figures}
 use Rattle.card.specs.Card.{totalPositions}
+use Rattle.card.specs.TableLaws.{table-small}
 use Rattle.pacing.specs.Streams.{streams, bufferOf}
 use Rattle.placement.specs.Showing.{Showing}
 use Rattle.plan.specs.Plan.{showingOf, timeOn, overOf, worst2Of, marginOf, streamsOf, bufferSize, planOf, figuresFrom}
@@ -15,7 +16,7 @@ use Rattle.planner.proofs.film.plan_numbers.Tie as tie
 
 -- the figures that are lent
 abbrev given : tie.Start → Figures
-given c = let a = c .args in figuresFrom (a .figures) (a .sizes .now) (a .times .now)
+given c = let a = c .args in figuresFrom (a .figures) (a .sizes .now) (a .times .now) (a .table .now)
 
 total : (c : tie.After-sum-positions) → c .sum-positions .result ≡ totalPositions (given (c .before))
 total c = c .sum-positions .ensures ∙ total-zones (given (c .before)) (c .before .pre)
@@ -86,7 +87,7 @@ sub-margin c = omega (arith, found c .exact)
 
 count-streams-requires : tie.Need-count-streams-requires
 count-streams-requires c κs = let s = start c in
-    record { pair = omega (arith, found c .pair, worst2-small (shown c) (film c) (s .pre)); hops = s .pre .hop .1; backs = s .pre .back .1 }
+    record { pair = omega (arith, found c .pair, worst2-small (shown c) (film c) (s .pre)); moves = table-small (film c) (s .pre) }
 
 buffer-size-requires : tie.Need-buffer-size-requires
 buffer-size-requires c κs = let ok = start (c .before) .pre in
