@@ -7,7 +7,6 @@ use mathlib.Core.Bool.{Bool, cond, _&&_}
 use lib.ListN.{length, getD, take, drop}
 use lib.Dec.{leb, eqb}
 use Rattle.laws.specs.Runs.{allBy, sumBy}
-use Rattle.laws.specs.Places.{allFrom}
 use Rattle.numbers.specs.Limits.{straightKind, measuredKind, maxZones, maxPositions, maxTime, timesAsFast, minBlocks, maxBlocks, maxBytes, maxRate, maxMove, tableLength, maxOverhead}
 use Rattle.numbers.specs.Refusals.{wrongZones, wrongMeasure, tooShort}
 use Rattle.leb128.specs.Number.{groups}
@@ -18,7 +17,7 @@ use Rattle.card.specs.declared.judge.Judged.{Judged}
 use Rattle.card.specs.declared.judge.Judged.the-variants.{Total, Refused}
 use Rattle.card.specs.declared.fields.Rule.the-variants.{Kind, Zones, Positions, Blocks, Measure, Overhead}
 use Rattle.card.specs.Ranges.{first, faultOf, timeFault}
-use Rattle.card.specs.Table.{straight, hopIn, backIn, lineTest}
+use Rattle.card.specs.Table.{straight, hopIn, backIn, isLine}
 
 -- ---- legal figures: the table of ranges as plain facts (K4; document 02, T3.2 to T3.8 and T8.3)
 
@@ -66,7 +65,7 @@ unfoldable pub straightFault : List ℕ → ℕ
 straightFault table =
     first (faultOf Measure maxMove (hopIn table))
     (first (faultOf Measure maxMove (backIn table))
-    (cond (allFrom (lineTest (hopIn table) (backIn table)) 0 table) 0 wrongMeasure))
+    (cond (isLine tableLength 0 table (hopIn table) (backIn table)) 0 wrongMeasure))
 
 -- a table of kind 2: `left` more entries from the k-th on; before is the one before (T3.7)
 unfoldable pub measuredFault : ℕ → ℕ → List ℕ → ℕ → ℕ

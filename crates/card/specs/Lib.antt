@@ -3,4 +3,5 @@ pub mod RangeLaws
 pub mod Ranges
 pub mod Read
 pub mod Table
+pub mod TableFaults
 pub mod TableLaws

@@ -61,9 +61,21 @@ thenField (Value v next) go = go v next
 
 -- ---- the figures, in the card's order
 
--- figures with a kind and a zone count, with the i-th zone, with the film's figures, and with the table of overheads
+-- figures with a kind and a zone count, with these zones, with the i-th zone, with the film's figures, and with the table of overheads
 abbrev pub withZones : ℕ → ℕ → Figures
 withZones kind z = record { kind = kind; zones = z; positions = blankZones; times = blankZones; blocks = 0; bytes = 0; rate = 0; table = blankTable }
+
+abbrev pub withArrays : Figures → List ℕ → List ℕ → Figures
+withArrays f ps ts = record {
+  kind = f .kind;
+  zones = f .zones;
+  positions = ps;
+  times = ts;
+  blocks = f .blocks;
+  bytes = f .bytes;
+  rate = f .rate;
+  table = f .table;
+}
 
 abbrev pub withZone : Figures → ℕ → ℕ → ℕ → Figures
 withZone f i p t = record {

@@ -1,7 +1,7 @@
 -- The table of overheads (document 02, ticket 3): its entry k is the overhead of a sweep of k blocks.
 use Prim.Native.Nat.{ℕ, zero, suc, _+_, _-_, _*_}
 use mathlib.Core.List.{List, [], _∷_}
-use mathlib.Core.Bool.{Bool}
+use mathlib.Core.Bool.{Bool, true, _&&_}
 use lib.ListN.{getD}
 use lib.Dec.{eqb}
 use Rattle.numbers.specs.Limits.{tableLength}
@@ -23,6 +23,7 @@ backIn table = getD table 0 0
 abbrev pub hopIn : List ℕ → ℕ
 hopIn table = getD table 1 0 - getD table 0 0
 
--- whether the entry k is that of a hop and a return
-abbrev pub lineTest : ℕ → ℕ → ℕ → ℕ → Bool
-lineTest hop back k v = eqb v (hop * k + back)
+-- whether `left` entries from the k-th on are those of a hop and a return
+unfoldable pub isLine : ℕ → ℕ → List ℕ → ℕ → ℕ → Bool
+isLine zero k table hop back = true
+isLine (suc left) k table hop back = eqb (getD table k 0) (hop * k + back) && isLine left (k + 1) table hop back

@@ -13,11 +13,11 @@ ghost use mathlib.Core.Path.{_≡_};
 ghost use Prim.Native.Nat.{_≤_};
 ghost use mathlib.Core.Bool.{cond};
 ghost use lib.ListN.{length};
-ghost use Rattle.numbers.specs.Limits.{maxZones, maxTime, tableLength};
+ghost use Rattle.numbers.specs.Limits.{maxZones, maxTime};
 ghost use Rattle.numbers.specs.Refusals.{wrongZones};
 ghost use Rattle.card.specs.declared.Figures.{Figures};
 ghost use Rattle.card.specs.Card.{filmFault, zoneFaults, faultWith, zerosFrom, recordFault};
-ghost use Rattle.card.specs.Read.{withZones, withFilm, withTable};
+ghost use Rattle.card.specs.Read.{withArrays, withZones, withFilm, withTable};
 
 // N, B, c, then the overheads.
 fn fault_of_film(
@@ -28,7 +28,6 @@ fn fault_of_film(
     kind: u32,
     table: &[u32; 257],
 ) -> u32
-    requires { ⌜ length (now table) ≡ tableLength ⌝ }
     ensures { λ r. ⌜ r ≡ filmFault (withTable (withFilm (withZones kind 0) blocks bytes rate) (now (table .entry))) total ⌝ }
 {
     let few = fault(Rule::Blocks, total, blocks);
@@ -54,25 +53,27 @@ pub enum Judged {
 
 // Each zone's positions, then its time.
 fn fault_of_zones<'a>(zones: u32, positions: &'a [u32; 64], times: &'a [u32; 64]) -> Judged
-    requires { ⌜ (zones ≤ maxZones) × (length (now positions) ≡ maxZones) × (length (now times) ≡ maxZones) ⌝ }
-    ensures { λ r. ⌜ ((f : Figures) → f .positions ≡ now (positions .entry) → f .times ≡ now (times .entry)
-        → faultWith f r ≡ zoneFaults zones 0 f 0 maxTime) ⌝ }
+    requires { ⌜ zones ≤ maxZones ⌝ }
+    ensures { λ r. ⌜ ((f : Figures) → faultWith (withArrays f (now (positions .entry)) (now (times .entry))) r
+        ≡ zoneFaults zones 0 (withArrays f (now (positions .entry)) (now (times .entry))) 0 maxTime) ⌝ }
 {
     let innermost = times[0];
     let mut total: u32 = 0;
     let mut before: u32 = MAX_TIME;
     let mut i: usize = 0;
     while i < zones as usize {
-        let few = fault(Rule::Positions, total, positions[i]);
+        let count = positions[i];
+        let time = times[i];
+        let few = fault(Rule::Positions, total, count);
         if few != 0 {
             return Judged::Refused(few);
         }
-        let slow = fault_of_time(innermost, before, times[i]);
+        let slow = fault_of_time(innermost, before, time);
         if slow != 0 {
             return Judged::Refused(slow);
         }
-        total += positions[i];
-        before = times[i];
+        total += count;
+        before = time;
         i += 1;
     }
     Judged::Total(total)

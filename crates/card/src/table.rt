@@ -3,6 +3,7 @@ use crate::fields::Rule;
 use crate::fields::fault;
 use numbers::limits::MAX_MOVE;
 use numbers::limits::MAX_OVERHEAD;
+use numbers::limits::MAX_STREAMS;
 use numbers::limits::STRAIGHT;
 use numbers::limits::TABLE_LENGTH;
 use numbers::refusals::WRONG_MEASURE;
@@ -11,11 +12,12 @@ ghost use mathlib.Core.Path.{_≡_};
 ghost use mathlib.Core.Bool.{cond};
 ghost use Prim.Native.Nat.{_≤_};
 ghost use lib.ListN.{length};
-ghost use Rattle.laws.specs.Places.{allFrom};
 ghost use Rattle.numbers.specs.Limits.{maxMove, tableLength};
-ghost use Rattle.numbers.specs.Refusals.{wrongMeasure};
-ghost use Rattle.card.specs.Table.{straight, lineTest};
+ghost use Rattle.numbers.specs.Refusals.{wrongMeasure, wrongOverhead};
+ghost use Rattle.card.specs.Table.{straight, isLine};
 ghost use Rattle.card.specs.Card.{straightFault, measuredFault, tableFault};
+ghost use Rattle.card.specs.TableLaws.{NoFall};
+ghost use Rattle.card.specs.TableFaults.{Judges};
 
 // Fills a table with the overheads of hop and return.
 pub fn fill_straight(table: &mut [u32; 257], hop: u32, back: u32)
@@ -33,8 +35,8 @@ pub fn fill_straight(table: &mut [u32; 257], hop: u32, back: u32)
 
 // 10 where an entry is not that of hop and return, else 0.
 fn fault_of_line(table: &[u32; 257], hop: u32, back: u32) -> u32
-    requires { ⌜ (hop ≤ maxMove) × (back ≤ maxMove) × (length (now table) ≡ tableLength) ⌝ }
-    ensures { λ r. ⌜ r ≡ cond (allFrom (lineTest hop back) 0 (now (table .entry))) 0 wrongMeasure ⌝ }
+    requires { ⌜ (hop ≤ maxMove) × (back ≤ maxMove) ⌝ }
+    ensures { λ r. ⌜ r ≡ cond (isLine tableLength 0 (now (table .entry)) hop back) 0 wrongMeasure ⌝ }
 {
     let mut number: u32 = 0;
     let mut value = back;
@@ -51,7 +53,6 @@ fn fault_of_line(table: &[u32; 257], hop: u32, back: u32) -> u32
 
 // A table of kind 1: its hop, its return, then each of its entries.
 fn fault_of_straight(table: &[u32; 257]) -> u32
-    requires { ⌜ length (now table) ≡ tableLength ⌝ }
     ensures { λ r. ⌜ r ≡ straightFault (now (table .entry)) ⌝ }
 {
     let back = table[0];
@@ -71,11 +72,13 @@ fn fault_of_straight(table: &[u32; 257]) -> u32
 }
 
 // 25 where an entry is below the one before, else 0.
-fn fault_of_fall(table: &[u32; 257]) -> u32 {
+fn fault_of_fall(table: &[u32; 257]) -> u32
+    ensures { λ r. ⌜ Judges r wrongOverhead (NoFall (now (table .entry))) ⌝ }
+{
     let mut number: u32 = 0;
-    let mut k: usize = 1;
-    while k < TABLE_LENGTH as usize {
-        if table[k] < table[k - 1] {
+    let mut k: usize = 0;
+    while k < MAX_STREAMS as usize {
+        if table[k + 1] < table[k] {
             number = WRONG_OVERHEAD;
         }
         k += 1;
@@ -83,9 +86,8 @@ fn fault_of_fall(table: &[u32; 257]) -> u32 {
     number
 }
 
-// A table of kind 2. If no entry is below the one before, they are in range where the first and the last are: law `rising-range`.
+// A table of kind 2. If no entry is below the one before, all are in range where the first and the last are: law `ends-measured`.
 fn fault_of_measured(table: &[u32; 257]) -> u32
-    requires { ⌜ length (now table) ≡ tableLength ⌝ }
     ensures { λ r. ⌜ r ≡ measuredFault tableLength 0 (now (table .entry)) 0 ⌝ }
 {
     if table[0] == 0 {
@@ -99,7 +101,6 @@ fn fault_of_measured(table: &[u32; 257]) -> u32
 
 // The table of a record, by its kind.
 pub fn fault_of_table(kind: u32, table: &[u32; 257]) -> u32
-    requires { ⌜ length (now table) ≡ tableLength ⌝ }
     ensures { λ r. ⌜ r ≡ tableFault kind (now (table .entry)) ⌝ }
 {
     if kind == STRAIGHT {
