@@ -15,7 +15,6 @@ use Rattle.pacing.specs.Streams.{overhead, streams, bufferOf}
 use Rattle.pacing.specs.Laid.{laidFilm, slowest, margin}
 use Rattle.plan.specs.declared.Plan.{Plan}
 use Rattle.plan.specs.declared.Numbers.{Numbers}
-use Rattle.plan.specs.declared.Scalars.{Scalars}
 
 -- ---- which showing it is (T7.7)
 
@@ -85,12 +84,6 @@ bufferSize x f = bufferOf (f .rate) (streamsOf x f) (marginOf x f) (f .bytes)
 -- the plan record (P9, T7.7, T2.2)
 unfoldable pub planOf : Showing → Figures → Plan
 planOf x f = record { figures = f; streams = streamsOf x f; buffer = bufferSize x f; worst2 = worst2Of x f; margin = marginOf x f; showing = wordOf x; worstat = worstAtOf x f }
-
--- ---- records by their parts
-
--- figures of single numbers, of the positions and times of the zones, and of the table of overheads
-abbrev pub figuresFrom : Scalars → List ℕ → List ℕ → List ℕ → Figures
-figuresFrom s ps ts os = record { kind = s .kind; zones = s .zones; positions = ps; times = ts; blocks = s .blocks; bytes = s .bytes; rate = s .rate; table = os }
 
 -- a plan of its figures and its numbers
 abbrev pub planFrom : Figures → Numbers → Plan

@@ -33,15 +33,6 @@ pub struct Plan {
     pub worstat: u32,
 }
 
-// The figures that are single numbers; a program that lends their arrays hands them over so.
-pub struct Scalars {
-    pub kind: u32,
-    pub zones: u32,
-    pub blocks: u32,
-    pub bytes: u32,
-    pub rate: u32,
-}
-
 // The numbers of a plan beside its figures.
 pub struct Numbers {
     pub streams: u32,

@@ -1,9 +1,9 @@
 // The plan of legal figures.
 use block_lists::both;
+use card::Scalars;
 use numbers::showings::LOOP;
 use numbers::showings::ONCE;
 use plan::Numbers;
-use plan::Scalars;
 use streams::buffer_size;
 use streams::count_streams;
 use zones::sum_positions;
@@ -12,7 +12,8 @@ use zones::worst_pair;
 ghost use mathlib.Core.Path.{_≡_};
 ghost use Rattle.card.specs.declared.Figures.{Figures};
 ghost use Rattle.card.specs.Card.{Legal};
-ghost use Rattle.plan.specs.Plan.{wordOf, showingOf, planOf, figuresFrom, planFrom};
+ghost use Rattle.card.specs.Read.{figuresFrom};
+ghost use Rattle.plan.specs.Plan.{wordOf, showingOf, planOf, planFrom};
 ghost use Rattle.plan.specs.Answer.{sameNumbers};
 
 // The word of the showing that a word tells: of one that tells none, 0.

@@ -11,20 +11,21 @@ use block_lists::same_leads;
 use block_lists::same_positions;
 use card::CardRead;
 use card::Figures;
+use card::Scalars;
+use card::judge::fault_of_figures;
 use numbers::refusals::ACCEPTED;
 use numbers::showings::LOOP;
 use numbers::showings::ONCE;
 use plan::Numbers;
 use plan::Plan;
 use plan::Planned;
-use plan::Scalars;
 use zones::sum_positions;
 ghost use mathlib.Core.Path.{_≡_};
 ghost use lib.ListN.{length};
 ghost use Rattle.numbers.specs.Limits.{maxZones, tableLength};
-ghost use Rattle.card.specs.Read.{readCard};
+ghost use Rattle.card.specs.Read.{readCard, figuresFrom};
 ghost use Rattle.placement.specs.Showing.{one, loop};
-ghost use Rattle.plan.specs.Plan.{figuresFrom, planFrom};
+ghost use Rattle.plan.specs.Plan.{planFrom};
 ghost use Rattle.plan.specs.Answer.{planned, positionsAfter, leadsAfter, judged, hasNumbers, isPlan};
 
 // Plans a card for one showing: 1 to 11 and 26 as the reader gives them, then 13, then 12. A refusal leaves both lists.
@@ -84,17 +85,7 @@ fn has_numbers<'a>(
     requires { ⌜ (length (now sizes) ≡ maxZones) × (length (now times) ≡ maxZones) × (length (now table) ≡ tableLength) ⌝ }
     ensures { λ r. ⌜ r ≡ hasNumbers (planFrom (figuresFrom figures (now (sizes .entry)) (now (times .entry)) (now (table .entry))) plan) ⌝ }
 {
-    let verdict = card::judge_figures(Figures {
-        kind: figures.kind,
-        zones: figures.zones,
-        positions: *sizes,
-        times: *times,
-        blocks: figures.blocks,
-        bytes: figures.bytes,
-        rate: figures.rate,
-        table: *table,
-    });
-    if verdict.number != ACCEPTED {
+    if fault_of_figures(figures, sizes, times, table) != ACCEPTED {
         return false;
     }
     let own = plan_numbers(figures, sizes, times, table, plan.showing);

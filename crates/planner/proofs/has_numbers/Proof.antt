@@ -2,12 +2,13 @@ use Prim.Native.Nat.{ℕ}
 use mathlib.Core.Path.{_≡_, sym, ap, ap₂, _∙_}
 use mathlib.Core.Bool.{Bool, _&&_}
 use lib.Dec.{ltb}
-use Rattle.card.specs.Card.{Legal, recordFault}
+use Rattle.card.specs.Card.{recordFault}
 use Rattle.round_trip.specs.Legality.{fault-legal}
 use Rattle.plan.specs.declared.Plan.{Plan}
-use Rattle.plan.specs.Plan.{showingIn, figuresFrom, planFrom}
+use Rattle.card.specs.Read.{figuresFrom}
+use Rattle.plan.specs.Plan.{showingIn, planFrom}
 use Rattle.plan.specs.Answer.{sameNumbers}
-use Rattle.plan.specs.Ways.{record-fault, plan-streams, not-legal, numbers-decide}
+use Rattle.plan.specs.Ways.{plan-streams, not-legal, numbers-decide}
 use borrow.Author.Needs.{needs}
 use Rattle.planner.proofs.has_numbers.Statement.{statement}
 use Rattle.planner.proofs.has_numbers.Tie as tie
@@ -16,27 +17,23 @@ use Rattle.planner.proofs.has_numbers.Tie as tie
 abbrev given : tie.Start → Plan
 given c = let a = c .args in planFrom (figuresFrom (a .figures) (a .sizes .now) (a .times .now) (a .table .now)) (a .plan)
 
-abbrev start : tie.After-judge-figures → tie.Start
-start c = c .before .before .before .before
+-- past the judge
+clear : (c : tie.Else1) → recordFault (given (c .before .before) .figures) ≡ 0
+clear c = sym (c .before .fault-of-figures .ensures) ∙ c .if1 .left
 
--- what the judge says
-fault : (c : tie.After-judge-figures) → c .judge-figures .result .number ≡ recordFault (given (start c) .figures)
-fault c = record-fault (given (start c) .figures) (c .judge-figures .result) (c .judge-figures .ensures)
-
--- past it
-clear : (c : tie.Else1) → recordFault (given (start (c .before .before)) .figures) ≡ 0
-clear c = sym (fault (c .before .before)) ∙ c .if1 .left
+fault-of-figures-requires : tie.Need-fault-of-figures-requires
+fault-of-figures-requires c κs = c .pre
 
 returns : tie.Need-returns
-returns c = let j = c .before .before in not-legal (given (start j)) (λ e. c .if1 .taken (fault j ∙ e))
+returns c = not-legal (given (c .before .before)) (λ e. c .if1 .taken (c .before .fault-of-figures .ensures ∙ e))
 
 plan-numbers-requires : tie.Need-plan-numbers-requires
-plan-numbers-requires c κs = let s = start (c .before .before) in fault-legal (given s .figures) (s .pre .0, s .pre .1, s .pre .2) (clear c)
+plan-numbers-requires c κs = let s = c .before .before in fault-legal (given s .figures) (s .pre) (clear c)
 
 returns-2 : tie.Need-returns-2
 returns-2 c = let o = c .before .before .before in
     let e = o .before in
-    let p = given (start (e .before .before)) in
+    let p = given (e .before .before) in
     let own = o .plan-numbers .ensures in
     c .both .ensures
     ∙ ap₂ (λ (n : ℕ) (t : Bool). ltb 0 n && t) (plan-streams (showingIn p) (p .figures) _ own) (c .before .same-numbers .ensures (p .figures) ∙ ap (λ (q : Plan). sameNumbers p q) own)
@@ -46,7 +43,7 @@ pub has-numbers-spec : {M : Type 1} → statement M
 has-numbers-spec =
     tie.close
     (tie.spec
-    (λ c κs. search needs)
+    fault-of-figures-requires
     returns
     plan-numbers-requires
     (λ c κs. search needs)

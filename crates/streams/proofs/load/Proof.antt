@@ -15,12 +15,12 @@ overhead-requires : tie.Need-overhead-requires
 overhead-requires c κs = search needs
 
 mul-product-2 : tie.Need-mul-product-2
-mul-product-2 c = omega (arith, c .overhead .ensures, c .before .pre .0 .moves (c .before .args .n))
+mul-product-2 c = omega (arith, c .overhead .ensures, c .before .pre .0 .moves (c .before .args .n) (omega (arith, c .before .pre .1)))
 
 add-product : tie.Need-add-product
 add-product c = let a = c .before .args in
     let q : a .n * a .worst2 ≤ maxStreams * (2 * maxTime) = mul-le-mul (c .before .pre .1) (c .before .pre .0 .pair) in
-    omega (arith, c .overhead .ensures, c .before .pre .0 .moves (a .n))
+    omega (arith, c .overhead .ensures, c .before .pre .0 .moves (a .n) (omega (arith, c .before .pre .1)))
 
 product-requires : tie.Need-product-requires
 product-requires c κs = search needs

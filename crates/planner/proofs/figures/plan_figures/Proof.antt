@@ -49,12 +49,12 @@ returns-3 c = let f = c .before .before .before .before .before .before .before 
     (c .refused3 .ensures ∙ o .0, o .1, o .2)
 
 plan-numbers-requires : tie.Need-plan-numbers-requires
-plan-numbers-requires c κs = legal (c .before .before .before)
+plan-numbers-requires c κs = legal (c .before .before .before .before)
 
 returns-4 : tie.Need-returns-4
 returns-4 c = let n = c .before .before in
     let p = n .before in
-    let e = p .before .before .before .before in
+    let e = p .before .before .before .before .before in
     let a = start e .args in
     let k = n .stream-fault .ensures .0 (c .before .if4 .taken) in
     let o = by-plan (showingOf (a .showing)) (a .t1) (a .positions .now) (a .leads .now) 11 (accepted e) (no-stream (showingOf (a .showing)) (a .t1 .figures) _ _ (long e .0) (long e .1) (sym (plan-streams (showingOf (a .showing)) (a .t1 .figures) _ (p .plan-numbers .ensures)) ∙ k .0)) in
@@ -64,13 +64,13 @@ abbrev made : (c : tie.After-sum-positions) → tie.After-plan-numbers
 made c = c .before .before .before .before .before
 
 abbrev past : (c : tie.After-sum-positions) → tie.Else3
-past c = made c .before .before .before .before
+past c = made c .before .before .before .before .before
 
 total : (c : tie.After-sum-positions) → c .sum-positions .result ≡ totalPositions (start (past c) .args .t1 .figures)
 total c = c .sum-positions .ensures ∙ total-zones _ (legal (past c))
 
 sum-positions-requires : tie.Need-sum-positions-requires
-sum-positions-requires c κs = let ok = legal (c .before .before .before .before .before .before .before .before) in (legal-zoned _ ok, ok .zones .1)
+sum-positions-requires c κs = let ok = legal (c .before .before .before .before .before .before .before .before .before) in (legal-zoned _ ok, ok .zones .1)
 
 write-positions-requires : tie.Need-write-positions-requires
 write-positions-requires c κs = let t = c .before in

@@ -4,10 +4,11 @@ use native.Mathlib.Omega.{arith}
 use Rattle.numbers.specs.Limits.{maxTime}
 use Rattle.card.specs.declared.Figures.{Figures}
 use Rattle.card.specs.Card.{totalPositions}
-use Rattle.card.specs.TableLaws.{table-small}
+use Rattle.card.specs.TableLaws.{table-range}
 use Rattle.pacing.specs.Streams.{streams, bufferOf}
 use Rattle.placement.specs.Showing.{Showing}
-use Rattle.plan.specs.Plan.{showingOf, timeOn, overOf, worst2Of, marginOf, streamsOf, bufferSize, planOf, figuresFrom}
+use Rattle.card.specs.Read.{figuresFrom}
+use Rattle.plan.specs.Plan.{showingOf, timeOn, overOf, worst2Of, marginOf, streamsOf, bufferSize, planOf}
 use Rattle.plan.specs.Legal.{total-is, total-zones, legal-zoned, worst2-small, time-small, margin-is, margin-exact, margin-less, streams-few, buffer-small}
 use Rattle.plan.specs.Ways.{film-on, worst2-is, worstAt-is}
 use borrow.Author.Needs.{needs}
@@ -87,7 +88,7 @@ sub-margin c = omega (arith, found c .exact)
 
 count-streams-requires : tie.Need-count-streams-requires
 count-streams-requires c κs = let s = start c in
-    record { pair = omega (arith, found c .pair, worst2-small (shown c) (film c) (s .pre)); moves = table-small (film c) (s .pre) }
+    record { pair = omega (arith, found c .pair, worst2-small (shown c) (film c) (s .pre)); moves = λ k h. table-range (film c) (s .pre) k h .1 }
 
 buffer-size-requires : tie.Need-buffer-size-requires
 buffer-size-requires c κs = let ok = start (c .before) .pre in
