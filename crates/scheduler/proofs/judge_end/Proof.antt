@@ -96,7 +96,7 @@ sweep-bound-requires c κs =
     let e = gathering g .before in
     let r = ready e in
     let i = in-range _ (wide (start (tested e))) r _ _ (sound-plan _ _ _ (passed e)) (g .gather .result) (g .gather .ensures) in
-    (streams-are _ r, i .times, r .legal .hop .1, r .legal .back .1)
+    (streams-are _ r, i .times, λ k h. table-range _ (r .legal) k h .1)
 
 most-drawn-requires : tie.Need-most-drawn-requires
 most-drawn-requires c κs = search needs
