@@ -13,14 +13,10 @@ use borrow.Author.Tests.{eq-eqb, ne-eqb}
 use lib.Seq.{ext-getD, getD-set-same, getD-set-other}
 use Rattle.numbers.specs.Limits.{straightKind, maxMove, tableLength, maxOverhead, maxStreams}
 use Rattle.numbers.specs.Refusals.{wrongMeasure, wrongOverhead}
-use Rattle.card.specs.declared.fields.Rule.the-variants.{Measure}
-use Rattle.card.specs.Ranges.{faultOf}
-use Rattle.card.specs.RangeLaws.{measure-range}
 use Rattle.card.specs.Table.{straight, hopIn, backIn, isLine}
 use Rattle.card.specs.Card.{Measured, straightFault, measuredFault, tableFault}
 use Rattle.card.specs.TableLaws.{straight-long, straight-at, line-at, at-line, NoFall}
 use Rattle.card.specs.TableFaults.{Judges, judges-same, measured-judges, ends-measured}
-use Rattle.card.proofs.JudgeWays.{first-stops, outside-low}
 
 -- the overhead of k blocks and one hop more are numbers of 32 bits
 pub line-fits : (hop back k : ℕ) → hop ≤ maxMove → back ≤ maxMove → k < tableLength → hop * k + back + hop ≤ 258000000
@@ -85,15 +81,6 @@ line-judged t hop back number j =
 pub fall-judged : (t : List ℕ) (number : ℕ) → Judges number wrongOverhead (All wrongOverhead maxStreams (λ k. getD t k 0 ≤ getD t (k + 1) 0)) → Judges number wrongOverhead (NoFall t)
 fall-judged t number (inl (e, a)) = inl (e, λ k h. let q : k + 1 ≡ suc k = omega arith in rw q at (a k (omega arith)))
 fall-judged t number (inr (e, n)) = inr (e, λ f. n (λ k h. let q : k + 1 ≡ suc k = omega arith in rw q (f k (omega arith))))
-
--- ---- a table of kind 1
-
--- entries that fall leave no hop
-pub straight-falls : (t : List ℕ) → getD t 1 0 < getD t 0 0 → wrongMeasure ≡ straightFault t
-unfolding straightFault faultOf
-straight-falls t h =
-    let none : hopIn t ≡ 0 = omega arith in
-    first-stops (outside-low 1 maxMove wrongMeasure (hopIn t) (omega arith)) _ (λ e. omega arith)
 
 -- ---- a table of kind 2
 

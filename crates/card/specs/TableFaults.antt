@@ -121,27 +121,32 @@ ends-measured t a z n =
 
 -- ---- kind 1
 
--- a table of hop and return that is not refused is legal, and back
-pub fault-straight : (t : List ℕ) → length t ≡ tableLength → straightFault t ≡ 0 → Straight t
-unfolding straightFault
-fault-straight t w e =
-    let h = first-none (faultOf Measure maxMove (hopIn t)) _ e in
-    let b = first-none (faultOf Measure maxMove (backIn t)) _ (h .1) in
-    record {
-      hop = hopIn t;
-      back = backIn t;
-      hops = measure-range maxMove (hopIn t) (h .0);
-      backs = measure-range maxMove (backIn t) (b .0);
-      same = ext-getD 0 t (straight (hopIn t) (backIn t)) (w ∙ sym (straight-long (hopIn t) (backIn t))) (λ k l. on k (omega arith) (clear (isLine tableLength 0 t (hopIn t) (backIn t)) (b .1)));
-    }
-  where
-    -- no refusal by 10
-    clear : (x : Bool) → _≡_ {A = ℕ} (cond x 0 wrongMeasure) 0 → x ≡ true
-    clear true e = refl
-    clear false e = absurd (omega arith)
+-- a table of kind 1 that is not refused is that of its hop and its return, and legal; and back
+module _ (t : List ℕ) (w : length t ≡ tableLength) (e : straightFault t ≡ 0) where
+  moves-clear : (faultOf Measure maxMove (hopIn t) ≡ 0) × (faultOf Measure maxMove (backIn t) ≡ 0) × (cond (isLine tableLength 0 t (hopIn t) (backIn t)) 0 wrongMeasure ≡ 0)
+  unfolding straightFault
+  moves-clear =
+      let h = first-none (faultOf Measure maxMove (hopIn t)) _ e in
+      let b = first-none (faultOf Measure maxMove (backIn t)) _ (h .1) in
+      (h .0, b .0, b .1)
 
-    on : (k : ℕ) → k < tableLength → isLine tableLength 0 t (hopIn t) (backIn t) ≡ true → getD t k 0 ≡ getD (straight (hopIn t) (backIn t)) k 0
-    on k h e = line-at tableLength 0 t (hopIn t) (backIn t) e k (omega arith) (omega arith) ∙ sym (straight-at (hopIn t) (backIn t) k h)
+  pub straight-is : t ≡ straight (hopIn t) (backIn t)
+  straight-is = ext-getD 0 t (straight (hopIn t) (backIn t)) (w ∙ sym (straight-long (hopIn t) (backIn t)))
+      (λ k l. line-at tableLength 0 t (hopIn t) (backIn t) (clear (isLine tableLength 0 t (hopIn t) (backIn t)) (moves-clear .2)) k (omega arith) (omega arith) ∙ sym (straight-at (hopIn t) (backIn t) k (omega arith)))
+    where
+      -- no refusal by 10
+      clear : (x : Bool) → _≡_ {A = ℕ} (cond x 0 wrongMeasure) 0 → x ≡ true
+      clear true e = refl
+      clear false e = absurd (omega arith)
+
+  pub fault-straight : Straight t
+  fault-straight = record {
+    hop = hopIn t;
+    back = backIn t;
+    hops = measure-range maxMove (hopIn t) (moves-clear .0);
+    backs = measure-range maxMove (backIn t) (moves-clear .1);
+    same = straight-is;
+  }
 
 -- the hop and the return of their table are these
 pub straight-back : (hop back : ℕ) → backIn (straight hop back) ≡ back

@@ -14,10 +14,22 @@ ghost use Prim.Native.Nat.{_≤_};
 ghost use lib.ListN.{length};
 ghost use Rattle.numbers.specs.Limits.{maxMove, tableLength};
 ghost use Rattle.numbers.specs.Refusals.{wrongMeasure, wrongOverhead};
-ghost use Rattle.card.specs.Table.{straight, isLine};
+ghost use Rattle.card.specs.Table.{straight, hopIn, isLine};
 ghost use Rattle.card.specs.Card.{straightFault, measuredFault, tableFault};
 ghost use Rattle.card.specs.TableLaws.{NoFall};
 ghost use Rattle.card.specs.TableFaults.{Judges};
+
+// The hop of a table; 0 where its entries fall.
+pub fn hop_in(table: &[u32; 257]) -> u32
+    ensures { λ r. ⌜ r ≡ hopIn (now (table .entry)) ⌝ }
+{
+    let back = table[0];
+    let next = table[1];
+    if next < back {
+        return 0;
+    }
+    next - back
+}
 
 // Fills a table with the overheads of hop and return.
 pub fn fill_straight(table: &mut [u32; 257], hop: u32, back: u32)
@@ -55,20 +67,17 @@ fn fault_of_line(table: &[u32; 257], hop: u32, back: u32) -> u32
 fn fault_of_straight(table: &[u32; 257]) -> u32
     ensures { λ r. ⌜ r ≡ straightFault (now (table .entry)) ⌝ }
 {
-    let back = table[0];
-    let next = table[1];
-    if next < back {
-        return WRONG_MEASURE;
-    }
-    let far = fault(Rule::Measure, MAX_MOVE, next - back);
+    let hop = hop_in(table);
+    let far = fault(Rule::Measure, MAX_MOVE, hop);
     if far != 0 {
         return far;
     }
+    let back = table[0];
     let long = fault(Rule::Measure, MAX_MOVE, back);
     if long != 0 {
         return long;
     }
-    fault_of_line(table, next - back, back)
+    fault_of_line(table, hop, back)
 }
 
 // 25 where an entry is below the one before, else 0.
