@@ -10,6 +10,7 @@ use Rattle.leb128.specs.declared.Number.{Number}
 use Rattle.leb128.specs.declared.Number.the-variants as number
 use Rattle.leb128.specs.Number.{numberAt}
 use Rattle.card.specs.declared.Figures.{Figures}
+use Rattle.card.specs.declared.Scalars.{Scalars}
 use Rattle.card.specs.declared.Verdict.{Verdict}
 use Rattle.card.specs.declared.CardRead.{CardRead}
 use Rattle.card.specs.declared.fields.Rule.the-variants.{Kind, Zones, Positions, Blocks, Measure, Overhead}
@@ -112,6 +113,10 @@ withTable f table = record {
   rate = f .rate;
   table = table;
 }
+
+-- figures of single numbers, of the positions and times of the zones, and of the table of overheads
+abbrev pub figuresFrom : Scalars → List ℕ → List ℕ → List ℕ → Figures
+figuresFrom s ps ts os = record { kind = s .kind; zones = s .zones; positions = ps; times = ts; blocks = s .blocks; bytes = s .bytes; rate = s .rate; table = os }
 
 -- after the last figure no byte is left over (R11)
 unfoldable pub cardEnd : List ℕ → ℕ → Figures → CardRead

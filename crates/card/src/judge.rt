@@ -1,5 +1,6 @@
 // The figures of a record, judged in the card's order.
 use crate::Figures;
+use crate::Scalars;
 use crate::fields::Rule;
 use crate::fields::fault;
 use crate::fields::fault_of_time;
@@ -13,11 +14,11 @@ ghost use mathlib.Core.Path.{_≡_};
 ghost use Prim.Native.Nat.{_≤_};
 ghost use mathlib.Core.Bool.{cond};
 ghost use lib.ListN.{length};
-ghost use Rattle.numbers.specs.Limits.{maxZones, maxTime};
+ghost use Rattle.numbers.specs.Limits.{maxZones, maxTime, tableLength};
 ghost use Rattle.numbers.specs.Refusals.{wrongZones};
 ghost use Rattle.card.specs.declared.Figures.{Figures};
 ghost use Rattle.card.specs.Card.{filmFault, zoneFaults, faultWith, zerosFrom, recordFault};
-ghost use Rattle.card.specs.Read.{withArrays, withZones, withFilm, withTable};
+ghost use Rattle.card.specs.Read.{figuresFrom, withArrays, withZones, withFilm, withTable};
 
 // N, B, c, then the overheads.
 fn fault_of_film(
@@ -97,9 +98,15 @@ fn fault_of_unused<'a>(zones: u32, positions: &'a [u32; 64], times: &'a [u32; 64
     0
 }
 
-// The refusal of a record, 0 where it is legal.
-pub fn fault_of_record(figures: Figures) -> u32
-    ensures { λ r. ⌜ r ≡ recordFault figures ⌝ }
+// The refusal of figures whose arrays are lent, 0 where they are legal.
+pub fn fault_of_figures<'a>(
+    figures: Scalars,
+    positions: &'a [u32; 64],
+    times: &'a [u32; 64],
+    table: &'a [u32; 257],
+) -> u32
+    requires { ⌜ (length (now positions) ≡ maxZones) × (length (now times) ≡ maxZones) × (length (now table) ≡ tableLength) ⌝ }
+    ensures { λ r. ⌜ r ≡ recordFault (figuresFrom figures (now (positions .entry)) (now (times .entry)) (now (table .entry))) ⌝ }
 {
     let kind = fault(Rule::Kind, 0, figures.kind);
     if kind != 0 {
@@ -109,11 +116,11 @@ pub fn fault_of_record(figures: Figures) -> u32
     if zones != 0 {
         return zones;
     }
-    let unused = fault_of_unused(figures.zones, &figures.positions, &figures.times);
+    let unused = fault_of_unused(figures.zones, positions, times);
     if unused != 0 {
         return unused;
     }
-    let judged = fault_of_zones(figures.zones, &figures.positions, &figures.times);
+    let judged = fault_of_zones(figures.zones, positions, times);
     match judged {
         Judged::Refused(number) => number,
         Judged::Total(total) => fault_of_film(
@@ -122,7 +129,25 @@ pub fn fault_of_record(figures: Figures) -> u32
             figures.bytes,
             figures.rate,
             figures.kind,
-            &figures.table,
+            table,
         ),
     }
+}
+
+// The refusal of a record, 0 where it is legal.
+pub fn fault_of_record(figures: Figures) -> u32
+    ensures { λ r. ⌜ r ≡ recordFault figures ⌝ }
+{
+    fault_of_figures(
+        Scalars {
+            kind: figures.kind,
+            zones: figures.zones,
+            blocks: figures.blocks,
+            bytes: figures.bytes,
+            rate: figures.rate,
+        },
+        &figures.positions,
+        &figures.times,
+        &figures.table,
+    )
 }

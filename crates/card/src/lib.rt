@@ -25,6 +25,15 @@ pub struct Figures {
     pub table: [u32; 257],
 }
 
+// The figures that are single numbers; a caller that lends their arrays hands them over so.
+pub struct Scalars {
+    pub kind: u32,
+    pub zones: u32,
+    pub blocks: u32,
+    pub bytes: u32,
+    pub rate: u32,
+}
+
 // The refusal number of document 01 or 02 and what is returned with it; 0 and 0 where the call is accepted.
 pub struct Verdict {
     pub number: u32,

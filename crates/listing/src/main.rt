@@ -116,7 +116,7 @@ fn most_arguments(looped: bool) -> usize {
     1
 }
 
-// Every refusal of a card is decided within its first 512 bytes, so what is read is enough of any input.
+// Every refusal of a card is decided within its first 1,490 bytes, so what is read is enough of any input.
 fn main() {
     let looped = asks_loop();
     if most_arguments(looped) < os::arg_count() {

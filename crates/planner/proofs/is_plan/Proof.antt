@@ -15,27 +15,30 @@ use borrow.Author.Needs.{needs}
 use Rattle.planner.proofs.is_plan.Statement.{statement}
 use Rattle.planner.proofs.is_plan.Tie as tie
 
-abbrev start : (c : tie.Else1) → tie.Start
-start c = c .before .before .before .before
+abbrev start : (c : tie.After-has-numbers) → tie.Start
+start c = c .before .before .before .before .before .before .before
 
 wide : (c : tie.Start) → Wide (c .args .t1 .figures)
-wide c = (search needs, search needs)
+wide c = (search needs, search needs, search needs)
 
-passed : (c : tie.Else1) → hasNumbers (start c .args .t1) ≡ true
+passed : (c : tie.Else1) → hasNumbers (start (c .before) .args .t1) ≡ true
 passed c = sym (c .before .has-numbers .ensures) ∙ not-false _ (c .if1 .left)
 
-has : (c : tie.Else1) → Numbered (start c .args .t1)
-has c = numbered (start c .args .t1) (wide (start c)) (passed c)
+has : (c : tie.Else1) → Numbered (start (c .before) .args .t1)
+has c = numbered (start (c .before) .args .t1) (wide (start (c .before))) (passed c)
 
 abbrev first : (c : tie.After-sum-positions) → tie.Else1
 first c = c .before .before .before
 
-sum : (c : tie.After-sum-positions) → c .sum-positions .result ≡ totalPositions (start (first c) .args .t1 .figures)
-sum c = c .sum-positions .ensures ∙ total-zones (start (first c) .args .t1 .figures) (has (first c) .legal)
+sum : (c : tie.After-sum-positions) → c .sum-positions .result ≡ totalPositions (start (first c .before) .args .t1 .figures)
+sum c = c .sum-positions .ensures ∙ total-zones (start (first c .before) .args .t1 .figures) (has (first c) .legal)
+
+has-numbers-requires : tie.Need-has-numbers-requires
+has-numbers-requires c κs = wide (c .before .before .before .before .before .before)
 
 returns : tie.Need-returns
 unfolding isPlan
-returns c = let e : hasNumbers (c .before .before .before .before .args .t1) ≡ false = sym (c .before .has-numbers .ensures) ∙ not-true _ (c .if1 .taken) in rw e
+returns c = let e : hasNumbers (start (c .before) .args .t1) ≡ false = sym (c .before .has-numbers .ensures) ∙ not-true _ (c .if1 .taken) in rw e
 
 sum-positions-requires : tie.Need-sum-positions-requires
 sum-positions-requires c κs = let ok = has (c .before .before) .legal in (legal-zoned _ ok, ok .zones .1)
@@ -50,7 +53,7 @@ returns-2 : tie.Need-returns-2
 unfolding isPlan hasPositions hasLeads
 returns-2 c = let q = c .before .before .before .before .before in
     let t = q .before in
-    let a = start (first t) .args in
+    let a = start (first t .before) .args in
     let n = has (first t) in
     rw (passed (first t))
     (c .both .ensures ∙ ap₂ _&&_ (q .same-positions .ensures) (c .before .same-leads .ensures)
@@ -62,7 +65,7 @@ pub is-plan-spec : {M : Type 1} → statement M
 is-plan-spec =
     tie.close
     (tie.spec
-    (λ c κs. search needs)
+    has-numbers-requires
     returns
     sum-positions-requires
     same-positions-requires
