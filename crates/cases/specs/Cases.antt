@@ -14,7 +14,7 @@ use Rattle.card.specs.Card.{totalPositions}
 use Rattle.laws.specs.Runs.{sumBy}
 use Rattle.laws.specs.Greatest.{greatestOf, greatest, firstReaching, earliestOf}
 use Rattle.words.specs.Words.{wordsOf}
-use Rattle.placement.specs.Placement.{place, worstTime}
+use Rattle.placement.specs.Placement.{zigzag, worstTime}
 use Rattle.placement.specs.Circle.{round, falls, rank, ring, worstRound}
 use Rattle.placement.specs.Showing.{Showing, one, loop, worstAt}
 use Rattle.placement.specs.Zones.{timeAt}
@@ -102,7 +102,7 @@ pub record Cases : Type 0 where
   pub desk : Story
 
 pub cases : Cases
-unfolding groupsFrom groups continuing joined judged numberIn numberAt first below above outside thenAbove thenBelow faultOf timeFault onFault onNumber fieldAt blankZones blankTable blankFigures refusedCard thenField cardEnd movesFrom entriesFrom tableFrom filmFrom zonesFrom readCard straightFrom straight tableNumbers filmNumbers zoneNumbers numbersOf bytesOf cardOf entries film late level totalPositions sumBy greatestOf greatest wordsOf place worstTime round falls rank ring worstRound timeAt run span lead overhead load streams bufferOf slowest margin firstReaching earliestOf worstAt worst2Of worstAtOf streamsOf marginOf bufferSize planOf blankPlan row positionsOf leadsOf planFault refusal planned
+unfolding groupsFrom groups continuing joined judged numberIn numberAt first below above outside thenAbove thenBelow faultOf timeFault onFault onNumber fieldAt blankZones blankTable blankFigures refusedCard thenField cardEnd movesFrom entriesFrom tableFrom filmFrom zonesFrom readCard straightFrom straight tableNumbers filmNumbers zoneNumbers numbersOf bytesOf cardOf entries film late level totalPositions sumBy greatestOf greatest wordsOf zigzag worstTime round falls rank ring worstRound timeAt run span lead overhead load streams bufferOf slowest margin firstReaching earliestOf worstAt worst2Of worstAtOf streamsOf marginOf bufferSize planOf blankPlan row positionsOf leadsOf planFault refusal planned
 cases = record {
   number-300 = refl;
   number-22270 = refl;

@@ -33,7 +33,7 @@ module _ {A : Type 0} (film : Film A) (w : ℕ) (r : Rates) where
     isEnd = film .isEnd;
     next = film .next;
     number = film .number;
-    position = film .place;
+    position = film .position;
     others = film .others;
     time = film .time;
     lead = lead film w;

@@ -10,7 +10,7 @@ use native.Mathlib.Decide.{ℕ-discrete}
 use lib.ListN.{length, getD}
 use borrow.Author.Tests.{ne-eqb}
 use borrow.Author.Count.{below-more}
-use Rattle.laws.specs.Places.{allFrom}
+use Rattle.laws.specs.Indices.{allFrom}
 use Rattle.numbers.specs.Refusals.{drawCount, drawAboveLimit, drawAboveHeld}
 use Rattle.numbers.specs.Slots.{playing, draining}
 use Rattle.rules.specs.Supply.{Supply}

@@ -9,7 +9,7 @@ use lib.ListN.{length, getD, set}
 use lib.Dec.{eqb}
 use borrow.Author.Tests.{ltb-true, eq-eqb, ne-eqb}
 use Rattle.laws.specs.Each.{each-at}
-use Rattle.laws.specs.Places.{each-of-allFrom, eachFrom-at}
+use Rattle.laws.specs.Indices.{each-of-allFrom, eachFrom-at}
 use Rattle.numbers.specs.Slots.{free, filling, playing, draining}
 use Rattle.numbers.specs.Showings.{loopWord}
 use Rattle.placement.specs.CircleBest.{round-last, round-next}

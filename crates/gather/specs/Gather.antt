@@ -12,7 +12,7 @@ use Rattle.gather.specs.declared.Block.{Block}
 
 -- the list of positions has block x, and its position is on the disk
 pub record Reach (sizes ps : List ℕ) (x : ℕ) : Type 0 where
-  pub place : x < length (wordsOf ps)
+  pub listed : x < length (wordsOf ps)
   pub within : getD (wordsOf ps) x 0 < total sizes
 
 -- r is block x

@@ -11,11 +11,11 @@ use lib.ListN.{getD}
 use Rattle.numbers.specs.Limits.{maxPositions, maxTime}
 use Rattle.numbers.specs.Slots.{waiting, playing}
 use Rattle.placement.specs.Zones.{timeAt}
-use Rattle.plan.specs.Plan.{showingIn, placeOf, timeOf}
+use Rattle.plan.specs.Plan.{showingIn, positionOf, timeOf}
 use Rattle.plan.specs.Answer.{isPlan}
 use Rattle.plan.specs.Disk.{Zoned}
 use Rattle.plan.specs.Check.{checked}
-use Rattle.plan.specs.Legal.{total-is, legal-zoned, place-below, time-small}
+use Rattle.plan.specs.Legal.{total-is, legal-zoned, position-below, time-small}
 use Rattle.desk.specs.declared.Desk.{Desk}
 use Rattle.desk.specs.declared.Gathered.{Gathered}
 use Rattle.desk.specs.Desk.{supplyOf}
@@ -41,8 +41,8 @@ module _ (d : Desk) (w : Wide d) (r : Ready d) (ps ls : List ℕ) (e : isPlan (d
       let c = checked (d .plan) ps ls e in
       let n = next-below i (omega (arith, streams-are d r)) a b in
       record {
-        place = omega (arith, c .long .0);
-        within = omega (arith, c .place-at _ n, place-below (showingIn (d .plan)) (d .plan .figures) (r .legal) _ n, total-is (d .plan .figures) (r .legal));
+        listed = omega (arith, c .long .0);
+        within = omega (arith, c .position-at _ n, position-below (showingIn (d .plan)) (d .plan .figures) (r .legal) _ n, total-is (d .plan .figures) (r .legal));
       }
 
   -- what was collected is what the plan says
@@ -50,13 +50,13 @@ module _ (d : Desk) (w : Wide d) (r : Ready d) (ps ls : List ℕ) (e : isPlan (d
     -- time and position of the next block of slot i, as the definitions say
     record Own (i : ℕ) : Type 0 where
       time : getD (g .times) i 0 ≡ timeOf (showingIn (d .plan)) (d .plan .figures) (getD (d .next) i 0)
-      position : getD (g .positions) i 0 ≡ placeOf (showingIn (d .plan)) (d .plan .figures) (getD (d .next) i 0)
+      position : getD (g .positions) i 0 ≡ positionOf (showingIn (d .plan)) (d .plan .figures) (getD (d .next) i 0)
 
     own : (i : ℕ) → i < 256 → waiting ≤ getD (d .kinds) i 0 → getD (d .kinds) i 0 ≤ playing → Own i
     own i l u v =
         let n : i < d .plan .streams = by-cases (decLt i (d .plan .streams)) (λ h. h) (λ h. absurd (omega (arith, sound-tidy d w (r .sound) .unused i l (omega arith)))) in
         let h = c .found i n .here u v in
-        let at = checked (d .plan) ps ls e .place-at _ (next-below i l u v) in
+        let at = checked (d .plan) ps ls e .position-at _ (next-below i l u v) in
         record { time = h .time ∙ ap (timeAt (d .plan .figures .positions) (d .plan .figures .times)) at; position = h .position ∙ at }
 
     pub gathers : Gathers (supplyOf (d .plan)) (d .kinds) (d .next) g
@@ -74,7 +74,7 @@ module _ (d : Desk) (w : Wide d) (r : Ready d) (ps ls : List ℕ) (e : isPlan (d
             let l : i < 256 = omega (arith, streams-are d r) in
             by-cases (decLe waiting k)
             (λ u. by-cases (decLe k playing)
-            (λ v. let p = place-below (showingIn (d .plan)) (d .plan .figures) (r .legal) _ (next-below i l u v) in
+            (λ v. let p = position-below (showingIn (d .plan)) (d .plan .figures) (r .legal) _ (next-below i l u v) in
             let o = own i l u v in
             (omega (arith, o .time, time-small (d .plan .figures) (r .legal) _ p), omega (arith, o .position, p, r .legal .total)))
             (λ v. omega (arith, c .found i h .other (λ _ y. v y))))

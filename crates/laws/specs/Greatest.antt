@@ -137,10 +137,10 @@ unfolding greatestOf
 peak-start g = record { value = refl; none = λ e. refl; some = λ h. absurd (omega arith) }
 
 -- it is at the earliest place
-pub peak-place : (g : ℕ → ℕ) (n at w : ℕ) → Peak g n at w → at ≡ earliestOf g n
+pub peak-earliest : (g : ℕ → ℕ) (n at w : ℕ) → Peak g n at w → at ≡ earliestOf g n
 unfolding earliestOf firstReaching
-peak-place g zero at w p = p .none refl
-peak-place g (suc n) at w p = earliest-unique g (suc n) at _ (p .some (omega arith)) (earliest-is g (suc n) (omega arith))
+peak-earliest g zero at w p = p .none refl
+peak-earliest g (suc n) at w p = earliest-unique g (suc n) at _ (p .some (omega arith)) (earliest-is g (suc n) (omega arith))
 
 pub peak-same : (g h : ℕ → ℕ) (n at w : ℕ) → ((a : ℕ) → a < n → g a ≡ h a) → Peak g n at w → Peak h n at w
 peak-same g h n at w e p = record { value = omega (arith, p .value, greatestOf-same g h n e); none = p .none; some = λ s. earliest-same g h n at e (p .some s) }

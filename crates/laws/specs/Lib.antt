@@ -5,6 +5,6 @@ pub mod Greatest
 pub mod Insertion
 pub mod Map
 pub mod Overwrite
-pub mod Places
+pub mod Indices
 pub mod Runs
 pub mod Sums

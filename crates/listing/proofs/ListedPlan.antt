@@ -19,7 +19,7 @@ use Rattle.plan.specs.declared.Planned.{Planned}
 use Rattle.placement.specs.Showing.{Showing}
 use Rattle.plan.specs.Plan.{showingIn, streamsOf}
 use Rattle.plan.specs.Disk.{Zoned}
-use Rattle.plan.specs.Legal.{legal-zoned, place-below, total-is}
+use Rattle.plan.specs.Legal.{legal-zoned, position-below, total-is}
 use Rattle.plan.specs.Answer.{planFault, faultAfter, refusal, answer, planned, positionsAfter, leadsAfter, isPlan}
 use Rattle.plan.specs.Check.{checked, checked-legal, plan-passes}
 use Rattle.plan.specs.Ways.{Outcome, short-positions, short-leads, no-stream, card-legal}
@@ -33,7 +33,7 @@ module _ (p : Plan) (ps ls : List ℕ) (w : Wide (p .figures)) (e : isPlan p ps 
   pub position-on : (b : ℕ) → b < p .figures .blocks → getD (wordsOf ps) b 0 < total (p .figures .positions)
   position-on b u =
       let ok = checked-legal p ps ls w e in
-      omega (arith, checked p ps ls e .place-at b u, place-below (showingIn p) (p .figures) ok b u, total-is (p .figures) ok)
+      omega (arith, checked p ps ls e .position-at b u, position-below (showingIn p) (p .figures) ok b u, total-is (p .figures) ok)
 
 -- ---- an accepted card
 

@@ -25,7 +25,7 @@ pub record Film (A : Type 0) : Type 0 where
   -- its number in the film: itself
   pub number : A → ℕ
   -- its position (P1), and further ones: none
-  pub place : A → ℕ
+  pub position : A → ℕ
   pub others : A → List ℕ
   -- time(b) (P2)
   pub time : A → ℕ
@@ -76,7 +76,7 @@ longestRun loop N b = N
 
 -- a film of N blocks in the order of their numbers, in either showing
 abbrev pub shown : Showing → ℕ → (ℕ → ℕ) → (ℕ → ℕ) → Film ℕ
-shown x N time place = record {
+shown x N time position = record {
   none = 0;
   isNone = λ b. eqb b 0;
   isBlock = λ b. ltb b N;
@@ -84,7 +84,7 @@ shown x N time place = record {
   isEnd = isPast x N;
   next = after x N;
   number = λ b. b;
-  place = place;
+  position = position;
   others = λ b. [];
   time = time;
   longest = longestRun x N;

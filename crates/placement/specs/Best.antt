@@ -10,14 +10,14 @@ use lib.Dec.{eqb}
 use borrow.Author.Tests.{eqb-true, eqb-false}
 use Rattle.laws.specs.Count.{count}
 use Rattle.laws.specs.Greatest.{greatestOf-above, greatestOf-least}
-use Rattle.placement.specs.Placement.{place, Laying, Falling, worstTime}
+use Rattle.placement.specs.Placement.{zigzag, Laying, Falling, worstTime}
 use Rattle.placement.specs.Tally.{isSlow, isFast, classOf, fast-few, slow-many, beside}
 use Rattle.placement.specs.Row.{Balanced, row-balanced}
 
 -- every block lies below P, and no two on one position
-pub place-laying : (P N : ℕ) → N ≤ P → Laying P N (place P N)
-unfolding place
-place-laying P N np = record {
+pub zigzag-laying : (P N : ℕ) → N ≤ P → Laying P N (zigzag P N)
+unfolding zigzag
+zigzag-laying P N np = record {
   into = λ b u. inside b u (eqb (b % 2) 0);
   apart = λ a b u v e. same a b u v (eqb (a % 2) 0) refl (eqb (b % 2) 0) refl e;
 }
@@ -34,9 +34,9 @@ place-laying P N np = record {
     same a b u v false d false e q = omega (arith, eqb-false (a % 2) 0 d, eqb-false (b % 2) 0 e)
 
 -- the film takes the N highest positions
-pub place-high : (P N b : ℕ) → N ≤ P → b < N → P - N ≤ place P N b
-unfolding place
-place-high P N b np u = go (eqb (b % 2) 0)
+pub zigzag-high : (P N b : ℕ) → N ≤ P → b < N → P - N ≤ zigzag P N b
+unfolding zigzag
+zigzag-high P N b np u = go (eqb (b % 2) 0)
   where
     go : (x : Bool) → P - N ≤ cond x (P - N + b / 2) (P - 1 - b / 2)
     go true = omega arith
@@ -53,9 +53,9 @@ module _ (P N : ℕ) (τ : ℕ → ℕ) (falls : Falling P τ) (l : ℕ → ℕ)
       end (inr r) = omega (arith, fast-few P N l lay s f)
 
   -- so it bounds every successive pair of document 01's laying
-  pub place-within : N ≤ P → (b : ℕ) → suc b < N → τ (place P N b) + τ (place P N (suc b)) ≤ W
-  unfolding place
-  place-within np b u = go (eqb (b % 2) 0) refl (eqb (suc b % 2) 0) refl
+  pub zigzag-within : N ≤ P → (b : ℕ) → suc b < N → τ (zigzag P N b) + τ (zigzag P N (suc b)) ≤ W
+  unfolding zigzag
+  zigzag-within np b u = go (eqb (b % 2) 0) refl (eqb (suc b % 2) 0) refl
     where
       go : (x : Bool) → eqb (b % 2) 0 ≡ x → (y : Bool) → eqb (suc b % 2) 0 ≡ y
           → τ (cond x (P - N + b / 2) (P - 1 - b / 2)) + τ (cond y (P - N + suc b / 2) (P - 1 - suc b / 2)) ≤ W
@@ -65,9 +65,9 @@ module _ (P N : ℕ) (τ : ℕ → ℕ) (falls : Falling P τ) (l : ℕ → ℕ)
       go false d false e = absurd (omega (arith, eqb-false (b % 2) 0 d, eqb-false (suc b % 2) 0 e))
 
 -- no laying has a smaller worst time (P10)
-pub placement-best : (P N : ℕ) → N ≤ P → (τ : ℕ → ℕ) → Falling P τ → (l : ℕ → ℕ) → Laying P N l → worstTime τ (place P N) N ≤ worstTime τ l N
+pub placement-best : (P N : ℕ) → N ≤ P → (τ : ℕ → ℕ) → Falling P τ → (l : ℕ → ℕ) → Laying P N l → worstTime τ (zigzag P N) N ≤ worstTime τ l N
 unfolding worstTime
 placement-best P N np τ falls l lay =
-    greatestOf-least (λ b. τ (place P N b) + τ (place P N (suc b))) (N - 1) (worstTime τ l N)
-    (λ b u. place-within P N τ falls l lay (worstTime τ l N)
+    greatestOf-least (λ b. τ (zigzag P N b) + τ (zigzag P N (suc b))) (N - 1) (worstTime τ l N)
+    (λ b u. zigzag-within P N τ falls l lay (worstTime τ l N)
     (λ a v. greatestOf-above (λ b. τ (l b) + τ (l (suc b))) (N - 1) a (omega arith)) np b (omega arith))

@@ -9,18 +9,18 @@ use borrow.Author.Tests.{eq-eqb, ne-eqb}
 use Rattle.laws.specs.Greatest.{greatestOf}
 
 -- the position of block b (P1): of the N highest of P positions, even blocks take the lower half from below, odd ones the upper half from above
-unfoldable pub place : ℕ → ℕ → ℕ → ℕ
-place P N b = cond (eqb (b % 2) 0) (P - N + b / 2) (P - 1 - b / 2)
+unfoldable pub zigzag : ℕ → ℕ → ℕ → ℕ
+zigzag P N b = cond (eqb (b % 2) 0) (P - N + b / 2) (P - 1 - b / 2)
 
 -- P1 as document 01 puts it, for block 2i
-pub place-even : (P N i : ℕ) → place P N (2 * i) ≡ P - N + i
-unfolding place
-place-even P N i = rw (eq-eqb (2 * i % 2) 0 (omega arith)) (omega arith)
+pub zigzag-even : (P N i : ℕ) → zigzag P N (2 * i) ≡ P - N + i
+unfolding zigzag
+zigzag-even P N i = rw (eq-eqb (2 * i % 2) 0 (omega arith)) (omega arith)
 
 -- and for block 2i+1
-pub place-odd : (P N i : ℕ) → place P N (2 * i + 1) ≡ P - 1 - i
-unfolding place
-place-odd P N i = rw (ne-eqb ((2 * i + 1) % 2) 0 (omega arith)) (omega arith)
+pub zigzag-odd : (P N i : ℕ) → zigzag P N (2 * i + 1) ≡ P - 1 - i
+unfolding zigzag
+zigzag-odd P N i = rw (ne-eqb ((2 * i + 1) % 2) 0 (omega arith)) (omega arith)
 
 -- a laying (P10): the blocks lie among the P positions, no two on one
 pub record Laying (P N : ℕ) (l : ℕ → ℕ) : Type 0 where

@@ -6,8 +6,8 @@ use mathlib.Core.Path.{_≡_, refl, ap, _∙_}
 use native.Mathlib.Omega.{arith}
 use native.Mathlib.Nat.{le-antisymm}
 use Rattle.laws.specs.Greatest.{greatestOf, greatestOf-above, greatestOf-least, earliestOf}
-use Rattle.placement.specs.Placement.{place, place-even, Laying, Falling, worstTime}
-use Rattle.placement.specs.Best.{place-laying, place-high, placement-best}
+use Rattle.placement.specs.Placement.{zigzag, zigzag-even, Laying, Falling, worstTime}
+use Rattle.placement.specs.Best.{zigzag-laying, zigzag-high, placement-best}
 use Rattle.placement.specs.Circle.{round, ring, worstRound}
 use Rattle.placement.specs.CircleBest.{ring-laying, ring-high, ring-first, circle-best}
 
@@ -17,7 +17,7 @@ pub data Showing : Type 0 where
 
 -- the position of block b of N on P positions, of which it takes the N highest: `laying x P N b` (P1, T7.3)
 abbrev pub laying : Showing → ℕ → ℕ → ℕ → ℕ
-laying one = place
+laying one = zigzag
 laying loop = ring
 
 -- the worst time of a laying (P10, T7.2): of two successive blocks the most; in a loop the first follows the last
@@ -59,17 +59,17 @@ worst-pair loop τ l N = refl
 
 -- every block lies below P, and no two on one position
 pub laying-lays : (x : Showing) (P N : ℕ) → N ≤ P → Laying P N (laying x P N)
-laying-lays one = place-laying
+laying-lays one = zigzag-laying
 laying-lays loop = ring-laying
 
 -- the film takes the N highest positions
 pub laying-high : (x : Showing) (P N b : ℕ) → N ≤ P → b < N → P - N ≤ laying x P N b
-laying-high one P N b np u = place-high P N b np u
+laying-high one P N b np u = zigzag-high P N b np u
 laying-high loop P N b np u = ring-high P N b
 
 -- and its first block the lowest of them
 pub laying-first : (x : Showing) (P N : ℕ) → laying x P N 0 ≡ P - N
-laying-first one P N = ap (place P N) (omega arith) ∙ place-even P N 0 ∙ omega arith
+laying-first one P N = ap (zigzag P N) (omega arith) ∙ zigzag-even P N 0 ∙ omega arith
 laying-first loop P N = ring-first P N
 
 module _ (x : Showing) (P N : ℕ) (np : N ≤ P) (τ : ℕ → ℕ) (falls : Falling P τ) where

@@ -17,9 +17,9 @@ use Rattle.words.specs.Laws.{read-written}
 use Rattle.card.specs.declared.Figures.{Figures}
 use Rattle.placement.specs.Showing.{Showing, one, loop}
 use Rattle.plan.specs.declared.Plan.{Plan}
-use Rattle.plan.specs.Plan.{wordOf, showingOf, showingIn, placeOf, leadOf, streamsOf, bufferSize, worst2Of, worstAtOf, marginOf, planOf, row, positionsOf, leadsOf}
+use Rattle.plan.specs.Plan.{wordOf, showingOf, showingIn, positionOf, leadOf, streamsOf, bufferSize, worst2Of, worstAtOf, marginOf, planOf, row, positionsOf, leadsOf}
 use Rattle.plan.specs.Answer.{begins, sameNumbers, hasNumbers, hasPositions, hasLeads, isPlan}
-use Rattle.plan.specs.Legal.{place-below, lead-small}
+use Rattle.plan.specs.Legal.{position-below, lead-small}
 use Rattle.plan.specs.Rows.{row-length, begins-at, begins-long, take-begins}
 
 -- a plan has the numbers of its figures, which are legal and feed a stream
@@ -34,7 +34,7 @@ pub record Checked (p : Plan) (ps ls : List ℕ) : Type 0 where
   pub fed : 0 < streamsOf (showingIn p) (p .figures)
   pub plan : p ≡ planOf (showingIn p) (p .figures)
   pub long : (p .figures .blocks ≤ length (wordsOf ps)) × (p .figures .blocks ≤ length (wordsOf ls))
-  pub place-at : (b : ℕ) → b < p .figures .blocks → getD (wordsOf ps) b 0 ≡ placeOf (showingIn p) (p .figures) b
+  pub position-at : (b : ℕ) → b < p .figures .blocks → getD (wordsOf ps) b 0 ≡ positionOf (showingIn p) (p .figures) b
   pub lead-at : (b : ℕ) → b < p .figures .blocks → getD (wordsOf ls) b 0 ≡ leadOf (showingIn p) (p .figures) b
 
 same-plan : (p : Plan) (x : Showing) (f : Figures) → p .figures ≡ f → sameNumbers p (planOf x f) ≡ true → p ≡ planOf x f
@@ -82,8 +82,8 @@ checked p ps ls e =
       clear = n .0;
       fed = n .1;
       plan = n .2;
-      long = (begins-long (placeOf x f) 0 (f .blocks) (wordsOf ps) b, begins-long (leadOf x f) 0 (f .blocks) (wordsOf ls) d);
-      place-at = row-here (placeOf x f) (f .blocks) (wordsOf ps) b;
+      long = (begins-long (positionOf x f) 0 (f .blocks) (wordsOf ps) b, begins-long (leadOf x f) 0 (f .blocks) (wordsOf ls) d);
+      position-at = row-here (positionOf x f) (f .blocks) (wordsOf ps) b;
       lead-at = row-here (leadOf x f) (f .blocks) (wordsOf ls) d;
     }
 
@@ -134,5 +134,5 @@ plan-passes x f ok fed ps ls lp ll =
     (and-both
     (and-both (eq-eqb (recordFault f) 0 (legal-fault f ok)) (and-both (lt-ltb 0 (streamsOf x f) fed) (same-numbers-self (planOf x f))))
     (and-both
-    (written-begins (placeOf x f) (f .blocks) ps (row-words (placeOf x f) 0 (f .blocks) (λ b u. omega (arith, place-below x f ok b (omega arith), ok .total))) lp)
+    (written-begins (positionOf x f) (f .blocks) ps (row-words (positionOf x f) 0 (f .blocks) (λ b u. omega (arith, position-below x f ok b (omega arith), ok .total))) lp)
     (written-begins (leadOf x f) (f .blocks) ls (row-words (leadOf x f) 0 (f .blocks) (λ b u. omega (arith, lead-small x f ok b (omega arith)))) ll)))

@@ -21,7 +21,7 @@ use Rattle.pacing.specs.Film.{row, longestRun, shown}
 use Rattle.pacing.specs.Shown.{round-below}
 use Rattle.pacing.specs.Lead.{lead-above, lead-attained, lead-only}
 use Rattle.pacing.specs.Streams.{overhead-entry, overhead-rises, load, streams-le, streams-fits, streams-best, streams-only, streams-none}
-use Rattle.plan.specs.Plan.{timeOn, placeOf, timeOf, worst2Of, worstAtOf, overOf, streamsOf, filmOf, leadOf}
+use Rattle.plan.specs.Plan.{timeOn, positionOf, timeOf, worst2Of, worstAtOf, overOf, streamsOf, filmOf, leadOf}
 use Rattle.plan.specs.Answer.{planFault}
 use Rattle.plan.specs.Greatest.{IsRun, Starts, GreatestRun, TooMany, MostStreams, pairOf, EarliestPair}
 
@@ -62,16 +62,16 @@ module _ (x : Showing) (f : Figures) where
   lead-greatest b h =
       let (j, u, r, e) = lead-attained (filmOf x f) (worst2Of x f) b in
       record {
-        above = λ j u. let v = run-in x (f .blocks) (timeOf x f) (placeOf x f) j b h u in lead-above (filmOf x f) (worst2Of x f) j b (v .0) (v .1);
-        reached = (j, in-run x (f .blocks) (timeOf x f) (placeOf x f) j b h u r, e);
+        above = λ j u. let v = run-in x (f .blocks) (timeOf x f) (positionOf x f) j b h u in lead-above (filmOf x f) (worst2Of x f) j b (v .0) (v .1);
+        reached = (j, in-run x (f .blocks) (timeOf x f) (positionOf x f) j b h u r, e);
       }
 
   -- and no other is
   pub greatest-lead : (b m : ℕ) → Starts x (f .blocks) b → GreatestRun x f b m → m ≡ leadOf x f b
   greatest-lead b m h g =
       let (j, u, e) = g .reached in
-      let v = run-in x (f .blocks) (timeOf x f) (placeOf x f) j b h u in
-      lead-only (filmOf x f) (worst2Of x f) m b (λ k u r. g .above k (in-run x (f .blocks) (timeOf x f) (placeOf x f) k b h u r)) j (v .0) (v .1) e
+      let v = run-in x (f .blocks) (timeOf x f) (positionOf x f) j b h u in
+      lead-only (filmOf x f) (worst2Of x f) m b (λ k u r. g .above k (in-run x (f .blocks) (timeOf x f) (positionOf x f) k b h u r)) j (v .0) (v .1) e
 
   -- ---- streams
 
@@ -125,7 +125,7 @@ module _ (x : Showing) (f : Figures) where
 
   worst-is : worst2Of x f ≡ greatestOf (pairOf x f) (pairsOf x (f .blocks))
   unfolding worst2Of
-  worst-is = worst-pair x (timeOn f) (placeOf x f) (f .blocks)
+  worst-is = worst-pair x (timeOn f) (positionOf x f) (f .blocks)
 
   -- the block that the plan names is that one
   pub pair-earliest : Legal f → EarliestPair x f (worstAtOf x f)

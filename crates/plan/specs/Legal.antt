@@ -17,7 +17,7 @@ use Rattle.placement.specs.Zones.{total, total-first, timeAt-positive, timeAt-w
 use Rattle.pacing.specs.Streams.{load, bufferOf, streams-le, streams-fits, buffer-bound}
 use Rattle.pacing.specs.Laid.{slowest, worst-within, time-below, laid-lead, margin-small, margin-quick}
 use Rattle.plan.specs.Disk.{Zoned, Disk}
-use Rattle.plan.specs.Plan.{timeOn, placeOf, timeOf, worst2Of, worstAtOf, overOf, streamsOf, marginOf, filmOf, leadOf, bufferSize}
+use Rattle.plan.specs.Plan.{timeOn, positionOf, timeOf, worst2Of, worstAtOf, overOf, streamsOf, marginOf, filmOf, leadOf, bufferSize}
 
 module _ (f : Figures) (ok : Legal f) where
   -- P is the total of all the entries, those past the last zone being zero
@@ -54,26 +54,26 @@ module _ (f : Figures) (ok : Legal f) where
   time-small q h = timeAt-within (f .positions) (f .times) (f .zones) q maxTime (λ i u. ok .times i u .1) (omega (arith, total-zones))
 
 module _ (x : Showing) (f : Figures) (ok : Legal f) where
-  pub legal-laying : Laying (totalPositions f) (f .blocks) (placeOf x f)
+  pub legal-laying : Laying (totalPositions f) (f .blocks) (positionOf x f)
   legal-laying = laying-lays x (totalPositions f) (f .blocks) (ok .room)
 
-  pub place-below : (b : ℕ) → b < f .blocks → placeOf x f b < totalPositions f
-  place-below b u = legal-laying .into b u
+  pub position-below : (b : ℕ) → b < f .blocks → positionOf x f b < totalPositions f
+  position-below b u = legal-laying .into b u
 
-  slowest-small : slowest (timeOn f) (placeOf x f) (f .blocks) ≤ maxTime
+  slowest-small : slowest (timeOn f) (positionOf x f) (f .blocks) ≤ maxTime
   unfolding slowest
-  slowest-small = greatestOf-least (timeOf x f) (f .blocks) maxTime (λ b u. time-small f ok (placeOf x f b) (place-below b u))
+  slowest-small = greatestOf-least (timeOf x f) (f .blocks) maxTime (λ b u. time-small f ok (positionOf x f b) (position-below b u))
 
   pub worst2-small : worst2Of x f ≤ 2 * maxTime
   unfolding worst2Of
-  worst2-small = omega (arith, worst-within (timeOn f) (placeOf x f) (f .blocks) x, slowest-small)
+  worst2-small = omega (arith, worst-within (timeOn f) (positionOf x f) (f .blocks) x, slowest-small)
 
   -- worstat is a block
   pub worstAt-small : worstAtOf x f < f .blocks
   unfolding worstAtOf worstAt
   worstAt-small =
       let n = some-pairs x (f .blocks) (omega (arith, ok .blocks)) in
-      omega (arith, earliest-is (pairTime x (timeOn f) (placeOf x f) (f .blocks)) (pairsOf x (f .blocks)) (n .0) .below, n .1)
+      omega (arith, earliest-is (pairTime x (timeOn f) (positionOf x f) (f .blocks)) (pairsOf x (f .blocks)) (n .0) .below, n .1)
 
   -- the margin from the innermost position of the film
   pub margin-is : marginOf x f ≡ 2 * timeOn f (totalPositions f - f .blocks) - worst2Of x f
@@ -84,23 +84,23 @@ module _ (x : Showing) (f : Figures) (ok : Legal f) where
   pub margin-exact : worst2Of x f ≤ 2 * timeOn f (totalPositions f - f .blocks)
   unfolding worst2Of slowest
   margin-exact =
-      omega (arith, worst-within (timeOn f) (placeOf x f) (f .blocks) x, slowest-first x (totalPositions f) (f .blocks) (ok .room) (timeOn f) (legal-falling f ok) (omega (arith, ok .blocks)))
+      omega (arith, worst-within (timeOn f) (positionOf x f) (f .blocks) x, slowest-first x (totalPositions f) (f .blocks) (ok .room) (timeOn f) (legal-falling f ok) (omega (arith, ok .blocks)))
 
   pub margin-less : marginOf x f + 1 ≤ worst2Of x f
   unfolding worst2Of marginOf
-  margin-less = margin-small x (timeOn f) (placeOf x f) (f .blocks) (omega (arith, ok .blocks)) (λ b u. time-positive f ok (placeOf x f b) (place-below b u))
+  margin-less = margin-small x (timeOn f) (positionOf x f) (f .blocks) (omega (arith, ok .blocks)) (λ b u. time-positive f ok (positionOf x f b) (position-below b u))
 
   -- a lead from the time of its block alone
   pub lead-is : (b : ℕ) → b < f .blocks → leadOf x f b ≡ 2 * timeOf x f b - worst2Of x f
   unfolding worst2Of
-  lead-is b u = laid-lead x (timeOn f) (placeOf x f) (f .blocks) b u
+  lead-is b u = laid-lead x (timeOn f) (positionOf x f) (f .blocks) b u
 
   pub time-less : (b : ℕ) → b < f .blocks → timeOf x f b < worst2Of x f
   unfolding worst2Of
-  time-less b u = time-below (timeOn f) (placeOf x f) (f .blocks) (omega (arith, ok .blocks)) (λ b u. time-positive f ok (placeOf x f b) (place-below b u)) x b u
+  time-less b u = time-below (timeOn f) (positionOf x f) (f .blocks) (omega (arith, ok .blocks)) (λ b u. time-positive f ok (positionOf x f b) (position-below b u)) x b u
 
   pub lead-small : (b : ℕ) → b < f .blocks → leadOf x f b ≤ maxTime - 1
-  lead-small b u = omega (arith, lead-is b u, time-less b u, time-small f ok (placeOf x f b) (place-below b u))
+  lead-small b u = omega (arith, lead-is b u, time-less b u, time-small f ok (positionOf x f b) (position-below b u))
 
   -- ---- streams and buffer
 

@@ -38,20 +38,20 @@ abbrev pub timeOn : Figures → ℕ → ℕ
 timeOn f = timeAt (f .positions) (f .times)
 
 -- the position of block b (P1, T7.3)
-abbrev pub placeOf : Showing → Figures → ℕ → ℕ
-placeOf x f = laying x (totalPositions f) (f .blocks)
+abbrev pub positionOf : Showing → Figures → ℕ → ℕ
+positionOf x f = laying x (totalPositions f) (f .blocks)
 
 -- time(b) (P2)
 abbrev pub timeOf : Showing → Figures → ℕ → ℕ
-timeOf x f b = timeOn f (placeOf x f b)
+timeOf x f b = timeOn f (positionOf x f b)
 
 -- worst2 (P3, T7.2)
 unfoldable pub worst2Of : Showing → Figures → ℕ
-worst2Of x f = worstOf x (timeOn f) (placeOf x f) (f .blocks)
+worst2Of x f = worstOf x (timeOn f) (positionOf x f) (f .blocks)
 
 -- worstat: the first block of the worst pair, the earliest where several are equal (T2.1)
 unfoldable pub worstAtOf : Showing → Figures → ℕ
-worstAtOf x f = worstAt x (timeOn f) (placeOf x f) (f .blocks)
+worstAtOf x f = worstAt x (timeOn f) (positionOf x f) (f .blocks)
 
 -- what a sweep takes beside the times of its blocks (D11, T3.5): the table's entry
 abbrev pub overOf : Figures → ℕ → ℕ
@@ -63,15 +63,15 @@ streamsOf x f = streams (f .rate) (worst2Of x f) (overOf f) (f .bytes)
 
 -- the greatest time(b)
 unfoldable pub slowestOf : Showing → Figures → ℕ
-slowestOf x f = slowest (timeOn f) (placeOf x f) (f .blocks)
+slowestOf x f = slowest (timeOn f) (positionOf x f) (f .blocks)
 
 -- margin (P5, T7.5)
 unfoldable pub marginOf : Showing → Figures → ℕ
-marginOf x f = margin x (timeOn f) (placeOf x f) (f .blocks)
+marginOf x f = margin x (timeOn f) (positionOf x f) (f .blocks)
 
 -- the film as it is laid
 abbrev pub filmOf : Showing → Figures → Film ℕ
-filmOf x f = laidFilm x (timeOn f) (placeOf x f) (f .blocks)
+filmOf x f = laidFilm x (timeOn f) (positionOf x f) (f .blocks)
 
 -- lead(b) (P6, T7.6)
 abbrev pub leadOf : Showing → Figures → ℕ → ℕ
@@ -102,7 +102,7 @@ row g b (suc n) = g b ∷ row g (suc b) n
 
 -- what the two lent lists are filled with (P8)
 unfoldable pub positionsOf : Showing → Figures → List ℕ
-positionsOf x f = row (placeOf x f) 0 (f .blocks)
+positionsOf x f = row (positionOf x f) 0 (f .blocks)
 
 unfoldable pub leadsOf : Showing → Figures → List ℕ
 leadsOf x f = row (leadOf x f) 0 (f .blocks)

@@ -18,8 +18,8 @@ use Rattle.pacing.specs.Lead.{lead-law}
 use Rattle.pacing.specs.Shown.{shown-end}
 use Rattle.pacing.specs.Streams.{overhead-rises, load, bufferOf}
 use Rattle.pacing.specs.Laid.{margin, laid-paced, time-within, no-laying-feeds-more}
-use Rattle.plan.specs.Plan.{timeOn, placeOf, timeOf, worst2Of, overOf, streamsOf, slowestOf, marginOf, filmOf, leadOf, bufferSize}
-use Rattle.plan.specs.Legal.{legal-falling, legal-laying, place-below, time-positive, time-small, worst2-small, margin-less, lead-is, lead-small, streams-few, streams-fit, buffer-small}
+use Rattle.plan.specs.Plan.{timeOn, positionOf, timeOf, worst2Of, overOf, streamsOf, slowestOf, marginOf, filmOf, leadOf, bufferSize}
+use Rattle.plan.specs.Legal.{legal-falling, legal-laying, position-below, time-positive, time-small, worst2-small, margin-less, lead-is, lead-small, streams-few, streams-fit, buffer-small}
 
 -- ---- leads
 
@@ -37,14 +37,14 @@ module _ (x : Showing) (f : Figures) where
 
   pub film-paced : Paced (filmOf x f) (worst2Of x f) (slowestOf x f)
   unfolding worst2Of slowestOf
-  film-paced = laid-paced (timeOn f) (placeOf x f) (f .blocks) x
+  film-paced = laid-paced (timeOn f) (positionOf x f) (f .blocks) x
 
   pub lead-last : leadOf x f (f .blocks) ≡ 0
-  lead-last = shown-end (f .blocks) (timeOf x f) (placeOf x f) x (worst2Of x f)
+  lead-last = shown-end (f .blocks) (timeOf x f) (positionOf x f) x (worst2Of x f)
 
   pub time-slowest : (b : ℕ) → b < f .blocks → timeOf x f b ≤ slowestOf x f
   unfolding slowestOf
-  time-slowest b u = time-within (timeOn f) (placeOf x f) (f .blocks) b u
+  time-slowest b u = time-within (timeOn f) (positionOf x f) (f .blocks) b u
 
 pub lead-laws : (x : Showing) (f : Figures) → Legal f → LeadLaws x f
 lead-laws x f ok = record {
@@ -79,7 +79,7 @@ pub record Promise (x : Showing) (f : Figures) : Type 0 where
   pub buffer : bufferSize x f ≡ 3 * f .bytes + wholeBytes (f .rate * streamsOf x f * marginOf x f)
   pub four : bufferSize x f ≤ 4 * f .bytes
   -- positions: below P, and no two alike
-  pub laying : Laying (totalPositions f) (f .blocks) (placeOf x f)
+  pub laying : Laying (totalPositions f) (f .blocks) (positionOf x f)
   -- sizes
   pub worst2 : worst2Of x f ≤ 2 * maxTime
   pub margin : marginOf x f + 1 ≤ worst2Of x f
@@ -105,7 +105,7 @@ promise x f ok some = record {
   margin = margin-less x f ok;
   margin-is = margin-of x f;
   lead = lead-small x f ok;
-  time = λ b u. (time-positive f ok (placeOf x f b) (place-below x f ok b u), time-small f ok (placeOf x f b) (place-below x f ok b u));
+  time = λ b u. (time-positive f ok (positionOf x f b) (position-below x f ok b u), time-small f ok (positionOf x f b) (position-below x f ok b u));
 }
 
 -- ---- the best placement
@@ -123,6 +123,6 @@ module _ (x : Showing) (f : Figures) (ok : Legal f) (l : ℕ → ℕ) (lay : Lay
       no-laying-feeds-more x (totalPositions f) (f .blocks) (ok .room) (omega (arith, ok .blocks)) (timeOn f) (legal-falling f ok) l lay (f .rate) (overOf f) (f .bytes) n h u
 
 -- the plan's own laying reaches worst2
-pub own-time : (x : Showing) (f : Figures) → worstOf x (timeOn f) (placeOf x f) (f .blocks) ≡ worst2Of x f
+pub own-time : (x : Showing) (f : Figures) → worstOf x (timeOn f) (positionOf x f) (f .blocks) ≡ worst2Of x f
 unfolding worst2Of
 own-time x f = refl

@@ -20,7 +20,7 @@ use Rattle.placement.specs.Showing.{Showing, laying, worstOf, worstAt}
 use Rattle.words.specs.Words.{Bytes, wordsOf, withWords}
 use Rattle.plan.specs.declared.Plan.{Plan}
 use Rattle.plan.specs.declared.Planned.{Planned}
-use Rattle.plan.specs.Plan.{showingIn, timeOn, placeOf, worst2Of, worstAtOf, streamsOf, leadOf, planOf, row, positionsOf, leadsOf}
+use Rattle.plan.specs.Plan.{showingIn, timeOn, positionOf, worst2Of, worstAtOf, streamsOf, leadOf, planOf, row, positionsOf, leadsOf}
 use Rattle.plan.specs.Disk.{Film, leadAt}
 use Rattle.plan.specs.Legal.{total-is, legal-disk, lead-is}
 use Rattle.plan.specs.Answer.{planFault, faultAfter, refusal, answer, filled, planned, positionsAfter, leadsAfter, judged, sameNumbers, hasNumbers}
@@ -113,7 +113,7 @@ module _ (f : Figures) (ok : Legal f) (t : ℕ) (e : t ≡ totalPositions f) whe
   unfolding leadsOf
   leads-are x w d =
       ap₂ (λ (n v : ℕ). row (leadAt (f .positions) (f .times) (laying x n (f .blocks)) v) 0 (f .blocks)) e d
-      ∙ row-same (leadAt (f .positions) (f .times) (placeOf x f) (worst2Of x f)) (leadOf x f) 0 (f .blocks)
+      ∙ row-same (leadAt (f .positions) (f .times) (positionOf x f) (worst2Of x f)) (leadOf x f) 0 (f .blocks)
       (λ b l u. sym (lead-is x f ok b (omega arith)))
 
 -- ---- figures that are read or judged

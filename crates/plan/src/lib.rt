@@ -11,7 +11,7 @@ ghost use Rattle.card.specs.Card.{Legal, totalPositions};
 ghost use Rattle.placement.specs.Placement.{Laying};
 ghost use Rattle.placement.specs.Showing.{Showing, worstOf};
 ghost use Rattle.pacing.specs.Streams.{load};
-ghost use Rattle.plan.specs.Plan.{timeOn, placeOf, worst2Of, worstAtOf, overOf, streamsOf, leadOf, blankPlan};
+ghost use Rattle.plan.specs.Plan.{timeOn, positionOf, worst2Of, worstAtOf, overOf, streamsOf, leadOf, blankPlan};
 ghost use Rattle.plan.specs.Answer.{planFault};
 ghost use Rattle.plan.specs.Greatest.{Starts, GreatestRun, MostStreams, TooMany, EarliestPair};
 ghost use Rattle.plan.specs.Promise.{LeadLaws, Promise};
@@ -81,7 +81,7 @@ pub fn placement_best()
         → (worst2Of x f ≤ worstOf x (timeOn f) l (f .blocks))
         × ((n : ℕ) → streamsOf x f < n → n ≤ maxStreams → parts * f .bytes < load (f .rate) (worstOf x (timeOn f) l (f .blocks)) (overOf f) n)) ⌝ }
     ensures own { λ _. ⌜ ((x : Showing) (f : Figures) → Legal f
-        → Laying (totalPositions f) (f .blocks) (placeOf x f) × (worstOf x (timeOn f) (placeOf x f) (f .blocks) ≡ worst2Of x f)) ⌝ }
+        → Laying (totalPositions f) (f .blocks) (positionOf x f) × (worstOf x (timeOn f) (positionOf x f) (f .blocks) ≡ worst2Of x f)) ⌝ }
 {}
 
 // The lead laws hold of every legal film in either showing, and of each that feeds a stream all that the desk relies on.

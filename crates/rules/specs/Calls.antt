@@ -5,7 +5,7 @@ use mathlib.Core.Path.{_≡_}
 use mathlib.Core.Bool.{Bool, true, false}
 use mathlib.Core.List.{List, [], _∷_}
 use lib.ListN.{length}
-use Rattle.laws.specs.Places.{allFrom}
+use Rattle.laws.specs.Indices.{allFrom}
 use Rattle.rules.specs.Supply.{Supply}
 use Rattle.numbers.specs.Slots.{free, between, sweeping}
 use Rattle.rules.specs.Scheduler.{Entry, Call, join, leave, begin, end, at, joined, left, entries, bound, ended, mostDrawn}

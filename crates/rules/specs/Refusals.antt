@@ -5,7 +5,7 @@ use mathlib.Core.Bool.{Bool, true, false, _&&_}
 use mathlib.Core.List.{List}
 use lib.ListN.{length, getD}
 use lib.Dec.{leb, ltb, eqb}
-use Rattle.laws.specs.Places.{allFrom, lowestFrom}
+use Rattle.laws.specs.Indices.{allFrom, lowestFrom}
 use Rattle.numbers.specs.Refusals.{tooShort, notSound, wrongPhase, noSuchSlot, slotState, drawCount, drawAboveLimit, drawAboveHeld}
 use Rattle.rules.specs.Supply.{Supply}
 use Rattle.numbers.specs.Slots.{free, between, sweeping}

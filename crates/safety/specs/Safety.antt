@@ -14,7 +14,7 @@ use Rattle.laws.specs.Bools.{bit, bit-le, clash, and-left, and-right, and-both,
 use Rattle.laws.specs.Map.{mapFrom}
 use Rattle.laws.specs.Runs.{sumBy}
 use Rattle.laws.specs.Each.{Each, EachFrom, Both, each-set, each-map, both-at, both-length}
-use Rattle.laws.specs.Places.{allFrom, length-mapFrom}
+use Rattle.laws.specs.Indices.{allFrom, length-mapFrom}
 use Rattle.numbers.specs.Units.{parts, micros}
 use Rattle.rules.specs.Supply.{Supply, Lawful}
 use Rattle.numbers.specs.Slots.{free, waiting, playing, draining}

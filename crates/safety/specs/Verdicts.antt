@@ -12,7 +12,7 @@ use lib.Dec.{leb, ltb, eqb}
 use borrow.Author.Tests.{leb-true, leb-false, ltb-true, eqb-true}
 use Rattle.laws.specs.Bools.{and-right}
 use Rattle.laws.specs.Each.{each-at}
-use Rattle.laws.specs.Places.{allFrom, lowestFrom, Lowest, lowest-fails, each-of-allFrom, eachFrom-at}
+use Rattle.laws.specs.Indices.{allFrom, lowestFrom, Lowest, lowest-fails, each-of-allFrom, eachFrom-at}
 use Rattle.numbers.specs.Refusals.{tooShort, notSound, wrongPhase, noSuchSlot, slotState, drawCount, drawAboveLimit, drawAboveHeld}
 use Rattle.rules.specs.Supply.{Supply, Lawful, Named}
 use Rattle.numbers.specs.Slots.{free, playing, draining, between, sweeping}

@@ -14,7 +14,7 @@ use Rattle.numbers.specs.Slots.{between, sweeping}
 use Rattle.card.specs.declared.Verdict.{Verdict}
 use Rattle.words.specs.Words.{wordsOf}
 use Rattle.plan.specs.Answer.{isPlan}
-use Rattle.laws.specs.Places.{allFrom, lowestFrom}
+use Rattle.laws.specs.Indices.{allFrom, lowestFrom}
 use Rattle.rules.specs.Scheduler.{Call, mostDrawn, begin, end}
 use Rattle.rules.specs.Refusals as refusals
 use Rattle.rules.specs.Calls as calls

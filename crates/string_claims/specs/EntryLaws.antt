@@ -15,9 +15,9 @@ use Rattle.laws.specs.Overwrite.{overwrite-front}
 use Rattle.words.specs.Laws.{words-withWords}
 use Rattle.card.specs.Card.{Legal}
 use Rattle.plan.specs.declared.Plan.{Plan}
-use Rattle.plan.specs.Plan.{showingIn, placeOf, planOf}
+use Rattle.plan.specs.Plan.{showingIn, positionOf, planOf}
 use Rattle.plan.specs.Check.{checked, checked-legal}
-use Rattle.plan.specs.Legal.{place-below, streams-few}
+use Rattle.plan.specs.Legal.{position-below, streams-few}
 use Rattle.rules.specs.Scheduler.{Entry, begin, freeSlot, at, leads}
 use Rattle.rules.specs.Order.{Scheduler}
 use Rattle.turns.specs.Facts.{Good, good-free, Sound}
@@ -106,11 +106,11 @@ module _ (D ps ls F : List ℕ) (l : length D ≡ deskSize) where
     streams-small =
         omega (arith, streams-few (showingIn p) (p .figures) legal, ap (λ (q : Plan). q .streams) (checked p ps ls (fair D ps ls (roomIn F) begin l z) .plan))
 
-    fetched-fits : (e : Entry) → NeedsBlock (deskOf p s) (e .slot) × (e .block ≡ getD (deskOf p s .next) (e .slot) 0) × (e .position ≡ placeOf (showingIn p) (p .figures) (e .block))
+    fetched-fits : (e : Entry) → NeedsBlock (deskOf p s) (e .slot) × (e .block ≡ getD (deskOf p s .next) (e .slot) 0) × (e .position ≡ positionOf (showingIn p) (p .figures) (e .block))
         → Fits e
     fetched-fits e (h, b, q) =
         let w = fetched-within (e .slot) h in
-        let r = place-below (showingIn p) (p .figures) legal (e .block) (omega (arith, w .1)) in
+        let r = position-below (showingIn p) (p .figures) legal (e .block) (omega (arith, w .1)) in
         (omega (arith, legal .total), omega (arith, w .0, streams-small), omega (arith, w .1, legal .blocks))
 
     entries-fit : Each Fits es

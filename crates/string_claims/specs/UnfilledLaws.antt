@@ -18,7 +18,7 @@ use Rattle.card.specs.Card.{recordFault, cardOf, writeFault, writtenBy, bufferB
 use Rattle.card.specs.Ranges.{first}
 use Rattle.card.specs.Read.{readCard}
 use Rattle.placement.specs.Showing.{Showing}
-use Rattle.plan.specs.Plan.{placeOf, leadOf, row, positionsOf, leadsOf}
+use Rattle.plan.specs.Plan.{positionOf, leadOf, row, positionsOf, leadsOf}
 use Rattle.plan.specs.Rows.{row-length}
 use Rattle.plan.specs.Answer.{faultAfter, filled, positionsAfter, leadsAfter}
 use Rattle.desk.specs.Desk.{fetchesOf, beginDesk, entriesOf, entryWords, fetchListAfter}
@@ -45,7 +45,7 @@ pub lists-past : (x : Showing) (r : CardRead) (ps ls : List ℕ)
     → SameFrom (4 * r .figures .blocks) ps (positionsAfter x r ps ls) × SameFrom (4 * r .figures .blocks) ls (leadsAfter x r ps ls)
 unfolding positionsAfter leadsAfter positionsOf leadsOf
 lists-past x r ps ls = (
-  filled-past (r .verdict .number) (faultAfter x r ps ls) ps (placeOf x (r .figures)) (r .figures .blocks),
+  filled-past (r .verdict .number) (faultAfter x r ps ls) ps (positionOf x (r .figures)) (r .figures .blocks),
   filled-past (r .verdict .number) (faultAfter x r ps ls) ls (leadOf x (r .figures)) (r .figures .blocks),
 )
 
@@ -54,7 +54,7 @@ pub strings-past : (x : Showing) (s p ps ls : List ℕ)
 unfolding positionsString leadsString positionsOf leadsOf
 strings-past x s p ps ls =
     let r = readCard s in (
-      filled-past (r .verdict .number) (planFaultOf x r p ps ls) ps (placeOf x (r .figures)) (r .figures .blocks),
+      filled-past (r .verdict .number) (planFaultOf x r p ps ls) ps (positionOf x (r .figures)) (r .figures .blocks),
       filled-past (r .verdict .number) (planFaultOf x r p ps ls) ls (leadOf x (r .figures)) (r .figures .blocks),
     )
 

@@ -28,7 +28,7 @@ use Rattle.desk.specs.Ready.{Ready, room-left}
 use Rattle.desk.specs.Slots.{length-in, slot-in}
 use Rattle.floor.specs.Floor.{ample, Leads, mark-is}
 use Rattle.grants.specs.Grants.{Asks}
-use Rattle.fetches.specs.Told.{Timed, Placed}
+use Rattle.fetches.specs.Told.{Timed, Positioned}
 use Rattle.sweep.specs.Steps.{begunDesk, sweptOf}
 use Rattle.sweep.specs.Kept.{begun-kept}
 
@@ -116,9 +116,9 @@ module _ (d : Desk) (w : Wide d) (r : Ready d) (ks : List ℕ) (q : slotsOf (sup
       moves = λ k. refl;
     }
 
-    pub placed-begun : Placed (supplyOf (d .plan)) (d .plan .streams) (d .plan .buffer - d .plan .figures .bytes) ks (d .next) (d .held) (g .positions)
+    pub positioned-begun : Positioned (supplyOf (d .plan)) (d .plan .streams) (d .plan .buffer - d .plan .figures .bytes) ks (d .next) (d .held) (g .positions)
     unfolding supplyOf
-    placed-begun = record {
+    positioned-begun = record {
       slots = slots-begun;
       positions = gathered-kept d w r ks _ q (begun-kept d r) (supplyOf (d .plan) .position) (g .positions) (u .positions);
       spare = room-left d r;

@@ -8,7 +8,7 @@ use Rattle.numbers.specs.Limits.{maxStreams}
 use Rattle.numbers.specs.Slots.{filling, playing}
 use Rattle.words.specs.Words.{wordsOf}
 use Rattle.plan.specs.declared.Plan.{Plan}
-use Rattle.plan.specs.Plan.{showingIn, placeOf}
+use Rattle.plan.specs.Plan.{showingIn, positionOf}
 use Rattle.rules.specs.Scheduler.{Entry, at, mostDrawn, drawLimit}
 use Rattle.desk.specs.declared.Desk.{Desk}
 use Rattle.desk.specs.Desk.{supplyOf, slotsIn, freshDesk, openDesk}
@@ -39,7 +39,7 @@ pub record Fetched (d : Desk) (es : List Entry) : Type 0 where
   -- no other has: an entry names such a slot, its next block and where that is laid
   pub only : (k : ℕ) → k < length es
       → NeedsBlock d (entryAt es k .slot) × (entryAt es k .block ≡ getD (d .next) (entryAt es k .slot) 0)
-      × (entryAt es k .position ≡ placeOf (showingIn (d .plan)) (d .plan .figures) (entryAt es k .block))
+      × (entryAt es k .position ≡ positionOf (showingIn (d .plan)) (d .plan .figures) (entryAt es k .block))
   -- by rising position, then slot; so no slot has two
   pub order : (j k : ℕ) → j < k → k < length es
       → (entryAt es j .position < entryAt es k .position) ⊎ ((entryAt es j .position ≡ entryAt es k .position) × (entryAt es j .slot < entryAt es k .slot))

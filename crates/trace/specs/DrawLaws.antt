@@ -9,7 +9,7 @@ use native.Mathlib.Omega.{arith}
 use lib.ListN.{getD}
 use lib.Dec.{leb}
 use borrow.Author.Tests.{leb-true, leb-false}
-use Rattle.laws.specs.Places.{Lowest}
+use Rattle.laws.specs.Indices.{Lowest}
 use Rattle.numbers.specs.Refusals.{notSound, drawAboveLimit, drawAboveHeld}
 use Rattle.words.specs.Words.{wordsOf}
 use Rattle.plan.specs.Answer.{isPlan}

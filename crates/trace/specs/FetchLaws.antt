@@ -14,7 +14,7 @@ use Rattle.laws.specs.Bools.{bit, and-left, and-right, and-both, or-cases, clas
 use Rattle.laws.specs.Runs.{sumBy}
 use Rattle.numbers.specs.Slots.{filling, playing}
 use Rattle.plan.specs.declared.Plan.{Plan}
-use Rattle.plan.specs.Plan.{showingIn, placeOf}
+use Rattle.plan.specs.Plan.{showingIn, positionOf}
 use Rattle.rules.specs.Supply.{Supply}
 use Rattle.rules.specs.Scheduler.{Slot, Entry, begin, at, entriesAt, reads, isFetched, entriesFrom, entries}
 use Rattle.rules.specs.Order.{Scheduler}
@@ -220,7 +220,7 @@ module _ (q : Plan) (s : Scheduler ℕ Queue) where
   slots-fetched = record {
     each = λ i h. let (k, l, e) = each-entry (supplyOf q) (λ a. refl) (s .slots) i (needs-fetched i h) in (k, l, ap (λ (x : Entry). x .slot) e);
     only = λ k l. let (i, f, e) = only-entry (supplyOf q) (λ a. refl) (s .slots) k l in
-        subst (λ (x : Entry). NeedsBlock (deskOf q s) (x .slot) × (x .block ≡ getD (deskOf q s .next) (x .slot) 0) × (x .position ≡ placeOf (showingIn q) (q .figures) (x .block)))
+        subst (λ (x : Entry). NeedsBlock (deskOf q s) (x .slot) × (x .block ≡ getD (deskOf q s .next) (x .slot) 0) × (x .position ≡ positionOf (showingIn q) (q .figures) (x .block)))
         (sym e) (fetched-needs i f, sym (next-at q s i), refl);
     order = entry-order (supplyOf q) (λ a. refl) (s .slots);
   }

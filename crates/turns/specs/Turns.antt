@@ -18,7 +18,7 @@ use Rattle.laws.specs.Map.{mapTo, mapTo-none, getD-mapTo, mapTo-store}
 use Rattle.laws.specs.Runs.{sumBy, allBy}
 use Rattle.laws.specs.Sums.{sum-none, sum-next, sum-rest}
 use Rattle.laws.specs.Each.{each-at, each-by}
-use Rattle.laws.specs.Places.{mapFrom-at, mapFrom-map, mapTo-rest, allFrom, lowestFrom, all-passed, first-failed}
+use Rattle.laws.specs.Indices.{mapFrom-at, mapFrom-map, mapTo-rest, allFrom, lowestFrom, all-passed, first-failed}
 use Rattle.numbers.specs.Units.{parts}
 use Rattle.rules.specs.Supply.{Supply, Named}
 use Rattle.numbers.specs.Slots.{free, waiting, filling, playing, draining}

@@ -3,7 +3,7 @@
 use Prim.Native.Nat.{ℕ, suc, _+_, _*_, _-_, _/_, _%_, _≤_, _<_, min}
 use mathlib.Core.Path.{_≡_, ap, _∙_}
 use native.Mathlib.Omega.{arith}
-use Rattle.placement.specs.Placement.{place, place-even, place-odd}
+use Rattle.placement.specs.Placement.{zigzag, zigzag-even, zigzag-odd}
 use Rattle.placement.specs.Circle.{rank, ring}
 use Rattle.placement.specs.CircleBest.{rank-even, rank-odd, late-even, late-odd}
 use Rattle.zones.specs.declared.Zone.{Zone}
@@ -27,20 +27,20 @@ past b n h e = omega arith
 
 -- ---- once: even blocks rise from D, odd ones fall from P
 
-once-even : (P N D k : ℕ) → D + N ≡ P → k % 2 ≡ 0 → place P N k ≡ D + k / 2
-once-even P N D k d e = ap (place P N) (omega arith) ∙ place-even P N (k / 2) ∙ omega arith
+once-even : (P N D k : ℕ) → D + N ≡ P → k % 2 ≡ 0 → zigzag P N k ≡ D + k / 2
+once-even P N D k d e = ap (zigzag P N) (omega arith) ∙ zigzag-even P N (k / 2) ∙ omega arith
 
-once-odd : (P N k : ℕ) → N ≤ P → k ≤ N → k % 2 ≡ 1 → place P N k + k / 2 + 1 ≡ P
+once-odd : (P N k : ℕ) → N ≤ P → k ≤ N → k % 2 ≡ 1 → zigzag P N k + k / 2 + 1 ≡ P
 once-odd P N k np u e =
-    let x : place P N k ≡ P - 1 - k / 2 = ap (place P N) (omega arith) ∙ place-odd P N (k / 2) in
+    let x : zigzag P N k ≡ P - 1 - k / 2 = ap (zigzag P N) (omega arith) ∙ zigzag-odd P N (k / 2) in
     omega arith
 
-module _ {P N b : ℕ} {low high : Zone} (e : Ends P N (place P N) b low high) where
+module _ {P N b : ℕ} {low high : Zone} (e : Ends P N (zigzag P N) b low high) where
   -- the low zone reaches into the film's positions
   pub once-low : P - N ≤ low .end
   once-low = let x = once-even P N (P - N) (b + b % 2) (omega (arith, e .room)) (omega arith) in omega (arith, e .low-to)
 
-  once-within : (D a z t : ℕ) → D + N ≡ P → a + 2 * D ≡ 2 * low .end → z + 2 * high .first ≡ 2 * P + 1 → Least N a z t → RunEnd N (place P N) b low high t
+  once-within : (D a z t : ℕ) → D + N ≡ P → a + 2 * D ≡ 2 * low .end → z + 2 * high .first ≡ 2 * P + 1 → Least N a z t → RunEnd N (zigzag P N) b low high t
   once-within D a z t d ea ez h =
       let x = once-even P N D (b + b % 2) d (omega arith) in
       let y = once-odd P N (b + 1 - b % 2) (e .room) (omega (arith, e .block)) (omega arith) in
@@ -51,7 +51,7 @@ module _ {P N b : ℕ} {low high : Zone} (e : Ends P N (place P N) b low high) w
         odd = λ k l u p. let v = once-odd P N k (e .room) (omega (arith, h .film)) p in (omega (arith, h .odd), omega (arith, e .high-to));
       }
 
-  pub once-run : RunEnd N (place P N) b low high (min N (min (2 * (low .end - (P - N))) (2 * (P - high .first) + 1)))
+  pub once-run : RunEnd N (zigzag P N) b low high (min N (min (2 * (low .end - (P - N))) (2 * (P - high .first) + 1)))
   once-run =
       let x = once-even P N (P - N) (b + b % 2) (omega (arith, e .room)) (omega arith) in
       once-within (P - N) (2 * (low .end - (P - N))) (2 * (P - high .first) + 1) _ (omega (arith, e .room)) (omega (arith, e .low-to)) (omega (arith, e .high-end, e .high-from, e .high-to))

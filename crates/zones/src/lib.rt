@@ -4,7 +4,7 @@ ghost use mathlib.Core.Path.{_≡_};
 ghost use Prim.Native.Nat.{_≤_, _<_, min};
 ghost use lib.ListN.{take};
 ghost use Rattle.numbers.specs.Limits.{maxPositions};
-ghost use Rattle.placement.specs.Placement.{place};
+ghost use Rattle.placement.specs.Placement.{zigzag};
 ghost use Rattle.placement.specs.Circle.{falls, rank, ring};
 ghost use Rattle.placement.specs.Showing.{laying, worstOf, worstAt};
 ghost use Rattle.placement.specs.Zones.{total, timeAt};
@@ -133,7 +133,7 @@ pub fn time_at<'a>(sizes: &'a [u32; 64], times: &'a [u32; 64], q: u32) -> u32
 // The position of block b of a film shown once, or of the one that would follow the last; `total` is P.
 fn once_position(total: u32, blocks: u32, b: u32) -> u32
     requires { ⌜ (0 < blocks) × (blocks ≤ total) × (b ≤ blocks) ⌝ }
-    ensures { λ r. ⌜ Position total blocks (place total blocks) b r ⌝ }
+    ensures { λ r. ⌜ Position total blocks (zigzag total blocks) b r ⌝ }
 {
     if b % 2 == 0 {
         return total - blocks + b / 2;
@@ -187,8 +187,8 @@ pub fn position_of(showing: u32, total: u32, blocks: u32, b: u32) -> u32
 
 // How far a film shown once stays in a zone of the even and one of the odd blocks: even positions rise, odd ones fall.
 fn once_end(total: u32, blocks: u32, b: u32, low: Zone, high: Zone) -> u32
-    requires { ⌜ Ends total blocks (place total blocks) b low high ⌝ }
-    ensures { λ r. ⌜ RunEnd blocks (place total blocks) b low high r ⌝ }
+    requires { ⌜ Ends total blocks (zigzag total blocks) b low high ⌝ }
+    ensures { λ r. ⌜ RunEnd blocks (zigzag total blocks) b low high r ⌝ }
 {
     let even = 2 * (low.end - (total - blocks));
     let odd = 2 * (total - high.first) + 1;

@@ -5,7 +5,7 @@ use Rattle.gather.proofs.block_at.Statement.{statement}
 use Rattle.gather.proofs.block_at.Tie as tie
 
 word-at-requires : tie.Need-word-at-requires
-word-at-requires c κs = c .before .pre .1 .place
+word-at-requires c κs = c .before .pre .1 .listed
 
 time-at-requires : tie.Need-time-at-requires
 time-at-requires c κs = let s = c .before .before in (s .pre .0, omega (arith, s .pre .1 .within, c .word-at .ensures))

@@ -6,7 +6,7 @@ use Rattle.rules.specs.Arrays.{slotsOf}
 use Rattle.desk.specs.View.{Wide}
 use Rattle.desk.specs.Desk.{supplyOf, slotsIn}
 use Rattle.desk.specs.Ready.{streams-are, buffer-has, ready-slots}
-use Rattle.sweep.proofs.Beginning.{floor-is, slots-started, asks-started, begun-all, timed-begun, placed-begun, begun-is}
+use Rattle.sweep.proofs.Beginning.{floor-is, slots-started, asks-started, begun-all, timed-begun, positioned-begun, begun-is}
 use borrow.Author.Needs.{needs}
 use Rattle.sweep.proofs.begin_sweep.Statement.{statement}
 use Rattle.sweep.proofs.begin_sweep.Tie as tie
@@ -104,7 +104,7 @@ returns c =
     let b = f .sweep-bound in
     begun-is d w r _ (all k) (b .result) (c .list-fetches .result)
     (b .ensures (supplyOf (d .plan)) (d .next) (timed-begun d w r _ (all k) (s .args .t2) (s .pre .1)))
-    (c .list-fetches .ensures (supplyOf (d .plan)) (placed-begun d w r _ (all k) (s .args .t2) (s .pre .1)))
+    (c .list-fetches .ensures (supplyOf (d .plan)) (positioned-begun d w r _ (all k) (s .args .t2) (s .pre .1)))
 
 pub begin-sweep-spec : {M : Type 1} → statement M
 begin-sweep-spec =

@@ -1,16 +1,16 @@
 use native.Mathlib.Omega.{arith}
 use borrow.Author.Tests.{eq-eqb, ne-eqb}
-use Rattle.placement.specs.Placement.{place}
+use Rattle.placement.specs.Placement.{zigzag}
 use borrow.Author.Needs.{needs}
 use Rattle.zones.proofs.once_position.Statement.{statement}
 use Rattle.zones.proofs.once_position.Tie as tie
 
 returns : tie.Need-returns
-unfolding place
+unfolding zigzag
 returns c = record { is = simp (eq-eqb _ _ (c .if1 .taken)); from = omega arith; to = omega arith }
 
 returns-2 : tie.Need-returns-2
-unfolding place
+unfolding zigzag
 returns-2 c = record { is = simp (ne-eqb _ _ (c .if1 .left)); from = omega arith; to = omega arith }
 
 pub once-position-spec : {M : Type 1} → statement M

@@ -2,7 +2,7 @@ use Prim.Native.Nat.{ℕ, _-_, _<_}
 use mathlib.Core.Path.{_≡_, sym, ap, _∙_}
 use mathlib.Core.List.{List}
 use native.Mathlib.Omega.{arith}
-use Rattle.laws.specs.Greatest.{Peak, peak-start, peak-place, peak-same}
+use Rattle.laws.specs.Greatest.{Peak, peak-start, peak-earliest, peak-same}
 use Rattle.placement.specs.Circle.{ring}
 use Rattle.placement.specs.Showing.{Showing, one, loop, laying, worstOf, worstAt, pairTime, pairsOf, worst-pair}
 use Rattle.placement.specs.Zones.{timeAt}
@@ -32,7 +32,7 @@ abbrev μ-loop : tie.MeasureT-loop
 measured : (x : Showing) (τ l : ℕ → ℕ) (N : ℕ) (w : Pair) → Peak (pairTime x τ l N) (pairsOf x N) (w .first) (w .time)
     → (w .time ≡ worstOf x τ l N) × (w .first ≡ worstAt x τ l N)
 unfolding worstAt
-measured x τ l N w p = (p .value ∙ sym (worst-pair x τ l N), peak-place (pairTime x τ l N) (pairsOf x N) (w .first) (w .time) p)
+measured x τ l N w p = (p .value ∙ sym (worst-pair x τ l N), peak-earliest (pairTime x τ l N) (pairsOf x N) (w .first) (w .time) p)
 
 loop-holds : tie.Need-loop-holds Inv-loop μ-loop
 loop-holds c = record { cursors = c .set-out .ensures; within = c .before .pre .some; worst = peak-start _ }
