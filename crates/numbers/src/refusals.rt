@@ -47,6 +47,8 @@ pub const DRAW_ABOVE_LIMIT: u32 = 20;
 pub const DRAW_ABOVE_HELD: u32 = 21;
 
 // Cards, by document 02.
+pub const WRONG_OVERHEAD: u32 = 25;
+
 pub const HALF_DEAD_TIME: u32 = 26;
 
 // Windows, by document 02.
