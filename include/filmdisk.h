@@ -81,7 +81,7 @@ enum filmdisk_fetch_word { FILMDISK_FETCH_POSITION, FILMDISK_FETCH_SLOT, FILMDIS
 /* Stack in bytes that a call takes below the caller's frame, at most. */
 #define FILMDISK_STACK_PLAN 4800
 #define FILMDISK_STACK_PLAN_LOOP 4800
-#define FILMDISK_STACK_WINDOW 5200
+#define FILMDISK_STACK_WINDOW 5300
 #define FILMDISK_STACK_OPEN 8300
 #define FILMDISK_STACK_JOIN 9000
 #define FILMDISK_STACK_LEAVE 9000
