@@ -77,3 +77,7 @@ maxCylinder = 999999
 -- sectors a track
 abbrev pub maxTrack : ℕ
 maxTrack = 10000
+
+-- the blocks of a film of which every laying is tried (document 02, ticket 12)
+abbrev pub maxTried : ℕ
+maxTried = 8

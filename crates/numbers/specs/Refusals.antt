@@ -104,3 +104,7 @@ halfDeadTime = 26
 -- window of 0 blocks, above 64 or above N (document 02, ticket 9)
 abbrev pub wrongWindow : ℕ
 wrongWindow = 27
+
+-- film of more blocks than are tried (document 02, ticket 12)
+abbrev pub filmTooLong : ℕ
+filmTooLong = 29

@@ -52,3 +52,6 @@ pub const MAX_BLOCK: u32 = 8192;
 pub const MAX_CYLINDER: u32 = 999999;
 
 pub const MAX_TRACK: u32 = 10000;
+
+// The blocks of a film of which every laying is tried.
+pub const MAX_TRIED: u32 = 8;

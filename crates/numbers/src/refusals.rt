@@ -58,3 +58,6 @@ pub const HALF_DEAD_TIME: u32 = 26;
 
 // Windows, by document 02.
 pub const WRONG_WINDOW: u32 = 27;
+
+// The second planner, by document 02.
+pub const FILM_TOO_LONG: u32 = 29;

@@ -1,7 +1,7 @@
 use Rattle.plan.specs.Ways.{judged-is}
 use borrow.Author.Needs.{needs}
-use Rattle.planner.proofs.judged_figures.Statement.{statement}
-use Rattle.planner.proofs.judged_figures.Tie as tie
+use Rattle.plan.proofs.judged_figures.Statement.{statement}
+use Rattle.plan.proofs.judged_figures.Tie as tie
 
 returns : tie.Need-returns
 returns c = judged-is (c .before .args .figures) (c .judge-figures .result) (c .judge-figures .ensures)
