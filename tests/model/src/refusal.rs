@@ -36,6 +36,7 @@ pub mod cause {
     pub const ROW: u32 = 24;
     pub const HALF_DEAD: u32 = 26;
     pub const WINDOW: u32 = 27;
+    pub const TOO_MANY_BLOCKS: u32 = 29;
 }
 
 /// The answer of a refused call.

@@ -12,9 +12,9 @@ const WINDOWS: &str = env!("CARGO_BIN_EXE_windows");
 const WINDOWS_CASES: &str = env!("CARGO_BIN_EXE_windows_cases");
 const MKCARD: &str = env!("CARGO_BIN_EXE_mkcard");
 const MKCARD_CASES: &str = env!("CARGO_BIN_EXE_mkcard_cases");
-
 const MAKERCARD: &str = env!("CARGO_BIN_EXE_makercard");
 const MAKER_CASES: &str = env!("CARGO_BIN_EXE_maker_cases");
+const TRY_ALL_CASES: &str = env!("CARGO_BIN_EXE_try_all_cases");
 
 /// What a comparison prints, and its exit status.
 fn run(comparison: &str, arguments: &[&str]) -> (String, Option<i32>) {
@@ -109,9 +109,19 @@ fn listing_is_no_windows() {
     assert_eq!(status, Some(1));
 }
 
+/// The listing program takes the cases of a second planner for a bad card.
+#[test]
+fn listing_is_no_second_planner() {
+    let (text, status) = run(TRY_ALL_CASES, &[LISTING, "5", "2"]);
+    assert!(text.contains("input case 0: c 0101020102e807e8070101\n"), "{text}");
+    assert!(text.contains("expected case 0: 2 2\ngot refused 3 at 0\n"), "{text}");
+    assert!(text.ends_with("\n0 passed, 10 failed\n"), "{text}");
+    assert_eq!(status, Some(1));
+}
+
 #[test]
 fn bad_arguments() {
-    for comparison in [LISTING_CASES, WINDOWS_CASES, MKCARD_CASES, MAKER_CASES] {
+    for comparison in [LISTING_CASES, WINDOWS_CASES, MKCARD_CASES, MAKER_CASES, TRY_ALL_CASES] {
         assert_eq!(run(comparison, &[LISTING, "5"]).1, Some(2));
         assert_eq!(run(comparison, &[LISTING, "5", "1", "1"]).1, Some(2));
         assert_eq!(run(comparison, &["no such program", "5", "1"]).1, Some(2));
