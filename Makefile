@@ -3,6 +3,9 @@
 
 VERSION = 0.5.0
 
+# The programs that are installed, each with a page man/NAME.1.
+PROGRAMS = listing makercard mkcard windows
+
 # Where `make install` puts things; DESTDIR goes before each of them.
 PREFIX ?= /usr/local
 BINDIR ?= $(PREFIX)/bin
@@ -20,10 +23,10 @@ run:
 	@sh tests/progress 'the listing' target/run.log rt check listing
 	@target/bin/listing <crates/listing/stdin
 
-# target/bin/listing, target/bin/mkcard and target/bin/windows, proved and tried
+# target/bin/NAME of each installed program, proved and tried
 programs:
 	@sh tests/tools rt
-	@sh tests/progress 'the programs' target/programs.log rt check listing mkcard windows
+	@sh tests/progress 'the programs' target/programs.log rt check $(PROGRAMS)
 
 # target/staticlib/libfilmdisk.a, proved; made again where a crate has changed
 library: target/staticlib/libfilmdisk.a
@@ -36,25 +39,24 @@ build: programs library
 
 # Installs what `make build` made; it needs neither rt nor a compiler.
 install:
-	@for made in target/bin/listing target/bin/mkcard target/bin/windows target/staticlib/libfilmdisk.a; do \
+	@for made in $(PROGRAMS:%=target/bin/%) target/staticlib/libfilmdisk.a; do \
 	    [ -f $$made ] || { echo "no $$made: run 'make build' first"; exit 1; }; done
 	install -d '$(DESTDIR)$(BINDIR)' '$(DESTDIR)$(LIBDIR)' '$(DESTDIR)$(INCLUDEDIR)' \
 	    '$(DESTDIR)$(PKGCONFIGDIR)' '$(DESTDIR)$(MANDIR)/man1' '$(DESTDIR)$(MANDIR)/man3'
-	install -m 755 target/bin/listing target/bin/mkcard target/bin/windows '$(DESTDIR)$(BINDIR)'
+	install -m 755 $(PROGRAMS:%=target/bin/%) '$(DESTDIR)$(BINDIR)'
 	install -m 644 target/staticlib/libfilmdisk.a '$(DESTDIR)$(LIBDIR)'
 	install -m 644 include/filmdisk.h '$(DESTDIR)$(INCLUDEDIR)'
 	sed -e 's|@PREFIX@|$(PREFIX)|' -e 's|@LIBDIR@|$(LIBDIR)|' -e 's|@INCLUDEDIR@|$(INCLUDEDIR)|' \
 	    -e 's|@VERSION@|$(VERSION)|' filmdisk.pc.in >'$(DESTDIR)$(PKGCONFIGDIR)/filmdisk.pc'
-	sed 's|@VERSION@|$(VERSION)|' man/listing.1 >'$(DESTDIR)$(MANDIR)/man1/listing.1'
-	sed 's|@VERSION@|$(VERSION)|' man/mkcard.1 >'$(DESTDIR)$(MANDIR)/man1/mkcard.1'
-	sed 's|@VERSION@|$(VERSION)|' man/windows.1 >'$(DESTDIR)$(MANDIR)/man1/windows.1'
+	for name in $(PROGRAMS); do \
+	    sed 's|@VERSION@|$(VERSION)|' man/$$name.1 >'$(DESTDIR)$(MANDIR)/man1/'$$name.1; done
 	sed 's|@VERSION@|$(VERSION)|' man/filmdisk.3 >'$(DESTDIR)$(MANDIR)/man3/filmdisk.3'
 
 # Removes what `make install` with the same places put there; folders stay, as others may use them.
 uninstall:
-	rm -f '$(DESTDIR)$(BINDIR)/listing' '$(DESTDIR)$(BINDIR)/mkcard' '$(DESTDIR)$(BINDIR)/windows' '$(DESTDIR)$(LIBDIR)/libfilmdisk.a' \
-	    '$(DESTDIR)$(INCLUDEDIR)/filmdisk.h' '$(DESTDIR)$(PKGCONFIGDIR)/filmdisk.pc' \
-	    '$(DESTDIR)$(MANDIR)/man1/listing.1' '$(DESTDIR)$(MANDIR)/man1/mkcard.1' '$(DESTDIR)$(MANDIR)/man1/windows.1' \
+	for name in $(PROGRAMS); do \
+	    rm -f '$(DESTDIR)$(BINDIR)/'$$name '$(DESTDIR)$(MANDIR)/man1/'$$name.1; done
+	rm -f '$(DESTDIR)$(LIBDIR)/libfilmdisk.a' '$(DESTDIR)$(INCLUDEDIR)/filmdisk.h' '$(DESTDIR)$(PKGCONFIGDIR)/filmdisk.pc' \
 	    '$(DESTDIR)$(MANDIR)/man3/filmdisk.3'
 
 # The library against the model for some minutes, from another seed each time; CASES is another count.

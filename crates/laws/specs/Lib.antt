@@ -4,6 +4,7 @@ pub mod Each
 pub mod Greatest
 pub mod Insertion
 pub mod Map
+pub mod Members
 pub mod Overwrite
 pub mod Indices
 pub mod Runs

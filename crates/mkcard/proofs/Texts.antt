@@ -11,10 +11,12 @@ use lib.ListN.{length, getD, set, length-set}
 use lib.Seq.{getD-set-same, getD-set-other}
 use borrow.Author.Tests.{lt-ltb}
 use Rattle.numbers.specs.Limits.{noNumber}
+use Rattle.decimal.specs.Decimal.{digits, capped}
+use Rattle.decimal.specs.DecimalLaws.{capped-small, grown-digit}
 use Rattle.card.specs.Card.{bytesOf}
 use Rattle.mkcard.specs.declared.scan.Scan.{Scan}
-use Rattle.mkcard.specs.Scan.{mostWords, capped, begun, ended, lineAfter, stepped, scanned, numbersFrom, cardOfWords, digits, textOf, Spelled, cardOfText}
-use Rattle.mkcard.proofs.WordWays.{grown-digit, step-word, ended-none, blank-none, capped-small, numbers-kept, numbers-end}
+use Rattle.mkcard.specs.Scan.{mostWords, begun, ended, lineAfter, stepped, scanned, numbersFrom, cardOfWords, textOf, Spelled, cardOfText}
+use Rattle.mkcard.proofs.WordWays.{step-word, ended-none, blank-none, numbers-kept, numbers-end}
 
 -- one piece of a text after the other
 scanned-append : (s : Scan) (xs ys : List ℕ) → scanned s (xs ++ ys) ≡ scanned (scanned s xs) ys

@@ -10,9 +10,11 @@ use native.Mathlib.Numerals.{add-one}
 use lib.ListN.{length, getD, set, take, drop, length-append, length-take, drop-of-length-le}
 use lib.Seq.{drop-cons, getD-take, take-append-seam, set-split}
 use lib.Dec.{ltb}
-use borrow.Author.Tests.{lt-ltb, le-ltb, le-leb, lt-leb, eq-eqb, ne-eqb, ltb-true, ltb-false}
+use borrow.Author.Tests.{lt-ltb, le-ltb, eq-eqb, ne-eqb, ltb-true, ltb-false}
 use Rattle.laws.specs.Overwrite.{overwrite, overwrite-more, overwrite-front, overwrite-length}
 use Rattle.numbers.specs.Limits.{noNumber}
+use Rattle.decimal.specs.Decimal.{capped, grown}
+use Rattle.decimal.specs.DecimalLaws.{capped-small, capped-great}
 use Rattle.leb128.specs.Number.{groups, groupsFrom}
 use Rattle.leb128.specs.NumberLaws.{groups-long}
 use Rattle.card.specs.Card.{bytesOf}
@@ -21,26 +23,9 @@ use Rattle.card.specs.declared.CardRead.{CardRead}
 use Rattle.card_writer.proofs.WriterWays.{Writes, writes-done}
 use Rattle.mkcard.specs.declared.make.Made.{Made}
 use Rattle.mkcard.specs.declared.scan.Scan.{Scan}
-use Rattle.mkcard.specs.Scan.{mostWords, mostBytes, capped, grown, ended, lineAfter, commented, longer, blank, stepped, scanned, numbersFrom, cardOfWords, numbersIn, lineOf, madeBy, made}
+use Rattle.mkcard.specs.Scan.{mostWords, mostBytes, ended, lineAfter, commented, longer, blank, stepped, scanned, numbersFrom, cardOfWords, numbersIn, lineOf, madeBy, made}
 
 -- ---- one byte
-
-module _ (v b : ℕ) where
-  pub grown-below : b < 48 → noNumber ≡ grown v b
-  unfolding grown
-  grown-below h = rw (lt-leb 48 b h)
-
-  pub grown-above : 48 ≤ b → 57 < b → noNumber ≡ grown v b
-  unfolding grown
-  grown-above h k = rw (le-leb 48 b h, lt-leb b 57 k)
-
-  pub grown-great : 48 ≤ b → b ≤ 57 → noNumber ≤ v * 10 + (b - 48) → noNumber ≡ grown v b
-  unfolding grown capped
-  grown-great h k m = rw (le-leb 48 b h, le-leb b 57 k, le-ltb (v * 10 + (b - 48)) noNumber m)
-
-  pub grown-digit : 48 ≤ b → b ≤ 57 → v * 10 + (b - 48) < noNumber → v * 10 + (b - 48) ≡ grown v b
-  unfolding grown capped
-  grown-digit h k m = rw (le-leb 48 b h, le-leb b 57 k, lt-ltb (v * 10 + (b - 48)) noNumber m)
 
 module _ (s : Scan) where
   pub ended-none : s .inside ≡ false → s ≡ ended s
@@ -121,13 +106,9 @@ module _ (s : Scan) (text : List ℕ) (i : ℕ) where
 
 -- ---- the card of the words
 
-pub capped-small : (v : ℕ) → v < noNumber → capped v ≡ v
-unfolding capped
-capped-small v h = rw (lt-ltb v noNumber h)
-
-pub capped-great : (v : ℕ) → noNumber ≤ v → groups (capped v) ≡ 128 ∷ groups 33554432
-unfolding capped groups groupsFrom
-capped-great v h = rw (le-ltb v noNumber h)
+pub groups-great : (v : ℕ) → noNumber ≤ v → groups (capped v) ≡ 128 ∷ groups 33554432
+unfolding groups groupsFrom
+groups-great v h = rw (capped-great v h)
 
 pub great-long : length (groups 33554432) ≡ 4
 unfolding groups groupsFrom
@@ -138,7 +119,7 @@ capped-long v = go (ltb v noNumber) refl
   where
     go : (t : Bool) → ltb v noNumber ≡ t → length (groups (capped v)) ≤ 5
     go true e = rw (capped-small v (ltb-true v noNumber e)) (groups-long v (ltb-true v noNumber e) .1)
-    go false e = rw (capped-great v (ltb-false v noNumber e)) (omega (arith, great-long))
+    go false e = rw (groups-great v (ltb-false v noNumber e)) (omega (arith, great-long))
 
 put-byte : (out : List ℕ) (at b : ℕ) → at < length out → set out at b ≡ overwrite out at (b ∷ [])
 unfolding overwrite
@@ -147,7 +128,7 @@ put-byte out at b h = rw add-one (set-split out at b h)
 -- a byte, then a number of four bytes
 pub put-great : (out : List ℕ) (at v : ℕ) → at + 5 ≤ length out → noNumber ≤ v
     → overwrite (set out at 128) (at + 1) (groups 33554432) ≡ overwrite out at (groups (capped v))
-put-great out at v room h = rw (put-byte out at 128 (omega arith), capped-great v h) (overwrite-more out at (128 ∷ []) (groups 33554432) (omega arith))
+put-great out at v room h = rw (put-byte out at 128 (omega arith), groups-great v h) (overwrite-more out at (128 ∷ []) (groups 33554432) (omega arith))
 
 module _ (s : Scan) where
   pub numbers-kept : (left i : ℕ) → i + left ≡ mostWords → i < mostWords → i < s .count → numbersFrom left i s ≡ capped (getD (s .values) i 0) ∷ numbersFrom (mostWords - (i + 1)) (i + 1) s

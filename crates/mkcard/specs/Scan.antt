@@ -1,10 +1,11 @@
 -- A text of figures: which words it has, and the value and the line of each.
-use Prim.Native.Nat.{ℕ, zero, suc, _+_, _-_, _*_, _/_, _%_, _^_, _<_}
+use Prim.Native.Nat.{ℕ, zero, suc, _+_, _^_, _<_}
 use mathlib.Core.List.{List, [], _∷_, _++_}
 use mathlib.Core.Bool.{Bool, true, false, cond, _&&_, _||_}
 use lib.ListN.{length, getD, set, take, replicate}
 use lib.Dec.{leb, ltb, eqb}
 use Rattle.numbers.specs.Limits.{noNumber}
+use Rattle.decimal.specs.Decimal.{digits, capped, grown}
 use Rattle.card.specs.Card.{bytesOf}
 use Rattle.card.specs.Read.{readCard}
 use Rattle.mkcard.specs.declared.scan.Scan.{Scan}
@@ -20,14 +21,6 @@ mostBytes = 1955
 -- before the first byte
 unfoldable pub begun : Scan
 begun = record { line = 1; comment = false; inside = false; value = 0; count = 0; values = replicate mostWords 0; lines = replicate mostWords 0 }
-
--- a number of 32 bits; 4,294,967,296 stands for every other
-unfoldable pub capped : ℕ → ℕ
-capped n = cond (ltb n noNumber) n noNumber
-
--- the value of a word with a byte more: a digit after the digits before it, or no number
-unfoldable pub grown : ℕ → ℕ → ℕ
-grown v b = cond (leb 48 b && leb b 57) (capped (v * 10 + (b - 48))) noNumber
 
 -- a word ends: its value and its line are kept, if it is among the first 391
 unfoldable pub ended : Scan → Scan
@@ -94,11 +87,6 @@ unfoldable pub made : Scan → Made
 made s = madeBy s (readCard (cardOfWords s) .verdict .number) (readCard (cardOfWords s) .verdict .place)
 
 -- ---- the text of numbers
-
--- the last k decimal digits of a number, the most significant first
-unfoldable pub digits : ℕ → ℕ → List ℕ
-digits zero v = []
-digits (suc k) v = digits k (v / 10) ++ ((48 + v % 10) ∷ [])
 
 -- numbers in decimal, each on a line of its own, with `more v` digits before the last one of v; zeros in front are allowed
 unfoldable pub textOf : (ℕ → ℕ) → List ℕ → List ℕ

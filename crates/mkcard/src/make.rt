@@ -10,7 +10,8 @@ ghost use lib.ListN.{length, take};
 ghost use Rattle.laws.specs.Overwrite.{overwrite};
 ghost use Rattle.leb128.specs.Number.{groups};
 ghost use Rattle.card.specs.Card.{bytesOf};
-ghost use Rattle.mkcard.specs.Scan.{mostWords, mostBytes, capped, numbersIn, lineOf, cardOfWords, made, textOf, Spelled, cardOfText};
+ghost use Rattle.decimal.specs.Decimal.{capped};
+ghost use Rattle.mkcard.specs.Scan.{mostWords, mostBytes, numbersIn, lineOf, cardOfWords, made, textOf, Spelled, cardOfText};
 
 // The refusal's number and the line of the text, or 0 and the length of the card.
 pub struct Made {

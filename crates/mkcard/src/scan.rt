@@ -1,7 +1,7 @@
 // A text of figures, byte by byte: words between spaces, tabs, carriage returns and line feeds; `#` starts a comment that ends with its line.
-use numbers::limits::NO_NUMBER;
+use decimal::grow;
 ghost use mathlib.Core.Path.{_≡_};
-ghost use Rattle.mkcard.specs.Scan.{begun, grown, ended, stepped, scanned};
+ghost use Rattle.mkcard.specs.Scan.{begun, ended, stepped, scanned};
 
 // The most words that are kept. A card has at most 390 numbers (kind, zones, 64 zones of two, N, B, c, 257 overheads), so one word more is
 // left over, and words after that change no answer.
@@ -37,23 +37,6 @@ pub fn start() -> Scan
         values: [0u64; WORDS],
         lines: [0u64; WORDS],
     }
-}
-
-// The value of a word with a byte more.
-fn grow(value: u64, byte: u8) -> u64
-    ensures { λ r. ⌜ r ≡ grown value byte ⌝ }
-{
-    if byte < b'0' {
-        return NO_NUMBER;
-    }
-    if b'9' < byte {
-        return NO_NUMBER;
-    }
-    if NO_NUMBER <= value {
-        return NO_NUMBER;
-    }
-    let next = value * 10 + (byte - b'0') as u64;
-    if next < NO_NUMBER { next } else { NO_NUMBER }
 }
 
 // Keeps the word that ends here, if there is one.

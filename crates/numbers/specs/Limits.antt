@@ -72,3 +72,30 @@ maxStreams = 256
 -- k, the blocks of a window (document 02, ticket 9)
 abbrev pub maxWindow : ℕ
 maxWindow = 64
+
+-- a maker's text (document 02, ticket 1). Its first line: turns a minute
+abbrev pub maxTurns : ℕ
+maxTurns = 30000
+
+-- track switch time, in microseconds
+abbrev pub maxSwitch : ℕ
+maxSwitch = 100000
+
+abbrev pub maxHeads : ℕ
+maxHeads = 32
+
+-- sectors in a block
+abbrev pub maxBlock : ℕ
+maxBlock = 8192
+
+-- its rows: the last cylinder of a zone
+abbrev pub maxCylinder : ℕ
+maxCylinder = 999999
+
+-- sectors a track
+abbrev pub maxTrack : ℕ
+maxTrack = 10000
+
+-- the blocks of a film of which every laying is tried (document 02, ticket 12)
+abbrev pub maxTried : ℕ
+maxTried = 8

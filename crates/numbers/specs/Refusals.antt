@@ -88,6 +88,17 @@ drawAboveHeld = 21
 -- overhead out of range, or below the one before (document 02, ticket 3)
 abbrev pub wrongOverhead : ℕ
 wrongOverhead = 25
+-- a line of a maker's text of another form, or no line at all (document 02, ticket 1)
+abbrev pub lineForm : ℕ
+lineForm = 22
+
+-- its first line out of range
+abbrev pub wrongHeading : ℕ
+wrongHeading = 23
+
+-- a row out of range, with its last cylinder below its first, or not following on the cylinder before
+abbrev pub wrongRow : ℕ
+wrongRow = 24
 
 -- zone time, times three, below the first zone's (document 02, ticket 8)
 abbrev pub halfDeadTime : ℕ
@@ -96,3 +107,7 @@ halfDeadTime = 26
 -- window of 0 blocks, above 64 or above N (document 02, ticket 9)
 abbrev pub wrongWindow : ℕ
 wrongWindow = 27
+
+-- film of more blocks than are tried (document 02, ticket 12)
+abbrev pub filmTooLong : ℕ
+filmTooLong = 29

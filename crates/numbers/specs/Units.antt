@@ -12,3 +12,11 @@ wholeBytes x = (x + (parts - 1)) / parts
 -- microseconds in a second
 abbrev pub micros : ℕ
 micros = 1000000
+
+-- microseconds in a minute
+abbrev pub minute : ℕ
+minute = 60000000
+
+-- bytes of a sector (document 02, ticket 1)
+abbrev pub sectorBytes : ℕ
+sectorBytes = 512

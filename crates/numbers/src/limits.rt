@@ -51,3 +51,20 @@ pub const MAX_STREAMS: u32 = 256;
 
 // Blocks of a window.
 pub const MAX_WINDOW: u32 = 64;
+
+// A maker's text: turns a minute, track switch time in microseconds, heads and sectors in a block of its first line.
+pub const MAX_TURNS: u32 = 30000;
+
+pub const MAX_SWITCH: u32 = 100000;
+
+pub const MAX_HEADS: u32 = 32;
+
+pub const MAX_BLOCK: u32 = 8192;
+
+// The last cylinder and the sectors a track of a row.
+pub const MAX_CYLINDER: u32 = 999999;
+
+pub const MAX_TRACK: u32 = 10000;
+
+// The blocks of a film of which every laying is tried.
+pub const MAX_TRIED: u32 = 8;

@@ -46,6 +46,13 @@ pub const DRAW_ABOVE_LIMIT: u32 = 20;
 
 pub const DRAW_ABOVE_HELD: u32 = 21;
 
+// Makers' texts, by document 02.
+pub const LINE_FORM: u32 = 22;
+
+pub const WRONG_HEADING: u32 = 23;
+
+pub const WRONG_ROW: u32 = 24;
+
 // Cards, by document 02.
 pub const WRONG_OVERHEAD: u32 = 25;
 
@@ -53,3 +60,6 @@ pub const HALF_DEAD_TIME: u32 = 26;
 
 // Windows, by document 02.
 pub const WRONG_WINDOW: u32 = 27;
+
+// The second planner, by document 02.
+pub const FILM_TOO_LONG: u32 = 29;

@@ -1,5 +1,6 @@
 // The plan as a definition: its record and lists, the planner's answers, the check of a plan, and the laws that the code and the desk
-// rely on; and the plan that is all zero.
+// rely on; the plan that is all zero, and a record's figures with their verdict.
+use card::CardRead;
 use card::Figures;
 use card::Verdict;
 ghost use mathlib.Core.Path.{_≡_};
@@ -12,7 +13,7 @@ ghost use Rattle.placement.specs.Placement.{Laying};
 ghost use Rattle.placement.specs.Showing.{Showing, worstOf};
 ghost use Rattle.pacing.specs.Streams.{load};
 ghost use Rattle.plan.specs.Plan.{timeOn, positionOf, worst2Of, worstAtOf, overOf, streamsOf, leadOf, blankPlan};
-ghost use Rattle.plan.specs.Answer.{planFault};
+ghost use Rattle.plan.specs.Answer.{planFault, judged};
 ghost use Rattle.plan.specs.Greatest.{Starts, GreatestRun, MostStreams, TooMany, EarliestPair};
 ghost use Rattle.plan.specs.Promise.{LeadLaws, Promise};
 
@@ -71,6 +72,16 @@ pub fn blank_plan() -> Plan
         margin: 0,
         showing: 0,
         worstat: 0,
+    }
+}
+
+// The figures of a record with their verdict.
+pub fn judged_figures(figures: Figures) -> CardRead
+    ensures { λ r. ⌜ r ≡ judged figures ⌝ }
+{
+    CardRead {
+        verdict: card::judge_figures(figures),
+        figures: figures,
     }
 }
 

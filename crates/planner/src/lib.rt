@@ -9,7 +9,6 @@ use crate::film::same_numbers;
 use block_lists::both;
 use block_lists::same_leads;
 use block_lists::same_positions;
-use card::CardRead;
 use card::Figures;
 use card::Scalars;
 use card::judge::fault_of_figures;
@@ -19,6 +18,7 @@ use numbers::showings::ONCE;
 use plan::Numbers;
 use plan::Plan;
 use plan::Planned;
+use plan::judged_figures;
 use zones::sum_positions;
 ghost use mathlib.Core.Path.{_≡_};
 ghost use mathlib.Core.Bool.{not, _&&_, _||_};
@@ -45,16 +45,6 @@ pub fn plan_loop_card(card: &[u8], positions: &mut [u8], leads: &mut [u8]) -> Pl
         × (now (leads .exit) ≡ leadsAfter loop (readCard (now (card .entry))) (now (positions .entry)) (now (leads .entry))) ⌝ }
 {
     plan_figures(card_reader::read_card(card), LOOP, positions, leads)
-}
-
-// The figures of a record with their verdict.
-fn judged_figures(figures: Figures) -> CardRead
-    ensures { λ r. ⌜ r ≡ judged figures ⌝ }
-{
-    CardRead {
-        verdict: card::judge_figures(figures),
-        figures: figures,
-    }
 }
 
 // Plans a record of figures for one showing: 4 to 10 and 26, then 13, then 12, place 0. A refusal leaves both lists.

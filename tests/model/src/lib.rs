@@ -8,7 +8,9 @@
 //! - `desk`: soundness and the calls open, join, leave, begin and end.
 //! - `book`: lists of calls, the book of demand 3 and the checker of its claim.
 //! - `window`: the worst time of several successive blocks, and the text of the windows program.
-//! - `listing`: the text of the listing program. `text`: the card of a text of figures.
+//! - `try_all`: the second planner, which tries every laying, and all small cards.
+//! - `listing`: the text of the listing program. `text`: the card of a text of figures. `maker`: the
+//!   figures of a maker's zone listing.
 //! - `bench`: fixed cards. `rng`: random inputs of every sort from a seed.
 //! - `programs`: a program run on inputs and compared with the model.
 //!
@@ -20,11 +22,13 @@ pub mod book;
 pub mod card;
 pub mod desk;
 pub mod listing;
+pub mod maker;
 pub mod plan;
 pub mod programs;
 pub mod refusal;
 pub mod rng;
 pub mod text;
+pub mod try_all;
 pub mod window;
 
 pub use book::{answer, check_claim, Answer, Book, Call, Row, Run, Step};

@@ -22,6 +22,11 @@ impl Given {
     }
 }
 
+/// Byte by byte the same.
+pub fn is_equal(expected: &Written, got: &Written) -> bool {
+    expected == got
+}
+
 /// The inputs of a program, and what the model writes for each.
 pub struct Comparison {
     pub program: &'static str,
@@ -29,6 +34,8 @@ pub struct Comparison {
     pub first: fn(&mut Rng) -> Vec<Given>,
     pub random: fn(&mut Rng) -> Given,
     pub expected: fn(&Given) -> Written,
+    /// Has the program written what is expected?
+    pub is_same: fn(&Written, &Written) -> bool,
     /// Prints what was given, what the model writes for it, and what the program wrote instead.
     pub report: fn(&Given, &Written, &Written),
 }
@@ -75,7 +82,7 @@ impl Comparison {
         for given in first.into_iter().chain(random) {
             let expected = (self.expected)(&given);
             let got = run(path, &given)?;
-            if got == expected {
+            if (self.is_same)(&expected, &got) {
                 passed += 1;
                 continue;
             }

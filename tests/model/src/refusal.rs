@@ -31,8 +31,12 @@ pub mod cause {
     pub const DRAW_LIST: u32 = 19;
     pub const DRAW_ABOVE_LIMIT: u32 = 20;
     pub const DRAW_ABOVE_HELD: u32 = 21;
+    pub const LINE_FORM: u32 = 22;
+    pub const LINE_ONE: u32 = 23;
+    pub const ROW: u32 = 24;
     pub const HALF_DEAD: u32 = 26;
     pub const WINDOW: u32 = 27;
+    pub const TOO_MANY_BLOCKS: u32 = 29;
 }
 
 /// The answer of a refused call.

@@ -4,6 +4,7 @@ pub mod borders;
 pub mod cards;
 pub mod desks;
 pub mod figures;
+pub mod makers;
 pub mod texts;
 
 /// Splitmix64.

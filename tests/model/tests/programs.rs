@@ -1,5 +1,5 @@
-//! The comparisons of listing, windows and mkcard programs, tried on the model's own ones and on
-//! others.
+//! The comparisons of listing, windows, mkcard and makercard programs, tried on the model's own ones
+//! and on others.
 
 use film_disk_model::bench::bench_film;
 use film_disk_model::listing::listing_with;
@@ -12,6 +12,9 @@ const WINDOWS: &str = env!("CARGO_BIN_EXE_windows");
 const WINDOWS_CASES: &str = env!("CARGO_BIN_EXE_windows_cases");
 const MKCARD: &str = env!("CARGO_BIN_EXE_mkcard");
 const MKCARD_CASES: &str = env!("CARGO_BIN_EXE_mkcard_cases");
+const MAKERCARD: &str = env!("CARGO_BIN_EXE_makercard");
+const MAKER_CASES: &str = env!("CARGO_BIN_EXE_maker_cases");
+const TRY_ALL_CASES: &str = env!("CARGO_BIN_EXE_try_all_cases");
 
 /// What a comparison prints, and its exit status.
 fn run(comparison: &str, arguments: &[&str]) -> (String, Option<i32>) {
@@ -56,6 +59,22 @@ fn own_mkcard_passes() {
     assert_eq!(status, Some(0));
 }
 
+#[test]
+fn own_makercard_passes() {
+    let (text, status) = run(MAKER_CASES, &[MAKERCARD, "5", "300"]);
+    assert_eq!(text, "seed 5\n349 passed, 0 failed\n");
+    assert_eq!(status, Some(0));
+}
+
+/// Mkcard takes no maker's text, and says so by another name.
+#[test]
+fn mkcard_is_no_makercard() {
+    let (text, status) = run(MAKER_CASES, &[MKCARD, "5", "3"]);
+    assert!(text.contains("got [] \"mkcard: refused 3 at line 1: kind not 1\\n\"\n"), "{text}");
+    assert!(text.ends_with("\n0 passed, 52 failed\n"), "{text}");
+    assert_eq!(status, Some(1));
+}
+
 /// Without arguments the comparison itself prints nothing on standard output.
 #[test]
 fn silent_program_fails() {
@@ -90,9 +109,19 @@ fn listing_is_no_windows() {
     assert_eq!(status, Some(1));
 }
 
+/// The listing program takes the cases of a second planner for a bad card.
+#[test]
+fn listing_is_no_second_planner() {
+    let (text, status) = run(TRY_ALL_CASES, &[LISTING, "5", "2"]);
+    assert!(text.contains("input case 0: c 0101020102e807e8070101\n"), "{text}");
+    assert!(text.contains("expected case 0: 2 2\ngot refused 3 at 0\n"), "{text}");
+    assert!(text.ends_with("\n0 passed, 10 failed\n"), "{text}");
+    assert_eq!(status, Some(1));
+}
+
 #[test]
 fn bad_arguments() {
-    for comparison in [LISTING_CASES, WINDOWS_CASES, MKCARD_CASES] {
+    for comparison in [LISTING_CASES, WINDOWS_CASES, MKCARD_CASES, MAKER_CASES, TRY_ALL_CASES] {
         assert_eq!(run(comparison, &[LISTING, "5"]).1, Some(2));
         assert_eq!(run(comparison, &[LISTING, "5", "1", "1"]).1, Some(2));
         assert_eq!(run(comparison, &["no such program", "5", "1"]).1, Some(2));

@@ -30,14 +30,14 @@ const SHOWN: u64 = 10;
 
 fn run_case(trial: &mut Trial, seed: u64) -> Result<(), String> {
     let mut rng = Rng::new(seed);
-    let (call, strings) = match rng.below(13) {
+    let (call, strings) = match rng.below(14) {
         0..=2 => plan_case(&mut rng),
         3 => open_case(&mut rng),
         4 | 5 => desk_case(&mut rng),
         6..=8 => edge_case(&mut rng),
         9 => showing_case(&mut rng),
         10 => worst_pair_case(&mut rng),
-        11 => window_case(&mut rng),
+        11 | 12 => window_case(&mut rng),
         _ => return list_case(&mut rng, trial),
     };
     trial.both(&mut rng, call, &strings).map(|_| ())

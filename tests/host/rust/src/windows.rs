@@ -41,9 +41,14 @@ pub fn window_case(rng: &mut Rng) -> (Call, Strings) {
     if rng.once_in(6) {
         alter_plan(rng, &mut plan);
     }
-    let is_foreign = rng.once_in(8);
-    let positions =
-        if is_foreign { foreign_positions(rng, &planned) } else { planned.positions.clone() };
+    let mut positions = match rng.below(8) {
+        0 => foreign_positions(rng, &planned),
+        _ => planned.positions.clone(),
+    };
+    if rng.once_in(10) {
+        let last = positions.len() - 1;
+        positions[last] = rng.other_than(positions[last]);
+    }
     let mut strings = Strings::default();
     strings[PLAN] = read_string(rng, plan_bytes(&plan));
     strings[POSITIONS] = some_list(rng, &positions);

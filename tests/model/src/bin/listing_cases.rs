@@ -6,7 +6,7 @@
 
 use film_disk_model::listing::listing_with;
 use film_disk_model::programs::cards::{first_runs, random_run, report};
-use film_disk_model::programs::Comparison;
+use film_disk_model::programs::{is_equal, Comparison};
 use std::process::ExitCode;
 
 fn main() -> ExitCode {
@@ -17,6 +17,7 @@ fn main() -> ExitCode {
         expected: |given| {
             (listing_with(&given.arguments, &given.input).into_bytes(), String::new())
         },
+        is_same: is_equal,
         report,
     };
     comparison.main()

@@ -4,7 +4,7 @@
 //! long ones are always run before the random ones. Exit status 0 only if all passed.
 
 use film_disk_model::mkcard;
-use film_disk_model::programs::{Comparison, Given, Written};
+use film_disk_model::programs::{is_equal, Comparison, Given, Written};
 use film_disk_model::rng::texts::{any_text, bench_words, long_text};
 use film_disk_model::Rng;
 use std::process::ExitCode;
@@ -92,6 +92,7 @@ fn main() -> ExitCode {
         first: first_texts,
         random: |rng| Given::new(&[], any_text(rng)),
         expected: |given| mkcard(&given.input),
+        is_same: is_equal,
         report,
     };
     comparison.main()

@@ -5,7 +5,7 @@
 //! passed.
 
 use film_disk_model::programs::cards::{first_runs, random_run, report};
-use film_disk_model::programs::Comparison;
+use film_disk_model::programs::{is_equal, Comparison};
 use film_disk_model::windows_with;
 use std::process::ExitCode;
 
@@ -17,6 +17,7 @@ fn main() -> ExitCode {
         expected: |given| {
             (windows_with(&given.arguments, &given.input).into_bytes(), String::new())
         },
+        is_same: is_equal,
         report,
     };
     comparison.main()

@@ -1,8 +1,9 @@
 use mathlib.Core.Path.{_∙_, ap}
 use native.Mathlib.Omega.{arith}
 use lib.ListN.{length, length-set}
+use Rattle.decimal.specs.DecimalLaws.{capped-small}
 use Rattle.leb128.specs.NumberLaws.{groups-long}
-use Rattle.mkcard.proofs.WordWays.{capped-small, capped-great, great-long, put-great}
+use Rattle.mkcard.proofs.WordWays.{groups-great, great-long, put-great}
 use borrow.Author.Needs.{needs}
 use Rattle.mkcard.proofs.make.write_word.Statement.{statement}
 use Rattle.mkcard.proofs.make.write_word.Tie as tie
@@ -35,7 +36,7 @@ returns-2 : tie.Need-returns-2
 returns-2 c = let a = c .before .before .before .before .before .before .args in
     let e = c .before .before .write-number2 .ensures in
     let h = c .before .before .before .before .if1 .left in
-    (omega (arith, e .0, ap length (capped-great (a .value) h)), e .1 ∙ put-great (a .out .now) (a .at) (a .value) (c .before .before .before .before .before .before .pre) h)
+    (omega (arith, e .0, ap length (groups-great (a .value) h)), e .1 ∙ put-great (a .out .now) (a .at) (a .value) (c .before .before .before .before .before .before .pre) h)
 
 pub write-word-spec : {M : Type 1} → statement M
 write-word-spec =

@@ -4,7 +4,8 @@ use mathlib.Core.List.{_∷_}
 use native.Mathlib.Omega.{arith}
 use lib.ListN.{getD}
 use Rattle.card_writer.proofs.WriterWays.{Writes, writes-start, writes-next}
-use Rattle.mkcard.specs.Scan.{mostWords, capped, numbersFrom}
+use Rattle.decimal.specs.Decimal.{capped}
+use Rattle.mkcard.specs.Scan.{mostWords, numbersFrom}
 use Rattle.mkcard.proofs.WordWays.{numbers-kept, numbers-end, numbers-done, capped-long, card-room, words-done}
 use Rattle.mkcard.proofs.make.write_words.Statement.{statement}
 use Rattle.mkcard.proofs.make.write_words.Tie as tie

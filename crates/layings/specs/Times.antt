@@ -1,0 +1,98 @@
+-- The worst times of all layings: that the smallest is the planner's, and that they are those of all orders of the positions' times.
+-- Assumes nothing.
+use Prim.Native.Nat.{ℕ, _-_, _≤_, _<_}
+use mathlib.Core.Path.{_≡_, sym, ap, _∙_}
+use mathlib.Core.List.{List, [], _∷_, map}
+use native.Mathlib.Omega.{arith}
+use native.Mathlib.Nat.{le-antisymm}
+use lib.ListN.{length, getD, length-map}
+use lib.Seq.{ext-getD}
+use Rattle.laws.specs.Greatest.{greatestOf-same}
+use Rattle.laws.specs.Members.{In, upto, in-map, of-map, map-at, upto-length, upto-at}
+use Rattle.card.specs.declared.Figures.{Figures}
+use Rattle.card.specs.Card.{Legal, totalPositions}
+use Rattle.placement.specs.Showing.{Showing, one, loop, worstOf, after, pairsOf, pairTime, worst-pair, laying-high}
+use Rattle.pacing.specs.Shown.{round-below}
+use Rattle.plan.specs.Plan.{timeOn, positionOf, worst2Of}
+use Rattle.plan.specs.Legal.{legal-laying}
+use Rattle.plan.specs.Promise.{best-time, own-time}
+use Rattle.layings.specs.Layings.{arrangements, filmPositions, layings, listed, laid, worstIn, worstTimes, smallest, timesTried, leastOf}
+use Rattle.layings.specs.Arranged.{positions-length, laying-listed, listed-laying}
+use Rattle.layings.specs.Numbered.{factorial, numbered, arrangements-length, arrangement-at, numbered-map, numbered-length}
+use Rattle.layings.specs.Smallest.{smallest-le, smallest-least}
+
+-- ---- the worst time looks at the film's blocks alone
+
+-- both blocks of a pair are the film's
+pub pair-below : (x : Showing) (N b : ℕ) → b < pairsOf x N → (b < N) × (after x N b < N)
+pair-below one N b h = omega arith
+pair-below loop N b h = (h, round-below N b h)
+
+pub worst-same : (x : Showing) (τ σ l m : ℕ → ℕ) (N : ℕ) → ((b : ℕ) → b < N → τ (l b) ≡ σ (m b)) → worstOf x τ l N ≡ worstOf x σ m N
+worst-same x τ σ l m N e =
+    worst-pair x τ l N
+    ∙ greatestOf-same (pairTime x τ l N) (pairTime x σ m N) (pairsOf x N) (λ b h. let u = pair-below x N b h in omega (arith, e b (u .0), e (after x N b) (u .1)))
+    ∙ sym (worst-pair x σ m N)
+
+-- ---- THE SMALLEST IS THE PLANNER'S (T12.2)
+
+listed-at : (l : ℕ → ℕ) (N b : ℕ) → b < N → laid (listed l N) b ≡ l b
+listed-at l N b h = map-at l (upto 0 N) b 0 0 (omega (arith, upto-length 0 N)) ∙ ap l (upto-at 0 N b 0 h ∙ omega arith)
+
+smallest-of : (ws : List ℕ) (w : ℕ) → In w ws → ((v : ℕ) → In v ws → w ≤ v) → smallest ws ≡ w
+smallest-of [] w h low = absurd h
+smallest-of (v ∷ vs) w h low = le-antisymm (smallest-le (v ∷ vs) w h) (smallest-least w v vs low)
+
+pub least-is-planned : (x : Showing) (f : Figures) → Legal f → leastOf x f ≡ worst2Of x f
+unfolding leastOf timesTried worstTimes
+least-is-planned x f ok =
+    smallest-of (map (worstIn x (timeOn f) (f .blocks)) (layings (totalPositions f) (f .blocks))) (worst2Of x f) has low
+  where
+    own : worst2Of x f ≡ worstIn x (timeOn f) (f .blocks) (listed (positionOf x f) (f .blocks))
+    own = sym (own-time x f)
+        ∙ worst-same x (timeOn f) (timeOn f) (positionOf x f) (laid (listed (positionOf x f) (f .blocks))) (f .blocks)
+        (λ b h. ap (timeOn f) (sym (listed-at (positionOf x f) (f .blocks) b h)))
+
+    has : In (worst2Of x f) (map (worstIn x (timeOn f) (f .blocks)) (layings (totalPositions f) (f .blocks)))
+    has = rw own
+        (in-map (worstIn x (timeOn f) (f .blocks)) (listed (positionOf x f) (f .blocks)) (layings (totalPositions f) (f .blocks))
+        (laying-listed (totalPositions f) (f .blocks) (ok .room) (positionOf x f)
+        (record { laying = legal-laying x f ok; high = λ b u. laying-high x (totalPositions f) (f .blocks) b (ok .room) u })))
+
+    low : (v : ℕ) → In v (map (worstIn x (timeOn f) (f .blocks)) (layings (totalPositions f) (f .blocks))) → worst2Of x f ≤ v
+    low v h =
+        let (ys, p, e) = of-map (worstIn x (timeOn f) (f .blocks)) v (layings (totalPositions f) (f .blocks)) h in
+        rw e (best-time x f ok (laid ys) (listed-laying (totalPositions f) (f .blocks) (ok .room) ys p .1 .laying))
+
+-- ---- over the times of the film's positions
+
+-- the worst times of all orders of n times
+unfoldable pub ordersTried : Showing → ℕ → List ℕ → List ℕ
+ordersTried x N ts = map (worstIn x (λ t. t) N) (arrangements N ts)
+
+pub orders-length : (x : Showing) (N : ℕ) (ts : List ℕ) → length (ordersTried x N ts) ≡ factorial N
+unfolding ordersTried
+orders-length x N ts = length-map (arrangements N ts) (worstIn x (λ t. t) N) ∙ arrangements-length N ts
+
+pub orders-at : (x : Showing) (N r : ℕ) (ts : List ℕ) → r < factorial N → getD (ordersTried x N ts) r 0 ≡ worstIn x (λ t. t) N (numbered N r ts)
+unfolding ordersTried
+orders-at x N r ts h =
+    map-at (worstIn x (λ t. t) N) (arrangements N ts) r [] 0 (omega (arith, arrangements-length N ts))
+    ∙ ap (worstIn x (λ t. t) N) (arrangement-at N r ts h)
+
+-- they are those of the layings
+pub orders-are : (x : Showing) (τ : ℕ → ℕ) (P N : ℕ) → ordersTried x N (map τ (filmPositions P N)) ≡ worstTimes x τ P N
+unfolding worstTimes layings
+orders-are x τ P N =
+    ext-getD 0 _ _ (orders-length x N (map τ (filmPositions P N)) ∙ sym (tried ∙ arrangements-length N (filmPositions P N))) (λ r h. each r (omega (arith, orders-length x N (map τ (filmPositions P N)))))
+  where
+    tried : length (map (worstIn x τ N) (arrangements N (filmPositions P N))) ≡ length (arrangements N (filmPositions P N))
+    tried = length-map (arrangements N (filmPositions P N)) (worstIn x τ N)
+
+    each : (r : ℕ) → r < factorial N → getD (ordersTried x N (map τ (filmPositions P N))) r 0 ≡ getD (map (worstIn x τ N) (arrangements N (filmPositions P N))) r 0
+    each r h =
+        let ys = numbered N r (filmPositions P N) in
+        orders-at x N r (map τ (filmPositions P N)) h
+        ∙ ap (worstIn x (λ t. t) N) (numbered-map τ N r (filmPositions P N) (omega (arith, positions-length P N)) h)
+        ∙ sym (worst-same x τ (λ t. t) (laid ys) (laid (map τ ys)) N (λ b u. sym (map-at τ ys b 0 0 (omega (arith, numbered-length N r (filmPositions P N))))))
+        ∙ sym (map-at (worstIn x τ N) (arrangements N (filmPositions P N)) r [] 0 (omega (arith, arrangements-length N (filmPositions P N))) ∙ ap (worstIn x τ N) (arrangement-at N r (filmPositions P N) h))

@@ -1,0 +1,5 @@
+pub mod LineWays
+pub mod RowWays
+pub mod FigureWays
+pub mod NarrowWays
+pub mod MakerWays

@@ -1,0 +1,17 @@
+use Rattle.card.specs.Read.{blankFigures}
+use borrow.Author.Needs.{needs}
+use Rattle.maker.proofs.figures.no_figures.Statement.{statement}
+use Rattle.maker.proofs.figures.no_figures.Tie as tie
+
+no-zones-requires : tie.Need-no-zones-requires
+no-zones-requires c κs = search needs
+
+no-zones-requires-2 : tie.Need-no-zones-requires-2
+no-zones-requires-2 c κs = search needs
+
+returns : tie.Need-returns
+unfolding blankFigures
+returns c = λ t. record { zones = 0; positions = c .before .no-zones .ensures t; times = c .no-zones2 .ensures t; blocks = 0; bytes = 0; rate = 0; hop = 0; back = 0 }
+
+pub no-figures-spec : {M : Type 1} → statement M
+no-figures-spec = tie.close (tie.spec no-zones-requires no-zones-requires-2 returns)

@@ -1,0 +1,22 @@
+use mathlib.Core.Path.{sym, ap}
+use Rattle.maker.specs.Maker.{headingFault}
+use borrow.Author.Needs.{needs}
+use Rattle.maker.proofs.number_of.Statement.{statement}
+use Rattle.maker.proofs.number_of.Tie as tie
+
+enum-known-heading : tie.Need-enum-known-heading
+enum-known-heading c = search needs
+
+enum-told : tie.Need-enum-told
+enum-told c = search needs
+
+returns : tie.Need-returns
+unfolding headingFault
+returns c = ap headingFault (sym (c .before .heading .given .1))
+
+returns-2 : tie.Need-returns-2
+unfolding headingFault
+returns-2 c = ap headingFault (sym (c .enum-told .given .1))
+
+pub number-of-spec : {M : Type 1} → statement M
+number-of-spec = tie.close (tie.spec enum-known-heading enum-told returns returns-2)

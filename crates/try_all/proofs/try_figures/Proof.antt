@@ -1,0 +1,86 @@
+use Prim.Native.Nat.{_≤_}
+use mathlib.Core.Path.{_≡_, sym, _∙_}
+use native.Mathlib.Omega.{arith}
+use Rattle.numbers.specs.Limits.{maxTried}
+use Rattle.card.specs.Card.{Legal}
+use Rattle.plan.specs.Plan.{showingOf}
+use Rattle.plan.specs.Legal.{worst2-small}
+use Rattle.layings.specs.Layings.{leastOf, countOf}
+use Rattle.layings.specs.Times.{least-is-planned}
+use Rattle.try_all.specs.Ways.{by-figures, by-length, by-streams, by-none, found-is}
+use borrow.Author.Needs.{needs}
+use Rattle.try_all.proofs.try_figures.Statement.{statement}
+use Rattle.try_all.proofs.try_figures.Tie as tie
+
+-- past the test of the film's length
+abbrev start : (c : tie.Else2) → tie.Start
+start c = c .before .before .before .before .before .before
+
+accepted : (c : tie.Else2) → start c .args .read .verdict .number ≡ 0
+accepted c = omega arith
+
+few : (c : tie.Else2) → start c .args .read .figures .blocks ≤ maxTried
+few c = c .if2 .left
+
+legal : (c : tie.Else2) → Legal (start c .args .read .figures)
+legal c = start c .pre (accepted c)
+
+returns : tie.Need-returns
+returns c = let a = c .before .before .before .before .args in c .refused .ensures ∙ by-figures (showingOf (a .showing)) (a .read) (c .before .if1 .taken)
+
+returns-2 : tie.Need-returns-2
+returns-2 c = let a = c .before .before .before .before .before .before .before .args in
+    c .refused2 .ensures ∙ by-length (showingOf (a .showing)) (a .read) (omega arith) (c .before .if2 .taken)
+
+film-times-requires : tie.Need-film-times-requires
+film-times-requires c κs = (legal c, few c)
+
+try-layings-requires : tie.Need-try-layings-requires
+try-layings-requires c κs = let e = c .before in (omega (arith, legal e .blocks), few e, c .film-times .ensures .1)
+
+-- what was found is the smallest worst2, and how many have it
+found : (c : tie.After-try-layings) → (let a = start (c .before .before) .args in let f = c .try-layings .result in
+    (f .least ≡ leastOf (showingOf (a .showing)) (a .read .figures)) × (f .count ≡ countOf (showingOf (a .showing)) (a .read .figures)))
+found c =
+    let a = start (c .before .before) .args in
+    let t = c .before .film-times in
+    found-is (showingOf (a .showing)) (a .read .figures) (t .result) _ _ (t .ensures .0) (c .try-layings .ensures .0) (c .try-layings .ensures .1)
+
+count-streams-requires : tie.Need-count-streams-requires
+count-streams-requires c κs =
+    let e = c .before .before in
+    let a = start e .args in
+    let x = showingOf (a .showing) in
+    let f = a .read .figures in
+    (record { pair = omega (arith, found c .0, least-is-planned x f (legal e), worst2-small x f (legal e)); hops = legal e .hop .1; backs = legal e .back .1 }, legal e .rate .0)
+
+returns-3 : tie.Need-returns-3
+returns-3 c =
+    let t = c .before .before .before in
+    let e = t .before .before in
+    let a = start e .args in
+    let f = found t in
+    c .refused3 .ensures ∙ by-streams (showingOf (a .showing)) (a .read) (accepted e) (few e) _ (f .0) (sym (c .before .before .count-streams .ensures) ∙ c .before .if3 .taken)
+
+returns-4 : tie.Need-returns-4
+returns-4 c =
+    let t = c .before .before in
+    let e = t .before .before in
+    let a = start e .args in
+    let f = found t in
+    by-none (showingOf (a .showing)) (a .read) (accepted e) (few e) _ (f .0) _ (f .1) (λ z. c .if3 .left (c .before .count-streams .ensures ∙ z))
+
+pub try-figures-spec : {M : Type 1} → statement M
+try-figures-spec =
+    tie.close
+    (tie.spec
+    (λ c κs. search needs)
+    returns
+    (λ c κs. search needs)
+    returns-2
+    film-times-requires
+    try-layings-requires
+    count-streams-requires
+    (λ c κs. search needs)
+    returns-3
+    returns-4)

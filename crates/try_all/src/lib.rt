@@ -1,0 +1,119 @@
+// The second planner (document 02, ticket 12): it tries every laying of a film of up to 8 blocks on the film's positions, for one showing or for
+// a loop, and answers the smallest worst2 and how many layings have it. It is lent no list, and names neither the planner nor its laying.
+use card::CardRead;
+use card::Figures;
+use card::Verdict;
+use film_times::film_times;
+use numbers::limits::MAX_TRIED;
+use numbers::refusals::ACCEPTED;
+use numbers::refusals::FILM_TOO_LONG;
+use numbers::refusals::NO_STREAM;
+use numbers::showings::LOOP;
+use numbers::showings::ONCE;
+use plan::judged_figures;
+use streams::count_streams;
+use try_layings::try_layings;
+ghost use mathlib.Core.Path.{_≡_};
+ghost use mathlib.Core.List.{List};
+ghost use Prim.Native.Nat.{ℕ};
+ghost use Rattle.leb128.specs.Number.{Bytes};
+ghost use Rattle.card.specs.declared.Figures.{Figures};
+ghost use Rattle.card.specs.Card.{Legal};
+ghost use Rattle.card.specs.Read.{readCard};
+ghost use Rattle.round_trip.specs.Legality.{Wide};
+ghost use Rattle.placement.specs.Showing.{Showing, one, loop};
+ghost use Rattle.plan.specs.Plan.{showingOf};
+ghost use Rattle.plan.specs.Answer.{judged};
+ghost use Rattle.try_all.specs.Answer.{notTried, tried, SameAnswer};
+
+// The answer; both figures are 0 where it is a refusal.
+pub struct Tried {
+    pub verdict: Verdict,
+    // The smallest worst2 of all layings on the film's positions.
+    pub worst2: u32,
+    // How many of them have it.
+    pub count: u32,
+}
+
+// A refusal.
+fn refused(number: u32, place: usize) -> Tried
+    ensures { λ r. ⌜ r ≡ notTried number place ⌝ }
+{
+    Tried {
+        verdict: Verdict {
+            number: number,
+            place: place,
+        },
+        worst2: 0,
+        count: 0,
+    }
+}
+
+// Tries figures that were read or judged, in a showing: their refusal, else 29, then 12.
+fn try_figures(read: CardRead, showing: u32) -> Tried
+    requires { ⌜ (read .verdict .number ≡ 0 → Legal (read .figures)) ⌝ }
+    ensures { λ r. ⌜ r ≡ tried (showingOf showing) read ⌝ }
+{
+    let verdict = read.verdict;
+    if verdict.number != ACCEPTED {
+        return refused(verdict.number, verdict.place);
+    }
+    let figures = read.figures;
+    if MAX_TRIED < figures.blocks {
+        return refused(FILM_TOO_LONG, 0);
+    }
+    let found = try_layings(film_times(figures), figures.blocks, showing);
+    let streams = count_streams(
+        figures.rate,
+        found.least,
+        figures.hop,
+        figures.back,
+        figures.bytes,
+    );
+    if streams == 0 {
+        return refused(NO_STREAM, 0);
+    }
+    Tried {
+        verdict: Verdict {
+            number: ACCEPTED,
+            place: 0,
+        },
+        worst2: found.least,
+        count: found.count,
+    }
+}
+
+// Tries every laying of a card's film for one showing: 1 to 11 and 26 as the reader gives them, then 29, then 12.
+pub fn try_card(card: &[u8]) -> Tried
+    ensures { λ r. ⌜ r ≡ tried one (readCard (now (card .entry))) ⌝ }
+{
+    try_figures(card_reader::read_card(card), ONCE)
+}
+
+// The same for a loop.
+pub fn try_loop_card(card: &[u8]) -> Tried
+    ensures { λ r. ⌜ r ≡ tried loop (readCard (now (card .entry))) ⌝ }
+{
+    try_figures(card_reader::read_card(card), LOOP)
+}
+
+// Tries every laying of a record's film for one showing: 4 to 10 and 26, then 29, then 12, place 0.
+pub fn try_record(figures: Figures) -> Tried
+    ensures { λ r. ⌜ r ≡ tried one (judged figures) ⌝ }
+{
+    try_figures(judged_figures(figures), ONCE)
+}
+
+// The same for a loop.
+pub fn try_loop_record(figures: Figures) -> Tried
+    ensures { λ r. ⌜ r ≡ tried loop (judged figures) ⌝ }
+{
+    try_figures(judged_figures(figures), LOOP)
+}
+
+// Its worst2 is the planner's, for one showing and for a loop, of any card and any record: where the film has at most 8 blocks and the planner's
+// lists have room, both answer the same verdict too.
+pub fn both_planners_agree()
+    ensures cards { λ _. ⌜ ((x : Showing) (s : List ℕ) → Bytes s → SameAnswer x (readCard s)) ⌝ }
+    ensures records { λ _. ⌜ ((x : Showing) (f : Figures) → Wide f → SameAnswer x (judged f)) ⌝ }
+{}

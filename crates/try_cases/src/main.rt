@@ -1,0 +1,104 @@
+// Runs the second planner on cases. Standard input has a case on each line: its name, which has no colon, then a colon, a letter, and what is
+// tried. RECORD is zones N B c hop return, then positions and time of each zone; what is missing is 0.
+//
+//     NAME: r RECORD    tries every laying of a record's film; R tries them as a loop
+//     NAME: c CARD      of a card's, its bytes in hexadecimal; C as a loop
+//
+// A line is printed for each: its name, the refusal if there is one, worst2, and how many layings have it.
+use card::Figures;
+use case_text::next_letter;
+use case_text::print_byte;
+use case_text::print_number;
+use case_text::print_refusal;
+use case_text::read_bytes;
+use case_text::read_record;
+use libc::STDIN_FILENO;
+use try_all::Tried;
+use try_all::try_card;
+use try_all::try_loop_card;
+use try_all::try_loop_record;
+use try_all::try_record;
+
+fn print_answer(tried: Tried) {
+    let verdict = tried.verdict;
+    if verdict.number != 0 {
+        print_refusal(verdict);
+    }
+    print_number(tried.worst2 as u64);
+    print_number(tried.count as u64);
+}
+
+// Tries a record, by `R` as a loop.
+fn try_figures(letter: u8, figures: Figures) -> Tried {
+    if letter == b'R' {
+        return try_loop_record(figures);
+    }
+    try_record(figures)
+}
+
+// Tries a card, by `C` as a loop.
+fn try_bytes(letter: u8, card: &[u8]) -> Tried {
+    if letter == b'C' {
+        return try_loop_card(card);
+    }
+    try_card(card)
+}
+
+// Tries the card that stands from `start` on.
+fn run_card(text: &[u8], letter: u8, start: usize) {
+    let mut card = io::buffer();
+    let n = read_bytes(text, start, &mut card);
+    print_answer(try_bytes(letter, &card[..n]));
+}
+
+// Does this letter stand before a record?
+fn is_record(letter: u8) -> bool {
+    if letter == b'R' {
+        return true;
+    }
+    letter == b'r'
+}
+
+// At the end of a case's line: tries what stands from `start` on.
+fn run_case(text: &[u8], byte: u8, letter: u8, start: usize) {
+    if byte != b'\n' {
+        return;
+    }
+    if letter == 0 {
+        return;
+    }
+    if is_record(letter) {
+        print_answer(try_figures(letter, read_record(text, start)));
+        return;
+    }
+    run_card(text, letter, start);
+}
+
+// Every line: its name up to the colon, then the answer.
+fn run_cases(text: &[u8]) {
+    // The letter of the case, 0 in its name and a colon after that, and where what follows it begins.
+    let mut letter: u8 = 0;
+    let mut start: usize = 0;
+    let mut at: usize = 0;
+    while at < text.len() {
+        let byte = text[at];
+        at += 1;
+        run_case(text, byte, letter, start);
+        if byte == b'\n' {
+            letter = 0;
+        }
+        if letter == 0 {
+            print_byte(byte);
+        }
+        if letter == b':' {
+            start = at;
+        }
+        letter = next_letter(letter, byte);
+    }
+}
+
+fn main() {
+    let mut input = io::large_buffer();
+    let count = io::read_full(STDIN_FILENO, &mut input);
+    run_cases(&input[..count]);
+}
