@@ -88,6 +88,7 @@ drawAboveHeld = 21
 -- overhead out of range, or below the one before (document 02, ticket 3)
 abbrev pub wrongOverhead : ℕ
 wrongOverhead = 25
+
 -- a line of a maker's text of another form, or no line at all (document 02, ticket 1)
 abbrev pub lineForm : ℕ
 lineForm = 22

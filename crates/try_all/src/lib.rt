@@ -63,13 +63,7 @@ fn try_figures(read: CardRead, showing: u32) -> Tried
         return refused(FILM_TOO_LONG, 0);
     }
     let found = try_layings(film_times(figures), figures.blocks, showing);
-    let streams = count_streams(
-        figures.rate,
-        found.least,
-        figures.hop,
-        figures.back,
-        figures.bytes,
-    );
+    let streams = count_streams(figures.rate, found.least, &figures.table, figures.bytes);
     if streams == 0 {
         return refused(NO_STREAM, 0);
     }

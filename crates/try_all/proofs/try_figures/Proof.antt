@@ -3,6 +3,7 @@ use mathlib.Core.Path.{_≡_, sym, _∙_}
 use native.Mathlib.Omega.{arith}
 use Rattle.numbers.specs.Limits.{maxTried}
 use Rattle.card.specs.Card.{Legal}
+use Rattle.card.specs.TableLaws.{table-range}
 use Rattle.plan.specs.Plan.{showingOf}
 use Rattle.plan.specs.Legal.{worst2-small}
 use Rattle.layings.specs.Layings.{leastOf, countOf}
@@ -52,7 +53,7 @@ count-streams-requires c κs =
     let a = start e .args in
     let x = showingOf (a .showing) in
     let f = a .read .figures in
-    (record { pair = omega (arith, found c .0, least-is-planned x f (legal e), worst2-small x f (legal e)); hops = legal e .hop .1; backs = legal e .back .1 }, legal e .rate .0)
+    (record { pair = omega (arith, found c .0, least-is-planned x f (legal e), worst2-small x f (legal e)); moves = λ k h. table-range f (legal e) k h .1 }, legal e .rate .0)
 
 returns-3 : tie.Need-returns-3
 returns-3 c =
