@@ -13,7 +13,7 @@
  * only read, such as the lists of several desks, may be lent to several calls at a time.
  *
  * Cost: each call on a desk judges its plan and both lists anew, so its time grows with N (docs/BENCH.md: about 2 microseconds at
- * N 1,000, about 25 at N 16,384).
+ * N 1,000, about 25 at N 16,384). So does that of a window.
  *
  * Memory: the stack alone, for each call at most FILMDISK_STACK_ bytes below the caller's frame.
  */
@@ -27,9 +27,9 @@
 extern "C" {
 #endif
 
-#define FILMDISK_VERSION "0.5.0"
+#define FILMDISK_VERSION "0.6.0"
 #define FILMDISK_VERSION_MAJOR 0
-#define FILMDISK_VERSION_MINOR 5
+#define FILMDISK_VERSION_MINOR 6
 #define FILMDISK_VERSION_PATCH 0
 
 /* Limits. */

@@ -3,12 +3,15 @@
 use Prim.Native.Nat.{ℕ, zero, suc, _+_, _*_, _-_, _/_, _%_, _≤_, _<_}
 use mathlib.Core.Path.{_≡_, refl, sym, ap, ap₂, _∙_, subst}
 use mathlib.Core.Logic.{_⊎_, inl, inr, by-cases}
+use mathlib.Core.Bool.{Bool, true}
 use mathlib.Core.List.{List, [], _∷_, _++_, map}
 use native.Mathlib.Omega.{arith}
 use native.Mathlib.Decide.{decLt, ℕ-discrete}
 use native.Mathlib.Nat.{div-eq-of-lt, mod-eq-of-lt, add-div-left, add-mod-left}
 use lib.ListN.{length, getD, length-append, List·getD-append}
 use lib.Seq.{getD-append-add}
+use Rattle.laws.specs.Bools.{and-left, and-right}
+use Rattle.laws.specs.Runs.{allBy}
 
 -- a is an element of the list
 abbrev pub In : {A : Type 0} → A → List A → Type 0
@@ -77,6 +80,13 @@ module _ {A : Type 0} where
       go : In x xs ⊎ In x ys → ⊥
       go (inl p) = u .0 p
       go (inr q) = d x (inl refl) q
+
+  -- what all pass each element passes
+  pub in-all : (f : A → Bool) (xs : List A) → allBy f xs ≡ true → (a : A) → In a xs → f a ≡ true
+  unfolding allBy
+  in-all f [] e a h = absurd h
+  in-all f (x ∷ xs) e a (inl d) = ap f d ∙ and-left (f x) (allBy f xs) e
+  in-all f (x ∷ xs) e a (inr h) = in-all f xs (and-right (f x) (allBy f xs) e) a h
 
 module _ {A C : Type 0} (f : A → C) where
   pub in-map : (a : A) (xs : List A) → In a xs → In (f a) (map f xs)

@@ -97,11 +97,11 @@ zones-go s f w k (suc left) at i g total before b u a e =
     ∙ zones-go s f w k left _ (i + 1) _ _ _ (omega arith) next (ahead-next (ahead-next a)) (q .1)
 
 -- the entries of a record before any is read
-blank-at : (i : ℕ) → getD blankZones i 0 ≡ 0
+pub blank-at : (i : ℕ) → getD blankZones i 0 ≡ 0
 unfolding blankZones
 blank-at i = zero-at maxZones i
 
-blank-long : length blankZones ≡ maxZones
+pub blank-long : length blankZones ≡ maxZones
 unfolding blankZones
 blank-long = refl
 

@@ -1,0 +1,7 @@
+pub mod Cards
+pub mod Computed
+pub mod Form
+pub mod Listed
+pub mod Next
+pub mod Order
+pub mod Steps
