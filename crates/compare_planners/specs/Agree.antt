@@ -7,6 +7,7 @@ use native.Mathlib.Omega.{arith}
 use lib.ListN.{length, take, drop, length-append}
 use lib.Seq.{take-append-seam}
 use borrow.Author.Tests.{le-leb, eq-eqb}
+use Rattle.numbers.specs.Limits.{maxCard}
 use Rattle.words.specs.Words.{wordsOf}
 use Rattle.words.specs.Laws.{words-length}
 use Rattle.card.specs.declared.Figures.{Figures}
@@ -27,7 +28,7 @@ use Rattle.compare_planners.specs.Compare.{unequalOf, eight, unequalOn}
 
 -- ---- the card is written
 
-module _ (f : Figures) (ok : Legal f) (out : List ℕ) (room : 467 ≤ length out) where
+module _ (f : Figures) (ok : Legal f) (out : List ℕ) (room : maxCard ≤ length out) where
   no-fault : writeFault f (length out) ≡ 0
   unfolding writeFault first
   no-fault = rw (legal-fault f ok, le-leb (length (cardOf f)) (length out) (omega (arith, legal-size f ok .1)))
