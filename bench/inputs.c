@@ -7,9 +7,6 @@
 
 enum { BLOCK_BYTES = 262144, HOP = 12670, RETURN = 15000, SLOWEST = 22270, FASTEST = 11135 };
 
-/* Kinds of a card: overheads by hop and return, or measured. */
-enum { STRAIGHT = 1, MEASURED = 2 };
-
 static void put_number(struct input *in, uint32_t value)
 {
     for (; value >= 128; value /= 128)
@@ -30,7 +27,7 @@ static void put_zones(struct input *in, uint32_t zones, uint32_t total)
 /* A measured table has what hop and return give. */
 static void put_overheads(struct input *in, uint32_t kind)
 {
-    if (kind == STRAIGHT) {
+    if (kind == FILMDISK_STRAIGHT) {
         put_number(in, HOP);
         put_number(in, RETURN);
         return;
@@ -79,17 +76,17 @@ static void make(struct input *in, uint32_t kind, uint32_t showing, uint32_t blo
 
 void make_film(struct input *in, uint32_t blocks, uint32_t zones, uint32_t streams)
 {
-    make(in, STRAIGHT, FILMDISK_ONCE, blocks, zones, streams);
+    make(in, FILMDISK_STRAIGHT, FILMDISK_ONCE, blocks, zones, streams);
 }
 
 void make_measured(struct input *in, uint32_t blocks, uint32_t zones, uint32_t streams)
 {
-    make(in, MEASURED, FILMDISK_ONCE, blocks, zones, streams);
+    make(in, FILMDISK_MEASURED, FILMDISK_ONCE, blocks, zones, streams);
 }
 
 void make_loop(struct input *in, uint32_t blocks, uint32_t zones, uint32_t streams)
 {
-    make(in, STRAIGHT, FILMDISK_LOOP, blocks, zones, streams);
+    make(in, FILMDISK_STRAIGHT, FILMDISK_LOOP, blocks, zones, streams);
 }
 
 /* What a slot holds is the most with which a block is fetched for it; that is never below the floor. */

@@ -285,7 +285,7 @@ static void set_showing(enum lent which)
 /* Sets the kind or an overhead: beside its own value, at an end of its range, or any. */
 static void set_overhead(enum lent which)
 {
-    uint32_t value = take_number(), entry = FILMDISK_PLAN_OVERHEADS + take() + value % 2, its = word(which, entry);
+    uint32_t value = take_number(), entry = FILMDISK_PLAN_TABLE + take() + value % 2, its = word(which, entry);
     const uint32_t words[] = {its + 1, its - 1, 0, MOST_OVERHEAD, MOST_OVERHEAD + 1, value};
     if (value % 16 == 0)
         filmdisk_put_word(contents[which], FILMDISK_PLAN_KIND, value / 16 % 4);

@@ -49,8 +49,8 @@ static void plan_of_the_bench_film(void)
     expect_words(PLAN, FILMDISK_PLAN_ZONES, zones, COUNT(zones));
     expect_words(PLAN, FILMDISK_PLAN_BLOCKS, film, COUNT(film));
     for (uint32_t count = 0; count < FILMDISK_OVERHEADS; count++)
-        check(word(PLAN, FILMDISK_PLAN_OVERHEADS + count) == 12670 * count + RETURN, "overhead of %u blocks: expected %u, got %u", count,
-              12670 * count + RETURN, word(PLAN, FILMDISK_PLAN_OVERHEADS + count));
+        check(word(PLAN, FILMDISK_PLAN_TABLE + count) == 12670 * count + RETURN, "overhead of %u blocks: expected %u, got %u", count,
+              12670 * count + RETURN, word(PLAN, FILMDISK_PLAN_TABLE + count));
     expect_words(PLAN, FILMDISK_PLAN_STREAMS, others, COUNT(others));
     expect_words(POSITIONS, 0, positions, COUNT(positions));
     expect_words(LEADS, 0, leads, COUNT(leads));
@@ -605,8 +605,8 @@ static const struct unsound unsound[] = {
     {FILMDISK_PLAN_ZONES, 7},
     {FILMDISK_PLAN_POSITIONS + 63, 1},
     {FILMDISK_PLAN_RATE, 500001},
-    {FILMDISK_PLAN_OVERHEADS, RETURN + 1},
-    {FILMDISK_PLAN_OVERHEADS + 256, RETURN + 256 * 12670 - 1},
+    {FILMDISK_PLAN_TABLE, RETURN + 1},
+    {FILMDISK_PLAN_TABLE + 256, RETURN + 256 * 12670 - 1},
     {FILMDISK_PLAN_SHOWING, FILMDISK_LOOP},
     {FILMDISK_PLAN_SHOWING, 2},
     {FILMDISK_PLAN_WORSTAT, 1},
@@ -806,7 +806,7 @@ static void sizes_and_offsets(void)
     static const struct constant constants[] = {
         {FILMDISK_PLAN_KIND, 0},     {FILMDISK_PLAN_ZONES, 1},         {FILMDISK_PLAN_POSITIONS, 2},
         {FILMDISK_PLAN_TIMES, 66},   {FILMDISK_PLAN_BLOCKS, 130},      {FILMDISK_PLAN_BLOCK_BYTES, 131},
-        {FILMDISK_PLAN_RATE, 132},   {FILMDISK_PLAN_OVERHEADS, 133},   {FILMDISK_PLAN_STREAMS, 390},
+        {FILMDISK_PLAN_RATE, 132},   {FILMDISK_PLAN_TABLE, 133},   {FILMDISK_PLAN_STREAMS, 390},
         {FILMDISK_PLAN_BUFFER, 391}, {FILMDISK_PLAN_WORST2, 392},      {FILMDISK_PLAN_MARGIN, 393},
         {FILMDISK_PLAN_SHOWING, 394}, {FILMDISK_PLAN_WORSTAT, 395},    {FILMDISK_PLAN_WORDS, 396},
         {FILMDISK_PLAN_BYTES, 1584}, {FILMDISK_DESK_PHASE, 396},       {FILMDISK_DESK_KINDS, 397},
@@ -889,7 +889,7 @@ static void draw_limits_of_a_sweep(void)
 /* Numbers that a call may answer: document 01's, and of document 02's some. */
 static int is_number(uint32_t number)
 {
-    return number <= FILMDISK_REFUSED_DRAW_ABOVE_HELD || (number >= FILMDISK_REFUSED_OVERHEAD && number <= FILMDISK_REFUSED_WINDOW);
+    return number <= FILMDISK_REFUSED_DRAW_ABOVE_HELD || (number >= FILMDISK_REFUSED_TABLE && number <= FILMDISK_REFUSED_WINDOW);
 }
 
 static void a_meaning_for_each_number(void)
@@ -903,7 +903,7 @@ static void a_meaning_for_each_number(void)
     check(strcmp(filmdisk_meaning(FILMDISK_REFUSED_DRAW_ABOVE_HELD), "draw above held") == 0, "21 is the last of document 01");
     check(strcmp(filmdisk_meaning(FILMDISK_REFUSED_ZONE_TIME_HALF_DEAD), "zone time, times three, below the first zone's time") == 0,
           "26 is a zone time");
-    check(FILMDISK_REFUSED_OVERHEAD == 25, "25 is an overhead");
+    check(FILMDISK_REFUSED_TABLE == 25, "25 is an overhead");
     check(FILMDISK_REFUSED_WINDOW == 27, "27 is a window");
 }
 

@@ -162,7 +162,7 @@ static filmdisk_answer foresee_fetches(void)
         foreseen.count++;
         foreseen.bound += time_at(word(POSITIONS, next(slot)));
     }
-    foreseen.bound += figure(FILMDISK_PLAN_OVERHEADS + foreseen.count);
+    foreseen.bound += figure(FILMDISK_PLAN_TABLE + foreseen.count);
     return foreseen;
 }
 

@@ -94,7 +94,7 @@ static uint32_t streams_of(planner *plan)
     if (answer.number == FILMDISK_REFUSED_NO_STREAM)
         return 0;
     expect(answer, 0, 0);
-    expect_words(PLAN, FILMDISK_PLAN_OVERHEADS, table, FILMDISK_OVERHEADS);
+    expect_words(PLAN, FILMDISK_PLAN_TABLE, table, FILMDISK_OVERHEADS);
     return word(PLAN, FILMDISK_PLAN_STREAMS);
 }
 
@@ -203,9 +203,9 @@ static void entries_above_the_streams(void)
 {
     set_straight(HOP, RETURN);
     open_measured(host_plan);
-    put(DESK, FILMDISK_PLAN_OVERHEADS + 256, MOST);
+    put(DESK, FILMDISK_PLAN_TABLE + 256, MOST);
     expect(host_join(0, 0), 0, 0);
-    put(DESK, FILMDISK_PLAN_OVERHEADS + 1, HOP + RETURN + 5);
+    put(DESK, FILMDISK_PLAN_TABLE + 1, HOP + RETURN + 5);
     expect_begun(host_begin(), 1, 22270 + HOP + RETURN + 5);
 }
 
@@ -238,20 +238,20 @@ static void refusal_25(void)
         set_from(0, 1);
         accept_table();
         table[entry] = 0;
-        refuse_table(entry, FILMDISK_REFUSED_OVERHEAD);
+        refuse_table(entry, FILMDISK_REFUSED_TABLE);
         set_from(entry, MOST);
         accept_table();
         table[entry] = MOST + 1;
-        refuse_table(entry, FILMDISK_REFUSED_OVERHEAD);
+        refuse_table(entry, FILMDISK_REFUSED_TABLE);
         table[entry] = 0xFFFFFFFFu;
-        refuse_table(entry, FILMDISK_REFUSED_OVERHEAD);
+        refuse_table(entry, FILMDISK_REFUSED_TABLE);
         set_straight(HOP, RETURN);
         if (entry == 0)
             continue;
         table[entry] = table[entry - 1];
         accept_table();
         table[entry]--;
-        refuse_table(entry, FILMDISK_REFUSED_OVERHEAD);
+        refuse_table(entry, FILMDISK_REFUSED_TABLE);
     }
 }
 
@@ -262,7 +262,7 @@ static void order_of_the_faults(void)
     set_straight(HOP, RETURN);
     table[7] = 0;
     table[8] = 0;
-    refuse_table(7, FILMDISK_REFUSED_OVERHEAD);
+    refuse_table(7, FILMDISK_REFUSED_TABLE);
     write_measured(numbers);
     numbers[BENCH_HOP - 1] = 0;
     lend_numbers(numbers, MEASURED_NUMBERS);
@@ -340,7 +340,7 @@ static void every_entry_of_a_record(void)
     for (size_t i = 0; i < COUNT(planners); i++) {
         open_bench(planners[i]);
         for (uint32_t entry = 0; entry < FILMDISK_OVERHEADS; entry++) {
-            const size_t at = FILMDISK_PLAN_OVERHEADS + entry;
+            const size_t at = FILMDISK_PLAN_TABLE + entry;
             const uint32_t right = word(PLAN, at);
             put(PLAN, at, right + 1);
             expect_opening(FILMDISK_REFUSED_NOT_SOUND);
@@ -404,7 +404,7 @@ static void straight_records(void)
         open_desk(host_plan, numbers, COUNT(numbers));
         set_straight(cases[i].hop, cases[i].back);
         for (uint32_t entry = 0; entry < FILMDISK_OVERHEADS; entry++)
-            put(PLAN, FILMDISK_PLAN_OVERHEADS + entry, table[entry]);
+            put(PLAN, FILMDISK_PLAN_TABLE + entry, table[entry]);
         expect_opening(cases[i].number);
     }
 }
