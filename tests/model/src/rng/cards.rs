@@ -134,7 +134,11 @@ fn half_dead_times(rng: &mut Rng) -> Vec<u8> {
 fn other_table(rng: &mut Rng) -> Vec<u8> {
     let mut figures = small_figures(rng, 50);
     figures = figures.with_table(any_table(rng));
-    set_entry_to_limit(rng, &mut figures);
+    if rng.once_in(4) {
+        figures.table[0] = 0;
+    } else {
+        set_entry_to_limit(rng, &mut figures);
+    }
     if rng.once_in(2) {
         set_to_limit(rng, &mut figures);
     }
