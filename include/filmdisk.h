@@ -27,9 +27,9 @@
 extern "C" {
 #endif
 
-#define FILMDISK_VERSION "0.6.0"
+#define FILMDISK_VERSION "0.7.0"
 #define FILMDISK_VERSION_MAJOR 0
-#define FILMDISK_VERSION_MINOR 6
+#define FILMDISK_VERSION_MINOR 7
 #define FILMDISK_VERSION_PATCH 0
 
 /* Limits. */
