@@ -29,7 +29,7 @@ ghost use Rattle.placement.specs.Showing.{one, loop};
 ghost use Rattle.plan.specs.Plan.{planFrom};
 ghost use Rattle.plan.specs.Answer.{planned, positionsAfter, leadsAfter, judged, hasNumbers, hasPositions, hasLeads, isPlan};
 
-// Plans a card for one showing: 1 to 11 and 26 as the reader gives them, then 13, then 12. A refusal leaves both lists.
+// Plans a card for one showing: 1 to 11, 25 and 26 as the reader gives them, then 13, then 12. A refusal leaves both lists.
 pub fn plan_card(card: &[u8], positions: &mut [u8], leads: &mut [u8]) -> Planned
     ensures { λ r. ⌜ (r ≡ planned one (readCard (now (card .entry))) (now (positions .entry)) (now (leads .entry)))
         × (now (positions .exit) ≡ positionsAfter one (readCard (now (card .entry))) (now (positions .entry)) (now (leads .entry)))
@@ -47,7 +47,7 @@ pub fn plan_loop_card(card: &[u8], positions: &mut [u8], leads: &mut [u8]) -> Pl
     plan_figures(card_reader::read_card(card), LOOP, positions, leads)
 }
 
-// Plans a record of figures for one showing: 4 to 10 and 26, then 13, then 12, place 0. A refusal leaves both lists.
+// Plans a record of figures for one showing: 3 to 10, 25 and 26, then 13, then 12, place 0. A refusal leaves both lists.
 pub fn plan_record(figures: Figures, positions: &mut [u8], leads: &mut [u8]) -> Planned
     ensures { λ r. ⌜ (r ≡ planned one (judged figures) (now (positions .entry)) (now (leads .entry)))
         × (now (positions .exit) ≡ positionsAfter one (judged figures) (now (positions .entry)) (now (leads .entry)))

@@ -77,7 +77,7 @@ fn try_figures(read: CardRead, showing: u32) -> Tried
     }
 }
 
-// Tries every laying of a card's film for one showing: 1 to 11 and 26 as the reader gives them, then 29, then 12.
+// Tries every laying of a card's film for one showing: 1 to 11, 25 and 26 as the reader gives them, then 29, then 12.
 pub fn try_card(card: &[u8]) -> Tried
     ensures { λ r. ⌜ r ≡ tried one (readCard (now (card .entry))) ⌝ }
 {
@@ -91,7 +91,7 @@ pub fn try_loop_card(card: &[u8]) -> Tried
     try_figures(card_reader::read_card(card), LOOP)
 }
 
-// Tries every laying of a record's film for one showing: 4 to 10 and 26, then 29, then 12, place 0.
+// Tries every laying of a record's film for one showing: 3 to 10, 25 and 26, then 29, then 12, place 0.
 pub fn try_record(figures: Figures) -> Tried
     ensures { λ r. ⌜ r ≡ tried one (judged figures) ⌝ }
 {
