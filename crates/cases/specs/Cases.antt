@@ -1,8 +1,9 @@
 -- The rows of document 01's bench cases that are marked (p), each an equation that computes; document 02's one-zone case as a loop, with the
--- bench film as one; and the bench film with measured overheads.
+-- bench film as one; the bench film with measured overheads; and the number of small cards.
 use Prim.Native.Nat.{ℕ}
 use mathlib.Core.Path.{_≡_, refl}
 use mathlib.Core.List.{List, [], _∷_}
+use lib.ListN.{length}
 use Rattle.leb128.specs.Number.{groupsFrom, groups, continuing, joined, judged, numberIn, numberAt}
 use Rattle.card.specs.Ranges.{first, below, above, outside, thenAbove, thenBelow, faultOf, timeFault}
 use Rattle.card.specs.Read.{onFault, onNumber, fieldAt, blankZones, blankTable, blankFigures, accepted, refusedCard, thenField, cardEnd, movesFrom, entriesFrom, tableFrom, filmFrom, zonesFrom, readCard}
@@ -24,6 +25,8 @@ use Rattle.pacing.specs.Laid.{slowest, margin}
 use Rattle.plan.specs.declared.Plan.{Plan}
 use Rattle.plan.specs.Plan.{wordOf, timeOf, worst2Of, worstAtOf, streamsOf, marginOf, bufferSize, planOf, blankPlan, row, positionsOf, leadsOf}
 use Rattle.plan.specs.Answer.{planFault, refusal, planned}
+use Rattle.small_cards.specs.Cards.{smallCards}
+use Rattle.small_cards.specs.Computed.{how-many}
 use Rattle.cases.specs.Story.{Story, story}
 use Rattle.cases.specs.Bench.{entries, film, sixOnes, bench, alike, measured, late, level}
 
@@ -98,6 +101,8 @@ pub record Cases : Type 0 where
   pub late-one : streamsOf one (measured (late 1 257000000) (bench 6 262144)) ≡ 1
   pub level-all : streamsOf one (measured (level 268288) (film (2 ∷ []) (1000 ∷ []) 2 262144)) ≡ 256
   pub level-last : streamsOf one (measured (level 268289) (film (2 ∷ []) (1000 ∷ []) 2 262144)) ≡ 255
+  -- document 02: there are 1511 small cards (T13.4)
+  pub small-cards : length smallCards ≡ 1511
   -- the desk case
   pub desk : Story
 
@@ -137,5 +142,6 @@ cases = record {
   late-one = refl;
   level-all = refl;
   level-last = refl;
+  small-cards = how-many;
   desk = story;
 }

@@ -1,25 +1,37 @@
 -- The writer makes the card of small figures, and both planners agree on it.
 -- Assumes nothing.
-use Prim.Native.Nat.{ℕ, _≤_}
-use mathlib.Core.Path.{_≡_, refl, sym, ap}
+use Prim.Native.Nat.{ℕ, _*_, _≤_, _<_}
+use mathlib.Core.Path.{_≡_, refl, sym, ap, _∙_}
 use mathlib.Core.List.{List}
 use native.Mathlib.Omega.{arith}
 use lib.ListN.{length, take, drop, length-append}
 use lib.Seq.{take-append-seam}
 use borrow.Author.Tests.{le-leb, eq-eqb}
 use Rattle.numbers.specs.Limits.{maxCard}
+use Rattle.numbers.specs.Units.{parts}
 use Rattle.words.specs.Words.{wordsOf}
 use Rattle.words.specs.Laws.{words-length}
 use Rattle.card.specs.declared.Figures.{Figures}
 use Rattle.card.specs.declared.CardRead.{CardRead}
+use Rattle.card.specs.declared.Verdict.{Verdict}
 use Rattle.card.specs.declared.CardWritten.{CardWritten}
 use Rattle.card.specs.Ranges.{first}
+use Rattle.card.specs.Table.{straight}
+use Rattle.card.specs.TableLaws.{straight-at}
 use Rattle.card.specs.Card.{Legal, cardOf, writeFault, writtenCard, bufferAfter}
-use Rattle.card.specs.Read.{accepted}
+use Rattle.card.specs.Read.{accepted, readCard}
 use Rattle.round_trip.specs.Legality.{legal-fault}
 use Rattle.round_trip.specs.RoundTrip.{legal-read}
 use Rattle.round_trip.specs.Size.{legal-size}
+use Rattle.laws.specs.Greatest.{greatestOf-least}
 use Rattle.placement.specs.Showing.{Showing}
+use Rattle.placement.specs.Zones.{timeAt-within}
+use Rattle.pacing.specs.Laid.{slowest, worst-within}
+use Rattle.pacing.specs.Streams.{overhead, overhead-entry, load, streams-best}
+use Rattle.plan.specs.declared.Planned.{Planned}
+use Rattle.plan.specs.Plan.{timeOn, positionOf, timeOf, worst2Of, overOf, streamsOf}
+use Rattle.plan.specs.Legal.{total-zones, position-below}
+use Rattle.plan.specs.Ways.{by-none, some-stream}
 use Rattle.plan.specs.Answer.{planned}
 use Rattle.try_all.specs.Answer.{tried}
 use Rattle.try_all.specs.Ways.{same-answer}
@@ -52,6 +64,9 @@ eight-long : length eight ≡ 32
 unfolding eight
 eight-long = refl
 
+eight-room : (f : Figures) → Small f → f .blocks ≤ length (wordsOf eight)
+eight-room f small = omega (arith, words-length eight, eight-long, small .blocks)
+
 pub agree : (x : Showing) (f : Figures) → Small f → unequalOn x (cardOf f) ≡ 0
 unfolding unequalOf unequalOn
 agree x f small =
@@ -62,4 +77,44 @@ agree x f small =
     read = record { verdict = accepted; figures = f }
 
     room : f .blocks ≤ length (wordsOf eight)
-    room = omega (arith, words-length eight, eight-long, small .blocks)
+    room = eight-room f small
+
+-- ---- and neither refuses it
+
+-- no two blocks take more than 6
+worst-six : (x : Showing) (f : Figures) → Small f → worst2Of x f ≤ 6
+unfolding worst2Of slowest
+worst-six x f small =
+    omega (arith, worst-within (timeOn f) (positionOf x f) (f .blocks) x, greatestOf-least (timeOf x f) (f .blocks) 3 (λ b u. three b u))
+  where
+    three : (b : ℕ) → b < f .blocks → timeOf x f b ≤ 3
+    three b u = timeAt-within (f .positions) (f .times) (f .zones) (positionOf x f b) 3 (small .times) (omega (arith, position-below x f (small .legal) b u, total-zones f (small .legal)))
+
+-- so a stream fits
+one-fits : (c w B : ℕ) (t : List ℕ) → c ≡ 1000 → t ≡ straight 1 1 → B ≡ 1000 → w ≤ 6 → load c w (overhead t) 1 ≤ parts * B
+unfolding load
+one-fits c w B t ec et eb l = rw (ec, et, eb) (omega (arith, overhead-entry (straight 1 1) 1 (omega arith), straight-at 1 1 1 (omega arith)))
+
+fed : (x : Showing) (f : Figures) → Small f → streamsOf x f ≡ 0 → ⊥
+unfolding streamsOf
+fed x f small z =
+    let m = small .measures in
+    omega (
+      arith,
+      one-fits (f .rate) (worst2Of x f) (f .bytes) (f .table) (m .2) (m .3) (m .1) (worst-six x f small),
+      streams-best (f .rate) (worst2Of x f) (overOf f) (f .bytes) (worst2Of x f) 1 (omega arith) (omega arith) (omega arith),
+    )
+
+pub accepted-both : (x : Showing) (f : Figures) → Small f → (planned x (readCard (cardOf f)) eight eight .verdict .number ≡ 0) × (tried x (readCard (cardOf f)) .verdict .number ≡ 0)
+accepted-both x f small =
+    rw (legal-read f (small .legal))
+    (number, ap (λ (v : Verdict). v .number) (same-answer x read (λ z. small .legal) eight eight (small .blocks) room room .0) ∙ number)
+  where
+    read : CardRead
+    read = record { verdict = accepted; figures = f }
+
+    room : f .blocks ≤ length (wordsOf eight)
+    room = eight-room f small
+
+    number : planned x read eight eight .verdict .number ≡ 0
+    number = ap (λ (a : Planned). a .verdict .number) (sym (by-none x read eight eight refl (some-stream x f (length (wordsOf eight)) (length (wordsOf eight)) room room (fed x f small)) .0))

@@ -12,10 +12,14 @@ ghost use mathlib.Core.Path.{_≡_};
 ghost use Prim.Native.Nat.{_+_, _≤_, _<_};
 ghost use Rattle.numbers.specs.Limits.{maxNumber};
 ghost use lib.ListN.{length};
+ghost use Rattle.card.specs.declared.Figures.{Figures};
 ghost use Rattle.card.specs.Card.{cardOf};
-ghost use Rattle.placement.specs.Showing.{one, loop};
+ghost use Rattle.card.specs.Read.{readCard};
+ghost use Rattle.placement.specs.Showing.{Showing, one, loop};
+ghost use Rattle.plan.specs.Answer.{planned};
+ghost use Rattle.try_all.specs.Answer.{tried};
 ghost use Rattle.small_cards.specs.Cards.{Small, smallCards};
-ghost use Rattle.compare_planners.specs.Compare.{unequalOf, unequalOn, countedWith};
+ghost use Rattle.compare_planners.specs.Compare.{unequalOf, eight, unequalOn, countedWith};
 
 // How many cards, and how many unequal worst2 over both showings.
 pub struct Tally {
@@ -93,3 +97,9 @@ pub fn compare_all() -> Tally
     }
     tally
 }
+
+// Neither planner refuses a small card, so what is compared is what they planned.
+fn no_small_card_is_refused()
+    ensures { λ _. ⌜ ((x : Showing) (f : Figures) → Small f
+        → (planned x (readCard (cardOf f)) eight eight .verdict .number ≡ 0) × (tried x (readCard (cardOf f)) .verdict .number ≡ 0)) ⌝ }
+{}

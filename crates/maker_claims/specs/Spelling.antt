@@ -86,16 +86,22 @@ row-spelled start s at from last track rest e =
     let three = word-spelled lineFeed feed-ends s (two .0) track rest (two .2 ∙ line-last track rest) in
     (three .0, rw (one .1, two .1, three .1), three .2)
 
+-- three numbers that are read are written so
+pub three-spelling : (s : List ℕ) (at from at₁ last at₂ track next : ℕ) → wordAt space s at ≡ Number from at₁ → wordAt space s at₁ ≡ Number last at₂ → wordAt lineFeed s at₂ ≡ Number track next
+    → drop at s ≡ lineOf (from ∷ last ∷ track ∷ []) ++ drop next s
+three-spelling s at from at₁ last at₂ track next one two three =
+    word-spelling space s at from at₁ one
+    ∙ ap (λ (x : List ℕ). decimal from ++ (space ∷ x))
+    (word-spelling space s at₁ last at₂ two
+    ∙ ap (λ (x : List ℕ). decimal last ++ (space ∷ x)) (word-spelling lineFeed s at₂ track next three ∙ sym (line-last track (drop next s)))
+    ∙ sym (line-next last track [] (drop next s)))
+    ∙ sym (line-next from last (track ∷ []) (drop next s))
+
 -- a row that is read is written so
 pub row-spelling : (start : ℕ) (s : List ℕ) (at last track next : ℕ) → rowAt start s at ≡ row.Zone last track next → drop at s ≡ lineOf (start ∷ last ∷ track ∷ []) ++ drop next s
 row-spelling start s at last track next e =
     let w = row-words start s at last track next e in
-    word-spelling space s at start (w .at₁) (w .one)
-    ∙ ap (λ (x : List ℕ). decimal start ++ (space ∷ x))
-    (word-spelling space s (w .at₁) last (w .at₂) (w .two)
-    ∙ ap (λ (x : List ℕ). decimal last ++ (space ∷ x)) (word-spelling lineFeed s (w .at₂) track next (w .three) ∙ sym (line-last track (drop next s)))
-    ∙ sym (line-next last track [] (drop next s)))
-    ∙ sym (line-next start last (track ∷ []) (drop next s))
+    three-spelling s at start (w .at₁) last (w .at₂) track next (w .one) (w .two) (w .three)
 
 -- line one
 pub heading-spelled : (s : List ℕ) (turns switch heads block : ℕ) (rest : List ℕ) → s ≡ lineOf (turns ∷ switch ∷ heads ∷ block ∷ []) ++ rest
@@ -108,19 +114,19 @@ heading-spelled s turns switch heads block rest e =
     let four = word-spelled lineFeed feed-ends s (three .0) block rest (three .2 ∙ line-last block rest) in
     (four .0, rw (one .1, two .1, three .1, four .1), four .2)
 
+-- four numbers that are read are written so
+pub four-spelling : (s : List ℕ) (turns at₁ switch at₂ heads at₃ block next : ℕ) → wordAt space s 0 ≡ Number turns at₁ → wordAt space s at₁ ≡ Number switch at₂ → wordAt space s at₂ ≡ Number heads at₃
+    → wordAt lineFeed s at₃ ≡ Number block next → s ≡ lineOf (turns ∷ switch ∷ heads ∷ block ∷ []) ++ drop next s
+four-spelling s turns at₁ switch at₂ heads at₃ block next one two three four =
+    word-spelling space s 0 turns at₁ one
+    ∙ ap (λ (x : List ℕ). decimal turns ++ (space ∷ x)) (three-spelling s at₁ switch at₂ heads at₃ block next two three four)
+    ∙ sym (line-next turns switch (heads ∷ block ∷ []) (drop next s))
+
 pub heading-spelling : (s : List ℕ) (turns switch heads block next : ℕ) → headingIn s ≡ heading.Numbers turns switch heads block next
     → s ≡ lineOf (turns ∷ switch ∷ heads ∷ block ∷ []) ++ drop next s
 heading-spelling s turns switch heads block next e =
     let w = heading-words s turns switch heads block next e in
-    word-spelling space s 0 turns (w .at₁) (w .one)
-    ∙ ap (λ (x : List ℕ). decimal turns ++ (space ∷ x))
-    (word-spelling space s (w .at₁) switch (w .at₂) (w .two)
-    ∙ ap (λ (x : List ℕ). decimal switch ++ (space ∷ x))
-    (word-spelling space s (w .at₂) heads (w .at₃) (w .three)
-    ∙ ap (λ (x : List ℕ). decimal heads ++ (space ∷ x)) (word-spelling lineFeed s (w .at₃) block next (w .four) ∙ sym (line-last block (drop next s)))
-    ∙ sym (line-next heads block [] (drop next s)))
-    ∙ sym (line-next switch heads (block ∷ []) (drop next s)))
-    ∙ sym (line-next turns switch (heads ∷ block ∷ []) (drop next s))
+    four-spelling s turns (w .at₁) switch (w .at₂) heads (w .at₃) block next (w .one) (w .two) (w .three) (w .four)
 
 -- ---- the rows
 

@@ -8,6 +8,7 @@ ghost use Rattle.card.specs.Read.{accepted, blankFigures, readCard};
 ghost use Rattle.maker.specs.declared.Drive.{Drive};
 ghost use Rattle.maker.specs.Rows.{Row};
 ghost use Rattle.maker.specs.Maker.{figuresOf, readMaker};
+ghost use Rattle.maker_claims.specs.Fault.{Fault};
 ghost use Rattle.maker_claims.specs.Listing.{innermostFirst, Listing};
 
 // A text is accepted exactly where it is the lines of numbers that are in range, follow on and give legal figures.
@@ -28,4 +29,9 @@ pub fn accepted_figures_are_a_cards()
 // A refused text answers figures that are all zero.
 pub fn refused_text_has_no_figures()
     ensures { λ _. ⌜ ((s : List ℕ) (n c hop ret k : ℕ) → readMaker s n c hop ret .verdict .number ≡ suc k → readMaker s n c hop ret .figures ≡ blankFigures) ⌝ }
+{}
+
+// A text is refused by its first line at fault, or, where all its lines are good, as a record of its figures is.
+pub fn first_fault_is_named()
+    ensures { λ _. ⌜ ((s : List ℕ) (n c hop ret k line : ℕ) → readMaker s n c hop ret .verdict ≡ record { number = suc k; place = line } → Fault s n c hop ret (suc k) line) ⌝ }
 {}

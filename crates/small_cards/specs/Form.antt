@@ -86,7 +86,7 @@ form-small f k t e =
     let ok = fault-legal f (long, wide₂, ap length t ∙ straight-long 1 1) (passes-clear f k t (and-left (passes f) _ e)) in
     record {
       legal = ok;
-      zones = leb-true (f .zones) 3 (and-left (leb (f .zones) 3) _ few);
+      zones = omega (arith, leb-true (f .zones) 3 (and-left (leb (f .zones) 3) _ few));
       positions = λ i h. leb-true (getD (f .positions) i 0) 3 (all-at 0 (λ (p : ℕ). leb p 3) (f .positions) i (and-left (allBy (λ (p : ℕ). leb p 3) (f .positions)) _ low) (omega (arith, ok .zones)));
       times = λ i h. leb-true (getD (f .times) i 0) 3 (all-at 0 (λ (t : ℕ). leb t 3) (f .times) i (and-right (allBy (λ (p : ℕ). leb p 3) (f .positions)) _ low) (omega (arith, ok .zones)));
       blocks = leb-true (f .blocks) 8 (and-right (leb (f .zones) 3) _ few);
