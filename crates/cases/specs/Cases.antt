@@ -1,5 +1,5 @@
 -- The rows of document 01's bench cases that are marked (p), each an equation that computes; document 02's one-zone case as a loop, with the
--- bench film as one; the bench film with measured overheads; and the number of small cards.
+-- bench film as one; the bench film with measured overheads; and the number of document 02's small cards.
 use Prim.Native.Nat.{ℕ}
 use mathlib.Core.Path.{_≡_, refl}
 use mathlib.Core.List.{List, [], _∷_}

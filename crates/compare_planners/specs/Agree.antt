@@ -7,8 +7,8 @@ use native.Mathlib.Omega.{arith}
 use lib.ListN.{length, take, drop, length-append}
 use lib.Seq.{take-append-seam}
 use borrow.Author.Tests.{le-leb, eq-eqb}
-use Rattle.numbers.specs.Limits.{maxCard}
 use Rattle.numbers.specs.Units.{parts}
+use Rattle.numbers.specs.Limits.{maxCard}
 use Rattle.words.specs.Words.{wordsOf}
 use Rattle.words.specs.Laws.{words-length}
 use Rattle.card.specs.declared.Figures.{Figures}
@@ -91,9 +91,9 @@ worst-six x f small =
     three b u = timeAt-within (f .positions) (f .times) (f .zones) (positionOf x f b) 3 (small .times) (omega (arith, position-below x f (small .legal) b u, total-zones f (small .legal)))
 
 -- so a stream fits
-one-fits : (c w B : ℕ) (t : List ℕ) → c ≡ 1000 → t ≡ straight 1 1 → B ≡ 1000 → w ≤ 6 → load c w (overhead t) 1 ≤ parts * B
+one-fits : (c w B : ℕ) (table : List ℕ) → c ≡ 1000 → B ≡ 1000 → table ≡ straight 1 1 → w ≤ 6 → load c w (overhead table) 1 ≤ parts * B
 unfolding load
-one-fits c w B t ec et eb l = rw (ec, et, eb) (omega (arith, overhead-entry (straight 1 1) 1 (omega arith), straight-at 1 1 1 (omega arith)))
+one-fits c w B table ec eb et l = rw (ec, eb, et) (omega (arith, overhead-entry (straight 1 1) 1 (omega arith), straight-at 1 1 1 (omega arith)))
 
 fed : (x : Showing) (f : Figures) → Small f → streamsOf x f ≡ 0 → ⊥
 unfolding streamsOf
@@ -101,7 +101,7 @@ fed x f small z =
     let m = small .measures in
     omega (
       arith,
-      one-fits (f .rate) (worst2Of x f) (f .bytes) (f .table) (m .2) (m .3) (m .1) (worst-six x f small),
+      one-fits (f .rate) (worst2Of x f) (f .bytes) (f .table) (m .2) (m .1) (m .3) (worst-six x f small),
       streams-best (f .rate) (worst2Of x f) (overOf f) (f .bytes) (worst2Of x f) 1 (omega arith) (omega arith) (omega arith),
     )
 
