@@ -180,8 +180,10 @@ static void measure_cards(void)
         measure(call_read, false, FILMDISK_REFUSED_CARD_ENDS, "%u zones, cut off in its last number", *zones);
     }
     make_film(&input, 1000, 7, 16);
-    input.card[0] = 2;
+    input.card[0] = 3;
     measure(call_read, false, FILMDISK_REFUSED_KIND, "7 zones, wrong kind");
+    make_measured(&input, 1000, 7, 16);
+    measure(call_read, false, FILMDISK_REFUSED_TOO_SHORT, "7 zones, kind 2, %zu bytes", input.card_len);
 }
 
 static void measure_plans(void)
@@ -266,6 +268,22 @@ static void measure_loops(void)
         measure(call_open, false, FILMDISK_ACCEPTED, "open, N %u, 7 zones", *blocks);
         measure_half("begin", call_begin, FILMDISK_BETWEEN, *blocks, 7, 16);
         measure_half("end", call_end, FILMDISK_SWEEPING, *blocks, 7, 16);
+    }
+}
+
+/* Cards of kind 2: planning, the check behind 14, and sweeps. */
+static void measure_measured(void)
+{
+    head("Kind 2 (7 zones, 16 streams): planning; leave of a free slot, 17; open; begin and end, all slots playing and fetched for");
+    EACH(blocks, sizes) {
+        make_measured(&input, *blocks, 7, 16);
+        measure(call_plan, false, FILMDISK_ACCEPTED, "plan, N %u", *blocks);
+        measure(call_open, false, FILMDISK_ACCEPTED, "open, N %u", *blocks);
+        measure_half("begin", call_begin, FILMDISK_BETWEEN, *blocks, 7, 16);
+        measure_half("end", call_end, FILMDISK_SWEEPING, *blocks, 7, 16);
+        make_measured(&input, *blocks, 7, 16);
+        make_players(&input, FILMDISK_BETWEEN, 15);
+        measure(call_leave, true, FILMDISK_REFUSED_SLOT_STATE, "leave, N %u", *blocks);
     }
 }
 
@@ -354,6 +372,7 @@ int main(void)
     measure_joins();
     measure_sweeps();
     measure_loops();
+    measure_measured();
     measure_windows();
     measure_growth();
     print_stacks();

@@ -24,16 +24,27 @@ static void put_zones(struct input *in, uint32_t zones, uint32_t total)
     }
 }
 
-static void put_card(struct input *in, uint32_t blocks, uint32_t zones, uint32_t rate)
+/* A measured table has what hop and return give. */
+static void put_overheads(struct input *in, uint32_t kind)
+{
+    if (kind == FILMDISK_STRAIGHT) {
+        put_number(in, HOP);
+        put_number(in, RETURN);
+        return;
+    }
+    for (uint32_t n = 0; n <= FILMDISK_MAX_STREAMS; n++)
+        put_number(in, n * HOP + RETURN);
+}
+
+static void put_card(struct input *in, uint32_t kind, uint32_t blocks, uint32_t zones, uint32_t rate)
 {
     in->card_len = 0;
-    put_number(in, 1);
+    put_number(in, kind);
     put_zones(in, zones, blocks > zones ? blocks : zones);
     put_number(in, blocks);
     put_number(in, BLOCK_BYTES);
     put_number(in, rate);
-    put_number(in, HOP);
-    put_number(in, RETURN);
+    put_overheads(in, kind);
 }
 
 static void plan_input(struct input *in, uint32_t showing)
@@ -46,13 +57,13 @@ static void plan_input(struct input *in, uint32_t showing)
     }
 }
 
-static void make_showing(struct input *in, uint32_t showing, uint32_t blocks, uint32_t zones, uint32_t streams)
+static void make(struct input *in, uint32_t kind, uint32_t showing, uint32_t blocks, uint32_t zones, uint32_t streams)
 {
-    put_card(in, blocks, zones, 1);
+    put_card(in, kind, blocks, zones, 1);
     plan_input(in, showing);
     uint32_t worst2 = filmdisk_word(in->plan, FILMDISK_PLAN_WORST2);
     uint64_t load = (uint64_t)streams * worst2 + 2 * ((uint64_t)streams * HOP + RETURN);
-    put_card(in, blocks, zones, (uint32_t)(UINT64_C(2000000) * BLOCK_BYTES / load));
+    put_card(in, kind, blocks, zones, (uint32_t)(UINT64_C(2000000) * BLOCK_BYTES / load));
     plan_input(in, showing);
     if (filmdisk_word(in->plan, FILMDISK_PLAN_STREAMS) != streams) {
         fprintf(stderr, "bench: a film of %u blocks has not %u streams\n", blocks, streams);
@@ -65,12 +76,17 @@ static void make_showing(struct input *in, uint32_t showing, uint32_t blocks, ui
 
 void make_film(struct input *in, uint32_t blocks, uint32_t zones, uint32_t streams)
 {
-    make_showing(in, FILMDISK_ONCE, blocks, zones, streams);
+    make(in, FILMDISK_STRAIGHT, FILMDISK_ONCE, blocks, zones, streams);
+}
+
+void make_measured(struct input *in, uint32_t blocks, uint32_t zones, uint32_t streams)
+{
+    make(in, FILMDISK_MEASURED, FILMDISK_ONCE, blocks, zones, streams);
 }
 
 void make_loop(struct input *in, uint32_t blocks, uint32_t zones, uint32_t streams)
 {
-    make_showing(in, FILMDISK_LOOP, blocks, zones, streams);
+    make(in, FILMDISK_STRAIGHT, FILMDISK_LOOP, blocks, zones, streams);
 }
 
 /* What a slot holds is the most with which a block is fetched for it; that is never below the floor. */

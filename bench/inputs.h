@@ -21,6 +21,9 @@ struct input {
 /* A film over all zones of a disk, its rate the greatest that feeds so many streams; its plan, lists and an open desk. */
 void make_film(struct input *in, uint32_t blocks, uint32_t zones, uint32_t streams);
 
+/* The same of a card of kind 2, with the table of the same overheads. */
+void make_measured(struct input *in, uint32_t blocks, uint32_t zones, uint32_t streams);
+
 /* The same as a loop. */
 void make_loop(struct input *in, uint32_t blocks, uint32_t zones, uint32_t streams);
 

@@ -6,8 +6,8 @@
  *
  * Films: a plan is for one showing or for a loop, by its planner call; a word of the plan says which, and all calls on its desk go by it.
  *
- * Refused calls leave all that they were lent as it was, but for two: a plan call that is refused by 1 to 12 or 26 fills a plan string
- * of the right length with zeros, and an opening that is refused by 14 a desk string of the right length.
+ * Refused calls leave all that they were lent as it was, but for two: a plan call that is refused by 1 to 12, 25 or 26 fills a plan
+ * string of the right length with zeros, and an opening that is refused by 14 a desk string of the right length.
  *
  * Threads: the library has no globals and keeps nothing between calls, so calls on different strings may run at once. A string that is
  * only read, such as the lists of several desks, may be lent to several calls at a time.
@@ -27,29 +27,30 @@
 extern "C" {
 #endif
 
-#define FILMDISK_VERSION "0.6.0"
+#define FILMDISK_VERSION "0.7.0"
 #define FILMDISK_VERSION_MAJOR 0
-#define FILMDISK_VERSION_MINOR 6
+#define FILMDISK_VERSION_MINOR 7
 #define FILMDISK_VERSION_PATCH 0
 
 /* Limits. */
-#define FILMDISK_MAX_CARD_BYTES 467
+#define FILMDISK_MAX_CARD_BYTES 1489
 #define FILMDISK_MAX_ZONES 64
 #define FILMDISK_MAX_BLOCKS 16384
 #define FILMDISK_MAX_STREAMS 256
 #define FILMDISK_MAX_WINDOW 64 /* blocks of a window */
+#define FILMDISK_OVERHEADS 257 /* of a sweep of 0 to 256 blocks */
 
 /* The words of a plan, one after the other. */
 enum filmdisk_plan_word {
+    FILMDISK_PLAN_KIND, /* of the card: FILMDISK_STRAIGHT or FILMDISK_MEASURED */
     FILMDISK_PLAN_ZONES,
     FILMDISK_PLAN_POSITIONS, /* a word for each zone */
     FILMDISK_PLAN_TIMES = FILMDISK_PLAN_POSITIONS + FILMDISK_MAX_ZONES, /* a word for each zone */
     FILMDISK_PLAN_BLOCKS = FILMDISK_PLAN_TIMES + FILMDISK_MAX_ZONES,
     FILMDISK_PLAN_BLOCK_BYTES,
     FILMDISK_PLAN_RATE,
-    FILMDISK_PLAN_HOP,
-    FILMDISK_PLAN_RETURN,
-    FILMDISK_PLAN_STREAMS,
+    FILMDISK_PLAN_TABLE, /* a word for each overhead: that of a sweep of k blocks is word k */
+    FILMDISK_PLAN_STREAMS = FILMDISK_PLAN_TABLE + FILMDISK_OVERHEADS,
     FILMDISK_PLAN_BUFFER,
     FILMDISK_PLAN_WORST2,
     FILMDISK_PLAN_MARGIN,
@@ -72,20 +73,23 @@ enum filmdisk_fetch_word { FILMDISK_FETCH_POSITION, FILMDISK_FETCH_SLOT, FILMDIS
 
 /* Sizes in bytes. */
 #define FILMDISK_WORD_BYTES 4
-#define FILMDISK_PLAN_BYTES (FILMDISK_PLAN_WORDS * FILMDISK_WORD_BYTES)   /* 560 */
-#define FILMDISK_DESK_BYTES (FILMDISK_DESK_WORDS * FILMDISK_WORD_BYTES)   /* 3,636 */
+#define FILMDISK_PLAN_BYTES (FILMDISK_PLAN_WORDS * FILMDISK_WORD_BYTES)   /* 1,584 */
+#define FILMDISK_DESK_BYTES (FILMDISK_DESK_WORDS * FILMDISK_WORD_BYTES)   /* 4,660 */
 #define FILMDISK_ENTRY_BYTES FILMDISK_WORD_BYTES                          /* an entry of positions, leads or draws */
 #define FILMDISK_FETCH_BYTES (FILMDISK_FETCH_WORDS * FILMDISK_WORD_BYTES) /* an entry of the fetch list */
 
 /* Stack in bytes that a call takes below the caller's frame, at most. */
-#define FILMDISK_STACK_PLAN 4800
-#define FILMDISK_STACK_PLAN_LOOP 4800
-#define FILMDISK_STACK_WINDOW 5300
+#define FILMDISK_STACK_PLAN 8500
+#define FILMDISK_STACK_PLAN_LOOP 8500
+#define FILMDISK_STACK_WINDOW 5600
 #define FILMDISK_STACK_OPEN 8300
-#define FILMDISK_STACK_JOIN 9000
-#define FILMDISK_STACK_LEAVE 9000
-#define FILMDISK_STACK_BEGIN 21500
-#define FILMDISK_STACK_END 12800
+#define FILMDISK_STACK_JOIN 10400
+#define FILMDISK_STACK_LEAVE 10400
+#define FILMDISK_STACK_BEGIN 27500
+#define FILMDISK_STACK_END 13600
+
+/* The kind of a card: overheads by hop and return, or measured for each number of blocks. */
+enum filmdisk_card_kind { FILMDISK_STRAIGHT = 1, FILMDISK_MEASURED = 2 };
 
 /* The showing of a plan: the film once through, or as a loop, whose last block is followed by the first. */
 enum filmdisk_showing { FILMDISK_ONCE = 0, FILMDISK_LOOP = 1 };
@@ -126,7 +130,8 @@ enum filmdisk_number {
     FILMDISK_REFUSED_DRAW_COUNT = 19,
     FILMDISK_REFUSED_DRAW_ABOVE_LIMIT = 20, /* 20 and 21, place: lowest such slot */
     FILMDISK_REFUSED_DRAW_ABOVE_HELD = 21,
-    FILMDISK_REFUSED_ZONE_TIME_HALF_DEAD = 26, /* place: offset of the number in the card */
+    FILMDISK_REFUSED_TABLE = 25,               /* 25 and 26, place: offset of the number in the card */
+    FILMDISK_REFUSED_ZONE_TIME_HALF_DEAD = 26,
     FILMDISK_REFUSED_WINDOW = 27
 };
 
@@ -157,7 +162,7 @@ static inline const char *filmdisk_meaning(uint32_t number)
         "accepted",
         "card ends too early",
         "number not shortest, over five bytes, or above 4,294,967,295",
-        "kind not 1",
+        "kind not 1 or 2",
         "zones out of range",
         "zone without positions, or total so far too great",
         "zone time out of range",
@@ -177,6 +182,8 @@ static inline const char *filmdisk_meaning(uint32_t number)
         "draw above what the slot may draw",
         "draw above held"
     };
+    if (number == FILMDISK_REFUSED_TABLE)
+        return "overhead of a measured table out of range, or below the one before";
     if (number == FILMDISK_REFUSED_ZONE_TIME_HALF_DEAD)
         return "zone time, times three, below the first zone's time";
     if (number == FILMDISK_REFUSED_WINDOW)
@@ -261,7 +268,7 @@ static inline filmdisk_fetch filmdisk_fetch_at(const uint8_t *fetches, size_t in
     return fetch;
 }
 
-/* Plans a card for one showing: writes the plan and the first N entries of both lists. Refusals 1 to 11 and 26, then 13, then 12. */
+/* Plans a card for one showing: writes the plan and the first N entries of both lists. Refusals 1 to 11, 25 and 26, then 13, then 12. */
 filmdisk_answer filmdisk_plan(const uint8_t *card, size_t card_len,
                               uint8_t *plan, size_t plan_len,
                               uint8_t *positions, size_t positions_len,

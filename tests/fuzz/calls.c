@@ -1,6 +1,6 @@
 /*
  * Fuzz target: the bytes of an input are read as a card and then as calls on its desk, with damage to strings between them. The film is
- * shown once or is a loop. Each call is made of the library and of its plain C twin (bench/plain.c); answers and strings must be the
+ * shown once or is a loop; a few bytes may stand for the table of a card of kind 2. Each call is made of the library and of its plain C twin (bench/plain.c); answers and strings must be the
  * same. The twin is built with coverage, which leads the fuzzer; the library's strings touch pages that may not be touched.
  */
 #include "guarded.h"
@@ -12,6 +12,7 @@
 
 #define MOST_BYTES (FILMDISK_MAX_BLOCKS * FILMDISK_ENTRY_BYTES + 64)
 #define COUNT(array) (sizeof(array) / sizeof *(array))
+#define MOST_OVERHEAD 257000000u
 
 int LLVMFuzzerTestOneInput(const uint8_t *data, size_t size);
 
@@ -45,6 +46,7 @@ static uint8_t contents[STRINGS][MOST_BYTES];
 static size_t lengths[STRINGS];
 static guarded lent[STRINGS];
 static uint32_t last_bound;
+static int has_table; /* the card ends with a table that a few bytes stand for */
 
 /* The input. Past its end all bytes are 0. */
 static const uint8_t *input;
@@ -178,6 +180,22 @@ static void take_card(void)
         contents[CARD][i] = (uint8_t)take();
 }
 
+static void put_number(uint32_t value)
+{
+    for (; value >= 128; value >>= 7)
+        contents[CARD][lengths[CARD]++] = (uint8_t)(value | 128);
+    contents[CARD][lengths[CARD]++] = (uint8_t)value;
+}
+
+/* The card goes on with a table: straight, with another step from some count on, and at times an entry out of line. */
+static void take_table(void)
+{
+    uint32_t overhead = take_number() * 64, step = take_number() * 64, after = take_number() * 4096, knee = take(), odd = take();
+    const uint32_t others[] = {0, 1, MOST_OVERHEAD, MOST_OVERHEAD + 1, overhead - 1, take_number()};
+    for (uint32_t n = 0; n < FILMDISK_OVERHEADS; n++, overhead += n < knee ? step : after)
+        put_number(n == odd && odd % 4 == 0 ? others[odd / 4 % COUNT(others)] : overhead);
+}
+
 /* The lengths for a plan: mostly enough for a short film, at times for any or none. Answers the planner call. */
 static enum sort take_planner(void)
 {
@@ -187,6 +205,7 @@ static enum sort take_planner(void)
     set_noise(LEADS, entries[choice / 8 % 8] * FILMDISK_ENTRY_BYTES + choice / 64);
     set_noise(PLAN, FILMDISK_PLAN_BYTES - (plan % 8 == 1));
     set_noise(DESK, FILMDISK_DESK_BYTES - (take() % 8 == 1));
+    has_table = plan / 16 % 4 == 1;
     return plan / 8 % 2 == 0 ? CALL_PLAN : CALL_PLAN_LOOP;
 }
 
@@ -263,6 +282,17 @@ static void set_showing(enum lent which)
     filmdisk_put_word(contents[which], FILMDISK_PLAN_SHOWING, value % 4 == 0 ? 1 - word(which, FILMDISK_PLAN_SHOWING) : value);
 }
 
+/* Sets the kind or an overhead: beside its own value, at an end of its range, or any. */
+static void set_overhead(enum lent which)
+{
+    uint32_t value = take_number(), entry = FILMDISK_PLAN_TABLE + take() + value % 2, its = word(which, entry);
+    const uint32_t words[] = {its + 1, its - 1, 0, MOST_OVERHEAD, MOST_OVERHEAD + 1, value};
+    if (value % 16 == 0)
+        filmdisk_put_word(contents[which], FILMDISK_PLAN_KIND, value / 16 % 4);
+    else
+        filmdisk_put_word(contents[which], entry, words[value % COUNT(words)]);
+}
+
 /* Sets worstat: one block further or back, the last block, or any word. */
 static void set_worstat(enum lent which)
 {
@@ -296,6 +326,10 @@ static void take_call(void)
     uint32_t slot, all, one, choice = take();
     if (choice >= 240) {
         window_both(DESK, take_number());
+        return;
+    }
+    if (choice >= 232) {
+        set_overhead(DESK);
         return;
     }
     switch (choice % 12) {
@@ -339,10 +373,12 @@ static void take_call(void)
 /* Damages what an opening reads. */
 static void damage_plan(uint32_t choice)
 {
-    if (choice < 240)
+    if (choice < 236)
         damage();
     else if (lengths[PLAN] != FILMDISK_PLAN_BYTES)
         return;
+    else if (choice < 240)
+        set_overhead(PLAN);
     else if (choice < 248)
         set_showing(PLAN);
     else
@@ -371,6 +407,8 @@ int LLVMFuzzerTestOneInput(const uint8_t *data, size_t size)
     set_noise(DRAWS, 0);
     enum sort planner = take_planner();
     take_card();
+    if (has_table)
+        take_table();
     if (call_both(planner, 0, 0).number != 0)
         return 0;
     size_t list_bytes = (size_t)word(PLAN, FILMDISK_PLAN_BLOCKS) * FILMDISK_ENTRY_BYTES;

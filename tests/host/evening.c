@@ -34,7 +34,8 @@ static void lend_bench(void)
 
 static void plan_of_the_bench_film(void)
 {
-    static const uint32_t others[] = {6, 262144, 500000, 12670, 15000, 16, 812632, 37990, 6550, FILMDISK_ONCE, 0};
+    static const uint32_t film[] = {6, 262144, 500000};
+    static const uint32_t others[] = {16, 812632, 37990, 6550, FILMDISK_ONCE, 0};
     static const uint32_t positions[] = {0, 5, 1, 4, 2, 3};
     static const uint32_t leads[] = {6550, 0, 3110, 0, 190, 0};
     uint32_t zones[1 + 2 * FILMDISK_MAX_ZONES] = {6};
@@ -44,8 +45,13 @@ static void plan_of_the_bench_film(void)
     }
     lend_bench();
     expect(host_plan(), 0, 0);
+    check(word(PLAN, FILMDISK_PLAN_KIND) == 1, "kind: expected 1, got %u", word(PLAN, FILMDISK_PLAN_KIND));
     expect_words(PLAN, FILMDISK_PLAN_ZONES, zones, COUNT(zones));
-    expect_words(PLAN, FILMDISK_PLAN_BLOCKS, others, COUNT(others));
+    expect_words(PLAN, FILMDISK_PLAN_BLOCKS, film, COUNT(film));
+    for (uint32_t count = 0; count < FILMDISK_OVERHEADS; count++)
+        check(word(PLAN, FILMDISK_PLAN_TABLE + count) == 12670 * count + RETURN, "overhead of %u blocks: expected %u, got %u", count,
+              12670 * count + RETURN, word(PLAN, FILMDISK_PLAN_TABLE + count));
+    expect_words(PLAN, FILMDISK_PLAN_STREAMS, others, COUNT(others));
     expect_words(POSITIONS, 0, positions, COUNT(positions));
     expect_words(LEADS, 0, leads, COUNT(leads));
 }
@@ -335,7 +341,7 @@ static void refusal_2(void)
 static void refusal_3(void)
 {
     refuse_with(BENCH_KIND, 0, FILMDISK_REFUSED_KIND);
-    refuse_with(BENCH_KIND, 2, FILMDISK_REFUSED_KIND);
+    refuse_with(BENCH_KIND, 3, FILMDISK_REFUSED_KIND);
 }
 
 static void refusal_4(void)
@@ -496,12 +502,12 @@ static void expect_opening_refused(void)
     expect(host_open(), FILMDISK_REFUSED_NOT_SOUND, 0);
 }
 
-/* With another time, hop or return the rest may still be the plan; with any other figure changed it is none. */
+/* With another kind or time the rest may still be the plan; with any other figure changed it is none. */
 static int makes_other_plan(enum lent which, size_t at)
 {
     size_t its_word = at / 4;
     int is_time = its_word >= FILMDISK_PLAN_TIMES && its_word < FILMDISK_PLAN_TIMES + 6;
-    return which != PLAN || !(is_time || its_word == FILMDISK_PLAN_HOP || its_word == FILMDISK_PLAN_RETURN);
+    return which != PLAN || !(is_time || its_word == FILMDISK_PLAN_KIND);
 }
 
 /* Each byte of the plan and of both lists counts. */
@@ -594,9 +600,13 @@ struct unsound {
 static const struct unsound unsound[] = {
     {FILMDISK_PLAN_STREAMS, 15},
     {FILMDISK_PLAN_BUFFER, BUFFER + 1},
+    {FILMDISK_PLAN_KIND, 0},
+    {FILMDISK_PLAN_KIND, 3},
     {FILMDISK_PLAN_ZONES, 7},
     {FILMDISK_PLAN_POSITIONS + 63, 1},
     {FILMDISK_PLAN_RATE, 500001},
+    {FILMDISK_PLAN_TABLE, RETURN + 1},
+    {FILMDISK_PLAN_TABLE + 256, RETURN + 256 * 12670 - 1},
     {FILMDISK_PLAN_SHOWING, FILMDISK_LOOP},
     {FILMDISK_PLAN_SHOWING, 2},
     {FILMDISK_PLAN_WORSTAT, 1},
@@ -794,14 +804,14 @@ struct constant {
 static void sizes_and_offsets(void)
 {
     static const struct constant constants[] = {
-        {FILMDISK_PLAN_ZONES, 0},    {FILMDISK_PLAN_POSITIONS, 1},     {FILMDISK_PLAN_TIMES, 65},
-        {FILMDISK_PLAN_BLOCKS, 129}, {FILMDISK_PLAN_BLOCK_BYTES, 130}, {FILMDISK_PLAN_RATE, 131},
-        {FILMDISK_PLAN_HOP, 132},    {FILMDISK_PLAN_RETURN, 133},      {FILMDISK_PLAN_STREAMS, 134},
-        {FILMDISK_PLAN_BUFFER, 135}, {FILMDISK_PLAN_WORST2, 136},      {FILMDISK_PLAN_MARGIN, 137},
-        {FILMDISK_PLAN_SHOWING, 138}, {FILMDISK_PLAN_WORSTAT, 139},    {FILMDISK_PLAN_WORDS, 140},
-        {FILMDISK_PLAN_BYTES, 560},  {FILMDISK_DESK_PHASE, 140},       {FILMDISK_DESK_KINDS, 141},
-        {FILMDISK_DESK_NEXT, 397},   {FILMDISK_DESK_HELD, 653},        {FILMDISK_DESK_WORDS, 909},
-        {FILMDISK_DESK_BYTES, 3636},
+        {FILMDISK_PLAN_KIND, 0},     {FILMDISK_PLAN_ZONES, 1},         {FILMDISK_PLAN_POSITIONS, 2},
+        {FILMDISK_PLAN_TIMES, 66},   {FILMDISK_PLAN_BLOCKS, 130},      {FILMDISK_PLAN_BLOCK_BYTES, 131},
+        {FILMDISK_PLAN_RATE, 132},   {FILMDISK_PLAN_TABLE, 133},   {FILMDISK_PLAN_STREAMS, 390},
+        {FILMDISK_PLAN_BUFFER, 391}, {FILMDISK_PLAN_WORST2, 392},      {FILMDISK_PLAN_MARGIN, 393},
+        {FILMDISK_PLAN_SHOWING, 394}, {FILMDISK_PLAN_WORSTAT, 395},    {FILMDISK_PLAN_WORDS, 396},
+        {FILMDISK_PLAN_BYTES, 1584}, {FILMDISK_DESK_PHASE, 396},       {FILMDISK_DESK_KINDS, 397},
+        {FILMDISK_DESK_NEXT, 653},   {FILMDISK_DESK_HELD, 909},        {FILMDISK_DESK_WORDS, 1165},
+        {FILMDISK_DESK_BYTES, 4660}, {FILMDISK_MAX_CARD_BYTES, 1489},
         {FILMDISK_FETCH_POSITION, 0}, {FILMDISK_FETCH_SLOT, 1},        {FILMDISK_FETCH_BLOCK, 2},
         {FILMDISK_FETCH_BYTES, 12},  {FILMDISK_ENTRY_BYTES, 4},        {FILMDISK_ONCE, 0},
         {FILMDISK_LOOP, 1},
@@ -825,9 +835,9 @@ static void slots_and_fetches_by_the_header(void)
     lend_noise(FETCHES, 256 * FILMDISK_FETCH_BYTES);
     for (size_t i = 0; i < COUNT(slots); i++) {
         uint32_t slot = slots[i];
-        put_bytes(DESK, 564 + 4 * slot, 0x10);
-        put_bytes(DESK, 1588 + 4 * slot, 0x20);
-        put_bytes(DESK, 2612 + 4 * slot, 0x30);
+        put_bytes(DESK, 1588 + 4 * slot, 0x10);
+        put_bytes(DESK, 2612 + 4 * slot, 0x20);
+        put_bytes(DESK, 3636 + 4 * slot, 0x30);
         check(filmdisk_slot_kind(bytes_of(DESK), slot) == 0x13121110, "kind of slot %u", slot);
         check(filmdisk_slot_next(bytes_of(DESK), slot) == 0x23222120, "next of slot %u", slot);
         check(filmdisk_slot_held(bytes_of(DESK), slot) == 0x33323130, "held of slot %u", slot);
@@ -879,7 +889,7 @@ static void draw_limits_of_a_sweep(void)
 /* Numbers that a call may answer: document 01's, and of document 02's some. */
 static int is_number(uint32_t number)
 {
-    return number <= FILMDISK_REFUSED_DRAW_ABOVE_HELD || number == FILMDISK_REFUSED_ZONE_TIME_HALF_DEAD || number == FILMDISK_REFUSED_WINDOW;
+    return number <= FILMDISK_REFUSED_DRAW_ABOVE_HELD || (number >= FILMDISK_REFUSED_TABLE && number <= FILMDISK_REFUSED_WINDOW);
 }
 
 static void a_meaning_for_each_number(void)
@@ -893,6 +903,7 @@ static void a_meaning_for_each_number(void)
     check(strcmp(filmdisk_meaning(FILMDISK_REFUSED_DRAW_ABOVE_HELD), "draw above held") == 0, "21 is the last of document 01");
     check(strcmp(filmdisk_meaning(FILMDISK_REFUSED_ZONE_TIME_HALF_DEAD), "zone time, times three, below the first zone's time") == 0,
           "26 is a zone time");
+    check(FILMDISK_REFUSED_TABLE == 25, "25 is an overhead");
     check(FILMDISK_REFUSED_WINDOW == 27, "27 is a window");
 }
 

@@ -9,7 +9,7 @@
 
 /* The longest string is a list of 16,384 entries with some to spare. */
 #define MOST_BYTES 80000
-#define MOST_CARD_NUMBERS 140
+#define MOST_CARD_NUMBERS 400
 
 const uint32_t bench_film[BENCH_NUMBERS] = {
     1, 6, 1, 22270, 1, 20550, 1, 19090, 1, 17810, 1, 16700, 1, 15720, 6, 262144, 500000, 12670, 15000,

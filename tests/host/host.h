@@ -101,6 +101,7 @@ uint32_t below(uint32_t end);
 #define BENCH_ZONE_TIME(zone) (3 + 2 * (zone))
 #define BENCH_BLOCKS 14
 #define BENCH_BLOCK_BYTES 15
+#define BENCH_HOP 17
 extern const uint32_t bench_film[BENCH_NUMBERS];
 
 #endif

@@ -153,15 +153,16 @@ static uint32_t time_at(uint32_t position)
 /* Marks the slots that a block is fetched for; answers their count and the bound. */
 static filmdisk_answer foresee_fetches(void)
 {
-    filmdisk_answer foreseen = {.bound = figure(FILMDISK_PLAN_RETURN)};
+    filmdisk_answer foreseen = {.bound = 0};
     for (uint32_t slot = 0; slot < streams(); slot++) {
         int wants = kinds[slot] == FILMDISK_FILLING || kinds[slot] == FILMDISK_PLAYING;
         is_fetched[slot] = wants && held(slot) + figure(FILMDISK_PLAN_BLOCK_BYTES) <= figure(FILMDISK_PLAN_BUFFER);
         if (!is_fetched[slot])
             continue;
         foreseen.count++;
-        foreseen.bound += time_at(word(POSITIONS, next(slot))) + figure(FILMDISK_PLAN_HOP);
+        foreseen.bound += time_at(word(POSITIONS, next(slot)));
     }
+    foreseen.bound += figure(FILMDISK_PLAN_TABLE + foreseen.count);
     return foreseen;
 }
 

@@ -74,6 +74,19 @@ module _ (fault most k v : ℕ) where
   unfolding thenAbove above first
   then-none e h = rw (e, le-leb v most h)
 
+module _ (fault least k v : ℕ) where
+  pub below-first : (fault ≡ 0 → ⊥) → fault ≡ thenBelow fault least k v
+  unfolding thenBelow
+  below-first n = first-stops refl _ n
+
+  pub below-low : fault ≡ 0 → v < least → k ≡ thenBelow fault least k v
+  unfolding thenBelow below first
+  below-low e h = rw (e, lt-leb least v h)
+
+  pub below-none : fault ≡ 0 → least ≤ v → 0 ≡ thenBelow fault least k v
+  unfolding thenBelow below first
+  below-none e h = rw (e, le-leb least v h)
+
 -- a zone's time: 6, then 7, then 26
 module _ (innermost before v : ℕ) {k : ℕ} (judged : k ≡ outside 1 maxTime wrongTime v) where
   pub time-outside : (k ≡ 0 → ⊥) → k ≡ timeFault innermost before v

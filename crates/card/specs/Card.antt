@@ -1,21 +1,38 @@
 -- The figures of a record, their judge (R23), and the card that is made of them (K3).
 use Prim.Native.Nat.{ℕ, zero, suc, _+_, _*_, _≤_, _<_}
 use mathlib.Core.Path.{_≡_}
+use mathlib.Core.Logic.{_⊎_}
 use mathlib.Core.List.{List, [], _∷_, _++_}
 use mathlib.Core.Bool.{Bool, cond, _&&_}
 use lib.ListN.{length, getD, take, drop}
 use lib.Dec.{leb, eqb}
 use Rattle.laws.specs.Runs.{allBy, sumBy}
-use Rattle.numbers.specs.Limits.{cardKind, maxZones, maxPositions, maxTime, timesAsFast, minBlocks, maxBlocks, maxBytes, maxRate, maxMove}
-use Rattle.numbers.specs.Refusals.{wrongZones, tooShort}
+use Rattle.numbers.specs.Limits.{straightKind, measuredKind, maxZones, maxPositions, maxTime, timesAsFast, minBlocks, maxBlocks, maxBytes, maxRate, maxMove, tableLength, maxOverhead}
+use Rattle.numbers.specs.Refusals.{wrongZones, wrongMeasure, tooShort}
 use Rattle.leb128.specs.Number.{groups}
 use Rattle.card.specs.declared.Figures.{Figures}
 use Rattle.card.specs.declared.Verdict.{Verdict}
 use Rattle.card.specs.declared.CardWritten.{CardWritten}
-use Rattle.card.specs.declared.fields.Rule.the-variants.{Zones, Positions, Blocks, Measure}
+use Rattle.card.specs.declared.judge.Judged.{Judged}
+use Rattle.card.specs.declared.judge.Judged.the-variants.{Total, Refused}
+use Rattle.card.specs.declared.fields.Rule.the-variants.{Kind, Zones, Positions, Blocks, Measure, Overhead}
 use Rattle.card.specs.Ranges.{first, faultOf, timeFault}
+use Rattle.card.specs.Table.{straight, hopIn, backIn, isLine}
 
--- ---- legal figures: the table of ranges as plain facts (K4; document 02, T8.3)
+-- ---- legal figures: the table of ranges as plain facts (K4; document 02, T3.2 to T3.8 and T8.3)
+
+-- the overheads of kind 1 come from a hop and a return in range (T3.3, T3.6)
+pub record Straight (table : List ℕ) : Type 0 where
+  pub hop : ℕ
+  pub back : ℕ
+  pub hops : (1 ≤ hop) × (hop ≤ maxMove)
+  pub backs : (1 ≤ back) × (back ≤ maxMove)
+  pub same : table ≡ straight hop back
+
+-- the overheads of kind 2 are each in range, and none is below the one before (T3.2)
+pub record Measured (table : List ℕ) : Type 0 where
+  pub range : (k : ℕ) → k < tableLength → (1 ≤ getD table k 0) × (getD table k 0 ≤ maxOverhead)
+  pub rising : (k : ℕ) → suc k < tableLength → getD table k 0 ≤ getD table (suc k) 0
 
 -- P, the positions of all zones
 unfoldable pub totalPositions : Figures → ℕ
@@ -23,7 +40,8 @@ totalPositions f = sumBy (λ (p : ℕ). p) (take (f .zones) (f .positions))
 
 pub record Legal (f : Figures) : Type 0 where
   -- the entries of a record
-  pub wide : (length (f .positions) ≡ maxZones) × (length (f .times) ≡ maxZones)
+  pub wide : (length (f .positions) ≡ maxZones) × (length (f .times) ≡ maxZones) × (length (f .table) ≡ tableLength)
+  pub kind : (f .kind ≡ straightKind) ⊎ (f .kind ≡ measuredKind)
   pub zones : (1 ≤ f .zones) × (f .zones ≤ maxZones)
   pub unused : (i : ℕ) → f .zones ≤ i → (getD (f .positions) i 0 ≡ 0) × (getD (f .times) i 0 ≡ 0)
   pub positions : (i : ℕ) → i < f .zones → 1 ≤ getD (f .positions) i 0
@@ -37,18 +55,33 @@ pub record Legal (f : Figures) : Type 0 where
   pub room : f .blocks ≤ totalPositions f
   pub bytes : (1 ≤ f .bytes) × (f .bytes ≤ maxBytes)
   pub rate : (1 ≤ f .rate) × (f .rate ≤ maxRate)
-  pub hop : (1 ≤ f .hop) × (f .hop ≤ maxMove)
-  pub back : (1 ≤ f .back) × (f .back ≤ maxMove)
+  pub straight : f .kind ≡ straightKind → Straight (f .table)
+  pub measured : f .kind ≡ measuredKind → Measured (f .table)
 
--- ---- the judge of a record: 4 to 10 in the card's order, 26 right after 7
+-- ---- the judge of a record: 3 to 10 in the card's order, 26 right after 7, 25 in place of hop and return
 
--- the film's figures: N, B, c, hop, return; total is P
+-- a table of kind 1: its hop, its return, then each of its entries (T3.6)
+unfoldable pub straightFault : List ℕ → ℕ
+straightFault table =
+    first (faultOf Measure maxMove (hopIn table))
+    (first (faultOf Measure maxMove (backIn table))
+    (cond (isLine tableLength 0 table (hopIn table) (backIn table)) 0 wrongMeasure))
+
+-- a table of kind 2: `left` more entries from the k-th on; before is the one before (T3.7)
+unfoldable pub measuredFault : ℕ → ℕ → List ℕ → ℕ → ℕ
+measuredFault zero k table before = 0
+measuredFault (suc left) k table before = first (faultOf Overhead before (getD table k 0)) (measuredFault left (k + 1) table (getD table k 0))
+
+-- the table of a record, by its kind. The first entry of kind 2 has none before it
+unfoldable pub tableFault : ℕ → List ℕ → ℕ
+tableFault kind table = cond (eqb kind straightKind) (straightFault table) (measuredFault tableLength 0 table 0)
+
+-- the film's figures: N, B, c, then the table; total is P
 unfoldable pub filmFault : Figures → ℕ → ℕ
 filmFault f total =
     first (faultOf Blocks total (f .blocks))
     (first (faultOf Measure maxBytes (f .bytes))
-    (first (faultOf Measure maxRate (f .rate))
-    (first (faultOf Measure maxMove (f .hop)) (faultOf Measure maxMove (f .back)))))
+    (first (faultOf Measure maxRate (f .rate)) (tableFault (f .kind) (f .table))))
 
 -- `left` more zones from the i-th on; total is the positions so far, before the time of the zone before
 unfoldable pub zoneFaults : ℕ → ℕ → Figures → ℕ → ℕ → ℕ
@@ -57,6 +90,11 @@ zoneFaults (suc left) i f total before =
     first (faultOf Positions total (getD (f .positions) i 0))
     (first (timeFault (getD (f .times) 0 0) before (getD (f .times) i 0))
     (zoneFaults left (i + 1) f (total + getD (f .positions) i 0) (getD (f .times) i 0)))
+
+-- the fault of figures whose zones are judged: that of a zone, or of the film, given P
+unfoldable pub faultWith : Figures → Judged → ℕ
+faultWith f (Refused k) = k
+faultWith f (Total total) = filmFault f total
 
 -- positions and times are zero from the i-th on
 unfoldable pub zerosFrom : ℕ → List ℕ → List ℕ → Bool
@@ -68,7 +106,10 @@ unusedZero f = zerosFrom (f .zones) (f .positions) (f .times)
 
 -- the refusal of a record, 0 where it is legal
 unfoldable pub recordFault : Figures → ℕ
-recordFault f = first (faultOf Zones 0 (f .zones)) (first (cond (unusedZero f) 0 wrongZones) (zoneFaults (f .zones) 0 f 0 maxTime))
+recordFault f =
+    first (faultOf Kind 0 (f .kind))
+    (first (faultOf Zones 0 (f .zones))
+    (first (cond (unusedZero f) 0 wrongZones) (zoneFaults (f .zones) 0 f 0 maxTime)))
 
 -- records answer with offset 0
 unfoldable pub judgeRecord : Figures → Verdict
@@ -76,9 +117,13 @@ judgeRecord f = record { number = recordFault f; place = 0 }
 
 -- ---- the card of figures
 
+-- the overheads: hop and return of kind 1, the whole table of kind 2 (T3.1)
+unfoldable pub tableNumbers : ℕ → List ℕ → List ℕ
+tableNumbers kind table = cond (eqb kind straightKind) (hopIn table ∷ backIn table ∷ []) table
+
 -- the film's numbers
 unfoldable pub filmNumbers : Figures → List ℕ
-filmNumbers f = f .blocks ∷ f .bytes ∷ f .rate ∷ f .hop ∷ f .back ∷ []
+filmNumbers f = f .blocks ∷ f .bytes ∷ f .rate ∷ tableNumbers (f .kind) (f .table)
 
 -- `left` zones from the i-th on, each its positions and its time, then the film
 unfoldable pub zoneNumbers : ℕ → ℕ → Figures → List ℕ
@@ -87,7 +132,7 @@ zoneNumbers (suc left) i f = getD (f .positions) i 0 ∷ getD (f .times) i 0 ∷
 
 -- the numbers of a card, in order: kind, zones, each zone, the film
 unfoldable pub numbersOf : Figures → List ℕ
-numbersOf f = cardKind ∷ f .zones ∷ zoneNumbers (f .zones) 0 f
+numbersOf f = f .kind ∷ f .zones ∷ zoneNumbers (f .zones) 0 f
 
 -- numbers as bytes, one after the other
 unfoldable pub bytesOf : List ℕ → List ℕ

@@ -2,14 +2,16 @@
 -- Assumes nothing.
 use Prim.Native.Nat.{ℕ, zero, suc, _+_, _*_, _≤_, _<_}
 use mathlib.Core.Path.{_≡_, refl}
+use mathlib.Core.Logic.{_⊎_, inl, inr, by-cases}
 use mathlib.Core.Bool.{Bool, true, false, cond}
 use native.Mathlib.Omega.{arith}
+use native.Mathlib.Decide.{decLe}
 use lib.Dec.{leb}
 use borrow.Author.Tests.{leb-true, le-leb}
-use Rattle.numbers.specs.Limits.{cardKind, maxNumber, maxZones, maxPositions, maxTime, timesAsFast, minBlocks, maxBlocks}
-use Rattle.numbers.specs.Refusals.{wrongKind, wrongZones, wrongPositions, wrongTime, risingTime, wrongBlocks, blocksAbovePositions, wrongMeasure, halfDeadTime}
+use Rattle.numbers.specs.Limits.{straightKind, measuredKind, maxNumber, maxZones, maxPositions, maxTime, timesAsFast, minBlocks, maxBlocks, maxOverhead}
+use Rattle.numbers.specs.Refusals.{wrongKind, wrongZones, wrongPositions, wrongTime, risingTime, wrongBlocks, blocksAbovePositions, wrongMeasure, wrongOverhead, halfDeadTime}
 use Rattle.card.specs.declared.Figures.{Figures}
-use Rattle.card.specs.declared.fields.Rule.the-variants.{Kind, Zones, Positions, Blocks, Measure}
+use Rattle.card.specs.declared.fields.Rule.the-variants.{Kind, Zones, Positions, Blocks, Measure, Overhead}
 use Rattle.card.specs.Card.{recordFault}
 use Rattle.card.specs.Ranges.{first, below, above, outside, thenAbove, thenBelow, faultOf, timeFault}
 
@@ -58,9 +60,11 @@ unfolding outside
 range-outside least most k v l h = first-clear (range-below least k v l) (range-above most k v h)
 
 module _ (bound v : ℕ) where
-  pub kind-range : faultOf Kind bound v ≡ 0 → v ≡ cardKind
+  pub kind-range : faultOf Kind bound v ≡ 0 → (v ≡ straightKind) ⊎ (v ≡ measuredKind)
   unfolding faultOf
-  kind-range e = omega (arith, outside-range cardKind cardKind wrongKind v (omega arith) e)
+  kind-range e =
+      let r = outside-range straightKind measuredKind wrongKind v (omega arith) e in
+      by-cases (decLe v straightKind) (λ h. inl (omega arith)) (λ h. inr (omega arith))
 
   pub zones-range : faultOf Zones bound v ≡ 0 → (1 ≤ v) × (v ≤ maxZones)
   unfolding faultOf
@@ -91,6 +95,18 @@ module _ (bound v : ℕ) where
   unfolding faultOf
   measure-range e = outside-range 1 bound wrongMeasure v (omega arith) e
 
+  pub overhead-range : faultOf Overhead bound v ≡ 0 → (1 ≤ v) × (v ≤ maxOverhead) × (bound ≤ v)
+  unfolding faultOf thenBelow
+  overhead-range e =
+      let h = first-none (outside 1 maxOverhead wrongOverhead v) (below bound wrongOverhead v) e in
+      let r = outside-range 1 maxOverhead wrongOverhead v (omega arith) (h .0) in
+      (r .0, r .1, below-range bound wrongOverhead v (omega arith) (h .1))
+
+  pub kind-legal : (v ≡ straightKind) ⊎ (v ≡ measuredKind) → faultOf Kind bound v ≡ 0
+  unfolding faultOf
+  kind-legal (inl e) = range-outside straightKind measuredKind wrongKind v (omega arith) (omega arith)
+  kind-legal (inr e) = range-outside straightKind measuredKind wrongKind v (omega arith) (omega arith)
+
   pub zones-legal : 1 ≤ v → v ≤ maxZones → faultOf Zones bound v ≡ 0
   unfolding faultOf
   zones-legal l h = range-outside 1 maxZones wrongZones v l h
@@ -112,15 +128,15 @@ module _ (bound v : ℕ) where
   unfolding faultOf
   measure-legal l h = range-outside 1 bound wrongMeasure v l h
 
+  pub overhead-legal : 1 ≤ v → v ≤ maxOverhead → bound ≤ v → faultOf Overhead bound v ≡ 0
+  unfolding faultOf thenBelow
+  overhead-legal l h b = first-clear (range-outside 1 maxOverhead wrongOverhead v l h) (range-below bound wrongOverhead v b)
+
 -- three times a time that is in its range is a number of 32 bits
 pub thrice-fits : (v : ℕ) → v ≤ maxTime → timesAsFast * v ≤ maxNumber
 thrice-fits v h = omega arith
 
-pub kind-legal : (bound : ℕ) → faultOf Kind bound cardKind ≡ 0
-unfolding faultOf
-kind-legal bound = range-outside cardKind cardKind wrongKind cardKind (omega arith) (omega arith)
-
 -- a legal record has as many zones as its entries
 pub fault-zones : (f : Figures) → recordFault f ≡ 0 → f .zones ≤ maxZones
 unfolding recordFault
-fault-zones f e = zones-range 0 (f .zones) (first-none (faultOf Zones 0 (f .zones)) _ e .0) .1
+fault-zones f e = zones-range 0 (f .zones) (first-none (faultOf Zones 0 (f .zones)) _ (first-none (faultOf Kind 0 (f .kind)) _ e .1) .0) .1

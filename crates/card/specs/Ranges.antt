@@ -1,11 +1,11 @@
--- The ranges of a card's figures (K4), and the refusal of each (R3 to R10; 26, T8.3).
+-- The ranges of a card's figures (K4), and the refusal of each (R3 to R10; 25, T3.7; 26, T8.3).
 use Prim.Native.Nat.{ℕ, zero, suc, _+_, _*_}
 use mathlib.Core.Bool.{cond}
 use lib.Dec.{leb}
-use Rattle.numbers.specs.Limits.{cardKind, maxNumber, maxZones, maxPositions, maxTime, timesAsFast, minBlocks, maxBlocks}
-use Rattle.numbers.specs.Refusals.{wrongKind, wrongZones, wrongPositions, wrongTime, risingTime, wrongBlocks, blocksAbovePositions, wrongMeasure, halfDeadTime}
+use Rattle.numbers.specs.Limits.{straightKind, measuredKind, maxNumber, maxZones, maxPositions, maxTime, timesAsFast, minBlocks, maxBlocks, maxOverhead}
+use Rattle.numbers.specs.Refusals.{wrongKind, wrongZones, wrongPositions, wrongTime, risingTime, wrongBlocks, blocksAbovePositions, wrongMeasure, wrongOverhead, halfDeadTime}
 use Rattle.card.specs.declared.fields.Rule.{Rule}
-use Rattle.card.specs.declared.fields.Rule.the-variants.{Kind, Zones, Positions, Blocks, Measure}
+use Rattle.card.specs.declared.fields.Rule.the-variants.{Kind, Zones, Positions, Blocks, Measure, Overhead}
 
 -- the first fault of two; 0 is none
 unfoldable pub first : ℕ → ℕ → ℕ
@@ -28,14 +28,15 @@ thenAbove fault most k v = first fault (above most k v)
 unfoldable pub thenBelow : ℕ → ℕ → ℕ → ℕ → ℕ
 thenBelow fault least k v = first fault (below least k v)
 
--- the refusal of the value v of a figure, 0 where it is in range. The bound is the total of positions so far, P, or the greatest value of
--- B, c, hop or return
+-- the refusal of the value v of a figure, 0 where it is in range. The bound is the total of positions so far, P, the greatest value of
+-- B, c, hop or return, or the overhead before
 unfoldable pub faultOf : Rule → ℕ → ℕ → ℕ
-faultOf Kind bound v = outside cardKind cardKind wrongKind v
+faultOf Kind bound v = outside straightKind measuredKind wrongKind v
 faultOf Zones bound v = outside 1 maxZones wrongZones v
 faultOf Positions total v = thenAbove (outside 1 maxNumber wrongPositions v) maxPositions wrongPositions (total + v)
 faultOf Blocks total v = thenAbove (outside minBlocks maxBlocks wrongBlocks v) total blocksAbovePositions v
 faultOf Measure most v = outside 1 most wrongMeasure v
+faultOf Overhead before v = thenBelow (outside 1 maxOverhead wrongOverhead v) before wrongOverhead v
 
 -- the refusal of a zone's time, 0 where it is legal: out of range, then above the time of the zone before, then, times three, below
 -- the first zone's

@@ -1,12 +1,14 @@
 // One figure of a card: its form, then its range.
 use leb128::Number;
-use numbers::limits::CARD_KIND;
 use numbers::limits::MAX_BLOCKS;
 use numbers::limits::MAX_NUMBER;
+use numbers::limits::MAX_OVERHEAD;
 use numbers::limits::MAX_POSITIONS;
 use numbers::limits::MAX_TIME;
 use numbers::limits::MAX_ZONES;
+use numbers::limits::MEASURED;
 use numbers::limits::MIN_BLOCKS;
+use numbers::limits::STRAIGHT;
 use numbers::limits::TIMES_AS_FAST;
 use numbers::refusals::BLOCKS_ABOVE_POSITIONS;
 use numbers::refusals::CARD_ENDS;
@@ -16,11 +18,12 @@ use numbers::refusals::RISING_TIME;
 use numbers::refusals::WRONG_BLOCKS;
 use numbers::refusals::WRONG_KIND;
 use numbers::refusals::WRONG_MEASURE;
+use numbers::refusals::WRONG_OVERHEAD;
 use numbers::refusals::WRONG_POSITIONS;
 use numbers::refusals::WRONG_TIME;
 use numbers::refusals::WRONG_ZONES;
 ghost use mathlib.Core.Path.{_≡_};
-ghost use Rattle.card.specs.Ranges.{outside, thenAbove, faultOf, timeFault};
+ghost use Rattle.card.specs.Ranges.{outside, thenAbove, thenBelow, faultOf, timeFault};
 ghost use Rattle.card.specs.Read.{fieldAt, onNumber, onFault};
 
 // Which figure is judged, and what its bound is.
@@ -35,6 +38,8 @@ pub enum Rule {
     Blocks,
     // B, c, hop or return; bound: its greatest value.
     Measure,
+    // An overhead of kind 2; bound: the one before, 0 for the first.
+    Overhead,
 }
 
 // A figure with the offset after it, or the refusal's number with its offset.
@@ -69,6 +74,19 @@ fn then_above(fault: u32, most: u64, number: u32, v: u64) -> u32
     0
 }
 
+// An earlier fault, else the given number where v is below least, else 0.
+fn then_below(fault: u32, least: u32, number: u32, v: u32) -> u32
+    ensures { λ r. ⌜ r ≡ thenBelow fault least number v ⌝ }
+{
+    if fault != 0 {
+        return fault;
+    }
+    if v < least {
+        return number;
+    }
+    0
+}
+
 // The refusal of a zone's time v: its range, then the time of the zone before (the greatest time for the first), then the first zone's
 // (0 where that one is still to be read).
 pub fn fault_of_time(innermost: u32, before: u32, v: u32) -> u32
@@ -93,7 +111,7 @@ pub fn fault(rule: Rule, bound: u32, v: u32) -> u32
     ensures { λ r. ⌜ r ≡ faultOf rule bound v ⌝ }
 {
     match rule {
-        Rule::Kind => outside(CARD_KIND, CARD_KIND, WRONG_KIND, v),
+        Rule::Kind => outside(STRAIGHT, MEASURED, WRONG_KIND, v),
         Rule::Zones => outside(1, MAX_ZONES, WRONG_ZONES, v),
         Rule::Positions => then_above(
             outside(1, MAX_NUMBER, WRONG_POSITIONS, v),
@@ -108,6 +126,12 @@ pub fn fault(rule: Rule, bound: u32, v: u32) -> u32
             v as u64,
         ),
         Rule::Measure => outside(1, bound, WRONG_MEASURE, v),
+        Rule::Overhead => then_below(
+            outside(1, MAX_OVERHEAD, WRONG_OVERHEAD, v),
+            bound,
+            WRONG_OVERHEAD,
+            v,
+        ),
     }
 }
 

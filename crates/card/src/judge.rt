@@ -1,10 +1,11 @@
 // The figures of a record, judged in the card's order.
 use crate::Figures;
+use crate::Scalars;
 use crate::fields::Rule;
 use crate::fields::fault;
 use crate::fields::fault_of_time;
+use crate::table::fault_of_table;
 use numbers::limits::MAX_BYTES;
-use numbers::limits::MAX_MOVE;
 use numbers::limits::MAX_RATE;
 use numbers::limits::MAX_TIME;
 use numbers::limits::MAX_ZONES;
@@ -13,14 +14,22 @@ ghost use mathlib.Core.Path.{_≡_};
 ghost use Prim.Native.Nat.{_≤_};
 ghost use mathlib.Core.Bool.{cond};
 ghost use lib.ListN.{length};
-ghost use Rattle.numbers.specs.Limits.{maxZones, maxTime};
+ghost use Rattle.numbers.specs.Limits.{maxZones, maxTime, tableLength};
 ghost use Rattle.numbers.specs.Refusals.{wrongZones};
-ghost use Rattle.card.specs.Card.{filmFault, zoneFaults, zerosFrom, recordFault};
-ghost use Rattle.card.specs.Read.{blankFigures, withFilm};
+ghost use Rattle.card.specs.declared.Figures.{Figures};
+ghost use Rattle.card.specs.Card.{filmFault, zoneFaults, faultWith, zerosFrom, recordFault};
+ghost use Rattle.card.specs.Read.{figuresFrom, withArrays, withZones, withFilm, withTable};
 
-// N, B, c, hop, return.
-fn fault_of_film(total: u32, blocks: u32, bytes: u32, rate: u32, hop: u32, back: u32) -> u32
-    ensures { λ r. ⌜ r ≡ filmFault (withFilm blankFigures blocks bytes rate hop back) total ⌝ }
+// N, B, c, then the overheads.
+fn fault_of_film(
+    total: u32,
+    blocks: u32,
+    bytes: u32,
+    rate: u32,
+    kind: u32,
+    table: &[u32; 257],
+) -> u32
+    ensures { λ r. ⌜ r ≡ filmFault (withTable (withFilm (withZones kind 0) blocks bytes rate) (now (table .entry))) total ⌝ }
 {
     let few = fault(Rule::Blocks, total, blocks);
     if few != 0 {
@@ -34,46 +43,41 @@ fn fault_of_film(total: u32, blocks: u32, bytes: u32, rate: u32, hop: u32, back:
     if slow != 0 {
         return slow;
     }
-    let far = fault(Rule::Measure, MAX_MOVE, hop);
-    if far != 0 {
-        return far;
-    }
-    fault(Rule::Measure, MAX_MOVE, back)
+    fault_of_table(kind, table)
 }
 
-// Each zone's positions, then its time; then the film.
-fn fault_of_zones(figures: Figures) -> u32
-    requires { ⌜ figures .zones ≤ maxZones ⌝ }
-    ensures { λ r. ⌜ r ≡ zoneFaults (figures .zones) 0 figures 0 maxTime ⌝ }
+// P, the positions of all zones, or the refusal's number.
+pub enum Judged {
+    Total(u32),
+    Refused(u32),
+}
+
+// Each zone's positions, then its time.
+fn fault_of_zones<'a>(zones: u32, positions: &'a [u32; 64], times: &'a [u32; 64]) -> Judged
+    requires { ⌜ zones ≤ maxZones ⌝ }
+    ensures { λ r. ⌜ ((f : Figures) → faultWith (withArrays f (now (positions .entry)) (now (times .entry))) r
+        ≡ zoneFaults zones 0 (withArrays f (now (positions .entry)) (now (times .entry))) 0 maxTime) ⌝ }
 {
-    let zones = figures.zones as usize;
-    let innermost = figures.times[0];
+    let innermost = times[0];
     let mut total: u32 = 0;
     let mut before: u32 = MAX_TIME;
     let mut i: usize = 0;
-    while i < zones {
-        let positions = figures.positions[i];
-        let time = figures.times[i];
-        let few = fault(Rule::Positions, total, positions);
+    while i < zones as usize {
+        let count = positions[i];
+        let time = times[i];
+        let few = fault(Rule::Positions, total, count);
         if few != 0 {
-            return few;
+            return Judged::Refused(few);
         }
         let slow = fault_of_time(innermost, before, time);
         if slow != 0 {
-            return slow;
+            return Judged::Refused(slow);
         }
-        total += positions;
+        total += count;
         before = time;
         i += 1;
     }
-    fault_of_film(
-        total,
-        figures.blocks,
-        figures.bytes,
-        figures.rate,
-        figures.hop,
-        figures.back,
-    )
+    Judged::Total(total)
 }
 
 // 4 where an entry past the zone count is not zero, else 0.
@@ -94,17 +98,56 @@ fn fault_of_unused<'a>(zones: u32, positions: &'a [u32; 64], times: &'a [u32; 64
     0
 }
 
-// The refusal of a record, 0 where it is legal.
-pub fn fault_of_record(figures: Figures) -> u32
-    ensures { λ r. ⌜ r ≡ recordFault figures ⌝ }
+// The refusal of figures whose arrays are lent, 0 where they are legal.
+pub fn fault_of_figures<'a>(
+    figures: Scalars,
+    positions: &'a [u32; 64],
+    times: &'a [u32; 64],
+    table: &'a [u32; 257],
+) -> u32
+    requires { ⌜ (length (now positions) ≡ maxZones) × (length (now times) ≡ maxZones) × (length (now table) ≡ tableLength) ⌝ }
+    ensures { λ r. ⌜ r ≡ recordFault (figuresFrom figures (now (positions .entry)) (now (times .entry)) (now (table .entry))) ⌝ }
 {
+    let kind = fault(Rule::Kind, 0, figures.kind);
+    if kind != 0 {
+        return kind;
+    }
     let zones = fault(Rule::Zones, 0, figures.zones);
     if zones != 0 {
         return zones;
     }
-    let unused = fault_of_unused(figures.zones, &figures.positions, &figures.times);
+    let unused = fault_of_unused(figures.zones, positions, times);
     if unused != 0 {
         return unused;
     }
-    fault_of_zones(figures)
+    let judged = fault_of_zones(figures.zones, positions, times);
+    match judged {
+        Judged::Refused(number) => number,
+        Judged::Total(total) => fault_of_film(
+            total,
+            figures.blocks,
+            figures.bytes,
+            figures.rate,
+            figures.kind,
+            table,
+        ),
+    }
+}
+
+// The refusal of a record, 0 where it is legal.
+pub fn fault_of_record(figures: Figures) -> u32
+    ensures { λ r. ⌜ r ≡ recordFault figures ⌝ }
+{
+    fault_of_figures(
+        Scalars {
+            kind: figures.kind,
+            zones: figures.zones,
+            blocks: figures.blocks,
+            bytes: figures.bytes,
+            rate: figures.rate,
+        },
+        &figures.positions,
+        &figures.times,
+        &figures.table,
+    )
 }

@@ -1,12 +1,15 @@
 // The figures of a card: their record, the ranges, and the judge of a record.
 pub mod fields; // one figure: its form, then its range
 pub mod judge; // the figures of a record, in the card's order
+pub mod table; // the overheads of a record: those of hop and return, and their judge
 
 ghost use mathlib.Core.Path.{_≡_};
 ghost use Rattle.card.specs.Card.{judgeRecord};
 
-// The figures of a card (document 01: the numbers of a card but its kind). Entries past the zone count are zero.
+// The figures of a card. Entries past the zone count are zero.
 pub struct Figures {
+    // 1: overheads by hop and return; 2: measured ones.
+    pub kind: u32,
     pub zones: u32,
     // Positions of each zone, innermost first.
     pub positions: [u32; 64],
@@ -18,10 +21,17 @@ pub struct Figures {
     pub bytes: u32,
     // c, the top rate in bytes a second.
     pub rate: u32,
-    // Worst move to one block, in microseconds.
-    pub hop: u32,
-    // Arm back, once a sweep, in microseconds.
-    pub back: u32,
+    // The overhead of a sweep of 0 to 256 blocks, in microseconds.
+    pub table: [u32; 257],
+}
+
+// The figures that are single numbers; a caller that lends their arrays hands them over so.
+pub struct Scalars {
+    pub kind: u32,
+    pub zones: u32,
+    pub blocks: u32,
+    pub bytes: u32,
+    pub rate: u32,
 }
 
 // The refusal number of document 01 or 02 and what is returned with it; 0 and 0 where the call is accepted.
@@ -42,7 +52,7 @@ pub struct CardWritten {
     pub length: usize,
 }
 
-// Judges a record of figures: refusals 4 to 10, and 26 right after 7, offset 0.
+// Judges a record of figures: refusals 3 to 10, 26 right after 7, and 25 for the overheads of kind 2, offset 0.
 pub fn judge_figures(figures: Figures) -> Verdict
     ensures { λ r. ⌜ r ≡ judgeRecord figures ⌝ }
 {

@@ -1,8 +1,10 @@
-// Runs the card cases of document 01, cards damaged for each of the refusals 1 to 11 and 26, records and the writer. Standard input has a
-// case on each line: its name, which has no colon, then a colon, a letter for what is done, and what it is done to.
+// Runs the card cases of document 01, cards of both kinds damaged for each of the refusals 1 to 11, 25 and 26, records and the writer. Standard
+// input has a case on each line: its name, which has no colon, then a colon, a letter for what is done, and what it is done to. RUNS are
+// numbers: V is V, V*N is N times V, and V+S*N is V, V + S, .., N numbers in all.
 //
 //     NAME: c CARD           reads a card, its bytes in hexadecimal
-//     NAME: j RECORD         judges a record: zones N B c hop return, then positions and time of each zone; what is missing is 0
+//     NAME: n RUNS           reads a card, its numbers in decimal
+//     NAME: j RECORD         judges a record: kind zones N B c, then RUNS of 257 overheads, then positions and time of each zone; what is missing is 0
 //     NAME: w SIZE RECORD    writes a record's card into a buffer of SIZE bytes, 4,096 at most
 //
 // A line is printed for each: its name and the answer; a line with no colon as it is.
@@ -12,9 +14,11 @@ use case_text::print;
 use case_text::print_byte;
 use case_text::print_number;
 use case_text::print_refusal;
+use case_text::print_word;
 use case_text::read_bytes;
 use case_text::read_number;
 use case_text::read_record;
+use case_text::runs::read_runs;
 use case_text::wide;
 use libc::STDIN_FILENO;
 
@@ -39,12 +43,14 @@ fn same(a: &[u8], b: &[u8], n: usize) -> bool {
 // An accepted card's figures, and whether it is the card that the writer makes of them.
 fn show_accepted(f: Figures, bytes: &[u8]) {
     print(b" accepted");
-    print_number(f.zones as u64);
-    print_number(f.blocks as u64);
-    print_number(f.bytes as u64);
-    print_number(f.rate as u64);
-    print_number(f.hop as u64);
-    print_number(f.back as u64);
+    print_word(f.kind);
+    print_word(f.zones);
+    print_word(f.blocks);
+    print_word(f.bytes);
+    print_word(f.rate);
+    print_word(f.table[0]);
+    print_word(f.table[1]);
+    print_word(f.table[256]);
     let mut buffer = io::buffer();
     let w = card_writer::write_card(f, &mut buffer);
     print_number(w.length as u64);
@@ -82,6 +88,12 @@ fn run_case(text: &[u8], letter: u8, start: usize) {
     if letter == b'c' {
         let mut card = io::buffer();
         let n = read_bytes(text, start, &mut card);
+        show_card(&card[..n]);
+        return;
+    }
+    if letter == b'n' {
+        let mut card = io::buffer();
+        let n = read_runs(text, start, &mut card);
         show_card(&card[..n]);
         return;
     }

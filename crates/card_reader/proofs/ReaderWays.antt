@@ -4,21 +4,21 @@ use Prim.Native.Nat.{ℕ, zero, suc, _+_, _≤_, _<_}
 use mathlib.Core.Path.{_≡_, refl, sym, ap, _∙_}
 use mathlib.Core.List.{List}
 use native.Mathlib.Omega.{arith}
-use lib.ListN.{length, getD}
-use borrow.Author.Tests.{lt-ltb, le-ltb}
-use Rattle.numbers.specs.Limits.{maxZones, maxPositions}
+use lib.ListN.{length, getD, set}
+use borrow.Author.Tests.{lt-ltb, le-ltb, eq-eqb, ne-eqb}
+use Rattle.numbers.specs.Limits.{straightKind, maxZones, maxPositions, maxMove, tableLength}
 use Rattle.numbers.specs.Refusals.{cardGoesOn}
 use Rattle.leb128.specs.declared.Number.{Number}
 use Rattle.leb128.specs.declared.Number.the-variants as number
 use Rattle.leb128.specs.Number.{numberAt}
 use Rattle.card.specs.declared.Figures.{Figures}
 use Rattle.card.specs.declared.CardRead.{CardRead}
-use Rattle.card.specs.declared.fields.Rule.the-variants.{Zones, Positions}
+use Rattle.card.specs.declared.fields.Rule.the-variants.{Zones, Positions, Measure, Overhead}
 use Rattle.card.specs.declared.fields.Field.{Field}
 use Rattle.card.specs.declared.fields.Field.the-variants.{Value, Refused}
-use Rattle.card.specs.RangeLaws.{positions-range, zones-range}
+use Rattle.card.specs.RangeLaws.{positions-range, zones-range, measure-range}
 use Rattle.card.specs.Ranges.{faultOf, timeFault}
-use Rattle.card.specs.Read.{onFault, onNumber, fieldAt, thenField, refusedCard, cardEnd, filmFrom, zonesFrom, withZone, withFilm}
+use Rattle.card.specs.Read.{onFault, onNumber, fieldAt, blankTable, thenField, refusedCard, cardEnd, movesFrom, entriesFrom, tableFrom, filmFrom, zonesFrom, withZone, withFilm, withTable}
 use Rattle.card_reader.specs.declared.figures.Film.{Film}
 use Rattle.card_reader.specs.declared.figures.Film.the-variants as film
 use Rattle.card_reader.specs.Film.{acceptedCard, cardWith}
@@ -47,7 +47,7 @@ module _ (f : Figures) {F : Film} where
   unfolding cardWith
   film-stops e = ap (cardWith f) (sym e)
 
-  pub film-goes : {n b c hop ret : ℕ} → F ≡ film.Figures n b c hop ret → acceptedCard (withFilm f n b c hop ret) ≡ cardWith f F
+  pub film-goes : {n b c : ℕ} → F ≡ film.Figures n b c → acceptedCard (withFilm f n b c) ≡ cardWith f F
   unfolding cardWith
   film-goes e = ap (cardWith f) (sym e)
 
@@ -83,6 +83,44 @@ module _ (s : List ℕ) (at i : ℕ) (f : Figures) (total before : ℕ) where
               let q : k ≡ left = omega arith in
               ap (λ (x : ℕ). zonesFrom x s next (i + 1) (withZone f i p t) (total + p) t) q ∙ (unfold zonesFrom in card-goes time _ e ∙ card-goes positions _ read)
 
+-- the overheads of kind 2, entry by entry
+module _ (s : List ℕ) (at k : ℕ) (f : Figures) (before : ℕ) where
+  pub entries-done : (left : ℕ) → left ≤ 0 → cardEnd s at f ≡ entriesFrom left s at k f before
+  unfolding entriesFrom
+  entries-done zero h = refl
+  entries-done (suc left) h = absurd (omega arith)
+
+  module _ (left : ℕ) {F : Field} (entry : F ≡ fieldAt (faultOf Overhead before) s at) where
+    pub entries-stop : 0 < left → (go : ℕ → ℕ → CardRead) {j o : ℕ} → F ≡ Refused j o → thenField F go ≡ entriesFrom left s at k f before
+    entries-stop h go e = by left h
+      where
+        by : (left : ℕ) → 0 < left → thenField F go ≡ entriesFrom left s at k f before
+        by zero h = absurd (omega arith)
+        by (suc left) h = unfold entriesFrom in card-stops entry _ go e
+
+    pub entries-more : (j : ℕ) → left ≡ j + 1 → {v next : ℕ} → F ≡ Value v next → entriesFrom j s next (k + 1) (withTable f (set (f .table) k v)) v ≡ entriesFrom left s at k f before
+    entries-more j h {v} {next} e = by left h
+      where
+        by : (left : ℕ) → left ≡ j + 1 → entriesFrom j s next (k + 1) (withTable f (set (f .table) k v)) v ≡ entriesFrom left s at k f before
+        by zero h = absurd (omega arith)
+        by (suc left) h =
+            let q : j ≡ left = omega arith in
+            ap (λ (x : ℕ). entriesFrom x s next (k + 1) (withTable f (set (f .table) k v)) v) q ∙ (unfold entriesFrom in card-goes entry _ e)
+
+pub blank-long : length blankTable ≡ tableLength
+unfolding blankTable
+blank-long = refl
+
+-- by the kind
+module _ (s : List ℕ) (at : ℕ) (f : Figures) where
+  pub table-moves : f .kind ≡ straightKind → movesFrom s at f ≡ tableFrom s at f
+  unfolding tableFrom
+  table-moves e = rw (eq-eqb (f .kind) straightKind e)
+
+  pub table-entries : (f .kind ≡ straightKind → ⊥) → entriesFrom tableLength s at 0 f 0 ≡ tableFrom s at f
+  unfolding tableFrom
+  table-entries n = rw (ne-eqb (f .kind) straightKind n)
+
 -- the value of a figure that is read is not refused
 pub field-judged : (judge : ℕ → ℕ) (s : List ℕ) (at : ℕ) {v next : ℕ} {F : Field} → F ≡ fieldAt judge s at → F ≡ Value v next → judge v ≡ 0
 unfolding fieldAt onNumber onFault
@@ -102,3 +140,6 @@ field-fits total s at e h = positions-range total _ (field-judged (faultOf Posit
 
 pub zones-bound : (bound : ℕ) (s : List ℕ) (at : ℕ) {v next : ℕ} {F : Field} → F ≡ fieldAt (faultOf Zones bound) s at → F ≡ Value v next → v ≤ maxZones
 zones-bound bound s at e h = zones-range bound _ (field-judged (faultOf Zones bound) s at e h) .1
+
+pub move-bound : (s : List ℕ) (at : ℕ) {v next : ℕ} {F : Field} → F ≡ fieldAt (faultOf Measure maxMove) s at → F ≡ Value v next → v ≤ maxMove
+move-bound s at e h = measure-range maxMove _ (field-judged (faultOf Measure maxMove) s at e h) .1

@@ -1,4 +1,5 @@
 // The numbers of a card, in their order; the first fault ends it.
+use crate::table::read_table;
 use card::CardRead;
 use card::Figures;
 use card::Verdict;
@@ -7,32 +8,32 @@ use card::fields::Rule;
 use card::fields::read_field;
 use card::fields::read_time;
 use numbers::limits::MAX_BYTES;
-use numbers::limits::MAX_MOVE;
 use numbers::limits::MAX_RATE;
 use numbers::limits::MAX_TIME;
 use numbers::refusals::ACCEPTED;
 use numbers::refusals::CARD_GOES_ON;
 ghost use mathlib.Core.Path.{_≡_};
 ghost use Prim.Native.Nat.{_≤_};
-ghost use Rattle.numbers.specs.Limits.{maxZones, maxTime};
+ghost use lib.ListN.{length};
+ghost use Rattle.numbers.specs.Limits.{maxZones, maxTime, tableLength};
 ghost use Rattle.card.specs.declared.Figures.{Figures};
-ghost use Rattle.card.specs.Read.{withZones, refusedCard, thenField, filmFrom, zonesFrom};
+ghost use Rattle.card.specs.Read.{withZones, withTable, refusedCard, thenField, filmFrom, zonesFrom};
 ghost use Rattle.card_reader.specs.Film.{acceptedCard, cardWith};
 
-// Figures of which only the zone count is known.
-fn with_zones(zones: u32) -> Figures
-    ensures { λ r. ⌜ r ≡ withZones zones ⌝ }
+// Figures of which only the kind and the zone count are known.
+fn with_zones(kind: u32, zones: u32) -> Figures
+    ensures { λ r. ⌜ r ≡ withZones kind zones ⌝ }
 {
     let none = [0u32; 64];
     Figures {
+        kind: kind,
         zones: zones,
         positions: none,
         times: none,
         blocks: 0,
         bytes: 0,
         rate: 0,
-        hop: 0,
-        back: 0,
+        table: [0u32; 257],
     }
 }
 
@@ -45,7 +46,7 @@ fn refused_card(number: u32, place: usize) -> CardRead
             number: number,
             place: place,
         },
-        figures: with_zones(0),
+        figures: with_zones(0, 0),
     }
 }
 
@@ -72,9 +73,9 @@ pub fn refused_field(f: Field) -> CardRead
     }
 }
 
-// The film's figures N, B, c, hop and return, or the refusal's number with its offset.
+// The film's figures N, B and c, or the refusal's number with its offset.
 pub enum Film {
-    Figures(u32, u32, u32, u32, u32),
+    Figures(u32, u32, u32),
     Refused(u32, usize),
 }
 
@@ -88,9 +89,11 @@ fn refused_film(f: Field) -> Film
     }
 }
 
-// The film's figures; after the last one no byte is left over.
-fn read_film(card: &[u8], at: usize, total: u32) -> Film
-    ensures { λ r. ⌜ ((f : Figures) → cardWith f r ≡ filmFrom (now (card .entry)) at f total) ⌝ }
+// The film's figures, and the overheads into a table; after the last of these no byte is left over.
+fn read_film(card: &[u8], at: usize, total: u32, kind: u32, table: &mut [u32; 257]) -> Film
+    requires { ⌜ length (now table) ≡ tableLength ⌝ }
+    ensures { λ r. ⌜ ((f : Figures) → f .kind ≡ kind
+        → cardWith (withTable f (now (table .exit))) r ≡ filmFrom (now (card .entry)) at (withTable f (now (table .entry))) total) ⌝ }
 {
     let first = read_field(card, at, Rule::Blocks, total);
     let Field::Value(blocks, at1) = first else {
@@ -104,26 +107,22 @@ fn read_film(card: &[u8], at: usize, total: u32) -> Film
     let Field::Value(rate, at3) = third else {
         return refused_film(third);
     };
-    let fourth = read_field(card, at3, Rule::Measure, MAX_MOVE);
-    let Field::Value(hop, at4) = fourth else {
-        return refused_film(fourth);
+    let last = read_table(card, at3, kind, table);
+    let Field::Value(_, end) = last else {
+        return refused_film(last);
     };
-    let fifth = read_field(card, at4, Rule::Measure, MAX_MOVE);
-    let Field::Value(back, at5) = fifth else {
-        return refused_film(fifth);
-    };
-    if at5 < card.len() {
-        return Film::Refused(CARD_GOES_ON, at5);
+    if end < card.len() {
+        return Film::Refused(CARD_GOES_ON, end);
     }
-    Film::Figures(blocks, bytes, rate, hop, back)
+    Film::Figures(blocks, bytes, rate)
 }
 
-// The zones, innermost first, each its positions and its time; then the film.
-pub fn read_zones(card: &[u8], start: usize, zones: u32) -> CardRead
+// The zones, innermost first, each its positions and its time; then the film and the overheads.
+pub fn read_zones(card: &[u8], start: usize, kind: u32, zones: u32) -> CardRead
     requires { ⌜ zones ≤ maxZones ⌝ }
-    ensures { λ r. ⌜ r ≡ zonesFrom zones (now (card .entry)) start 0 (withZones zones) 0 maxTime ⌝ }
+    ensures { λ r. ⌜ r ≡ zonesFrom zones (now (card .entry)) start 0 (withZones kind zones) 0 maxTime ⌝ }
 {
-    let mut f = with_zones(zones);
+    let mut f = with_zones(kind, zones);
     let mut at = start;
     let mut total: u32 = 0;
     let mut before: u32 = MAX_TIME;
@@ -145,15 +144,13 @@ pub fn read_zones(card: &[u8], start: usize, zones: u32) -> CardRead
         at = next;
         i += 1;
     }
-    let film = read_film(card, at, total);
+    let film = read_film(card, at, total, f.kind, &mut f.table);
     match film {
         Film::Refused(number, place) => refused_card(number, place),
-        Film::Figures(blocks, bytes, rate, hop, back) => {
+        Film::Figures(blocks, bytes, rate) => {
             f.blocks = blocks;
             f.bytes = bytes;
             f.rate = rate;
-            f.hop = hop;
-            f.back = back;
             accepted_card(f)
         }
     }

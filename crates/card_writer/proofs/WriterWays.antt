@@ -5,14 +5,17 @@ use mathlib.Core.Path.{_≡_, refl, sym, ap, _∙_}
 use mathlib.Core.List.{List, [], _∷_, _++_}
 use mathlib.Core.Bool.{cond}
 use native.Mathlib.Omega.{arith}
-use lib.ListN.{length, getD, length-append}
+use lib.ListN.{length, getD, drop, length-append, drop-of-length-le}
+use lib.Seq.{drop-cons}
 use lib.Dec.{leb}
-use borrow.Author.Tests.{le-leb, lt-leb}
+use borrow.Author.Tests.{le-leb, lt-leb, eq-eqb, ne-eqb}
+use Rattle.numbers.specs.Limits.{straightKind}
 use Rattle.numbers.specs.Refusals.{tooShort}
 use Rattle.card.specs.declared.Figures.{Figures}
 use Rattle.laws.specs.Overwrite.{overwrite, overwrite-none, overwrite-length, overwrite-more, overwrite-front}
-use Rattle.leb128.specs.Number.{groups, groupsFrom}
-use Rattle.card.specs.Card.{bytesOf, filmNumbers, zoneNumbers, numbersOf, cardOf, recordFault, writeFault, notWritten, writtenBy, writtenCard, bufferBy, bufferAfter}
+use Rattle.leb128.specs.Number.{groups}
+use Rattle.card.specs.Table.{hopIn, backIn}
+use Rattle.card.specs.Card.{bytesOf, tableNumbers, filmNumbers, zoneNumbers, numbersOf, cardOf, recordFault, writeFault, notWritten, writtenBy, writtenCard, bufferBy, bufferAfter}
 use Rattle.card.specs.declared.CardWritten.{CardWritten}
 use Rattle.card.specs.Ranges.{first}
 
@@ -64,13 +67,49 @@ module _ (f : Figures) (i : ℕ) where
       ∙ ap (λ (n : ℕ). length (groups (getD (f .positions) i 0)) + n) (length-append (groups (getD (f .times) i 0)) (bytesOf (zoneNumbers k (i + 1) f))))
 
 -- the bytes of two numbers more
-pub length-head : (f : Figures) → length (cardOf f) ≡ 1 + length (groups (f .zones)) + length (bytesOf (zoneNumbers (f .zones) 0 f))
-unfolding cardOf numbersOf bytesOf groups groupsFrom
-length-head f = omega (arith, length-append (groups (f .zones)) (bytesOf (zoneNumbers (f .zones) 0 f)))
+pub length-head : (f : Figures) → length (cardOf f) ≡ length (groups (f .kind)) + length (groups (f .zones)) + length (bytesOf (zoneNumbers (f .zones) 0 f))
+unfolding cardOf numbersOf bytesOf
+length-head f = simp length-append (omega arith)
 
-pub length-film : (f : Figures) → length (bytesOf (filmNumbers f)) ≡ length (groups (f .blocks)) + length (groups (f .bytes)) + length (groups (f .rate)) + length (groups (f .hop)) + length (groups (f .back))
+pub length-film : (f : Figures)
+    → length (bytesOf (filmNumbers f)) ≡ length (groups (f .blocks)) + length (groups (f .bytes)) + length (groups (f .rate)) + length (bytesOf (tableNumbers (f .kind) (f .table)))
 unfolding filmNumbers bytesOf
 length-film f = simp length-append (omega arith)
+
+-- ---- the overheads
+
+module _ (t : List ℕ) (k : ℕ) where
+  pub drop-here : k < length t → drop k t ≡ getD t k 0 ∷ drop (k + 1) t
+  drop-here h = let e : k + 1 ≡ suc k = omega arith in rw e (drop-cons t k 0 h)
+
+  pub drop-none : length t ≤ k → drop k t ≡ []
+  drop-none h = drop-of-length-le t {i = k} h
+
+  -- the bytes of an entry and of those after it
+  pub length-entry : k < length t → length (bytesOf (drop k t)) ≡ length (groups (getD t k 0)) + length (bytesOf (drop (k + 1) t))
+  unfolding bytesOf
+  length-entry h = rw (drop-here h) (length-append (groups (getD t k 0)) (bytesOf (drop (k + 1) t)))
+
+  pub length-no-entry : length t ≤ k → length (bytesOf (drop k t)) ≡ 0
+  unfolding bytesOf
+  length-no-entry h = rw (drop-none h)
+
+-- by the kind
+module _ (kind : ℕ) (t : List ℕ) where
+  pub numbers-straight : kind ≡ straightKind → tableNumbers kind t ≡ hopIn t ∷ backIn t ∷ []
+  unfolding tableNumbers
+  numbers-straight e = rw (eq-eqb kind straightKind e)
+
+  pub numbers-measured : (kind ≡ straightKind → ⊥) → tableNumbers kind t ≡ t
+  unfolding tableNumbers
+  numbers-measured n = rw (ne-eqb kind straightKind n)
+
+  pub length-moves : kind ≡ straightKind → length (bytesOf (tableNumbers kind t)) ≡ length (groups (hopIn t)) + length (groups (backIn t))
+  unfolding bytesOf
+  length-moves e = rw (numbers-straight e) (simp length-append (omega arith))
+
+  pub length-entries : (kind ≡ straightKind → ⊥) → length (bytesOf t) ≡ length (bytesOf (tableNumbers kind t))
+  length-entries n = ap (λ (vs : List ℕ). length (bytesOf vs)) (sym (numbers-measured n))
 
 module _ (f : Figures) (out : List ℕ) where
   pub write-faulty : {k : ℕ} → k ≡ recordFault f → (k ≡ 0 → ⊥) → (notWritten k ≡ writtenCard f out) × (out ≡ bufferAfter f out)

@@ -10,7 +10,7 @@ use numbers::refusals::TOO_SHORT;
 ghost use mathlib.Core.Path.{_≡_};
 ghost use Rattle.card.specs.Card.{writtenCard, bufferAfter};
 
-// Writes the card of figures into a lent buffer: refusals 4 to 10 and 26, then 13.
+// Writes the card of figures into a lent buffer: refusals 3 to 10, 25 and 26, then 13.
 pub fn write_card(figures: Figures, out: &mut [u8]) -> CardWritten
     ensures { λ r. ⌜ (r ≡ writtenCard figures (now (out .entry))) × (now (out .exit) ≡ bufferAfter figures (now (out .entry))) ⌝ }
 {

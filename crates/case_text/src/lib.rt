@@ -1,4 +1,7 @@
 // The text of worked cases: numbers, records and cards are read from a line, answers printed on one.
+pub mod runs; // numbers that rise by the same step
+
+use crate::runs::read_table;
 use card::Figures;
 use card::Verdict;
 use libc::STDOUT_FILENO;
@@ -12,7 +15,7 @@ pub struct Entry {
 }
 
 // What a digit stands for, a to f being 10 to 15; 16 for any other byte.
-fn digit(byte: u8) -> u32
+pub fn digit(byte: u8) -> u32
     ensures { λ r. ⌜ r < 17 ⌝ }
 {
     if byte < b'0' {
@@ -31,7 +34,7 @@ fn digit(byte: u8) -> u32
 }
 
 // The first place from `start` on that has no space.
-fn past_spaces(text: &[u8], start: usize) -> usize {
+pub fn past_spaces(text: &[u8], start: usize) -> usize {
     let mut at = start;
     while at < text.len() {
         if text[at] != b' ' {
@@ -64,17 +67,17 @@ fn no_zones() -> [u32; 64] {
     [0u32; 64]
 }
 
-// A record of figures: zones, N, B, c, hop, return, then positions and time of each zone. What is missing is 0.
+// A record of figures: kind, zones, N, B, c, the 257 overheads as runs, then positions and time of each zone. What is missing is 0.
 pub fn read_record(text: &[u8], start: usize) -> Figures {
-    let zones = read_number(text, start);
+    let kind = read_number(text, start);
+    let zones = read_number(text, kind.next);
     let blocks = read_number(text, zones.next);
     let bytes = read_number(text, blocks.next);
     let rate = read_number(text, bytes.next);
-    let hop = read_number(text, rate.next);
-    let back = read_number(text, hop.next);
+    let overheads = read_table(text, rate.next);
     let mut positions = no_zones();
     let mut times = no_zones();
-    let mut at = back.next;
+    let mut at = overheads.next;
     let mut i: usize = 0;
     while i < 64 {
         let count = read_number(text, at);
@@ -84,15 +87,16 @@ pub fn read_record(text: &[u8], start: usize) -> Figures {
         at = time.next;
         i += 1;
     }
+    let table = overheads.table;
     Figures {
+        kind: kind.value,
         zones: zones.value,
         positions: positions,
         times: times,
         blocks: blocks.value,
         bytes: bytes.value,
         rate: rate.value,
-        hop: hop.value,
-        back: back.value,
+        table: table,
     }
 }
 
@@ -162,6 +166,11 @@ pub fn print_byte(byte: u8) {
 pub fn print_number(number: u64) {
     io::write_all(STDOUT_FILENO, b" ");
     io::print_decimal(STDOUT_FILENO, number);
+}
+
+// The same of 32 bits.
+pub fn print_word(number: u32) {
+    print_number(number as u64);
 }
 
 pub fn print_refusal(verdict: Verdict) {

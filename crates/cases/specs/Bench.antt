@@ -1,8 +1,10 @@
--- The films of document 01's bench cases, as figures.
-use Prim.Native.Nat.{ℕ, _-_}
+-- The films of document 01's bench cases, as figures, and tables of measured overheads for them (document 02, ticket 3).
+use Prim.Native.Nat.{ℕ, _+_, _-_}
 use mathlib.Core.List.{List, [], _∷_, _++_}
-use lib.ListN.{length, replicate}
+use lib.ListN.{length, take, drop, replicate}
+use Rattle.numbers.specs.Limits.{straightKind, measuredKind, tableLength}
 use Rattle.card.specs.declared.Figures.{Figures}
+use Rattle.card.specs.Table.{straight}
 
 -- the entries of a record's array; those past the zones are zero
 unfoldable pub entries : List ℕ → List ℕ
@@ -11,14 +13,14 @@ entries xs = xs ++ replicate (64 - length xs) 0
 -- a film of N blocks of B bytes on zones of given positions and times, with the bench film's rate, hop and return
 unfoldable pub film : List ℕ → List ℕ → ℕ → ℕ → Figures
 film ps ts N B = record {
+  kind = straightKind;
   zones = length ps;
   positions = entries ps;
   times = entries ts;
   blocks = N;
   bytes = B;
   rate = 500000;
-  hop = 12670;
-  back = 15000;
+  table = straight 12670 15000;
 }
 
 abbrev pub sixOnes : List ℕ
@@ -34,3 +36,30 @@ bench N B = film sixOnes sixTimes N B
 -- one zone of N positions of 20000, the film on all of them
 abbrev pub alike : ℕ → ℕ → Figures
 alike N B = film (N ∷ []) (20000 ∷ []) N B
+
+-- ---- kind 2
+
+-- the same figures with measured overheads
+abbrev pub measured : List ℕ → Figures → Figures
+measured table f = record {
+  kind = measuredKind;
+  zones = f .zones;
+  positions = f .positions;
+  times = f .times;
+  blocks = f .blocks;
+  bytes = f .bytes;
+  rate = f .rate;
+  table = table;
+}
+
+-- the bench film's table up to k blocks, and `most` for all above
+unfoldable pub late : ℕ → ℕ → List ℕ
+late k most = take (k + 1) (straight 12670 15000) ++ replicate (tableLength - (k + 1)) most
+
+-- the return alone for up to 255 blocks, and `last` for 256
+unfoldable pub level : ℕ → List ℕ
+level last = replicate 256 15000 ++ (last ∷ [])
+
+-- the bench film's table, with 30000 for one block
+unfoldable pub dear : List ℕ
+dear = 15000 ∷ 30000 ∷ drop 2 (straight 12670 15000)

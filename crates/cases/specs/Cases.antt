@@ -1,13 +1,14 @@
--- The rows of document 01's bench cases that are marked (p), each an equation that computes; document 02's one-zone case as a loop, with
--- the bench film as one; and the number of its small cards.
+-- The rows of document 01's bench cases that are marked (p), each an equation that computes; document 02's one-zone case as a loop, with the
+-- bench film as one; the bench film with measured overheads; and the number of document 02's small cards.
 use Prim.Native.Nat.{ℕ}
 use mathlib.Core.Path.{_≡_, refl}
 use mathlib.Core.List.{List, [], _∷_}
 use lib.ListN.{length}
 use Rattle.leb128.specs.Number.{groupsFrom, groups, continuing, joined, judged, numberIn, numberAt}
 use Rattle.card.specs.Ranges.{first, below, above, outside, thenAbove, thenBelow, faultOf, timeFault}
-use Rattle.card.specs.Read.{onFault, onNumber, fieldAt, blankZones, blankFigures, accepted, refusedCard, thenField, cardEnd, filmFrom, zonesFrom, readCard}
-use Rattle.card.specs.Card.{filmNumbers, zoneNumbers, numbersOf, bytesOf, cardOf}
+use Rattle.card.specs.Read.{onFault, onNumber, fieldAt, blankZones, blankTable, blankFigures, accepted, refusedCard, thenField, cardEnd, movesFrom, entriesFrom, tableFrom, filmFrom, zonesFrom, readCard}
+use Rattle.card.specs.Table.{straightFrom, straight}
+use Rattle.card.specs.Card.{tableNumbers, filmNumbers, zoneNumbers, numbersOf, bytesOf, cardOf}
 use Rattle.card.specs.declared.CardRead.{CardRead}
 use Rattle.card.specs.declared.Figures.{Figures}
 use Rattle.card.specs.Card.{totalPositions}
@@ -27,7 +28,7 @@ use Rattle.plan.specs.Answer.{planFault, refusal, planned}
 use Rattle.small_cards.specs.Cards.{smallCards}
 use Rattle.small_cards.specs.Computed.{how-many}
 use Rattle.cases.specs.Story.{Story, story}
-use Rattle.cases.specs.Bench.{entries, film, sixOnes, bench, alike}
+use Rattle.cases.specs.Bench.{entries, film, sixOnes, bench, alike, measured, late, level}
 
 -- what a listing prints of a refused card: the number and the offset
 abbrev pub Refuses : List ℕ → ℕ → ℕ → Type 0
@@ -90,13 +91,23 @@ pub record Cases : Type 0 where
   pub bench-loop-plan : Plans loop (bench 6 262144) 15 807320 38970 5 5570
   pub bench-loop-positions : positionsOf loop (bench 6 262144) ≡ 0 ∷ 5 ∷ 1 ∷ 3 ∷ 2 ∷ 4 ∷ []
   pub bench-loop-leads : leadsOf loop (bench 6 262144) ≡ 5570 ∷ 0 ∷ 2130 ∷ 0 ∷ 0 ∷ 0 ∷ []
+  -- the bench film as kind 2 with the table of its hop and return: its card is read as its figures, and the plan is that of kind 1 (T3.5)
+  pub measured-card : _≡_ {A = CardRead} (readCard (cardOf (measured (straight 12670 15000) (bench 6 262144))))
+      (record { verdict = accepted; figures = measured (straight 12670 15000) (bench 6 262144) })
+  pub measured-plan : Plans one (measured (straight 12670 15000) (bench 6 262144)) 16 812632 37990 0 6550
+  -- a table that rises late feeds fewer streams than its first two entries would
+  pub late-plan : Plans one (measured (late 8 400000) (bench 6 262144)) 8 799532 37990 0 6550
+  -- 1 stream, 256 and 255, each decided by one entry of the table
+  pub late-one : streamsOf one (measured (late 1 257000000) (bench 6 262144)) ≡ 1
+  pub level-all : streamsOf one (measured (level 268288) (film (2 ∷ []) (1000 ∷ []) 2 262144)) ≡ 256
+  pub level-last : streamsOf one (measured (level 268289) (film (2 ∷ []) (1000 ∷ []) 2 262144)) ≡ 255
   -- document 02: there are 1511 small cards (T13.4)
   pub small-cards : length smallCards ≡ 1511
   -- the desk case
   pub desk : Story
 
 pub cases : Cases
-unfolding groupsFrom groups continuing joined judged numberIn numberAt first below above outside thenAbove thenBelow faultOf timeFault onFault onNumber fieldAt blankZones blankFigures refusedCard thenField cardEnd filmFrom zonesFrom readCard filmNumbers zoneNumbers numbersOf bytesOf cardOf entries film totalPositions sumBy greatestOf greatest wordsOf zigzag worstTime round falls rank ring worstRound timeAt run span lead overhead load streams bufferOf slowest margin firstReaching earliestOf worstAt worst2Of worstAtOf streamsOf marginOf bufferSize planOf blankPlan row positionsOf leadsOf planFault refusal planned
+unfolding groupsFrom groups continuing joined judged numberIn numberAt first below above outside thenAbove thenBelow faultOf timeFault onFault onNumber fieldAt blankZones blankTable blankFigures refusedCard thenField cardEnd movesFrom entriesFrom tableFrom filmFrom zonesFrom readCard straightFrom straight tableNumbers filmNumbers zoneNumbers numbersOf bytesOf cardOf entries film late level totalPositions sumBy greatestOf greatest wordsOf zigzag worstTime round falls rank ring worstRound timeAt run span lead overhead load streams bufferOf slowest margin firstReaching earliestOf worstAt worst2Of worstAtOf streamsOf marginOf bufferSize planOf blankPlan row positionsOf leadsOf planFault refusal planned
 cases = record {
   number-300 = refl;
   number-22270 = refl;
@@ -125,6 +136,12 @@ cases = record {
   bench-loop-plan = refl;
   bench-loop-positions = refl;
   bench-loop-leads = refl;
+  measured-card = refl;
+  measured-plan = refl;
+  late-plan = refl;
+  late-one = refl;
+  level-all = refl;
+  level-last = refl;
   small-cards = how-many;
   desk = story;
 }

@@ -1,4 +1,4 @@
--- Document 01's desk case: the bench film's desk, call by call.
+-- Document 01's desk case: the bench film's desk, call by call; and its first sweep with a measured overhead.
 use Prim.Native.Nat.{ℕ, _+_, _*_}
 use mathlib.Core.Path.{_≡_, refl}
 use mathlib.Core.List.{List, _∷_}
@@ -9,7 +9,8 @@ use Rattle.laws.specs.Map.{mapFrom}
 use Rattle.laws.specs.Indices.{allFrom, lowestFrom}
 use Rattle.words.specs.Words.{wordsOf, bytesOf}
 use Rattle.card.specs.Ranges.{first, below, above, outside, thenAbove, thenBelow, faultOf, timeFault}
-use Rattle.card.specs.Card.{totalPositions, filmFault, zoneFaults, zerosFrom, unusedZero, recordFault}
+use Rattle.card.specs.Table.{straightFrom, straight, isLine}
+use Rattle.card.specs.Card.{totalPositions, straightFault, measuredFault, tableFault, filmFault, zoneFaults, zerosFrom, unusedZero, recordFault}
 use Rattle.card.specs.declared.Figures.{Figures}
 use Rattle.placement.specs.Placement.{zigzag, worstTime}
 use Rattle.placement.specs.Showing.{one, worstAt}
@@ -28,7 +29,7 @@ use Rattle.rules.specs.Arrays.{slotsOf}
 use Rattle.desk.specs.declared.Desk.{Desk}
 use Rattle.desk.specs.declared.Begun.{Begun}
 use Rattle.desk.specs.Desk.{supplyOf, slotsIn, viewOf, deskOf, zeros, freshDesk, openDesk, answerOf, answered, joinDesk, beginDesk, endDesk, array, fetchesOf}
-use Rattle.cases.specs.Bench.{entries, film, bench}
+use Rattle.cases.specs.Bench.{entries, film, bench, measured, dear}
 
 -- the bench film's plan and its two lists
 abbrev figures : Figures
@@ -68,6 +69,10 @@ secondEnd = endDesk (secondBegin .desk) positions leads (draws 21695) .desk
 unfoldable pub thirdBegin : Begun
 thirdBegin = beginDesk secondEnd positions leads 16
 
+-- the first sweep of the bench film with 30000 for the overhead of one block
+unfoldable pub dearBegin : Begun
+dearBegin = beginDesk (joinDesk (openDesk (planOf one (measured dear figures)) positions leads .desk) positions leads 0 0 .desk) positions leads 16
+
 -- the floor that asked slot i is granted against at the next begin of a desk: after its starts, with the asked slot's lead added, in
 -- two-millionths of a byte
 unfoldable pub floorFor : Desk → ℕ → ℕ
@@ -94,9 +99,11 @@ pub record Story : Type 0 where
   pub second-held : getD (secondEnd .held) 0 0 ≡ 502593
   pub third-kinds : (getD (thirdBegin .desk .kinds) 0 0 ≡ 3) × (getD (thirdBegin .desk .kinds) 1 0 ≡ 2)
   pub third-floor : floorFor secondEnd 1 ≡ 2000000 * 264559
+  -- the sweep bound has the table's entry for the one block that is fetched (T3.5)
+  pub dear-bound : (dearBegin .fetches .count ≡ 1) × (dearBegin .bound ≡ 52270)
 
 pub story : Story
-unfolding sumBy allBy greatestOf greatest mapFrom allFrom lowestFrom wordsOf bytesOf first below above outside thenAbove thenBelow faultOf timeFault totalPositions filmFault zoneFaults zerosFrom unusedZero recordFault zigzag worstTime timeAt run span lead overhead load streams bufferOf slowest margin firstReaching earliestOf worstAt showingOf worst2Of worstAtOf streamsOf marginOf bufferSize planOf row positionsOf leadsOf begins hasNumbers hasPositions hasLeads isPlan S.before S.insert S.sorted S.entriesAt S.reads S.leadOf S.leads S.lowWater S.holds S.joined S.left S.startedSlot S.started S.playersHold S.grantable S.granted S.tried S.tries S.begun S.isFetched S.entriesFrom S.entries S.timeOf S.times S.fetchCount S.bound S.sweptBy S.released S.endedSlot S.ended S.mostDrawn S.drawLimit isZero soundSlot sound drawAllowed drawHeld judged verdict bySlot refusals accepted answer slotsOf supplyOf viewOf deskOf zeros freshDesk openDesk answerOf answered joinDesk beginDesk endDesk array fetchesOf entries film positions leads joinedDesk firstBegin firstEnd secondJoin secondBegin secondEnd thirdBegin floorFor
+unfolding sumBy allBy greatestOf greatest mapFrom allFrom lowestFrom wordsOf bytesOf first below above outside thenAbove thenBelow faultOf timeFault totalPositions straightFrom straight isLine straightFault measuredFault tableFault filmFault zoneFaults zerosFrom unusedZero recordFault zigzag worstTime timeAt run span lead overhead load streams bufferOf slowest margin firstReaching earliestOf worstAt showingOf worst2Of worstAtOf streamsOf marginOf bufferSize planOf row positionsOf leadsOf begins hasNumbers hasPositions hasLeads isPlan S.before S.insert S.sorted S.entriesAt S.reads S.leadOf S.leads S.lowWater S.holds S.joined S.left S.startedSlot S.started S.playersHold S.grantable S.granted S.tried S.tries S.begun S.isFetched S.entriesFrom S.entries S.timeOf S.times S.fetchCount S.bound S.sweptBy S.released S.endedSlot S.ended S.mostDrawn S.drawLimit isZero soundSlot sound drawAllowed drawHeld judged verdict bySlot refusals accepted answer slotsOf supplyOf viewOf deskOf zeros freshDesk openDesk answerOf answered joinDesk beginDesk endDesk array fetchesOf entries film positions leads joinedDesk firstBegin firstEnd secondJoin secondBegin secondEnd thirdBegin dear dearBegin floorFor
 story = record {
   first-fetch = (refl, refl, refl, refl, refl);
   first-bound = refl;
@@ -109,4 +116,5 @@ story = record {
   second-held = refl;
   third-kinds = (refl, refl);
   third-floor = refl;
+  dear-bound = (refl, refl);
 }

@@ -8,6 +8,7 @@ use lib.ListN.{length, take, drop, length-append}
 use lib.Seq.{take-append-seam}
 use borrow.Author.Tests.{le-leb, eq-eqb}
 use Rattle.numbers.specs.Units.{parts}
+use Rattle.numbers.specs.Limits.{maxCard}
 use Rattle.words.specs.Words.{wordsOf}
 use Rattle.words.specs.Laws.{words-length}
 use Rattle.card.specs.declared.Figures.{Figures}
@@ -15,6 +16,8 @@ use Rattle.card.specs.declared.CardRead.{CardRead}
 use Rattle.card.specs.declared.Verdict.{Verdict}
 use Rattle.card.specs.declared.CardWritten.{CardWritten}
 use Rattle.card.specs.Ranges.{first}
+use Rattle.card.specs.Table.{straight}
+use Rattle.card.specs.TableLaws.{straight-at}
 use Rattle.card.specs.Card.{Legal, cardOf, writeFault, writtenCard, bufferAfter}
 use Rattle.card.specs.Read.{accepted, readCard}
 use Rattle.round_trip.specs.Legality.{legal-fault}
@@ -24,7 +27,7 @@ use Rattle.laws.specs.Greatest.{greatestOf-least}
 use Rattle.placement.specs.Showing.{Showing}
 use Rattle.placement.specs.Zones.{timeAt-within}
 use Rattle.pacing.specs.Laid.{slowest, worst-within}
-use Rattle.pacing.specs.Streams.{overhead, load, streams-best}
+use Rattle.pacing.specs.Streams.{overhead, overhead-entry, load, streams-best}
 use Rattle.plan.specs.declared.Planned.{Planned}
 use Rattle.plan.specs.Plan.{timeOn, positionOf, timeOf, worst2Of, overOf, streamsOf}
 use Rattle.plan.specs.Legal.{total-zones, position-below}
@@ -37,7 +40,7 @@ use Rattle.compare_planners.specs.Compare.{unequalOf, eight, unequalOn}
 
 -- ---- the card is written
 
-module _ (f : Figures) (ok : Legal f) (out : List ℕ) (room : 467 ≤ length out) where
+module _ (f : Figures) (ok : Legal f) (out : List ℕ) (room : maxCard ≤ length out) where
   no-fault : writeFault f (length out) ≡ 0
   unfolding writeFault first
   no-fault = rw (legal-fault f ok, le-leb (length (cardOf f)) (length out) (omega (arith, legal-size f ok .1)))
@@ -88,9 +91,9 @@ worst-six x f small =
     three b u = timeAt-within (f .positions) (f .times) (f .zones) (positionOf x f b) 3 (small .times) (omega (arith, position-below x f (small .legal) b u, total-zones f (small .legal)))
 
 -- so a stream fits
-one-fits : (c w h r B : ℕ) → c ≡ 1000 → h ≡ 1 → r ≡ 1 → B ≡ 1000 → w ≤ 6 → load c w (overhead h r) 1 ≤ parts * B
-unfolding load overhead
-one-fits c w h r B ec eh er eb l = rw (ec, eh, er, eb) (omega arith)
+one-fits : (c w B : ℕ) (table : List ℕ) → c ≡ 1000 → B ≡ 1000 → table ≡ straight 1 1 → w ≤ 6 → load c w (overhead table) 1 ≤ parts * B
+unfolding load
+one-fits c w B table ec eb et l = rw (ec, eb, et) (omega (arith, overhead-entry (straight 1 1) 1 (omega arith), straight-at 1 1 1 (omega arith)))
 
 fed : (x : Showing) (f : Figures) → Small f → streamsOf x f ≡ 0 → ⊥
 unfolding streamsOf
@@ -98,7 +101,7 @@ fed x f small z =
     let m = small .measures in
     omega (
       arith,
-      one-fits (f .rate) (worst2Of x f) (f .hop) (f .back) (f .bytes) (m .1) (m .2) (m .3) (m .0) (worst-six x f small),
+      one-fits (f .rate) (worst2Of x f) (f .bytes) (f .table) (m .2) (m .1) (m .3) (worst-six x f small),
       streams-best (f .rate) (worst2Of x f) (overOf f) (f .bytes) (worst2Of x f) 1 (omega arith) (omega arith) (omega arith),
     )
 

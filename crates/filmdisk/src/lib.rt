@@ -7,7 +7,7 @@ ghost use Rattle.plan_strings.specs.Calls.{planAnswer, planString, positionsStr
 ghost use Rattle.desk_strings.specs.Calls.{openAnswer, openString, joinAnswer, joinString, leaveAnswer, leaveString, beginAnswer, beginString, fetchString, endAnswer, endString};
 ghost use Rattle.window_strings.specs.Calls.{windowCall};
 
-// Plans a card for one showing: 1 to 11 and 26, then 13, then 12.
+// Plans a card for one showing: 1 to 11, 25 and 26, then 13, then 12.
 #[no_mangle]
 pub extern "C" fn filmdisk_plan(
     card: &[u8],

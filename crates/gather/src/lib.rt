@@ -53,11 +53,11 @@ fn next_block<'a>(
 }
 
 // Time and position of the next block of each of the first `streams` slots; zero for free slots and tails, and past these.
-pub fn gather<'a, 'b>(
+pub fn gather<'a>(
     kinds: &'a [u32; 256],
     next: &'a [u32; 256],
-    sizes: &'b [u32; 64],
-    times: &'b [u32; 64],
+    sizes: &'a [u32; 64],
+    times: &'a [u32; 64],
     positions: &[u8],
     streams: usize,
 ) -> Gathered

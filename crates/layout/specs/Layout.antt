@@ -3,7 +3,7 @@
 use Prim.Native.Nat.{ℕ, _*_}
 use mathlib.Core.List.{List, [], _∷_, _++_}
 use lib.ListN.{replicate}
-use Rattle.numbers.specs.Limits.{maxZones, maxStreams}
+use Rattle.numbers.specs.Limits.{maxZones, maxStreams, tableLength}
 use Rattle.card.specs.declared.Figures.{Figures}
 use Rattle.plan.specs.declared.Plan.{Plan}
 use Rattle.desk.specs.declared.Desk.{Desk}
@@ -13,24 +13,24 @@ use Rattle.layout.specs.Fields.{Field, word, array, Values, _&_, wordCou
 
 abbrev pub figureFields : List Field
 figureFields =
-    -- zones, and positions and time of each
+    -- kind; zones, and positions and time of each
     word
+    ∷ word
     ∷ array maxZones
     ∷ array maxZones
-    -- N, B, c, hop, return
+    -- N, B, c; the table of overheads
     ∷ word
     ∷ word
     ∷ word
-    ∷ word
-    ∷ word
+    ∷ array tableLength
     ∷ []
 
 abbrev pub figureValues : Figures → Values figureFields
-figureValues f = f .zones & f .positions & f .times & f .blocks & f .bytes & f .rate & f .hop & f .back & tt
+figureValues f = f .kind & f .zones & f .positions & f .times & f .blocks & f .bytes & f .rate & f .table & tt
 
 abbrev pub figuresOf : Values figureFields → Figures
-figuresOf (zones, (positions, (times, (blocks, (bytes, (rate, (hop, (back, end)))))))) =
-    record { zones = zones; positions = positions; times = times; blocks = blocks; bytes = bytes; rate = rate; hop = hop; back = back }
+figuresOf (kind, (zones, (positions, (times, (blocks, (bytes, (rate, (table, end)))))))) =
+    record { kind = kind; zones = zones; positions = positions; times = times; blocks = blocks; bytes = bytes; rate = rate; table = table }
 
 -- ---- a plan: its figures, then what was planned
 

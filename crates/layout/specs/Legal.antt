@@ -1,12 +1,16 @@
--- The plan of legal figures can be written and read back: its arrays have 64 entries, its numbers 32 bits.
+-- The plan of legal figures can be written and read back: its arrays have 64 and 257 entries, its numbers 32 bits.
 -- Assumes nothing.
 use Prim.Native.Nat.{suc, _<_}
-use mathlib.Core.Logic.{by-cases}
+use mathlib.Core.Path.{_≡_}
+use mathlib.Core.Logic.{by-cases, ⊎-elim}
 use native.Mathlib.Omega.{arith}
 use native.Mathlib.Decide.{decLt}
+use lib.ListN.{getD, List·getD-eq-default}
+use Rattle.numbers.specs.Limits.{tableLength}
 use Rattle.words.specs.Words.{Words}
 use Rattle.card.specs.declared.Figures.{Figures}
 use Rattle.card.specs.Card.{Legal}
+use Rattle.card.specs.TableLaws.{table-range, table-long}
 use Rattle.placement.specs.Zones.{total, total-turn, total-take}
 use Rattle.placement.specs.Showing.{Showing, one, loop}
 use Rattle.plan.specs.Plan.{wordOf, planOf}
@@ -23,7 +27,7 @@ word-small loop = omega arith
 module _ (x : Showing) (f : Figures) (ok : Legal f) where
   pub legal-sized : PlanSized (planOf x f)
   unfolding planOf
-  legal-sized = record { positions = ok .wide .0; times = ok .wide .1 }
+  legal-sized = record { positions = ok .wide .0; times = ok .wide .1; table = ok .wide .2 }
 
   positions-small : Words (f .positions)
   positions-small i = by-cases (decLt i (f .zones))
@@ -33,17 +37,25 @@ module _ (x : Showing) (f : Figures) (ok : Legal f) where
   times-small : Words (f .times)
   times-small i = by-cases (decLt i (f .zones)) (λ h. omega (arith, ok .times i h)) (λ h. omega (arith, ok .unused i (omega arith)))
 
+  table-small : Words (f .table)
+  table-small i = by-cases (decLt i tableLength)
+      (λ h. omega (arith, table-range f ok i h))
+      (λ h. let e : getD (f .table) i 0 ≡ 0 = List·getD-eq-default (f .table) 0 (omega (arith, table-long f ok)) in omega arith)
+
+  kind-small : f .kind < 4294967296
+  kind-small = ⊎-elim (λ e. omega arith) (λ e. omega arith) (ok .kind)
+
   legal-fit : AllFit planFields (planValues (planOf x f))
   unfolding planOf
   legal-fit =
-      omega (arith, ok .zones)
+      kind-small
+      & omega (arith, ok .zones)
       & positions-small
       & times-small
       & omega (arith, ok .blocks)
       & omega (arith, ok .bytes)
       & omega (arith, ok .rate)
-      & omega (arith, ok .hop)
-      & omega (arith, ok .back)
+      & table-small
       & omega (arith, streams-few x f ok)
       & omega (arith, ok .bytes, buffer-small x f ok)
       & omega (arith, worst2-small x f ok)

@@ -6,11 +6,11 @@ use mathlib.Core.Path.{_≡_, refl, sym, ap, _∙_}
 use mathlib.Core.List.{List, [], _++_, append-nil}
 use native.Mathlib.Omega.{arith}
 use lib.ListN.{length, replicate, length-replicate, drop-of-length-le}
-use Rattle.numbers.specs.Limits.{maxZones, maxStreams}
+use Rattle.numbers.specs.Limits.{maxZones, maxStreams, tableLength}
 use Rattle.laws.specs.Overwrite.{overwrite, overwrite-front}
 use Rattle.words.specs.Words.{Bytes, Words, wordsOf, withWords, bytesOf}
 use Rattle.words.specs.Laws.{words-length, withWords-append, withWords-overwrite}
-use Rattle.card.specs.Read.{blankZones, blankFigures}
+use Rattle.card.specs.Read.{blankZones, blankTable, blankFigures}
 use Rattle.plan.specs.declared.Plan.{Plan}
 use Rattle.plan.specs.Plan.{blankPlan}
 use Rattle.desk.specs.declared.Desk.{Desk}
@@ -21,10 +21,11 @@ use Rattle.layout.specs.Layout.{figureFields, figureValues, figuresOf, p
 
 -- ---- sizes
 
--- the arrays of a plan have 64 entries
+-- the arrays of a plan have 64 and 257 entries
 pub record PlanSized (p : Plan) : Type 0 where
   pub positions : length (p .figures .positions) ≡ maxZones
   pub times : length (p .figures .times) ≡ maxZones
+  pub table : length (p .figures .table) ≡ tableLength
 
 -- and those of a desk 256
 pub record DeskSized (d : Desk) : Type 0 where
@@ -122,9 +123,9 @@ words-zero s n e =
 
 -- a refused plan is all zero
 pub plan-zero : (s : List ℕ) → length s ≡ planSize → withWords s 0 (planWords blankPlan) ≡ zeroBytes planSize
-unfolding zeroBytes planWords blankPlan blankFigures blankZones
+unfolding zeroBytes planWords blankPlan blankFigures blankZones blankTable
 plan-zero s e = words-zero s planWordCount e
 
 pub desk-zero : (s : List ℕ) → length s ≡ deskSize → withWords s 0 (deskWords blankDesk) ≡ zeroBytes deskSize
-unfolding zeroBytes deskWords blankDesk freshDesk zeros blankPlan blankFigures blankZones
+unfolding zeroBytes deskWords blankDesk freshDesk zeros blankPlan blankFigures blankZones blankTable
 desk-zero s e = words-zero s deskWordCount e

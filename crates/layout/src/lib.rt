@@ -8,9 +8,11 @@ use desk::Desk;
 use plan::Plan;
 use words::read_64;
 use words::read_256;
+use words::read_257;
 use words::word_at;
 use words::write_64;
 use words::write_256;
+use words::write_257;
 use words::write_words;
 ghost use mathlib.Core.Path.{_≡_};
 ghost use Prim.Native.Nat.{ℕ, _*_, _≤_, _<_};
@@ -88,14 +90,14 @@ fn figures_at(list: &[u8]) -> Figures
     ensures { λ r. ⌜ Same figureFields (figureValues r) (unpacked figureFields 0 (wordsOf (now (list .entry)))) ⌝ }
 {
     Figures {
+        kind: word_at(list, offsets::KIND),
         zones: word_at(list, offsets::ZONES),
         positions: read_64(list, offsets::POSITIONS),
         times: read_64(list, offsets::TIMES),
         blocks: word_at(list, offsets::BLOCKS),
         bytes: word_at(list, offsets::BYTES),
         rate: word_at(list, offsets::RATE),
-        hop: word_at(list, offsets::HOP),
-        back: word_at(list, offsets::BACK),
+        table: read_257(list, offsets::TABLE),
     }
 }
 
@@ -129,19 +131,23 @@ pub fn write_plan(list: &mut [u8], plan: Plan)
     requires { ⌜ planSize ≤ length (now list) ⌝ }
     ensures { λ _. ⌜ (now (list .exit) ≡ withWords (now (list .entry)) 0 (planWords plan)) × (length (planWords plan) ≡ planWordCount) ⌝ }
 {
-    let figures = plan.figures;
-    write_words(list, offsets::ZONES, &[figures.zones]);
-    write_64(list, offsets::POSITIONS, &figures.positions);
-    write_64(list, offsets::TIMES, &figures.times);
+    write_words(
+        list,
+        offsets::KIND,
+        &[plan.figures.kind, plan.figures.zones],
+    );
+    write_64(list, offsets::POSITIONS, &plan.figures.positions);
+    write_64(list, offsets::TIMES, &plan.figures.times);
     write_words(
         list,
         offsets::BLOCKS,
+        &[plan.figures.blocks, plan.figures.bytes, plan.figures.rate],
+    );
+    write_257(list, offsets::TABLE, &plan.figures.table);
+    write_words(
+        list,
+        offsets::STREAMS,
         &[
-            figures.blocks,
-            figures.bytes,
-            figures.rate,
-            figures.hop,
-            figures.back,
             plan.streams,
             plan.buffer,
             plan.worst2,

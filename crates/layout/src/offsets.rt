@@ -1,8 +1,11 @@
 // The word at which each field of a plan starts: where the one before it ends.
 use numbers::limits::MAX_STREAMS;
 use numbers::limits::MAX_ZONES;
+use numbers::limits::TABLE_LENGTH;
 
-pub const ZONES: usize = 0;
+pub const KIND: usize = 0;
+
+pub const ZONES: usize = KIND + 1;
 
 pub const POSITIONS: usize = ZONES + 1;
 
@@ -14,11 +17,9 @@ pub const BYTES: usize = BLOCKS + 1;
 
 pub const RATE: usize = BYTES + 1;
 
-pub const HOP: usize = RATE + 1;
+pub const TABLE: usize = RATE + 1;
 
-pub const BACK: usize = HOP + 1;
-
-pub const STREAMS: usize = BACK + 1;
+pub const STREAMS: usize = TABLE + TABLE_LENGTH as usize;
 
 pub const BUFFER: usize = STREAMS + 1;
 

@@ -81,7 +81,7 @@ fn list(looped: bool, card: &[u8]) {
     print_blocks(plan, &positions, &leads);
 }
 
-// Every refusal of a card is decided within its first 512 bytes, so what is read is enough of any input.
+// Every refusal of a card is decided within its first 1,490 bytes, so what is read is enough of any input.
 fn main() {
     let looped = asks_loop();
     if has_more_arguments(looped) {

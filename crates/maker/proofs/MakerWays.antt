@@ -1,20 +1,23 @@
 -- Each way that the answer to a text can take.
 -- Assumes nothing.
-use Prim.Native.Nat.{ℕ, zero, suc, _+_, _≤_, _<_}
+use Prim.Native.Nat.{ℕ, zero, suc, _+_, _*_, _≤_, _<_}
 use mathlib.Core.Path.{_≡_, refl, sym, ap, ap₂, _∙_}
 use mathlib.Core.List.{List, [], _∷_, _++_, map}
 use mathlib.Core.Bool.{Bool, true, false, cond}
 use native.Mathlib.Omega.{arith}
 use lib.ListN.{length, getD, drop}
 use borrow.Author.Tests.{le-leb, lt-leb}
-use Rattle.numbers.specs.Limits.{maxZones, maxBlock}
+use Rattle.numbers.specs.Limits.{straightKind, maxZones, maxBlock, maxBytes, maxRate}
+use Rattle.numbers.specs.Units.{sectorBytes}
 use Rattle.numbers.specs.Refusals.{lineForm, wrongHeading, wrongZones}
 use Rattle.decimal.specs.declared.Decimal.{Decimal}
 use Rattle.decimal.specs.declared.Decimal.the-variants.{Number, Other}
 use Rattle.card.specs.declared.Figures.{Figures}
 use Rattle.card.specs.declared.fields.Rule.the-variants as rule
 use Rattle.card.specs.Ranges.{first, below, above, outside, faultOf}
-use Rattle.card.specs.Card.{recordFault, filmFault}
+use Rattle.card.specs.RangeLaws.{first-none}
+use Rattle.card.specs.Table.{straight}
+use Rattle.card.specs.Card.{recordFault, tableFault, filmFault}
 use Rattle.card.specs.Read.{blankZones}
 use Rattle.tracks.specs.Tracks.{positionsIn, timeIn, narrowed}
 use Rattle.maker.specs.declared.Drive.{Drive}
@@ -24,11 +27,12 @@ use Rattle.maker.specs.declared.lines.Heading.{Heading}
 use Rattle.maker.specs.declared.lines.Heading.the-variants as heading
 use Rattle.maker.specs.Lines.{space, lineFeed, wordAt, headingFits, judgedHeading, headingIn}
 use Rattle.maker.specs.Rows.{Row, cylindersOf, Listed, Zones, Refused, rowsFrom}
-use Rattle.maker.specs.Kept.{backBy, Kept, Holds, Fitting}
+use Rattle.maker.specs.Kept.{backBy, moveIn, Kept, Holds, Fitting}
 use Rattle.maker.specs.Maker.{padded, filled, positionsOf, timeOf, figuresOf, refusedText, answered, judgedFigures, onRows, headingFault, onHeading, readMaker}
 use Rattle.maker.proofs.LineWays.{HeadingFacts, heading-facts}
 use Rattle.maker.proofs.RowWays.{then-from}
-use Rattle.maker.proofs.NarrowWays.{Narrow, accepted-same, judged-same}
+use Rattle.maker.proofs.MoveWays.{table-same, moves-kept}
+use Rattle.maker.proofs.NarrowWays.{Narrow, accepted-film, accepted-same, judged-same}
 
 -- ---- line one
 
@@ -93,13 +97,13 @@ module _ (r : Rows) where
 -- ---- the figures
 
 -- over 64 rows are 4
-many-zones : (f : Figures) → maxZones < f .zones → recordFault f ≡ wrongZones
+many-zones : (f : Figures) → f .kind ≡ straightKind → maxZones < f .zones → recordFault f ≡ wrongZones
 unfolding recordFault faultOf outside below above first
-many-zones f h = rw (le-leb 1 (f .zones) (omega arith), lt-leb (f .zones) maxZones h)
+many-zones f e h = rw (e, le-leb 1 (f .zones) (omega arith), lt-leb (f .zones) maxZones h)
 
-many-judged : (f : Figures) → maxZones < f .zones → refusedText wrongZones 0 ≡ judgedFigures f
+many-judged : (f : Figures) → f .kind ≡ straightKind → maxZones < f .zones → refusedText wrongZones 0 ≡ judgedFigures f
 unfolding judgedFigures answered
-many-judged f h = rw (many-zones f h)
+many-judged f e h = rw (many-zones f e h)
 
 map-drop : (h : ℕ → ℕ) (n : ℕ) (xs : List ℕ) → map h (drop n xs) ≡ drop n (map h xs)
 map-drop h zero xs = refl
@@ -140,28 +144,51 @@ kept-entries r zs k m f h same =
     each [] = refl
     each (z ∷ xs) = ap₂ (λ (x : ℕ) (ys : List ℕ). x ∷ ys) (ap narrowed (same z)) (each xs)
 
--- a record and the same with narrowed positions and times
+-- a record and the one that the code fills
 filled-narrow : (z z′ : ℕ) (ps ts ps′ ts′ : List ℕ) (block n c hop ret : ℕ) → z′ ≡ z → ps′ ≡ map narrowed ps → ts′ ≡ map narrowed ts
-    → Narrow (filled z ps ts block n c hop ret) (filled z′ ps′ ts′ block n c hop ret)
+    → Narrow (filled z ps ts block n c hop ret) (filled z′ ps′ ts′ block n c (moveIn hop) (moveIn ret))
 unfolding filled filmFault
-filled-narrow z z′ ps ts ps′ ts′ block n c hop ret a b d = record { zones = a; positions = b; times = d; film = λ total. refl }
+filled-narrow z z′ ps ts ps′ ts′ block n c hop ret a b d = record {
+  kind = refl;
+  zones = a;
+  positions = b;
+  times = d;
+  film = λ total. ap (λ (k : ℕ). first (faultOf rule.Blocks total n) (first (faultOf rule.Measure maxBytes (sectorBytes * block)) (first (faultOf rule.Measure maxRate c) k))) (table-same hop ret);
+}
 
-filled-same : (z z′ : ℕ) (ps ts ps′ ts′ : List ℕ) (block n c hop ret : ℕ) → z′ ≡ z → (filled z′ ps′ ts′ block n c hop ret .positions ≡ filled z ps ts block n c hop ret .positions)
-    → (filled z′ ps′ ts′ block n c hop ret .times ≡ filled z ps ts block n c hop ret .times) → filled z′ ps′ ts′ block n c hop ret ≡ filled z ps ts block n c hop ret
+-- hop and return of a film that is not refused
+filled-moves : (z : ℕ) (ps ts : List ℕ) (block n c hop ret total : ℕ) → filmFault (filled z ps ts block n c hop ret) total ≡ 0 → (moveIn hop ≡ hop) × (moveIn ret ≡ ret)
+unfolding filled filmFault
+filled-moves z ps ts block n c hop ret total e =
+    let a = first-none (faultOf rule.Blocks total n) _ e in
+    let b = first-none (faultOf rule.Measure maxBytes (sectorBytes * block)) _ (a .1) in
+    let r = first-none (faultOf rule.Measure maxRate c) _ (b .1) in
+    moves-kept hop ret (r .1)
+
+filled-same : (z z′ : ℕ) (ps ts ps′ ts′ : List ℕ) (block n c hop ret hop′ ret′ : ℕ) → z′ ≡ z
+    → (filled z′ ps′ ts′ block n c hop′ ret′ .positions ≡ filled z ps ts block n c hop ret .positions)
+    → (filled z′ ps′ ts′ block n c hop′ ret′ .times ≡ filled z ps ts block n c hop ret .times)
+    → hop′ ≡ hop → ret′ ≡ ret → filled z′ ps′ ts′ block n c hop′ ret′ ≡ filled z ps ts block n c hop ret
 unfolding filled
-filled-same z z′ ps ts ps′ ts′ block n c hop ret a b d =
-    ap (λ (x : ℕ). filled x ps′ ts′ block n c hop ret) a ∙ ap₂ (λ (x y : List ℕ). filled z x y block n c hop ret) b d
+filled-same z z′ ps ts ps′ ts′ block n c hop ret hop′ ret′ a b d h k =
+    ap (λ (x : ℕ). filled x ps′ ts′ block n c hop′ ret′) a
+    ∙ ap₂ (λ (x y : List ℕ). filled z x y block n c hop′ ret′) b d
+    ∙ ap₂ (λ (x y : ℕ). filled z ps ts block n c x y) h k
 
 -- the code's figures are judged as those of the text
 figures-alike : (d : Drive) (r : Rows) (zs : List Row) → Kept r zs → r .count ≤ maxZones → (n c hop ret : ℕ) (ps ts : List ℕ)
     → ps ≡ padded (backBy (r .count) (λ k. narrowed (positionsIn (d .heads) (d .block) (getD (r .cylinders) k 0) (getD (r .tracks) k 0))))
     → ts ≡ padded (backBy (r .count) (λ k. narrowed (timeIn (d .turns) (d .switch) (d .block) (getD (r .tracks) k 0))))
-    → judgedFigures (filled (r .count) ps ts (d .block) n c hop ret) ≡ judgedFigures (figuresOf d zs n c hop ret)
+    → judgedFigures (filled (r .count) ps ts (d .block) n c (moveIn hop) (moveIn ret)) ≡ judgedFigures (figuresOf d zs n c hop ret)
 unfolding figuresOf positionsOf timeOf
 figures-alike d r zs k m n c hop ret ps ts p t =
-    judged-same _ _ same (λ e. let a = accepted-same _ _ same e in filled-same _ _ _ _ _ _ (d .block) n c hop ret (k .count) (a .0) (a .1))
+    judged-same _ _ same (λ e.
+    let a = accepted-same _ _ same e in
+    let film = accepted-film _ _ same e in
+    let m = filled-moves (length zs) (padded (map (positionsOf d) zs)) (padded (map (timeOf d) zs)) (d .block) n c hop ret (film .0) (film .1) in
+    filled-same _ _ _ _ _ _ (d .block) n c hop ret (moveIn hop) (moveIn ret) (k .count) (a .0) (a .1) (m .0) (m .1))
   where
-    same : Narrow (filled (length zs) (padded (map (positionsOf d) zs)) (padded (map (timeOf d) zs)) (d .block) n c hop ret) (filled (r .count) ps ts (d .block) n c hop ret)
+    same : Narrow (filled (length zs) (padded (map (positionsOf d) zs)) (padded (map (timeOf d) zs)) (d .block) n c hop ret) (filled (r .count) ps ts (d .block) n c (moveIn hop) (moveIn ret))
     same = filled-narrow _ _ _ _ _ _ (d .block) n c hop ret (k .count)
         (p ∙ kept-entries r zs k m (λ x y. positionsIn (d .heads) (d .block) x y) (positionsOf d) (λ z. refl))
         (t ∙ kept-entries r zs k m (λ x y. timeIn (d .turns) (d .switch) (d .block) y) (timeOf d) (λ z. refl))
@@ -188,7 +215,7 @@ module _ (s : List ℕ) (n c hop ret : ℕ) (H : Heading) (read : H ≡ headingI
       unfolding onRows figuresOf filled
       answer-many h =
           let z = holds-zones r (rowsFrom (length s) s next []) rows good in
-          many-judged (figuresOf (record { turns = turns; switch = switch; heads = heads; block = block }) (z .0) n c hop ret) (omega (arith, z .2 .count)) ∙ answer-is (Zones (z .0)) (z .1)
+          many-judged (figuresOf (record { turns = turns; switch = switch; heads = heads; block = block }) (z .0) n c hop ret) refl (omega (arith, z .2 .count)) ∙ answer-is (Zones (z .0)) (z .1)
 
       pub drive-fits : r .count ≤ maxZones → Fitting (record { turns = turns; switch = switch; heads = heads; block = block }) r
       drive-fits h =
@@ -206,7 +233,7 @@ module _ (s : List ℕ) (n c hop ret : ℕ) (H : Heading) (read : H ≡ headingI
       pub answer-figures : r .count ≤ maxZones → (ps ts : List ℕ)
           → ps ≡ padded (backBy (r .count) (λ k. narrowed (positionsIn heads block (getD (r .cylinders) k 0) (getD (r .tracks) k 0))))
           → ts ≡ padded (backBy (r .count) (λ k. narrowed (timeIn turns switch block (getD (r .tracks) k 0))))
-          → judgedFigures (filled (r .count) ps ts block n c hop ret) ≡ readMaker s n c hop ret
+          → judgedFigures (filled (r .count) ps ts block n c (moveIn hop) (moveIn ret)) ≡ readMaker s n c hop ret
       unfolding onRows
       answer-figures h ps ts p t =
           let z = holds-zones r (rowsFrom (length s) s next []) rows good in

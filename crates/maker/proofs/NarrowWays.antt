@@ -13,7 +13,7 @@ use Rattle.laws.specs.Runs.{allBy}
 use Rattle.numbers.specs.Limits.{maxNumber, maxZones, maxPositions, maxTime}
 use Rattle.numbers.specs.Refusals.{wrongPositions, wrongTime, wrongZones}
 use Rattle.card.specs.declared.Figures.{Figures}
-use Rattle.card.specs.declared.fields.Rule.the-variants.{Positions, Zones}
+use Rattle.card.specs.declared.fields.Rule.the-variants.{Kind, Positions, Zones}
 use Rattle.card.specs.Ranges.{first, below, above, outside, thenAbove, thenBelow, faultOf, timeFault}
 use Rattle.card.specs.RangeLaws.{first-none, positions-range, time-range}
 use Rattle.card.specs.Card.{filmFault, zoneFaults, zerosFrom, unusedZero, recordFault}
@@ -90,8 +90,9 @@ zone-same total before p t t₀ p′ t′ t₀′ later later′ a b c inner sam
         let same-inner : t₀′ ≡ t₀ = c ∙ narrowed-small t₀ (omega (arith, inner q)) in
         rw (same-place, same-time, same-inner, same h q)
 
--- figures, and the same with narrowed positions and times
+-- figures, and others with narrowed positions and times whose film is judged the same
 pub record Narrow (f g : Figures) : Type 0 where
+  pub kind : g .kind ≡ f .kind
   pub zones : g .zones ≡ f .zones
   pub positions : g .positions ≡ map narrowed (f .positions)
   pub times : g .times ≡ map narrowed (f .times)
@@ -126,7 +127,9 @@ module _ (f g : Figures) (n : Narrow f g) where
   -- THE SAME REFUSAL
   pub fault-same : recordFault g ≡ recordFault f
   unfolding recordFault unusedZero zerosFrom
-  fault-same = ap₂ first (ap (faultOf Zones 0) (n .zones)) (ap₂ first (ap (λ (t : Bool). cond t 0 wrongZones) (ap₂ (λ (a b : Bool). a && b) places speeds)) faults)
+  fault-same =
+      ap₂ first (ap (faultOf Kind 0) (n .kind))
+      (ap₂ first (ap (faultOf Zones 0) (n .zones)) (ap₂ first (ap (λ (t : Bool). cond t 0 wrongZones) (ap₂ (λ (a b : Bool). a && b) places speeds)) faults))
     where
       places : allBy (λ (v : ℕ). eqb v 0) (drop (g .zones) (g .positions)) ≡ allBy (λ (v : ℕ). eqb v 0) (drop (f .zones) (f .positions))
       places = rw (n .zones, n .positions) (unused-narrowed (f .zones) (f .positions))
@@ -152,6 +155,18 @@ module _ (f g : Figures) (n : Narrow f g) where
       on a b (yes q) later = rw q (omega (arith, positions-range total (place i) (a .0) .1), time-range before (speed i) (speed 0) (b .0) .1)
       on a b (no q) later = later (omega arith) (omega arith)
 
+  -- nor is their film refused, by the positions of all zones
+  film-clear : (left i total before : ℕ) → zoneFaults left i f total before ≡ 0 → (all : ℕ) × (filmFault f all ≡ 0)
+  unfolding zoneFaults
+  film-clear zero i total before e = (total, e)
+  film-clear (suc left) i total before e =
+      let a = first-none (faultOf Positions total (place i)) _ e in
+      let b = first-none (timeFault (speed 0) before (speed i)) _ (a .1) in
+      film-clear left (i + 1) (total + place i) (speed i) (b .1)
+
+  pub accepted-film : recordFault f ≡ 0 → (all : ℕ) × (filmFault f all ≡ 0)
+  accepted-film e = film-clear (f .zones) 0 0 maxTime (fault-judged f e .faults)
+
   -- FIGURES THAT ARE NOT REFUSED ARE NOT NARROWED
   pub accepted-same : recordFault f ≡ 0 → (g .positions ≡ f .positions) × (g .times ≡ f .times)
   accepted-same e = (n .positions ∙ map-same (f .positions) (λ i. narrowed-small (place i) (each i .0)), n .times ∙ map-same (f .times) (λ i. narrowed-small (speed i) (each i .1)))
@@ -163,7 +178,7 @@ module _ (f g : Figures) (n : Narrow f g) where
           go (yes h) j = omega (arith, zones-small (f .zones) 0 0 maxTime (j .faults) i (omega arith) (omega arith))
           go (no h) j = omega (arith, j .unused i (omega arith))
 
-  -- figures that differ in positions and times alone are judged alike
+  -- they are judged alike
   pub judged-same : (recordFault f ≡ 0 → g ≡ f) → judgedFigures g ≡ judgedFigures f
   unfolding judgedFigures
   judged-same same = go (recordFault f) refl

@@ -1,11 +1,11 @@
--- What the code keeps of the rows: their cylinders and tracks in two arrays of 64, outermost first, and their count.
+-- What the code keeps of the rows: their cylinders and tracks in two arrays of 64, outermost first, and their count; and of hop and return.
 use Prim.Native.Nat.{ℕ, zero, suc, _+_, _≤_, _<_}
 use mathlib.Core.Path.{_≡_}
 use mathlib.Core.List.{List, [], _∷_, map}
 use mathlib.Core.Bool.{cond}
 use lib.ListN.{length, getD, set}
 use lib.Dec.{ltb}
-use Rattle.numbers.specs.Limits.{maxZones, maxTurns, maxSwitch, maxHeads, maxBlock, maxCylinder, maxTrack}
+use Rattle.numbers.specs.Limits.{maxZones, maxMove, maxTurns, maxSwitch, maxHeads, maxBlock, maxCylinder, maxTrack}
 use Rattle.card.specs.Read.{blankZones}
 use Rattle.maker.specs.declared.Drive.{Drive}
 use Rattle.maker.specs.declared.rows.Rows.{Rows}
@@ -41,6 +41,10 @@ pub record Fitting (d : Drive) (r : Rows) : Type 0 where
   pub block : (0 < d .block) × (d .block ≤ maxBlock)
   pub few : r .count ≤ maxZones
   pub rows : (k : ℕ) → k < r .count → (getD (r .cylinders) k 0 ≤ maxCylinder + 1) × (0 < getD (r .tracks) k 0) × (getD (r .tracks) k 0 ≤ maxTrack)
+
+-- a hop or a return: one past its range counts as 0, which is out of range too
+unfoldable pub moveIn : ℕ → ℕ
+moveIn v = cond (ltb maxMove v) 0 v
 
 -- the code's rows say what the text's are
 abbrev pub Holds : Rows → Listed → Type 0

@@ -2,8 +2,10 @@
 use Prim.Native.Nat.{ℕ, zero, suc, _*_}
 use mathlib.Core.List.{List, [], _++_, map}
 use lib.ListN.{length, drop}
+use Rattle.numbers.specs.Limits.{straightKind}
 use Rattle.numbers.specs.Units.{sectorBytes}
 use Rattle.card.specs.declared.Figures.{Figures}
+use Rattle.card.specs.Table.{straight}
 use Rattle.card.specs.Card.{recordFault}
 use Rattle.card.specs.Read.{blankZones, blankFigures, accepted}
 use Rattle.tracks.specs.Tracks.{positionsIn, timeIn}
@@ -21,9 +23,9 @@ unfoldable pub padded : List ℕ → List ℕ
 padded xs = xs ++ drop (length xs) blankZones
 
 -- the record of figures: z zones with their positions and times; B is 512 × sectors in a block (T1.9); N, c, hop and return come beside the
--- text (T1.10)
+-- text (T1.10) and make the table of a card of kind 1 (T3.3)
 unfoldable pub filled : ℕ → List ℕ → List ℕ → ℕ → ℕ → ℕ → ℕ → ℕ → Figures
-filled z positions times block n c hop ret = record { zones = z; positions = positions; times = times; blocks = n; bytes = sectorBytes * block; rate = c; hop = hop; back = ret }
+filled z positions times block n c hop ret = record { kind = straightKind; zones = z; positions = positions; times = times; blocks = n; bytes = sectorBytes * block; rate = c; table = straight hop ret }
 
 -- a zone's positions and its time (T1.5 to T1.7)
 unfoldable pub positionsOf : Drive → Row → ℕ

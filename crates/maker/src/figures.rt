@@ -4,14 +4,18 @@ use crate::MakerRead;
 use crate::rows::Rows;
 use card::Figures;
 use card::Verdict;
+use card::table::fill_straight;
+use numbers::limits::MAX_MOVE;
+use numbers::limits::STRAIGHT;
 use numbers::units::SECTOR_BYTES;
 ghost use mathlib.Core.Path.{_≡_};
 ghost use Prim.Native.Nat.{_≤_, _<_};
 ghost use lib.ListN.{getD};
 ghost use Rattle.numbers.specs.Limits.{maxZones, maxBlock};
-ghost use Rattle.card.specs.Read.{blankFigures, blankZones};
+ghost use Rattle.card.specs.Table.{straight};
+ghost use Rattle.card.specs.Read.{blankFigures, blankZones, blankTable};
 ghost use Rattle.tracks.specs.Tracks.{positionsIn, timeIn, narrowed};
-ghost use Rattle.maker.specs.Kept.{backBy, Fitting};
+ghost use Rattle.maker.specs.Kept.{backBy, moveIn, Fitting};
 ghost use Rattle.maker.specs.Maker.{refusedText, filled, padded, judgedFigures};
 
 // Positions and times of the zones; entries past them are zero.
@@ -24,6 +28,12 @@ fn no_zones() -> [u32; 64]
     ensures { λ r. ⌜ r ≡ blankZones ⌝ }
 {
     [0u32; 64]
+}
+
+fn no_table() -> [u32; 257]
+    ensures { λ r. ⌜ r ≡ blankTable ⌝ }
+{
+    [0u32; 257]
 }
 
 // The zones of the rows: the last row is the innermost zone.
@@ -48,6 +58,25 @@ pub fn zones_of(drive: Drive, rows: Rows) -> Zones
     zones
 }
 
+// A hop or a return: one past its range counts as 0, which is out of range too.
+fn move_in(v: u32) -> u32
+    ensures { λ r. ⌜ r ≡ moveIn v ⌝ }
+{
+    if MAX_MOVE < v {
+        return 0;
+    }
+    v
+}
+
+// The table of overheads of hop and return.
+fn table_of(hop: u32, back: u32) -> [u32; 257]
+    ensures { λ r. ⌜ r ≡ straight (moveIn hop) (moveIn back) ⌝ }
+{
+    let mut table = no_table();
+    fill_straight(&mut table, move_in(hop), move_in(back));
+    table
+}
+
 // The record: the zones, and the film's figures beside them.
 pub fn figures_of(
     count: u32,
@@ -59,19 +88,19 @@ pub fn figures_of(
     back: u32,
 ) -> Figures
     requires { ⌜ block ≤ maxBlock ⌝ }
-    ensures { λ r. ⌜ r ≡ filled count (zones .positions) (zones .times) block blocks rate hop back ⌝ }
+    ensures { λ r. ⌜ r ≡ filled count (zones .positions) (zones .times) block blocks rate (moveIn hop) (moveIn back) ⌝ }
 {
     let positions = zones.positions;
     let times = zones.times;
     Figures {
+        kind: STRAIGHT,
         zones: count,
         positions: positions,
         times: times,
         blocks: blocks,
         bytes: SECTOR_BYTES * block,
         rate: rate,
-        hop: hop,
-        back: back,
+        table: table_of(hop, back),
     }
 }
 
@@ -80,14 +109,14 @@ fn no_figures() -> Figures
     ensures { λ r. ⌜ r ≡ blankFigures ⌝ }
 {
     Figures {
+        kind: 0,
         zones: 0,
         positions: no_zones(),
         times: no_zones(),
         blocks: 0,
         bytes: 0,
         rate: 0,
-        hop: 0,
-        back: 0,
+        table: no_table(),
     }
 }
 

@@ -14,6 +14,7 @@ use Rattle.card.specs.declared.Figures.{Figures}
 use Rattle.card.specs.Card.{Legal, recordFault, judgeRecord, cardOf}
 use Rattle.card.specs.Read.{accepted, blankZones, blankFigures, readCard}
 use Rattle.card.specs.RangeLaws.{fault-zones}
+use Rattle.card.specs.TableLaws.{straight-long}
 use Rattle.round_trip.specs.Legality.{Wide, fault-legal, legal-fault}
 use Rattle.round_trip.specs.RoundTrip.{legal-read}
 use Rattle.maker.specs.declared.Drive.{Drive}
@@ -87,7 +88,7 @@ padded-wide xs h = let blanks : length blankZones ≡ maxZones = unfold blankZon
 module _ (d : Drive) (zs : List Row) (n c hop ret : ℕ) where
   figures-wide : length zs ≤ maxZones → Wide (figuresOf d zs n c hop ret)
   unfolding figuresOf filled
-  figures-wide h = (padded-wide (map (positionsOf d) zs) (omega (arith, map-long (positionsOf d) zs)), padded-wide (map (timeOf d) zs) (omega (arith, map-long (timeOf d) zs)))
+  figures-wide h = (padded-wide (map (positionsOf d) zs) (omega (arith, map-long (positionsOf d) zs)), padded-wide (map (timeOf d) zs) (omega (arith, map-long (timeOf d) zs)), straight-long hop ret)
 
   figures-legal : recordFault (figuresOf d zs n c hop ret) ≡ 0 → Legal (figuresOf d zs n c hop ret)
   figures-legal e = fault-legal _ (figures-wide few) e

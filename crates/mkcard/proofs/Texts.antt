@@ -15,7 +15,7 @@ use Rattle.decimal.specs.Decimal.{digits, capped}
 use Rattle.decimal.specs.DecimalLaws.{capped-small, grown-digit}
 use Rattle.card.specs.Card.{bytesOf}
 use Rattle.mkcard.specs.declared.scan.Scan.{Scan}
-use Rattle.mkcard.specs.Scan.{begun, ended, lineAfter, stepped, scanned, numbersFrom, cardOfWords, textOf, Spelled, cardOfText}
+use Rattle.mkcard.specs.Scan.{mostWords, begun, ended, lineAfter, stepped, scanned, numbersFrom, cardOfWords, textOf, Spelled, cardOfText}
 use Rattle.mkcard.proofs.WordWays.{step-word, ended-none, blank-none, numbers-kept, numbers-end}
 
 -- one piece of a text after the other
@@ -52,21 +52,21 @@ digits-read (suc k) v s o z h u =
     ∙ digit-step (within s (v / 10)) v o refl u
 
 -- a line feed keeps the word
-word-kept : (s : Scan) (v : ℕ) → s .count < 136 → stepped (within s v) 10 ≡ lineAfter (after s v)
+word-kept : (s : Scan) (v : ℕ) → s .count < mostWords → stepped (within s v) 10 ≡ lineAfter (after s v)
 unfolding stepped ended
-word-kept s v h = rw (lt-ltb (s .count) 136 h)
+word-kept s v h = rw (lt-ltb (s .count) mostWords h)
 
 -- what a text of numbers leaves
 record Read (s t : Scan) (vs : List ℕ) : Type 0 where
   out : t .inside ≡ false
   count : t .count ≡ s .count + length vs
   earlier : (i : ℕ) → i < s .count → getD (t .values) i 0 ≡ getD (s .values) i 0
-  later : numbersFrom (136 - s .count) (s .count) t ≡ vs
+  later : numbersFrom (mostWords - s .count) (s .count) t ≡ vs
 
-read-numbers : (more : ℕ → ℕ) (vs : List ℕ) (s : Scan) → s .comment ≡ false → s .inside ≡ false → s .value ≡ 0 → length (s .values) ≡ 136
-    → s .count + length vs ≤ 136 → Spelled more vs → Read s (scanned s (textOf more vs)) vs
+read-numbers : (more : ℕ → ℕ) (vs : List ℕ) (s : Scan) → s .comment ≡ false → s .inside ≡ false → s .value ≡ 0 → length (s .values) ≡ mostWords
+    → s .count + length vs ≤ mostWords → Spelled more vs → Read s (scanned s (textOf more vs)) vs
 unfolding textOf scanned lineAfter Spelled
-read-numbers more [] s o n z l f p = record { out = n; count = omega arith; earlier = λ i h. refl; later = numbers-end s (136 - s .count) (s .count) (omega arith) }
+read-numbers more [] s o n z l f p = record { out = n; count = omega arith; earlier = λ i h. refl; later = numbers-end s (mostWords - s .count) (s .count) (omega arith) }
 read-numbers more (v ∷ vs) s o n z l f (u, d, p) = go (scanned s (textOf more (v ∷ vs))) whole
     (read-numbers more vs next refl refl refl (length-set (s .values) (s .count) v ∙ l) (omega arith) p)
   where
@@ -83,13 +83,13 @@ read-numbers more (v ∷ vs) s o n z l f (u, d, p) = go (scanned s (textOf more 
       out = r .out;
       count = omega (arith, r .count);
       earlier = λ i h. r .earlier i (omega arith) ∙ getD-set-other (s .values) (s .count) i v 0 (λ q. omega arith);
-      later = numbers-kept (scanned next (textOf more vs)) (136 - s .count) (s .count) (omega arith) (omega arith) (omega (arith, r .count))
+      later = numbers-kept (scanned next (textOf more vs)) (mostWords - s .count) (s .count) (omega arith) (omega arith) (omega (arith, r .count))
           ∙ ap₂ (λ (x : ℕ) (xs : List ℕ). x ∷ xs) (ap capped (r .earlier (s .count) (omega arith) ∙ getD-set-same (s .values) (s .count) v 0 (omega arith)) ∙ capped-small v u) (r .later);
     })
 
 -- A TEXT OF NUMBERS MAKES THEIR BYTES
-pub text-card : (more : ℕ → ℕ) (vs : List ℕ) → length vs ≤ 136 → Spelled more vs → cardOfText (textOf more vs) ≡ bytesOf vs
+pub text-card : (more : ℕ → ℕ) (vs : List ℕ) → length vs ≤ mostWords → Spelled more vs → cardOfText (textOf more vs) ≡ bytesOf vs
 unfolding cardOfText cardOfWords begun
 text-card more vs h p =
     let r = read-numbers more vs begun refl refl refl refl (omega arith) p in
-    ap (λ (x : Scan). bytesOf (numbersFrom 136 0 x)) (sym (ended-none (scanned begun (textOf more vs)) (r .out))) ∙ ap bytesOf (r .later)
+    ap (λ (x : Scan). bytesOf (numbersFrom mostWords 0 x)) (sym (ended-none (scanned begun (textOf more vs)) (r .out))) ∙ ap bytesOf (r .later)

@@ -23,7 +23,7 @@ use Rattle.card.specs.declared.CardRead.{CardRead}
 use Rattle.card_writer.proofs.WriterWays.{Writes, writes-done}
 use Rattle.mkcard.specs.declared.make.Made.{Made}
 use Rattle.mkcard.specs.declared.scan.Scan.{Scan}
-use Rattle.mkcard.specs.Scan.{ended, lineAfter, commented, longer, blank, stepped, scanned, numbersFrom, cardOfWords, numbersIn, lineOf, madeBy, made}
+use Rattle.mkcard.specs.Scan.{mostWords, mostBytes, ended, lineAfter, commented, longer, blank, stepped, scanned, numbersFrom, cardOfWords, numbersIn, lineOf, madeBy, made}
 
 -- ---- one byte
 
@@ -33,15 +33,15 @@ module _ (s : Scan) where
   ended-none e = rw e
 
   module _ (e : s .inside ≡ true) where
-    pub ended-full : 136 ≤ s .count
+    pub ended-full : mostWords ≤ s .count
         → _≡_ {A = Scan} (record { line = s .line; comment = s .comment; inside = false; value = 0; count = s .count; values = s .values; lines = s .lines }) (ended s)
     unfolding ended
-    ended-full h = rw (e, le-ltb (s .count) 136 h)
+    ended-full h = rw (e, le-ltb (s .count) mostWords h)
 
-    pub ended-kept : s .count < 136
+    pub ended-kept : s .count < mostWords
         → _≡_ {A = Scan} (record { line = s .line; comment = s .comment; inside = false; value = 0; count = s .count + 1; values = set (s .values) (s .count) (s .value); lines = set (s .lines) (s .count) (s .line) }) (ended s)
     unfolding ended
-    ended-kept h = rw (e, lt-ltb (s .count) 136 h)
+    ended-kept h = rw (e, lt-ltb (s .count) mostWords h)
 
 module _ (s : Scan) (b : ℕ) where
   pub step-last : (t : Scan) → t ≡ ended s → b ≡ 10 → 18446744073709551615 ≤ t .line
@@ -131,10 +131,10 @@ pub put-great : (out : List ℕ) (at v : ℕ) → at + 5 ≤ length out → noNu
 put-great out at v room h = rw (put-byte out at 128 (omega arith), groups-great v h) (overwrite-more out at (128 ∷ []) (groups 33554432) (omega arith))
 
 module _ (s : Scan) where
-  pub numbers-kept : (left i : ℕ) → i + left ≡ 136 → i < 136 → i < s .count → numbersFrom left i s ≡ capped (getD (s .values) i 0) ∷ numbersFrom (136 - (i + 1)) (i + 1) s
+  pub numbers-kept : (left i : ℕ) → i + left ≡ mostWords → i < mostWords → i < s .count → numbersFrom left i s ≡ capped (getD (s .values) i 0) ∷ numbersFrom (mostWords - (i + 1)) (i + 1) s
   unfolding numbersFrom
   numbers-kept zero i e h k = absurd (omega arith)
-  numbers-kept (suc left) i e h k = let q : left ≡ 136 - (i + 1) = omega arith in rw (lt-ltb i (s .count) k, q)
+  numbers-kept (suc left) i e h k = let q : left ≡ mostWords - (i + 1) = omega arith in rw (lt-ltb i (s .count) k, q)
 
   pub numbers-end : (left i : ℕ) → s .count ≤ i → numbersFrom left i s ≡ []
   unfolding numbersFrom
@@ -158,15 +158,15 @@ module _ (s : Scan) where
       go true h = omega (arith, length-append (groups v) (bytesOf (numbersFrom left (i + 1) s)), capped-long (getD (s .values) i 0))
       go false h = omega arith
 
-  pub card-long : length (cardOfWords s) ≤ 680
+  pub card-long : length (cardOfWords s) ≤ mostBytes
   unfolding cardOfWords
-  card-long = numbers-long 136 0
+  card-long = numbers-long mostWords 0
 
-  pub card-room : {n : ℕ} → 680 ≤ n → 0 + length (bytesOf (numbersFrom 136 0 s)) ≤ n
-  card-room h = omega (arith, numbers-long 136 0)
+  pub card-room : {n : ℕ} → mostBytes ≤ n → 0 + length (bytesOf (numbersFrom mostWords 0 s)) ≤ n
+  card-room h = omega (arith, numbers-long mostWords 0)
 
   -- after the last word the card is written
-  pub words-done : {out x : List ℕ} {at : ℕ} (vs : List ℕ) → vs ≡ [] → Writes out 0 (numbersFrom 136 0 s) x at vs
+  pub words-done : {out x : List ℕ} {at : ℕ} (vs : List ℕ) → vs ≡ [] → Writes out 0 (numbersFrom mostWords 0 s) x at vs
       → (at ≡ length (cardOfWords s)) × (x ≡ overwrite out 0 (cardOfWords s))
   unfolding cardOfWords bytesOf
   words-done (v ∷ vs) e w = absurd (let z : _≡_ {A = ℕ} 0 1 = cc in omega arith)
@@ -176,13 +176,13 @@ module _ (s : Scan) where
   unfolding lineOf
   line-end i h = rw (le-ltb i (s .count) h)
 
-  pub line-past : (i : ℕ) → i < s .count → 136 ≤ i → s .line ≡ lineOf s i
+  pub line-past : (i : ℕ) → i < s .count → mostWords ≤ i → s .line ≡ lineOf s i
   unfolding lineOf
-  line-past i h k = rw (lt-ltb i (s .count) h, le-ltb i 136 k)
+  line-past i h k = rw (lt-ltb i (s .count) h, le-ltb i mostWords k)
 
-  pub line-word : (i : ℕ) → i < s .count → i < 136 → getD (s .lines) i 0 ≡ lineOf s i
+  pub line-word : (i : ℕ) → i < s .count → i < mostWords → getD (s .lines) i 0 ≡ lineOf s i
   unfolding lineOf
-  line-word i h k = rw (lt-ltb i (s .count) h, lt-ltb i 136 k)
+  line-word i h k = rw (lt-ltb i (s .count) h, lt-ltb i mostWords k)
 
 -- ---- the numbers before a place
 
@@ -226,10 +226,10 @@ module _ (s : Scan) (r : CardRead) (e : r ≡ readCard (cardOfWords s)) where
       by zero h = absurd (h refl)
       by (suc k) h = unfold madeBy in refl
 
-pub made-short : (s : Scan) → made s .length ≤ 680
+pub made-short : (s : Scan) → made s .length ≤ mostBytes
 unfolding made madeBy
 made-short s = by (readCard (cardOfWords s) .verdict .number)
   where
-    by : (k : ℕ) → madeBy s k (readCard (cardOfWords s) .verdict .place) .length ≤ 680
+    by : (k : ℕ) → madeBy s k (readCard (cardOfWords s) .verdict .place) .length ≤ mostBytes
     by zero = card-long s
     by (suc k) = omega arith

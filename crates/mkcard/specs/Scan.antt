@@ -11,15 +11,22 @@ use Rattle.card.specs.Read.{readCard}
 use Rattle.mkcard.specs.declared.scan.Scan.{Scan}
 use Rattle.mkcard.specs.declared.make.Made.{Made}
 
+-- the words that are kept, and the bytes of their numbers, five each
+abbrev pub mostWords : ℕ
+mostWords = 391
+
+abbrev pub mostBytes : ℕ
+mostBytes = 1955
+
 -- before the first byte
 unfoldable pub begun : Scan
-begun = record { line = 1; comment = false; inside = false; value = 0; count = 0; values = replicate 136 0; lines = replicate 136 0 }
+begun = record { line = 1; comment = false; inside = false; value = 0; count = 0; values = replicate mostWords 0; lines = replicate mostWords 0 }
 
--- a word ends: its value and its line are kept, if it is among the first 136
+-- a word ends: its value and its line are kept, if it is among the first 391
 unfoldable pub ended : Scan → Scan
 ended s =
     cond (s .inside)
-    (cond (ltb (s .count) 136)
+    (cond (ltb (s .count) mostWords)
     (record { line = s .line; comment = s .comment; inside = false; value = 0; count = s .count + 1; values = set (s .values) (s .count) (s .value); lines = set (s .lines) (s .count) (s .line) })
     (record { line = s .line; comment = s .comment; inside = false; value = 0; count = s .count; values = s .values; lines = s .lines }))
     s
@@ -59,7 +66,7 @@ numbersFrom (suc left) i s = cond (ltb i (s .count)) (capped (getD (s .values) i
 
 -- the bytes of the words, one number after the other. Those of 4,294,967,296 are malformed, so a word that is no number is refused as 2
 unfoldable pub cardOfWords : Scan → List ℕ
-cardOfWords s = bytesOf (numbersFrom 136 0 s)
+cardOfWords s = bytesOf (numbersFrom mostWords 0 s)
 
 -- how many numbers end in the bytes
 unfoldable pub numbersIn : List ℕ → ℕ
@@ -68,7 +75,7 @@ numbersIn (b ∷ bs) = cond (ltb b 128) 1 0 + numbersIn bs
 
 -- the line of the i-th word; past the words, where the text ends
 unfoldable pub lineOf : Scan → ℕ → ℕ
-lineOf s i = cond (ltb i (s .count) && ltb i 136) (getD (s .lines) i 0) (s .line)
+lineOf s i = cond (ltb i (s .count) && ltb i mostWords) (getD (s .lines) i 0) (s .line)
 
 -- a refusal with the line of the word at the place, and no length; an accepted card with its length
 unfoldable pub madeBy : Scan → ℕ → ℕ → Made

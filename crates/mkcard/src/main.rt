@@ -10,6 +10,7 @@ use libc::STDERR_FILENO;
 use libc::STDIN_FILENO;
 use libc::STDOUT_FILENO;
 use numbers::refusals::HALF_DEAD_TIME;
+use numbers::refusals::WRONG_OVERHEAD;
 
 fn say(text: &[u8]) {
     io::write_all(STDERR_FILENO, text);
@@ -34,8 +35,12 @@ fn say_line(text: &[u8], n: u32) {
     }
 }
 
-// Says the cause of a refusal, 1 to 11 of document 01 or 26 of document 02.
+// Says the cause of a refusal, 1 to 11 of document 01 or 25 and 26 of document 02.
 fn say_cause(number: u32) {
+    if number == WRONG_OVERHEAD {
+        say(b"overhead out of range, or below the one before\n");
+        return;
+    }
     if number == HALF_DEAD_TIME {
         say(b"zone time, times three, below the first zone's time\n");
         return;
@@ -43,7 +48,7 @@ fn say_cause(number: u32) {
     say_line(
         b"text ends too early\n\
         not a decimal number, or above 4,294,967,295\n\
-        kind not 1\n\
+        kind not 1 or 2\n\
         zones out of range\n\
         zone without positions, or total so far too great\n\
         zone time out of range\n\

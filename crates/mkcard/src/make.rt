@@ -11,7 +11,7 @@ ghost use Rattle.laws.specs.Overwrite.{overwrite};
 ghost use Rattle.leb128.specs.Number.{groups};
 ghost use Rattle.card.specs.Card.{bytesOf};
 ghost use Rattle.decimal.specs.Decimal.{capped};
-ghost use Rattle.mkcard.specs.Scan.{numbersIn, lineOf, cardOfWords, made, textOf, Spelled, cardOfText};
+ghost use Rattle.mkcard.specs.Scan.{mostWords, mostBytes, numbersIn, lineOf, cardOfWords, made, textOf, Spelled, cardOfText};
 
 // The refusal's number and the line of the text, or 0 and the length of the card.
 pub struct Made {
@@ -35,7 +35,7 @@ fn write_word(out: &mut [u8], at: usize, value: u64) -> usize
 
 // Writes the numbers of the words from the front on and answers their length.
 fn write_words(s: Scan, out: &mut [u8]) -> usize
-    requires { ⌜ 680 ≤ length (now out) ⌝ }
+    requires { ⌜ mostBytes ≤ length (now out) ⌝ }
     ensures { λ r. ⌜ (r ≡ length (cardOfWords s)) × (now (out .exit) ≡ overwrite (now (out .entry)) 0 (cardOfWords s)) ⌝ }
 {
     let mut at: usize = 0;
@@ -83,7 +83,7 @@ fn line_of(s: Scan, i: usize) -> u64
 
 // Writes the card of the words and has the reader judge it.
 pub fn make_card(s: Scan, out: &mut [u8]) -> Made
-    requires { ⌜ 680 ≤ length (now out) ⌝ }
+    requires { ⌜ mostBytes ≤ length (now out) ⌝ }
     ensures { λ r. ⌜ (r ≡ made s) × (now (out .exit) ≡ overwrite (now (out .entry)) 0 (cardOfWords s)) ⌝ }
 {
     let length = write_words(s, out);
@@ -104,7 +104,7 @@ pub fn make_card(s: Scan, out: &mut [u8]) -> Made
     }
 }
 
-// A text of at most 136 numbers of 32 bits in decimal, a line for each, makes the bytes of these numbers: of figures in the card's order, their card.
+// A text of at most 391 numbers of 32 bits in decimal, a line for each, makes the bytes of these numbers: of figures in the card's order, their card.
 fn text_makes_its_card()
-    ensures { λ _. ⌜ ((more : ℕ → ℕ) (vs : List ℕ) → length vs ≤ 136 → Spelled more vs → cardOfText (textOf more vs) ≡ bytesOf vs) ⌝ }
+    ensures { λ _. ⌜ ((more : ℕ → ℕ) (vs : List ℕ) → length vs ≤ mostWords → Spelled more vs → cardOfText (textOf more vs) ≡ bytesOf vs) ⌝ }
 {}

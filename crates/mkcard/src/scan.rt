@@ -3,8 +3,9 @@ use decimal::grow;
 ghost use mathlib.Core.Path.{_≡_};
 ghost use Rattle.mkcard.specs.Scan.{begun, ended, stepped, scanned};
 
-// The most words that are kept. A card has at most 135 numbers, so one word more is left over, and words after that change no answer.
-pub const WORDS: usize = 136;
+// The most words that are kept. A card has at most 390 numbers (kind, zones, 64 zones of two, N, B, c, 257 overheads), so one word more is
+// left over, and words after that change no answer.
+pub const WORDS: usize = 391;
 
 // What has been read of a text.
 pub struct Scan {

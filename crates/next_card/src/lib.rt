@@ -1,7 +1,9 @@
 // The small cards one after the other: the first, the one after a card, and a card's figures.
 use card::Figures;
+use card::table::fill_straight;
 use numbers::limits::MAX_TRIED;
 use numbers::limits::MIN_BLOCKS;
+use numbers::limits::STRAIGHT;
 use small_cards::Risen;
 use small_cards::SmallCard;
 ghost use mathlib.Core.Path.{_≡_};
@@ -9,6 +11,8 @@ ghost use mathlib.Core.Bool.{true, false};
 ghost use Prim.Native.Nat.{ℕ, _≤_, _<_};
 ghost use lib.ListN.{getD};
 ghost use Rattle.laws.specs.Each.{Each};
+ghost use Rattle.card.specs.Read.{blankTable};
+ghost use Rattle.card.specs.Table.{straight};
 ghost use Rattle.small_cards.specs.Cards.{entered};
 ghost use Rattle.small_cards.specs.Next.{figuresOf, limitOf, risen, mostBlocks, zoneMore, positionsMore, timesMore, nextCard, firstCard};
 ghost use Rattle.small_cards.specs.Steps.{Stepped};
@@ -170,6 +174,21 @@ fn enter(entries: [u32; 3]) -> [u32; 64]
     all
 }
 
+fn no_table() -> [u32; 257]
+    ensures { λ r. ⌜ r ≡ blankTable ⌝ }
+{
+    [0u32; 257]
+}
+
+// The overheads of hop 1 and return 1.
+fn overheads() -> [u32; 257]
+    ensures { λ r. ⌜ r ≡ straight 1 1 ⌝ }
+{
+    let mut table = no_table();
+    fill_straight(&mut table, 1, 1);
+    table
+}
+
 // The figures of a card, with the measures that every small card has.
 pub fn figures_of(card: SmallCard) -> Figures
     ensures { λ r. ⌜ r ≡ figuresOf card ⌝ }
@@ -179,13 +198,13 @@ pub fn figures_of(card: SmallCard) -> Figures
     let positions = enter(sizes);
     let times = enter(speeds);
     Figures {
+        kind: STRAIGHT,
         zones: card.zones,
         positions: positions,
         times: times,
         blocks: card.blocks,
         bytes: 1000,
         rate: 1000,
-        hop: 1,
-        back: 1,
+        table: overheads(),
     }
 }

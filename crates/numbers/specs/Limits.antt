@@ -1,9 +1,12 @@
 -- The limits of document 01's table of ranges, and of the desk; what document 02 adds to them.
 use Prim.Native.Nat.{ℕ}
 
--- the kind of a card
-abbrev pub cardKind : ℕ
-cardKind = 1
+-- the kinds of a card: overheads by hop and return, as document 01 has it, or one by one (document 02, ticket 3)
+abbrev pub straightKind : ℕ
+straightKind = 1
+
+abbrev pub measuredKind : ℕ
+measuredKind = 2
 
 -- any number of a card
 abbrev pub maxNumber : ℕ
@@ -46,6 +49,21 @@ maxRate = 10000000
 -- hop and return, each
 abbrev pub maxMove : ℕ
 maxMove = 1000000
+
+-- the entries of a table of overheads, for sweeps of 0 to 256 blocks (document 02, ticket 3)
+abbrev pub tableLength : ℕ
+tableLength = 257
+
+-- the overhead of a sweep
+abbrev pub maxOverhead : ℕ
+maxOverhead = 257000000
+
+-- the bytes of a card
+abbrev pub minCard : ℕ
+minCard = 9
+
+abbrev pub maxCard : ℕ
+maxCard = 1489
 
 -- n, and the slots of a desk
 abbrev pub maxStreams : ℕ

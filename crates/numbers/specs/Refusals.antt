@@ -9,7 +9,7 @@ cardEnds = 1
 abbrev pub numberForm : ℕ
 numberForm = 2
 
--- kind not 1
+-- kind not 1, nor 2 (document 02, ticket 3)
 abbrev pub wrongKind : ℕ
 wrongKind = 3
 
@@ -37,7 +37,7 @@ wrongBlocks = 8
 abbrev pub blocksAbovePositions : ℕ
 blocksAbovePositions = 9
 
--- B, c, hop or return out of range
+-- B, c, hop or return out of range, or a record's table that comes from no hop and return
 abbrev pub wrongMeasure : ℕ
 wrongMeasure = 10
 
@@ -84,6 +84,10 @@ drawAboveLimit = 20
 -- draw above held
 abbrev pub drawAboveHeld : ℕ
 drawAboveHeld = 21
+
+-- overhead out of range, or below the one before (document 02, ticket 3)
+abbrev pub wrongOverhead : ℕ
+wrongOverhead = 25
 
 -- a line of a maker's text of another form, or no line at all (document 02, ticket 1)
 abbrev pub lineForm : ℕ

@@ -1,6 +1,8 @@
 // The greatest and least figures of a card, and of a desk.
-// The kind of a card.
-pub const CARD_KIND: u32 = 1;
+// The kinds of a card: overheads by hop and return, or one by one.
+pub const STRAIGHT: u32 = 1;
+
+pub const MEASURED: u32 = 2;
 
 // Any number of a card.
 pub const MAX_NUMBER: u32 = 4294967295;
@@ -32,6 +34,17 @@ pub const MAX_RATE: u32 = 10000000;
 
 // Hop and return, each, in microseconds.
 pub const MAX_MOVE: u32 = 1000000;
+
+// The entries of a table of overheads, for sweeps of 0 to 256 blocks.
+pub const TABLE_LENGTH: u32 = 257;
+
+// The overhead of a sweep, in microseconds.
+pub const MAX_OVERHEAD: u32 = 257000000;
+
+// The bytes of a card.
+pub const MIN_CARD: u32 = 9;
+
+pub const MAX_CARD: u32 = 1489;
 
 // n, and the slots of a desk.
 pub const MAX_STREAMS: u32 = 256;

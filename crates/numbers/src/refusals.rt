@@ -54,6 +54,8 @@ pub const WRONG_HEADING: u32 = 23;
 pub const WRONG_ROW: u32 = 24;
 
 // Cards, by document 02.
+pub const WRONG_OVERHEAD: u32 = 25;
+
 pub const HALF_DEAD_TIME: u32 = 26;
 
 // Windows, by document 02.

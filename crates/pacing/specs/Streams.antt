@@ -1,24 +1,33 @@
 -- Streams (P4) and buffer (P7), over any overhead of a sweep.
 -- Assumes nothing.
-use Prim.Native.Nat.{ℕ, _+_, _*_, _-_, _/_, _≤_, _<_}
-use mathlib.Core.Path.{_≡_, refl}
+use Prim.Native.Nat.{ℕ, _+_, _*_, _-_, _/_, _≤_, _<_, min}
+use mathlib.Core.Path.{_≡_, refl, ap}
 use mathlib.Core.Bool.{Bool}
+use mathlib.Core.List.{List}
 use native.Mathlib.Nat.{mul-le-mul-left, mul-le-mul-right, le-refl, le-div-iff-mul-le, div-lt-iff-lt-mul}
 use native.Mathlib.Omega.{arith}
 use native.Mathlib.Decide.{decLt}
+use lib.ListN.{getD}
 use lib.Dec.{leb}
 use borrow.Author.Tests.{leb-true, leb-false, le-leb, lt-leb}
 use Rattle.laws.specs.Greatest.{greatest, greatest-le, greatest-above, greatest-fits, greatest-hit, greatest-down}
 use Rattle.numbers.specs.Units.{parts, wholeBytes}
-use Rattle.numbers.specs.Limits.{maxStreams}
+use Rattle.numbers.specs.Limits.{maxStreams, tableLength}
 
--- what a sweep that fetches k blocks takes beside their times (D11). All else knows only that it never falls
-unfoldable pub overhead : ℕ → ℕ → ℕ → ℕ
-overhead hop ret k = k * hop + ret
+-- what a sweep that fetches k blocks takes beside their times (D11, T3.5): the table's entry. No sweep fetches more than 256; past them it
+-- stays at the last entry. All else knows only that it never falls
+unfoldable pub overhead : List ℕ → ℕ → ℕ
+overhead table k = getD table (min k maxStreams) 0
 
-pub overhead-rises : (hop ret j k : ℕ) → j ≤ k → overhead hop ret j ≤ overhead hop ret k
+pub overhead-entry : (table : List ℕ) (k : ℕ) → k ≤ maxStreams → overhead table k ≡ getD table k 0
 unfolding overhead
-overhead-rises hop ret j k h = omega (arith, mul-le-mul-right hop h)
+overhead-entry table k h = let e : min k maxStreams ≡ k = omega arith in ap (λ (i : ℕ). getD table i 0) e
+
+-- where no entry is below the one before, it never falls
+pub overhead-rises : (table : List ℕ) → ((j k : ℕ) → j ≤ k → k < tableLength → getD table j 0 ≤ getD table k 0)
+    → (j k : ℕ) → j ≤ k → overhead table j ≤ overhead table k
+unfolding overhead
+overhead-rises table rises j k h = rises (min j maxStreams) (min k maxStreams) (omega arith) (omega arith)
 
 -- the longest that two successive sweeps of n blocks take, w being worst2 and over the overhead
 abbrev pub twoSweeps : ℕ → (ℕ → ℕ) → ℕ → ℕ

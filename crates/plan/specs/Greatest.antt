@@ -1,6 +1,7 @@
 -- Lead and streams as document 01 says them, each the greatest of its kind, and the worst pair, without the functions that find them.
 use Prim.Native.Nat.{ℕ, _+_, _*_, _≤_, _<_}
 use mathlib.Core.Path.{_≡_}
+use lib.ListN.{getD}
 use Rattle.numbers.specs.Limits.{maxStreams}
 use Rattle.numbers.specs.Units.{parts}
 use Rattle.card.specs.declared.Figures.{Figures}
@@ -35,12 +36,12 @@ module _ (x : Showing) (f : Figures) where
 
   -- ---- P4: streams
 
-  -- the formula of streams: n streams are fed, or are too many
+  -- the formula of streams, with the table's entry as the overhead of a sweep of n blocks (T3.5): n streams are fed, or are too many
   abbrev pub Feeds : ℕ → Type 0
-  Feeds n = f .rate * (n * worst2Of x f + 2 * (n * f .hop + f .back)) ≤ parts * f .bytes
+  Feeds n = f .rate * (n * worst2Of x f + 2 * getD (f .table) n 0) ≤ parts * f .bytes
 
   abbrev pub TooMany : ℕ → Type 0
-  TooMany n = parts * f .bytes < f .rate * (n * worst2Of x f + 2 * (n * f .hop + f .back))
+  TooMany n = parts * f .bytes < f .rate * (n * worst2Of x f + 2 * getD (f .table) n 0)
 
   -- n is the greatest whole number from 1 to 256 that meets the formula
   pub record MostStreams (n : ℕ) : Type 0 where

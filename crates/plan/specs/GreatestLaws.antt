@@ -1,10 +1,11 @@
 -- Leads and streams are the greatest of their kind, the worst pair the earliest, and no other number is; and where 12 is answered.
 -- Assumes nothing.
-use Prim.Native.Nat.{ℕ, zero, suc, _+_, _≤_, _<_}
-use mathlib.Core.Path.{_≡_, refl}
+use Prim.Native.Nat.{ℕ, zero, suc, _+_, _*_, _≤_, _<_}
+use mathlib.Core.Path.{_≡_, refl, ap}
 use mathlib.Core.Bool.{Bool, true, false, cond, _||_}
 use native.Mathlib.Omega.{arith}
 use native.Mathlib.Nat.{le-refl}
+use lib.ListN.{getD}
 use lib.Dec.{ltb, eqb}
 use borrow.Author.Tests.{ltb-true, le-ltb, eqb-true}
 use Rattle.laws.specs.Bools.{and-left, and-right}
@@ -13,11 +14,12 @@ use Rattle.numbers.specs.Limits.{maxStreams}
 use Rattle.numbers.specs.Refusals.{noStream}
 use Rattle.card.specs.declared.Figures.{Figures}
 use Rattle.card.specs.Card.{Legal}
+use Rattle.card.specs.TableLaws.{table-rises}
 use Rattle.placement.specs.Showing.{Showing, one, loop, worstAt, pairsOf, some-pairs, worst-pair}
 use Rattle.pacing.specs.Film.{row, longestRun, shown}
 use Rattle.pacing.specs.Shown.{once-in, loop-in}
 use Rattle.pacing.specs.Lead.{lead-above, lead-attained, lead-only}
-use Rattle.pacing.specs.Streams.{overhead, overhead-rises, load, streams-le, streams-fits, streams-best, streams-only, streams-none}
+use Rattle.pacing.specs.Streams.{overhead-entry, overhead-rises, load, streams-le, streams-fits, streams-best, streams-only, streams-none}
 use Rattle.plan.specs.Plan.{timeOn, positionOf, timeOf, worst2Of, worstAtOf, overOf, streamsOf, filmOf, leadOf}
 use Rattle.plan.specs.Answer.{planFault}
 use Rattle.plan.specs.Greatest.{IsRun, Starts, GreatestRun, TooMany, MostStreams, pairOf, EarliestPair}
@@ -61,23 +63,32 @@ module _ (x : Showing) (f : Figures) where
 
   -- ---- streams
 
+  -- the load of n streams, in the table's words
+  load-entry : (n : ℕ) → n ≤ maxStreams → load (f .rate) (worst2Of x f) (overOf f) n ≡ f .rate * (n * worst2Of x f + 2 * getD (f .table) n 0)
+  unfolding load
+  load-entry n u = ap (λ (o : ℕ). f .rate * (n * worst2Of x f + 2 * o)) (overhead-entry (f .table) n u)
+
   too-many : (n : ℕ) → streamsOf x f < n → n ≤ maxStreams → TooMany x f n
-  unfolding streamsOf load overhead
-  too-many n m u = streams-best (f .rate) (worst2Of x f) (overOf f) (f .bytes) (worst2Of x f) n (le-refl (worst2Of x f)) m u
+  unfolding streamsOf
+  too-many n m u = omega (arith, load-entry n u, streams-best (f .rate) (worst2Of x f) (overOf f) (f .bytes) (worst2Of x f) n (le-refl (worst2Of x f)) m u)
 
   -- the plan's streams are that number
   pub streams-most : 0 < streamsOf x f → MostStreams x f (streamsOf x f)
-  unfolding streamsOf load overhead
-  streams-most h = record {
-    range = (h, streams-le (f .rate) (worst2Of x f) (overOf f) (f .bytes));
-    feeds = streams-fits (f .rate) (worst2Of x f) (overOf f) (f .bytes) h;
-    most = too-many;
-  }
+  unfolding streamsOf
+  streams-most h =
+      let few = streams-le (f .rate) (worst2Of x f) (overOf f) (f .bytes) in
+      record {
+        range = (h, few);
+        feeds = omega (arith, load-entry (streamsOf x f) few, streams-fits (f .rate) (worst2Of x f) (overOf f) (f .bytes) h);
+        most = too-many;
+      }
 
   -- and no other is
   pub most-streams : (n : ℕ) → MostStreams x f n → n ≡ streamsOf x f
-  unfolding streamsOf load overhead
-  most-streams n m = streams-only (f .rate) (worst2Of x f) (overOf f) (f .bytes) n (m .range .0) (m .range .1) (m .feeds) (m .most)
+  unfolding streamsOf
+  most-streams n m =
+      streams-only (f .rate) (worst2Of x f) (overOf f) (f .bytes) n (m .range .0) (m .range .1)
+      (omega (arith, load-entry n (m .range .1), m .feeds)) (λ k l u. omega (arith, load-entry k u, m .most k l u))
 
   -- ---- 12: np and nl are the entries of the lent lists
 
@@ -92,10 +103,11 @@ module _ (x : Showing) (f : Figures) where
       go false false q e = absurd (omega arith)
 
   -- and always where not even one does
-  pub one-fails : (np nl : ℕ) → f .blocks ≤ np → f .blocks ≤ nl → TooMany x f 1 → planFault x f np nl ≡ noStream
-  unfolding planFault streamsOf load overhead
-  one-fails np nl p l h =
-      rw (le-ltb np (f .blocks) p, le-ltb nl (f .blocks) l, streams-none (f .rate) (worst2Of x f) (overOf f) (f .bytes) (overhead-rises (f .hop) (f .back)) h)
+  pub one-fails : Legal f → (np nl : ℕ) → f .blocks ≤ np → f .blocks ≤ nl → TooMany x f 1 → planFault x f np nl ≡ noStream
+  unfolding planFault streamsOf
+  one-fails ok np nl p l h =
+      let none = streams-none (f .rate) (worst2Of x f) (overOf f) (f .bytes) (overhead-rises (f .table) (table-rises f ok)) (omega (arith, load-entry 1 (omega arith))) in
+      rw (le-ltb np (f .blocks) p, le-ltb nl (f .blocks) l, none)
 
   -- ---- the worst pair
 

@@ -14,6 +14,7 @@ use Rattle.pacing.specs.Film.{Film, lead}
 use Rattle.pacing.specs.Streams.{overhead, streams, bufferOf}
 use Rattle.pacing.specs.Laid.{laidFilm, slowest, margin}
 use Rattle.plan.specs.declared.Plan.{Plan}
+use Rattle.plan.specs.declared.Numbers.{Numbers}
 
 -- ---- which showing it is (T7.7)
 
@@ -52,9 +53,9 @@ worst2Of x f = worstOf x (timeOn f) (positionOf x f) (f .blocks)
 unfoldable pub worstAtOf : Showing → Figures → ℕ
 worstAtOf x f = worstAt x (timeOn f) (positionOf x f) (f .blocks)
 
--- what a sweep takes beside the times of its blocks (D11)
+-- what a sweep takes beside the times of its blocks (D11, T3.5): the table's entry
 abbrev pub overOf : Figures → ℕ → ℕ
-overOf f = overhead (f .hop) (f .back)
+overOf f = overhead (f .table)
 
 -- streams (P4, T7.5); 0 where not even one fits
 unfoldable pub streamsOf : Showing → Figures → ℕ
@@ -83,6 +84,10 @@ bufferSize x f = bufferOf (f .rate) (streamsOf x f) (marginOf x f) (f .bytes)
 -- the plan record (P9, T7.7, T2.2)
 unfoldable pub planOf : Showing → Figures → Plan
 planOf x f = record { figures = f; streams = streamsOf x f; buffer = bufferSize x f; worst2 = worst2Of x f; margin = marginOf x f; showing = wordOf x; worstat = worstAtOf x f }
+
+-- a plan of its figures and its numbers
+abbrev pub planFrom : Figures → Numbers → Plan
+planFrom f m = record { figures = f; streams = m .streams; buffer = m .buffer; worst2 = m .worst2; margin = m .margin; showing = m .showing; worstat = m .worstat }
 
 -- a plan that is all zero
 unfoldable pub blankPlan : Plan

@@ -10,6 +10,7 @@ use Rattle.numbers.specs.Limits.{maxTime, maxStreams}
 use Rattle.numbers.specs.Units.{parts, wholeBytes}
 use Rattle.card.specs.declared.Figures.{Figures}
 use Rattle.card.specs.Card.{Legal, totalPositions}
+use Rattle.card.specs.TableLaws.{table-rises}
 use Rattle.placement.specs.Placement.{Laying}
 use Rattle.placement.specs.Showing.{Showing, one, loop, worstOf, laying-best, after}
 use Rattle.pacing.specs.Film.{Paced, lead, isPast}
@@ -96,7 +97,7 @@ promise x f ok some = record {
   some = some;
   few = streams-few x f ok;
   fits = streams-fit x f ok some;
-  rises = overhead-rises (f .hop) (f .back);
+  rises = overhead-rises (f .table) (table-rises f ok);
   buffer = buffer-formula x f;
   four = buffer-small x f ok;
   laying = legal-laying x f ok;

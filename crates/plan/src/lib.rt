@@ -34,6 +34,16 @@ pub struct Plan {
     pub worstat: u32,
 }
 
+// The numbers of a plan beside its figures.
+pub struct Numbers {
+    pub streams: u32,
+    pub buffer: u32,
+    pub worst2: u32,
+    pub margin: u32,
+    pub showing: u32,
+    pub worstat: u32,
+}
+
 // The answer of the planner.
 pub struct Planned {
     pub verdict: Verdict,
@@ -47,14 +57,14 @@ pub fn blank_plan() -> Plan
     let none = [0u32; 64];
     Plan {
         figures: Figures {
+            kind: 0,
             zones: 0,
             positions: none,
             times: none,
             blocks: 0,
             bytes: 0,
             rate: 0,
-            hop: 0,
-            back: 0,
+            table: [0u32; 257],
         },
         streams: 0,
         buffer: 0,
@@ -99,12 +109,12 @@ pub fn lead_is_the_greatest()
 {}
 
 // The streams of a plan are the greatest whole number from 1 to 256 that meets the formula, and no other number is. 12 is answered only
-// where no number meets it, and where the lists have room always if not even 1 does.
+// where no number meets it, and for legal figures, where the lists have room, always if not even 1 does.
 pub fn streams_are_the_most()
     ensures most { λ _. ⌜ ((x : Showing) (f : Figures) → 0 < streamsOf x f → MostStreams x f (streamsOf x f)) ⌝ }
     ensures only { λ _. ⌜ ((x : Showing) (f : Figures) (n : ℕ) → MostStreams x f n → n ≡ streamsOf x f) ⌝ }
     ensures none { λ _. ⌜ ((x : Showing) (f : Figures) (np nl : ℕ) → planFault x f np nl ≡ 12 → (n : ℕ) → 1 ≤ n → n ≤ 256 → TooMany x f n) ⌝ }
-    ensures one { λ _. ⌜ ((x : Showing) (f : Figures) (np nl : ℕ) → f .blocks ≤ np → f .blocks ≤ nl → TooMany x f 1 → planFault x f np nl ≡ 12) ⌝ }
+    ensures one { λ _. ⌜ ((x : Showing) (f : Figures) → Legal f → (np nl : ℕ) → f .blocks ≤ np → f .blocks ≤ nl → TooMany x f 1 → planFault x f np nl ≡ 12) ⌝ }
 {}
 
 // The block that a plan names is the first of a pair that takes worst2, no pair before it does, and no other block has both.

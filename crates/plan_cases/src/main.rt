@@ -1,7 +1,8 @@
-// Runs the planner on the cases of document 01, on real disks, on loops and on refusals, and the check of a plan on altered plans. Standard input
-// has a case on each line: its name, which has no colon, then a colon, a letter for what is done, and what it is done to. P and L are the
-// bytes of the lists of positions and leads, 65,536 at most. RECORD is zones N B c hop return, then positions and time of each zone; what
-// is missing is 0. PLAN is streams, buffer, worst2, margin, showing and worstat, then RECORD.
+// Runs the planner on the cases of document 01, on real disks, on loops, on measured overheads and on refusals, and the check of a plan on
+// altered plans. Standard input has a case on each line: its name, which has no colon, then a colon, a letter for what is done, and what it
+// is done to. P and L are the bytes of the lists of positions and leads, 65,536 at most. RECORD is kind zones N B c, then 257 overheads in
+// runs (V+S*N is V, V + S, .., N numbers), then positions and time of each zone; what is missing is 0. PLAN is streams, buffer, worst2,
+// margin, showing and worstat, then RECORD.
 //
 //     NAME: r P L RECORD    plans a record, with lists of a pattern; R plans it as a loop
 //     NAME: c P L CARD      plans a card, its bytes in hexadecimal, with lists of a pattern; C plans it as a loop

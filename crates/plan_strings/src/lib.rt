@@ -47,7 +47,7 @@ fn plan_by(showing: u32, card: &[u8], positions: &mut [u8], leads: &mut [u8]) ->
     plan_card(card, positions, leads)
 }
 
-// Plans a card in a showing: 1 to 11 and 26, then 13, then 12.
+// Plans a card in a showing: 1 to 11, 25 and 26, then 13, then 12.
 fn plan_showing(
     showing: u32,
     card: &[u8],

@@ -1,12 +1,14 @@
 // The answer to figures that were read or judged.
-use crate::film::plan_of;
+use crate::film::plan_numbers;
 use block_lists::write_leads;
 use block_lists::write_positions;
 use card::CardRead;
+use card::Scalars;
 use card::Verdict;
 use numbers::refusals::ACCEPTED;
 use numbers::refusals::NO_STREAM;
 use numbers::refusals::TOO_SHORT;
+use plan::Plan;
 use plan::Planned;
 use plan::blank_plan;
 use zones::sum_positions;
@@ -58,8 +60,20 @@ pub fn plan_figures(read: CardRead, showing: u32, positions: &mut [u8], leads: &
     if words::entries(leads) < blocks {
         return refused(TOO_SHORT, 0);
     }
-    let plan = plan_of(read.figures, showing);
-    let number = stream_fault(plan.streams);
+    let own = plan_numbers(
+        Scalars {
+            kind: read.figures.kind,
+            zones: read.figures.zones,
+            blocks: read.figures.blocks,
+            bytes: read.figures.bytes,
+            rate: read.figures.rate,
+        },
+        &read.figures.positions,
+        &read.figures.times,
+        &read.figures.table,
+        showing,
+    );
+    let number = stream_fault(own.streams);
     if number != ACCEPTED {
         return refused(number, 0);
     }
@@ -71,7 +85,7 @@ pub fn plan_figures(read: CardRead, showing: u32, positions: &mut [u8], leads: &
         showing,
         total,
         read.figures.blocks,
-        plan.worst2,
+        own.worst2,
         leads,
     );
     Planned {
@@ -79,6 +93,14 @@ pub fn plan_figures(read: CardRead, showing: u32, positions: &mut [u8], leads: &
             number: number,
             place: 0,
         },
-        plan: plan,
+        plan: Plan {
+            figures: read.figures,
+            streams: own.streams,
+            buffer: own.buffer,
+            worst2: own.worst2,
+            margin: own.margin,
+            showing: own.showing,
+            worstat: own.worstat,
+        },
     }
 }

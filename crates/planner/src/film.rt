@@ -1,17 +1,19 @@
 // The plan of legal figures.
 use block_lists::both;
-use card::Figures;
+use card::Scalars;
 use numbers::showings::LOOP;
 use numbers::showings::ONCE;
-use plan::Plan;
+use plan::Numbers;
 use streams::buffer_size;
 use streams::count_streams;
 use zones::sum_positions;
 use zones::time_at;
 use zones::worst_pair;
 ghost use mathlib.Core.Path.{_≡_};
+ghost use Rattle.card.specs.declared.Figures.{Figures};
 ghost use Rattle.card.specs.Card.{Legal};
-ghost use Rattle.plan.specs.Plan.{wordOf, showingOf, planOf};
+ghost use Rattle.card.specs.Read.{figuresFrom};
+ghost use Rattle.plan.specs.Plan.{wordOf, showingOf, planOf, planFrom};
 ghost use Rattle.plan.specs.Answer.{sameNumbers};
 
 // The word of the showing that a word tells: of one that tells none, 0.
@@ -24,32 +26,25 @@ fn known_word(showing: u32) -> u32
     ONCE
 }
 
-// The plan of legal figures in a showing. The film's innermost position is its slowest.
-pub fn plan_of(figures: Figures, showing: u32) -> Plan
-    requires { ⌜ Legal figures ⌝ }
-    ensures { λ r. ⌜ r ≡ planOf (showingOf showing) figures ⌝ }
+// The numbers of the plan of legal figures in a showing. The film's innermost position is its slowest.
+pub fn plan_numbers<'a>(
+    figures: Scalars,
+    sizes: &'a [u32; 64],
+    times: &'a [u32; 64],
+    table: &'a [u32; 257],
+    showing: u32,
+) -> Numbers
+    requires { ⌜ Legal (figuresFrom figures (now sizes) (now times) (now table)) ⌝ }
+    ensures { λ r. ⌜ (let f = figuresFrom figures (now (sizes .entry)) (now (times .entry)) (now (table .entry)) in planFrom f r ≡ planOf (showingOf showing) f) ⌝ }
 {
-    let total = sum_positions(&figures.positions, figures.zones);
-    let worst = worst_pair(
-        &figures.positions,
-        &figures.times,
-        showing,
-        total,
-        figures.blocks,
-    );
+    let total = sum_positions(sizes, figures.zones);
+    let worst = worst_pair(sizes, times, showing, total, figures.blocks);
     let worst2 = worst.time;
-    let slowest = time_at(&figures.positions, &figures.times, total - figures.blocks);
+    let slowest = time_at(sizes, times, total - figures.blocks);
     let margin = 2 * slowest - worst2;
-    let streams = count_streams(
-        figures.rate,
-        worst2,
-        figures.hop,
-        figures.back,
-        figures.bytes,
-    );
+    let streams = count_streams(figures.rate, worst2, table, figures.bytes);
     let buffer = buffer_size(figures.rate, streams, margin, figures.bytes);
-    Plan {
-        figures: figures,
+    Numbers {
         streams: streams,
         buffer: buffer,
         worst2: worst2,
@@ -59,9 +54,9 @@ pub fn plan_of(figures: Figures, showing: u32) -> Plan
     }
 }
 
-// Two plans have the same streams, buffer, worst2, margin, showing and worstat.
-pub fn same_numbers(plan: Plan, own: Plan) -> bool
-    ensures { λ r. ⌜ r ≡ sameNumbers plan own ⌝ }
+// Two plans of the same figures have the same numbers: streams, buffer, worst2, margin, showing and worstat.
+pub fn same_numbers(plan: Numbers, own: Numbers) -> bool
+    ensures { λ r. ⌜ ((f : Figures) → r ≡ sameNumbers (planFrom f plan) (planFrom f own)) ⌝ }
 {
     let shown = both(plan.showing == own.showing, plan.worstat == own.worstat);
     let timed = both(

@@ -4,26 +4,32 @@ mod film; // the plan of legal figures
 mod figures; // the answer to figures that were read or judged
 
 use crate::figures::plan_figures;
-use crate::film::plan_of;
+use crate::film::plan_numbers;
 use crate::film::same_numbers;
 use block_lists::both;
 use block_lists::same_leads;
 use block_lists::same_positions;
 use card::Figures;
+use card::Scalars;
+use card::judge::fault_of_figures;
 use numbers::refusals::ACCEPTED;
 use numbers::showings::LOOP;
 use numbers::showings::ONCE;
+use plan::Numbers;
 use plan::Plan;
 use plan::Planned;
 use plan::judged_figures;
 use zones::sum_positions;
 ghost use mathlib.Core.Path.{_≡_};
 ghost use mathlib.Core.Bool.{not, _&&_, _||_};
-ghost use Rattle.card.specs.Read.{readCard};
+ghost use lib.ListN.{length};
+ghost use Rattle.numbers.specs.Limits.{maxZones, tableLength};
+ghost use Rattle.card.specs.Read.{readCard, figuresFrom};
 ghost use Rattle.placement.specs.Showing.{one, loop};
+ghost use Rattle.plan.specs.Plan.{planFrom};
 ghost use Rattle.plan.specs.Answer.{planned, positionsAfter, leadsAfter, judged, hasNumbers, hasPositions, hasLeads, isPlan};
 
-// Plans a card for one showing: 1 to 11 and 26 as the reader gives them, then 13, then 12. A refusal leaves both lists.
+// Plans a card for one showing: 1 to 11, 25 and 26 as the reader gives them, then 13, then 12. A refusal leaves both lists.
 pub fn plan_card(card: &[u8], positions: &mut [u8], leads: &mut [u8]) -> Planned
     ensures { λ r. ⌜ (r ≡ planned one (readCard (now (card .entry))) (now (positions .entry)) (now (leads .entry)))
         × (now (positions .exit) ≡ positionsAfter one (readCard (now (card .entry))) (now (positions .entry)) (now (leads .entry)))
@@ -41,7 +47,7 @@ pub fn plan_loop_card(card: &[u8], positions: &mut [u8], leads: &mut [u8]) -> Pl
     plan_figures(card_reader::read_card(card), LOOP, positions, leads)
 }
 
-// Plans a record of figures for one showing: 4 to 10 and 26, then 13, then 12, place 0. A refusal leaves both lists.
+// Plans a record of figures for one showing: 3 to 10, 25 and 26, then 13, then 12, place 0. A refusal leaves both lists.
 pub fn plan_record(figures: Figures, positions: &mut [u8], leads: &mut [u8]) -> Planned
     ensures { λ r. ⌜ (r ≡ planned one (judged figures) (now (positions .entry)) (now (leads .entry)))
         × (now (positions .exit) ≡ positionsAfter one (judged figures) (now (positions .entry)) (now (leads .entry)))
@@ -59,15 +65,21 @@ pub fn plan_loop_record(figures: Figures, positions: &mut [u8], leads: &mut [u8]
     plan_figures(judged_figures(figures), LOOP, positions, leads)
 }
 
-// Has this record the numbers of its figures in the showing that it names, and are these legal and feed a stream?
-pub fn has_numbers(plan: Plan) -> bool
-    ensures { λ r. ⌜ r ≡ hasNumbers plan ⌝ }
+// Has a plan the numbers of its figures in the showing that it names, and are these legal and feed a stream?
+fn has_numbers<'a>(
+    figures: Scalars,
+    sizes: &'a [u32; 64],
+    times: &'a [u32; 64],
+    table: &'a [u32; 257],
+    plan: Numbers,
+) -> bool
+    requires { ⌜ (length (now sizes) ≡ maxZones) × (length (now times) ≡ maxZones) × (length (now table) ≡ tableLength) ⌝ }
+    ensures { λ r. ⌜ r ≡ hasNumbers (planFrom (figuresFrom figures (now (sizes .entry)) (now (times .entry)) (now (table .entry))) plan) ⌝ }
 {
-    let verdict = card::judge_figures(plan.figures);
-    if verdict.number != ACCEPTED {
+    if fault_of_figures(figures, sizes, times, table) != ACCEPTED {
         return false;
     }
-    let own = plan_of(plan.figures, plan.showing);
+    let own = plan_numbers(figures, sizes, times, table, plan.showing);
     both(0 < own.streams, same_numbers(plan, own))
 }
 
@@ -75,7 +87,28 @@ pub fn has_numbers(plan: Plan) -> bool
 fn is_plan_with(plan: Plan, positions: &[u8], leads: &[u8], asked: bool) -> bool
     ensures { λ r. ⌜ r ≡ (hasNumbers plan && (hasPositions plan (now (positions .entry)) && (not asked || hasLeads plan (now (leads .entry))))) ⌝ }
 {
-    if !has_numbers(plan) {
+    let figures = Scalars {
+        kind: plan.figures.kind,
+        zones: plan.figures.zones,
+        blocks: plan.figures.blocks,
+        bytes: plan.figures.bytes,
+        rate: plan.figures.rate,
+    };
+    let numbers = Numbers {
+        streams: plan.streams,
+        buffer: plan.buffer,
+        worst2: plan.worst2,
+        margin: plan.margin,
+        showing: plan.showing,
+        worstat: plan.worstat,
+    };
+    if !has_numbers(
+        figures,
+        &plan.figures.positions,
+        &plan.figures.times,
+        &plan.figures.table,
+        numbers,
+    ) {
         return false;
     }
     let total = sum_positions(&plan.figures.positions, plan.figures.zones);

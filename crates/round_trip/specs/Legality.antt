@@ -2,7 +2,7 @@
 -- Assumes nothing.
 use Prim.Native.Nat.{ℕ, zero, suc, _+_, _*_, _-_, _≤_, _<_}
 use mathlib.Core.Path.{_≡_, refl, sym, ap, _∙_, subst}
-use mathlib.Core.Logic.{by-cases, _↔_}
+use mathlib.Core.Logic.{_⊎_, by-cases, _↔_}
 use mathlib.Core.List.{List, [], _∷_}
 use mathlib.Core.Bool.{Bool, true, false, cond}
 use native.Mathlib.Omega.{arith}
@@ -13,55 +13,56 @@ use lib.Dec.{eqb}
 use borrow.Author.Tests.{eqb-true, eq-eqb}
 use Rattle.laws.specs.Bools.{and-left, and-right, and-both}
 use Rattle.laws.specs.Runs.{allBy, all-at, sumBy}
-use Rattle.numbers.specs.Limits.{maxZones, maxPositions, maxTime, timesAsFast, minBlocks, maxBlocks, maxBytes, maxRate, maxMove}
+use Rattle.numbers.specs.Limits.{straightKind, measuredKind, maxZones, maxPositions, maxTime, timesAsFast, minBlocks, maxBlocks, maxBytes, maxRate, tableLength}
 use Rattle.card.specs.declared.Figures.{Figures}
 use Rattle.card.specs.declared.Verdict.{Verdict}
-use Rattle.card.specs.declared.fields.Rule.the-variants.{Zones, Positions, Blocks, Measure}
+use Rattle.card.specs.declared.fields.Rule.the-variants.{Kind, Zones, Positions, Blocks, Measure}
 use Rattle.card.specs.Ranges.{faultOf, timeFault}
-use Rattle.card.specs.Card.{Legal, totalPositions, filmFault, zoneFaults, zerosFrom, unusedZero, recordFault, judgeRecord}
+use Rattle.card.specs.TableFaults.{TableLegal, fault-table, table-fault}
+use Rattle.card.specs.Card.{Legal, totalPositions, tableFault, filmFault, zoneFaults, zerosFrom, unusedZero, recordFault, judgeRecord}
 use Rattle.card.specs.Read.{accepted}
-use Rattle.card.specs.RangeLaws.{first-none, first-clear, zones-range, positions-range, time-range, blocks-range, measure-range, zones-legal, positions-legal, time-legal, blocks-legal, measure-legal}
+use Rattle.card.specs.RangeLaws.{first-none, first-clear, kind-range, zones-range, positions-range, time-range, blocks-range, measure-range, kind-legal, zones-legal, positions-legal, time-legal, blocks-legal, measure-legal}
 
--- a record has 64 zone entries
+-- a record has 64 zone entries and 257 overheads
 abbrev pub Wide : Figures → Type 0
-Wide f = (length (f .positions) ≡ maxZones) × (length (f .times) ≡ maxZones)
+Wide f = (length (f .positions) ≡ maxZones) × (length (f .times) ≡ maxZones) × (length (f .table) ≡ tableLength)
+
+-- the kind of a record is 1 or 2
+abbrev pub Kinded : Figures → Type 0
+Kinded f = (f .kind ≡ straightKind) ⊎ (f .kind ≡ measuredKind)
 
 -- ---- the film
 
--- N, B, c, hop and return in their ranges, total being P
+-- N, B, c and the overheads in their ranges, total being P
 pub record FilmLegal (f : Figures) (total : ℕ) : Type 0 where
   pub blocks : (minBlocks ≤ f .blocks) × (f .blocks ≤ maxBlocks)
   pub room : f .blocks ≤ total
   pub bytes : (1 ≤ f .bytes) × (f .bytes ≤ maxBytes)
   pub rate : (1 ≤ f .rate) × (f .rate ≤ maxRate)
-  pub hop : (1 ≤ f .hop) × (f .hop ≤ maxMove)
-  pub back : (1 ≤ f .back) × (f .back ≤ maxMove)
+  pub table : TableLegal (f .kind) (f .table)
 
 -- a film that is not refused is legal, and back
-pub fault-film : (f : Figures) (total : ℕ) → filmFault f total ≡ 0 → FilmLegal f total
+pub fault-film : (f : Figures) (total : ℕ) → length (f .table) ≡ tableLength → filmFault f total ≡ 0 → FilmLegal f total
 unfolding filmFault
-fault-film f total e =
+fault-film f total w e =
     let n = first-none (faultOf Blocks total (f .blocks)) _ e in
     let b = first-none (faultOf Measure maxBytes (f .bytes)) _ (n .1) in
     let c = first-none (faultOf Measure maxRate (f .rate)) _ (b .1) in
-    let h = first-none (faultOf Measure maxMove (f .hop)) _ (c .1) in
     let blocks = blocks-range total (f .blocks) (n .0) in
     record {
       blocks = (blocks .0, blocks .1);
       room = blocks .2;
       bytes = measure-range maxBytes (f .bytes) (b .0);
       rate = measure-range maxRate (f .rate) (c .0);
-      hop = measure-range maxMove (f .hop) (h .0);
-      back = measure-range maxMove (f .back) (h .1);
+      table = fault-table (f .kind) (f .table) w (c .1);
     }
 
-film-fault : (f : Figures) (total : ℕ) → FilmLegal f total → filmFault f total ≡ 0
+film-fault : (f : Figures) (total : ℕ) → Kinded f → FilmLegal f total → filmFault f total ≡ 0
 unfolding filmFault
-film-fault f total l =
+film-fault f total k l =
     first-clear (blocks-legal total (f .blocks) (l .blocks .0) (l .blocks .1) (l .room))
     (first-clear (measure-legal maxBytes (f .bytes) (l .bytes .0) (l .bytes .1))
-    (first-clear (measure-legal maxRate (f .rate) (l .rate .0) (l .rate .1))
-    (first-clear (measure-legal maxMove (f .hop) (l .hop .0) (l .hop .1)) (measure-legal maxMove (f .back) (l .back .0) (l .back .1)))))
+    (first-clear (measure-legal maxRate (f .rate) (l .rate .0) (l .rate .1)) (table-fault (f .kind) (f .table) k (l .table))))
 
 -- ---- the zones
 
@@ -93,10 +94,10 @@ from-here : (P : ℕ → Type 0) (i left : ℕ) → P i → ((j : ℕ) → i + 1
 from-here P i left here later j l h = by-cases (ℕ-discrete i j) (λ e. subst P e here) (λ n. later j (omega arith) (omega arith))
 
 -- zones that are not refused are legal
-fault-zones-legal : (left i : ℕ) (f : Figures) (total before : ℕ) → i + left ≤ length (f .positions) → total ≤ maxPositions
+fault-zones-legal : (left i : ℕ) (f : Figures) (total before : ℕ) → i + left ≤ length (f .positions) → length (f .table) ≡ tableLength → total ≤ maxPositions
     → zoneFaults left i f total before ≡ 0 → ZonesLegal left i f total before
 unfolding zoneFaults
-fault-zones-legal zero i f total before w t e =
+fault-zones-legal zero i f total before w x t e =
     let sum : total + sumFrom 0 i f ≡ total = omega (arith, sum-none i f) in
     record {
       positions = λ j l h. absurd (omega arith);
@@ -105,14 +106,14 @@ fault-zones-legal zero i f total before w t e =
       falling = λ j l h. absurd (omega arith);
       thrice = λ j l h. absurd (omega arith);
       sum = omega arith;
-      film = fault-film f (total + sumFrom 0 i f) (rw sum e);
+      film = fault-film f (total + sumFrom 0 i f) x (rw sum e);
     }
-fault-zones-legal (suc left) i f total before w t e =
+fault-zones-legal (suc left) i f total before w x t e =
     let p = first-none (faultOf Positions total (getD (f .positions) i 0)) _ e in
     let q = first-none (timeFault (getD (f .times) 0 0) before (getD (f .times) i 0)) _ (p .1) in
     let few = positions-range total (getD (f .positions) i 0) (p .0) in
     let slow = time-range before (getD (f .times) i 0) (getD (f .times) 0 0) (q .0) in
-    let later = fault-zones-legal left (i + 1) f (total + getD (f .positions) i 0) (getD (f .times) i 0) (omega arith) (few .1) (q .1) in
+    let later = fault-zones-legal left (i + 1) f (total + getD (f .positions) i 0) (getD (f .times) i 0) (omega arith) x (few .1) (q .1) in
     let next : i + 1 ≡ suc i = omega arith in
     let sum : total + sumFrom (suc left) i f ≡ total + getD (f .positions) i 0 + sumFrom left (i + 1) f = omega (arith, sum-here left i f (omega arith)) in
     record {
@@ -128,13 +129,13 @@ fault-zones-legal (suc left) i f total before w t e =
     }
 
 -- legal zones are not refused
-zones-legal-fault : (left i : ℕ) (f : Figures) (total before : ℕ) → i + left ≤ length (f .positions)
+zones-legal-fault : (left i : ℕ) (f : Figures) (total before : ℕ) → i + left ≤ length (f .positions) → Kinded f
     → ZonesLegal left i f total before → zoneFaults left i f total before ≡ 0
 unfolding zoneFaults
-zones-legal-fault zero i f total before w l =
+zones-legal-fault zero i f total before w k l =
     let sum : total + sumFrom 0 i f ≡ total = omega (arith, sum-none i f) in
-    rw sum at (film-fault f (total + sumFrom 0 i f) (l .film))
-zones-legal-fault (suc left) i f total before w l =
+    rw sum at (film-fault f (total + sumFrom 0 i f) k (l .film))
+zones-legal-fault (suc left) i f total before w k l =
     let sum : total + sumFrom (suc left) i f ≡ total + getD (f .positions) i 0 + sumFrom left (i + 1) f = omega (arith, sum-here left i f (omega arith)) in
     let next : i + 1 ≡ suc i = omega arith in
     let times = l .times i (omega arith) (omega arith) in
@@ -149,7 +150,7 @@ zones-legal-fault (suc left) i f total before w l =
     } in
     first-clear (positions-legal total (getD (f .positions) i 0) (l .positions i (omega arith) (omega arith)) (omega (arith, l .sum)))
     (first-clear (time-legal before (getD (f .times) i 0) (getD (f .times) 0 0) (times .0) (times .1) (l .start (omega arith)) (l .thrice i (omega arith) (omega arith)))
-    (zones-legal-fault left (i + 1) f (total + getD (f .positions) i 0) (getD (f .times) i 0) (omega arith) later))
+    (zones-legal-fault left (i + 1) f (total + getD (f .positions) i 0) (getD (f .times) i 0) (omega arith) k later))
 
 -- ---- the unused zones
 
@@ -188,6 +189,7 @@ clear false e = absurd (omega arith)
 
 -- what the judge of a record looks at, one by one
 pub record Judged (f : Figures) : Type 0 where
+  pub kind : Kinded f
   pub zones : (1 ≤ f .zones) × (f .zones ≤ maxZones)
   pub unused : Unused f
   pub faults : zoneFaults (f .zones) 0 f 0 maxTime ≡ 0
@@ -196,10 +198,12 @@ pub record Judged (f : Figures) : Type 0 where
 pub fault-judged : (f : Figures) → recordFault f ≡ 0 → Judged f
 unfolding recordFault unusedZero zerosFrom
 fault-judged f e =
-    let z = first-none (faultOf Zones 0 (f .zones)) _ e in
+    let k = first-none (faultOf Kind 0 (f .kind)) _ e in
+    let z = first-none (faultOf Zones 0 (f .zones)) _ (k .1) in
     let u = first-none (cond (unusedZero f) 0 4) _ (z .1) in
     let both = clear (unusedZero f) (u .0) in
     record {
+      kind = kind-range 0 (f .kind) (k .0);
       zones = zones-range 0 (f .zones) (z .0);
       unused = λ i l. (zeros-at (f .zones) (f .positions) (and-left (zeros (f .zones) (f .positions)) _ both) i l, zeros-at (f .zones) (f .times) (and-right (zeros (f .zones) (f .positions)) _ both) i l);
       faults = u .1;
@@ -209,7 +213,7 @@ pub judged-fault : (f : Figures) → Judged f → recordFault f ≡ 0
 unfolding recordFault unusedZero zerosFrom
 judged-fault f j =
     let both : unusedZero f ≡ true = and-both (at-zeros (f .zones) (f .positions) (λ i l. j .unused i l .0)) (at-zeros (f .zones) (f .times) (λ i l. j .unused i l .1)) in
-    first-clear (zones-legal 0 (f .zones) (j .zones .0) (j .zones .1)) (first-clear (rw both) (j .faults))
+    first-clear (kind-legal 0 (f .kind) (j .kind)) (first-clear (zones-legal 0 (f .zones) (j .zones .0) (j .zones .1)) (first-clear (rw both) (j .faults)))
 
 -- the positions from the first zone on are P
 sum-total : (f : Figures) → 0 + sumFrom (f .zones) 0 f ≡ totalPositions f
@@ -220,9 +224,10 @@ sum-total f = omega arith
 pub fault-legal : (f : Figures) → Wide f → recordFault f ≡ 0 → Legal f
 fault-legal f w e =
     let j = fault-judged f e in
-    let l = fault-zones-legal (f .zones) 0 f 0 maxTime (omega (arith, j .zones)) (omega arith) (j .faults) in
+    let l = fault-zones-legal (f .zones) 0 f 0 maxTime (omega (arith, j .zones)) (w .2) (omega arith) (j .faults) in
     record {
       wide = w;
+      kind = j .kind;
       zones = j .zones;
       unused = j .unused;
       positions = λ i h. l .positions i (omega arith) (omega arith);
@@ -234,8 +239,8 @@ fault-legal f w e =
       room = omega (arith, l .film .room, sum-total f);
       bytes = l .film .bytes;
       rate = l .film .rate;
-      hop = l .film .hop;
-      back = l .film .back;
+      straight = l .film .table .straight;
+      measured = l .film .table .measured;
     }
 
 -- LEGAL FIGURES ARE NOT REFUSED
@@ -246,8 +251,7 @@ legal-fault f l =
       room = omega (arith, l .room, sum-total f);
       bytes = l .bytes;
       rate = l .rate;
-      hop = l .hop;
-      back = l .back;
+      table = record { straight = l .straight; measured = l .measured };
     } in
     let zones : ZonesLegal (f .zones) 0 f 0 maxTime = record {
       positions = λ j m h. l .positions j (omega arith);
@@ -258,7 +262,12 @@ legal-fault f l =
       sum = omega (arith, l .total, sum-total f);
       film = film;
     } in
-    judged-fault f (record { zones = l .zones; unused = l .unused; faults = zones-legal-fault (f .zones) 0 f 0 maxTime (omega (arith, l .zones, l .wide)) zones })
+    judged-fault f (record {
+      kind = l .kind;
+      zones = l .zones;
+      unused = l .unused;
+      faults = zones-legal-fault (f .zones) 0 f 0 maxTime (omega (arith, l .zones, l .wide)) (l .kind) zones;
+    })
 
 -- THE JUDGE ACCEPTS EXACTLY THE LEGAL FIGURES
 pub judge-legal : (f : Figures) → Wide f → ((judgeRecord f ≡ accepted) ↔ Legal f) × ((recordFault f ≡ 0) ↔ Legal f)

@@ -1,7 +1,8 @@
 -- How long the card of legal figures is.
 -- Assumes nothing.
 use Prim.Native.Nat.{ℕ, zero, suc, _+_, _*_, _/_, _%_, _^_, _≤_, _<_}
-use mathlib.Core.Path.{_≡_, refl}
+use mathlib.Core.Path.{_≡_, refl, ap, _∙_}
+use mathlib.Core.Logic.{_⊎_, inl, inr}
 use mathlib.Core.List.{List, [], _∷_}
 use mathlib.Core.Bool.{Bool, true, false, cond}
 use native.Mathlib.Omega.{arith}
@@ -9,14 +10,16 @@ use native.Mathlib.Nat.{pow-succ'}
 use lib.ListN.{length, getD, length-append}
 use lib.Dec.{ltb}
 use borrow.Author.Tests.{ltb-false}
-use Rattle.numbers.specs.Limits.{maxTime}
+use Rattle.numbers.specs.Limits.{straightKind, measuredKind, maxTime, tableLength, minCard, maxCard}
 use Rattle.leb128.specs.Number.{groupsFrom, groups}
 use Rattle.card.specs.declared.Figures.{Figures}
 use Rattle.card.specs.declared.fields.Rule.the-variants.{Positions}
 use Rattle.card.specs.Ranges.{faultOf, timeFault}
-use Rattle.card.specs.Card.{Legal, filmFault, zoneFaults, filmNumbers, zoneNumbers, numbersOf, bytesOf, cardOf}
+use Rattle.card.specs.Table.{hopIn, backIn}
+use Rattle.card.specs.TableFaults.{TableLegal, straight-hop, straight-back}
+use Rattle.card.specs.Card.{Legal, filmFault, zoneFaults, tableNumbers, filmNumbers, zoneNumbers, numbersOf, bytesOf, cardOf}
 use Rattle.card.specs.RangeLaws.{first-none, positions-range, time-range}
-use Rattle.round_trip.specs.Legality.{fault-film, fault-judged, legal-fault}
+use Rattle.round_trip.specs.Legality.{Kinded, fault-film, fault-judged, legal-fault}
 
 -- a number below 128 ^ suc k takes one to suc k bytes
 groups-few : (n k v : ℕ) → v < 128 ^ suc k → (1 ≤ length (groupsFrom n v)) × (length (groupsFrom n v) ≤ suc k)
@@ -35,26 +38,42 @@ bytes-more : (k v : ℕ) (vs : List ℕ) → v < 128 ^ suc k → (1 + length (by
 unfolding bytesOf groups
 bytes-more k v vs h = omega (arith, groups-few 4 k v h, length-append (groupsFrom 4 v) (bytesOf vs))
 
-film-size : (f : Figures) (total : ℕ) → filmFault f total ≡ 0 → (5 ≤ length (bytesOf (filmNumbers f))) × (length (bytesOf (filmNumbers f)) ≤ 17)
-unfolding filmNumbers
-film-size f total e =
-    let l = fault-film f total e in
+-- the bytes of numbers that take one to four bytes each
+bytes-all : (vs : List ℕ) → ((i : ℕ) → i < length vs → getD vs i 0 < 128 ^ 4) → (length vs ≤ length (bytesOf vs)) × (length (bytesOf vs) ≤ 4 * length vs)
+bytes-all [] h = unfold bytesOf in omega arith
+bytes-all (v ∷ vs) h = omega (arith, bytes-more 3 v vs (h 0 (omega arith)), bytes-all vs (λ i l. h (suc i) (omega arith)))
+
+-- hop and return take two to six bytes, a whole table at least 257 and at most 1,028
+table-size : (kind : ℕ) (t : List ℕ) → length t ≡ tableLength → (kind ≡ straightKind) ⊎ (kind ≡ measuredKind) → TableLegal kind t
+    → (2 ≤ length (bytesOf (tableNumbers kind t))) × (length (bytesOf (tableNumbers kind t)) ≤ 1028)
+unfolding tableNumbers
+table-size kind t w (inl k) l =
     let none : length (bytesOf []) ≡ 0 = unfold bytesOf in refl in
+    let s = l .straight k in
+    let hop : hopIn t ≡ s .hop = ap hopIn (s .same) ∙ straight-hop (s .hop) (s .back) in
+    let back : backIn t ≡ s .back = ap backIn (s .same) ∙ straight-back (s .hop) (s .back) in
+    rw k (omega (arith, none, bytes-more 2 (hopIn t) (backIn t ∷ []) (omega (arith, s .hops)), bytes-more 2 (backIn t) [] (omega (arith, s .backs))))
+table-size kind t w (inr k) l = rw k (omega (arith, bytes-all t (λ i h. omega (arith, l .measured k .range i (omega arith)))))
+
+film-size : (f : Figures) (total : ℕ) → length (f .table) ≡ tableLength → Kinded f → filmFault f total ≡ 0
+    → (5 ≤ length (bytesOf (filmNumbers f))) × (length (bytesOf (filmNumbers f)) ≤ 1039)
+unfolding filmNumbers
+film-size f total w k e =
+    let l = fault-film f total w e in
+    let rest = tableNumbers (f .kind) (f .table) in
     omega (
       arith,
-      none,
-      bytes-more 2 (f .blocks) (f .bytes ∷ f .rate ∷ f .hop ∷ f .back ∷ []) (omega (arith, l .blocks)),
-      bytes-more 3 (f .bytes) (f .rate ∷ f .hop ∷ f .back ∷ []) (omega (arith, l .bytes)),
-      bytes-more 3 (f .rate) (f .hop ∷ f .back ∷ []) (omega (arith, l .rate)),
-      bytes-more 2 (f .hop) (f .back ∷ []) (omega (arith, l .hop)),
-      bytes-more 2 (f .back) [] (omega (arith, l .back)),
+      bytes-more 2 (f .blocks) (f .bytes ∷ f .rate ∷ rest) (omega (arith, l .blocks)),
+      bytes-more 3 (f .bytes) (f .rate ∷ rest) (omega (arith, l .bytes)),
+      bytes-more 3 (f .rate) rest (omega (arith, l .rate)),
+      table-size (f .kind) (f .table) w k (l .table),
     )
 
-zones-size : (left i : ℕ) (f : Figures) (total before : ℕ) → zoneFaults left i f total before ≡ 0
-    → (2 * left + 5 ≤ length (bytesOf (zoneNumbers left i f))) × (length (bytesOf (zoneNumbers left i f)) ≤ 7 * left + 17)
+zones-size : (left i : ℕ) (f : Figures) (total before : ℕ) → length (f .table) ≡ tableLength → Kinded f → zoneFaults left i f total before ≡ 0
+    → (2 * left + 5 ≤ length (bytesOf (zoneNumbers left i f))) × (length (bytesOf (zoneNumbers left i f)) ≤ 7 * left + 1039)
 unfolding zoneFaults zoneNumbers
-zones-size zero i f total before e = film-size f total e
-zones-size (suc left) i f total before e =
+zones-size zero i f total before w k e = film-size f total w k e
+zones-size (suc left) i f total before w k e =
     let p = first-none (faultOf Positions total (getD (f .positions) i 0)) _ e in
     let q = first-none (timeFault (getD (f .times) 0 0) before (getD (f .times) i 0)) _ (p .1) in
     let few = positions-range total (getD (f .positions) i 0) (p .0) in
@@ -63,18 +82,22 @@ zones-size (suc left) i f total before e =
       arith,
       bytes-more 2 (getD (f .positions) i 0) (getD (f .times) i 0 ∷ zoneNumbers left (i + 1) f) (omega arith),
       bytes-more 3 (getD (f .times) i 0) (zoneNumbers left (i + 1) f) (omega arith),
-      zones-size left (i + 1) f (total + getD (f .positions) i 0) (getD (f .times) i 0) (q .1),
+      zones-size left (i + 1) f (total + getD (f .positions) i 0) (getD (f .times) i 0) w k (q .1),
     )
 
--- THE CARD OF LEGAL FIGURES HAS 9 TO 467 BYTES
-pub legal-size : (f : Figures) → Legal f → (9 ≤ length (cardOf f)) × (length (cardOf f) ≤ 467)
+-- THE CARD OF LEGAL FIGURES HAS 9 TO 1,489 BYTES
+pub legal-size : (f : Figures) → Legal f → (minCard ≤ length (cardOf f)) × (length (cardOf f) ≤ maxCard)
 unfolding cardOf numbersOf
 legal-size f l =
     let j = fault-judged f (legal-fault f l) in
     omega (
       arith,
       j .zones,
-      bytes-more 0 1 (f .zones ∷ zoneNumbers (f .zones) 0 f) (omega arith),
+      bytes-more 0 (f .kind) (f .zones ∷ zoneNumbers (f .zones) 0 f) (kind-small (l .kind)),
       bytes-more 0 (f .zones) (zoneNumbers (f .zones) 0 f) (omega (arith, j .zones)),
-      zones-size (f .zones) 0 f 0 maxTime (j .faults),
+      zones-size (f .zones) 0 f 0 maxTime (l .wide .2) (l .kind) (j .faults),
     )
+  where
+    kind-small : {v : ℕ} → (v ≡ straightKind) ⊎ (v ≡ measuredKind) → v < 128 ^ 1
+    kind-small (inl e) = omega arith
+    kind-small (inr e) = omega arith

@@ -4,6 +4,7 @@ ghost use mathlib.Core.Logic.{_↔_};
 ghost use mathlib.Core.List.{List, _++_};
 ghost use Prim.Native.Nat.{ℕ, suc, _≤_};
 ghost use lib.ListN.{length, drop};
+ghost use Rattle.numbers.specs.Limits.{minCard, maxCard};
 ghost use Rattle.leb128.specs.Number.{Bytes};
 ghost use Rattle.card.specs.declared.Figures.{Figures};
 ghost use Rattle.card.specs.Card.{Legal, recordFault, judgeRecord, cardOf, writtenCard, bufferAfter};
@@ -35,7 +36,7 @@ pub fn refused_card_has_no_figures()
     ensures { λ _. ⌜ ((s : List ℕ) (k : ℕ) → readCard s .verdict .number ≡ suc k → readCard s .figures ≡ blankFigures) ⌝ }
 {}
 
-// The card of legal figures has 9 to 467 bytes.
+// The card of legal figures has 9 to 1,489 bytes.
 pub fn legal_card_is_short()
-    ensures { λ _. ⌜ ((f : Figures) → Legal f → (9 ≤ length (cardOf f)) × (length (cardOf f) ≤ 467)) ⌝ }
+    ensures { λ _. ⌜ ((f : Figures) → Legal f → (minCard ≤ length (cardOf f)) × (length (cardOf f) ≤ maxCard)) ⌝ }
 {}

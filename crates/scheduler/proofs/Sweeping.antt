@@ -17,7 +17,7 @@ use Rattle.draws.specs.Draws.{Sweeps}
 module _ (d : Desk) (w : Wide d) (r : Ready d) where
   -- the sweep bound
   pub timed : (g : Gathered) → Gathers (supplyOf (d .plan)) (d .kinds) (d .next) g
-      → Timed (supplyOf (d .plan)) (d .plan .streams) (d .plan .buffer - d .plan .figures .bytes) (d .plan .figures .hop) (d .plan .figures .back)
+      → Timed (supplyOf (d .plan)) (d .plan .streams) (d .plan .buffer - d .plan .figures .bytes) (d .plan .figures .table)
       (d .kinds) (d .next) (d .held) (g .times)
   unfolding supplyOf
   timed g u = record { slots = ready-slots d w r; times = u .times; spare = room-left d r; moves = λ k. refl }

@@ -56,12 +56,11 @@ pub fn judge_begin(desk: Desk, positions: &[u8], leads: &[u8], room: usize) -> S
     }
     let mut found = zeros();
     let sum = gather_leads(&desk.kinds, &desk.next, streams, leads, &mut found);
-    let figures = desk.plan.figures;
     let g = gather(
         &desk.kinds,
         &desk.next,
-        &figures.positions,
-        &figures.times,
+        &desk.plan.figures.positions,
+        &desk.plan.figures.times,
         positions,
         streams,
     );
@@ -127,13 +126,12 @@ pub fn judge_end(desk: Desk, positions: &[u8], leads: &[u8], draws: &[u8]) -> Ve
     if desk.phase != SWEEPING {
         return verdict(WRONG_PHASE, 0);
     }
-    let figures = desk.plan.figures;
     let streams = desk.plan.streams as usize;
     let g = gather(
         &desk.kinds,
         &desk.next,
-        &figures.positions,
-        &figures.times,
+        &desk.plan.figures.positions,
+        &desk.plan.figures.times,
         positions,
         streams,
     );
@@ -142,11 +140,10 @@ pub fn judge_end(desk: Desk, positions: &[u8], leads: &[u8], draws: &[u8]) -> Ve
         &desk.held,
         &g.times,
         streams,
-        desk.plan.buffer - figures.bytes,
-        figures.hop,
-        figures.back,
+        desk.plan.buffer - desk.plan.figures.bytes,
+        &desk.plan.figures.table,
     );
-    let most = most_drawn(figures.rate, bound);
+    let most = most_drawn(desk.plan.figures.rate, bound);
     judge_draws(&desk.kinds, &desk.held, streams, most, draws)
 }
 

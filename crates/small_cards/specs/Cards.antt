@@ -6,8 +6,9 @@ use mathlib.Core.List.{List, [], _∷_, _++_, map}
 use lib.ListN.{length, getD, take}
 use Rattle.laws.specs.Members.{upto, each}
 use Rattle.laws.specs.Runs.{sumBy}
-use Rattle.numbers.specs.Limits.{maxZones, minBlocks, maxTried}
+use Rattle.numbers.specs.Limits.{straightKind, maxZones, minBlocks, maxTried}
 use Rattle.card.specs.declared.Figures.{Figures}
+use Rattle.card.specs.Table.{straight}
 use Rattle.card.specs.Card.{Legal}
 use Rattle.card.specs.Read.{blankZones}
 
@@ -17,9 +18,10 @@ use Rattle.card.specs.Read.{blankZones}
 unfoldable pub entered : List ℕ → List ℕ
 entered xs = take maxZones (xs ++ blankZones)
 
--- zones of given positions and times and a film of n blocks, with the measures that every small card has: B 1000, c 1000, hop 1 and return 1
+-- zones of given positions and times and a film of n blocks, with the measures that every small card has: B 1000, c 1000, and the
+-- overheads of hop 1 and return 1, as cards of kind 1 have them
 unfoldable pub smallFigures : ℕ → List ℕ → List ℕ → ℕ → Figures
-smallFigures z ps ts n = record { zones = z; positions = entered ps; times = entered ts; blocks = n; bytes = 1000; rate = 1000; hop = 1; back = 1 }
+smallFigures z ps ts n = record { kind = straightKind; zones = z; positions = entered ps; times = entered ts; blocks = n; bytes = 1000; rate = 1000; table = straight 1 1 }
 
 -- ---- which cards are small (T13.1)
 
@@ -30,7 +32,7 @@ pub record Small (f : Figures) : Type 0 where
   pub positions : (i : ℕ) → i < f .zones → getD (f .positions) i 0 ≤ 3
   pub times : (i : ℕ) → i < f .zones → getD (f .times) i 0 ≤ 3
   pub blocks : f .blocks ≤ maxTried
-  pub measures : (f .bytes ≡ 1000) × (f .rate ≡ 1000) × (f .hop ≡ 1) × (f .back ≡ 1)
+  pub measures : (f .kind ≡ straightKind) × (f .bytes ≡ 1000) × (f .rate ≡ 1000) × (f .table ≡ straight 1 1)
 
 -- ---- the list of them
 

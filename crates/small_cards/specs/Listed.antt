@@ -74,7 +74,7 @@ made-of f s =
     let ps = entered-back (f .positions) (f .zones) (ok .wide .0) (ok .zones .1) (λ i h. ok .unused i h .0) in
     let ts = entered-back (f .times) (f .zones) (ok .wide .1) (ok .zones .1) (λ i h. ok .unused i h .1) in
     let m = s .measures in
-    λ i. record { zones = f .zones; positions = sym ps i; times = sym ts i; blocks = f .blocks; bytes = m .0 i; rate = m .1 i; hop = m .2 i; back = m .3 i }
+    λ i. record { kind = m .0 i; zones = f .zones; positions = sym ps i; times = sym ts i; blocks = f .blocks; bytes = m .1 i; rate = m .2 i; table = m .3 i }
 
 -- EVERY SMALL CARD IS IN THE LIST
 pub small-listed : (f : Figures) → Small f → In f smallCards

@@ -1,8 +1,9 @@
 -- The ranges that keep the formula of streams in 32 and 64 bits.
-use Prim.Native.Nat.{ℕ, _*_, _≤_}
-use Rattle.numbers.specs.Limits.{maxTime, maxMove}
+use Prim.Native.Nat.{ℕ, _*_, _≤_, _<_}
+use mathlib.Core.List.{List}
+use lib.ListN.{getD}
+use Rattle.numbers.specs.Limits.{maxTime, tableLength, maxOverhead}
 
-pub record Ranges (worst2 hop back : ℕ) : Type 0 where
+pub record Ranges (worst2 : ℕ) (table : List ℕ) : Type 0 where
   pub pair : worst2 ≤ 2 * maxTime
-  pub hops : hop ≤ maxMove
-  pub backs : back ≤ maxMove
+  pub moves : (k : ℕ) → k < tableLength → getD table k 0 ≤ maxOverhead

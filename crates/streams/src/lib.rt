@@ -8,6 +8,7 @@ use numbers::limits::MAX_STREAMS;
 use numbers::units::PARTS;
 ghost use mathlib.Core.Path.{_≡_};
 ghost use Prim.Native.Nat.{_+_, _-_, _*_, _≤_, _<_};
+ghost use lib.ListN.{getD};
 ghost use Rattle.numbers.specs.Limits.{maxNumber, maxTime, maxStreams};
 ghost use Rattle.pacing.specs.Streams.{overhead, twoSweeps, streams, bufferOf};
 ghost use Rattle.streams.specs.Ranges.{Ranges};
@@ -19,27 +20,27 @@ pub fn product(a: u32, b: u32) -> u64
     (times_half(a, upper(b)) << 16) + times_half(a, lower(b))
 }
 
-// The overhead of a sweep that fetches `count` blocks: count × hop, plus return.
-pub fn overhead(hop: u32, back: u32, count: u32) -> u32
-    requires { ⌜ overhead hop back count ≤ maxNumber ⌝ }
-    ensures { λ r. ⌜ r ≡ overhead hop back count ⌝ }
+// The overhead of a sweep that fetches `count` blocks: the table's entry.
+pub fn overhead(table: &[u32; 257], count: u32) -> u32
+    requires { ⌜ count ≤ maxStreams ⌝ }
+    ensures { λ r. ⌜ r ≡ getD (now (table .entry)) count 0 ⌝ }
 {
-    count * hop + back
+    table[count as usize]
 }
 
 // The longest that two successive sweeps of n blocks take: n × worst2 + 2 × overhead.
-pub fn two_sweeps(worst2: u32, hop: u32, back: u32, n: u32) -> u32
-    requires { ⌜ (Ranges worst2 hop back) × (n ≤ maxStreams) ⌝ }
-    ensures { λ r. ⌜ r ≡ twoSweeps worst2 (overhead hop back) n ⌝ }
+pub fn two_sweeps(worst2: u32, table: &[u32; 257], n: u32) -> u32
+    requires { ⌜ (Ranges worst2 (now table)) × (n ≤ maxStreams) ⌝ }
+    ensures { λ r. ⌜ r ≡ twoSweeps worst2 (overhead (now (table .entry))) n ⌝ }
 {
-    n * worst2 + 2 * overhead(hop, back, n)
+    n * worst2 + 2 * overhead(table, n)
 }
 
 // The greatest number from 1 to 256 that meets the formula; 0 where none does. c × a time is at most 2,000,000 × B exactly where the time is at
 // most the quotient of the two, so that no try forms a product with c.
-pub fn count_streams(rate: u32, worst2: u32, hop: u32, back: u32, bytes: u32) -> u32
-    requires { ⌜ (Ranges worst2 hop back) × (0 < rate) ⌝ }
-    ensures { λ r. ⌜ r ≡ streams rate worst2 (overhead hop back) bytes ⌝ }
+pub fn count_streams(rate: u32, worst2: u32, table: &[u32; 257], bytes: u32) -> u32
+    requires { ⌜ (Ranges worst2 (now table)) × (0 < rate) ⌝ }
+    ensures { λ r. ⌜ r ≡ streams rate worst2 (overhead (now (table .entry))) bytes ⌝ }
 {
     let room = product(PARTS, bytes) / (rate as u64);
     let mut n: u32 = MAX_STREAMS;
@@ -47,7 +48,7 @@ pub fn count_streams(rate: u32, worst2: u32, hop: u32, back: u32, bytes: u32) ->
         if n == 0 {
             break 0;
         }
-        if (two_sweeps(worst2, hop, back, n) as u64) <= room {
+        if (two_sweeps(worst2, table, n) as u64) <= room {
             break n;
         }
         n -= 1;

@@ -131,7 +131,7 @@ module _ (D ps ls : List ℕ) where
     p = said D .plan
 
     pub wide : Wide (p .figures)
-    wide = let s = said-sized D right in (s .plan .positions, s .plan .times)
+    wide = let s = said-sized D right in (s .plan .positions, s .plan .times, s .plan .table)
 
     judged : rulesOf p .verdict (viewOf d) (record { call = call; fair = isPlan p ps ls; room = room }) .number ≡ 0
     unfolding answerOf
@@ -197,7 +197,7 @@ fresh-fits p y =
     desk-fit (freshDesk p) y (omega arith & z & z & z & tt)
 
 pub opened-wide : (P : List ℕ) → length P ≡ planSize → Wide (planIn (wordsOf P) .figures)
-opened-wide P l = let z = plan-sized (wordsOf P) (omega (arith, words-length P, l)) in (z .positions, z .times)
+opened-wide P l = let z = plan-sized (wordsOf P) (omega (arith, words-length P, l)) in (z .positions, z .times, z .table)
 
 module _ (P ps ls : List ℕ) where
   -- it has a plan string of the right length, and is the plan of its figures
@@ -228,4 +228,4 @@ module _ (P ps ls : List ℕ) where
       let t = opened-plan (l .1) in
       let z : PlanSized p = plan-sized (wordsOf P) (omega (arith, words-length P, t .0)) in
       ap (λ (s : List ℕ). deskIn (wordsOf s)) (open-right P ps ls D (l .0) ∙ ap (λ (x : Desk). withWords D 0 (deskWords x)) (t .2))
-      ∙ desk-written D (freshDesk p) (fresh-sized p z) (fresh-fits p (plan-fits p ps ls (z .positions, z .times) (t .1))) (enough D (l .0))
+      ∙ desk-written D (freshDesk p) (fresh-sized p z) (fresh-fits p (plan-fits p ps ls (z .positions, z .times, z .table) (t .1))) (enough D (l .0))

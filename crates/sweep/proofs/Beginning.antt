@@ -106,7 +106,7 @@ module _ (d : Desk) (w : Wide d) (r : Ready d) (ks : List ℕ) (q : slotsOf (sup
 
   module _ (g : Gathered) (u : Gathers (supplyOf (d .plan)) (d .kinds) (d .next) g) where
     -- what the sweep bound and the list of fetches are told
-    pub timed-begun : Timed (supplyOf (d .plan)) (d .plan .streams) (d .plan .buffer - d .plan .figures .bytes) (d .plan .figures .hop) (d .plan .figures .back)
+    pub timed-begun : Timed (supplyOf (d .plan)) (d .plan .streams) (d .plan .buffer - d .plan .figures .bytes) (d .plan .figures .table)
         ks (d .next) (d .held) (g .times)
     unfolding supplyOf
     timed-begun = record {

@@ -51,30 +51,22 @@ pub fn begin_sweep(desk: Desk, g: Gathered, leads: &[u32; 256], sum: u32) -> Swe
     requires { ⌜ (Ready desk) × (Gathers (supplyOf (desk .plan)) (desk .kinds) (desk .next) g) × (InRange g) × (Leads (supplyOf (desk .plan)) (desk .plan .streams) (desk .kinds) (desk .next) (desk .held) (now leads) sum) ⌝ }
     ensures { λ r. ⌜ r ≡ sweptOf (begunDesk desk) ⌝ }
 {
-    let figures = desk.plan.figures;
+    let bytes = desk.plan.figures.bytes;
+    let rate = desk.plan.figures.rate;
     let streams = desk.plan.streams as usize;
-    let room = desk.plan.buffer - figures.bytes;
+    let room = desk.plan.buffer - bytes;
     let mut kinds = desk.kinds;
-    let mark = low_water(figures.bytes, figures.rate, sum);
+    let mark = low_water(bytes, rate, sum);
     start_playing(&mut kinds, &desk.held, streams, mark);
     let level = least_level(&kinds, &desk.held, streams);
-    grant_asked(
-        &mut kinds,
-        leads,
-        streams,
-        figures.bytes,
-        figures.rate,
-        sum,
-        level,
-    );
+    grant_asked(&mut kinds, leads, streams, bytes, rate, sum, level);
     let bound = sweep_bound(
         &kinds,
         &desk.held,
         &g.times,
         streams,
         room,
-        figures.hop,
-        figures.back,
+        &desk.plan.figures.table,
     );
     let fetches = list_fetches(&kinds, &desk.next, &desk.held, &g.positions, streams, room);
     Swept {

@@ -63,13 +63,7 @@ fn try_figures(read: CardRead, showing: u32) -> Tried
         return refused(FILM_TOO_LONG, 0);
     }
     let found = try_layings(film_times(figures), figures.blocks, showing);
-    let streams = count_streams(
-        figures.rate,
-        found.least,
-        figures.hop,
-        figures.back,
-        figures.bytes,
-    );
+    let streams = count_streams(figures.rate, found.least, &figures.table, figures.bytes);
     if streams == 0 {
         return refused(NO_STREAM, 0);
     }
@@ -83,7 +77,7 @@ fn try_figures(read: CardRead, showing: u32) -> Tried
     }
 }
 
-// Tries every laying of a card's film for one showing: 1 to 11 and 26 as the reader gives them, then 29, then 12.
+// Tries every laying of a card's film for one showing: 1 to 11, 25 and 26 as the reader gives them, then 29, then 12.
 pub fn try_card(card: &[u8]) -> Tried
     ensures { λ r. ⌜ r ≡ tried one (readCard (now (card .entry))) ⌝ }
 {
@@ -97,7 +91,7 @@ pub fn try_loop_card(card: &[u8]) -> Tried
     try_figures(card_reader::read_card(card), LOOP)
 }
 
-// Tries every laying of a record's film for one showing: 4 to 10 and 26, then 29, then 12, place 0.
+// Tries every laying of a record's film for one showing: 3 to 10, 25 and 26, then 29, then 12, place 0.
 pub fn try_record(figures: Figures) -> Tried
     ensures { λ r. ⌜ r ≡ tried one (judged figures) ⌝ }
 {

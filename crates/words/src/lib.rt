@@ -95,6 +95,16 @@ pub fn read_256(list: &[u8], start: usize) -> [u32; 256]
     a
 }
 
+// The 257 entries from start on.
+pub fn read_257(list: &[u8], start: usize) -> [u32; 257]
+    requires { ⌜ start + 257 ≤ length (wordsOf (now list)) ⌝ }
+    ensures { λ r. ⌜ r ≡ take 257 (drop start (wordsOf (now (list .entry)))) ⌝ }
+{
+    let mut a = [0u32; 257];
+    read_words(list, start, &mut a);
+    a
+}
+
 // Writes the 64 numbers of a as the entries from start on.
 pub fn write_64(list: &mut [u8], start: usize, a: &[u32; 64])
     requires { ⌜ 4 * (start + 64) ≤ length (now list) ⌝ }
@@ -107,6 +117,14 @@ pub fn write_64(list: &mut [u8], start: usize, a: &[u32; 64])
 pub fn write_256(list: &mut [u8], start: usize, a: &[u32; 256])
     requires { ⌜ 4 * (start + 256) ≤ length (now list) ⌝ }
     ensures { λ _. ⌜ (now (list .exit) ≡ withWords (now (list .entry)) start (now (a .entry))) × (length (now (a .entry)) ≡ 256) ⌝ }
+{
+    write_words(list, start, a);
+}
+
+// Writes the 257 numbers of a as the entries from start on.
+pub fn write_257(list: &mut [u8], start: usize, a: &[u32; 257])
+    requires { ⌜ 4 * (start + 257) ≤ length (now list) ⌝ }
+    ensures { λ _. ⌜ (now (list .exit) ≡ withWords (now (list .entry)) start (now (a .entry))) × (length (now (a .entry)) ≡ 257) ⌝ }
 {
     write_words(list, start, a);
 }

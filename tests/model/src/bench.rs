@@ -1,6 +1,6 @@
 //! The bench film and the other fixed cards.
 
-use crate::card::{card_bytes, Figures};
+use crate::card::{card_bytes, Figures, ENTRIES};
 
 /// Figures with these zones, each of positions and time, innermost first.
 pub fn figures_of(zones: &[(u32, u32)], blocks: u32, bytes: u32, rate: u32) -> Figures {
@@ -13,9 +13,7 @@ pub fn figures_of(zones: &[(u32, u32)], blocks: u32, bytes: u32, rate: u32) -> F
     figures.blocks = blocks;
     figures.block_bytes = bytes;
     figures.rate = rate;
-    figures.hop = 12_670;
-    figures.ret = 15_000;
-    figures
+    figures.with_moves(12_670, 15_000)
 }
 
 /// A film on positions with these times, innermost first, each a zone.
@@ -55,6 +53,23 @@ pub fn bench_times(first: u32, last: u32) -> Figures {
     figures
 }
 
+/// The bench film with a measured table, straight up to this count; from it on each block costs so
+/// much more.
+pub fn bench_rising(count: usize, more: u32) -> Figures {
+    let mut figures = bench_film().with_table(bench_film().table);
+    for entry in count..ENTRIES {
+        figures.table[entry] += (entry - count + 1) as u32 * more;
+    }
+    figures
+}
+
+/// The bench film with a measured table that has one entry of its own.
+pub fn bench_entry(entry: usize, overhead: u32) -> Figures {
+    let mut figures = bench_rising(ENTRIES, 0);
+    figures.table[entry] = overhead;
+    figures
+}
+
 /// One zone, 3 positions of 20000, N 3.
 pub fn three_alike() -> Figures {
     figures_of(&[(3, 20_000)], 3, 262_144, 500_000)
@@ -76,8 +91,7 @@ pub fn barracuda(blocks: u32) -> Figures {
         (1080, 89_888),
         (2285, 86_957),
     ];
-    let figures = figures_of(&zones, blocks, 1_048_576, 524_288);
-    Figures { hop: 8280, ret: 10_090, ..figures }
+    figures_of(&zones, blocks, 1_048_576, 524_288).with_moves(8280, 10_090)
 }
 
 /// The Deskstar 120GXP drive as one zone.
@@ -108,6 +122,12 @@ pub fn fixed_cards() -> Vec<Vec<u8>> {
         figures_of(&[(2, 2), (1, 1)], 3, 262_144, 500_000),
         film_of(&[9, 9, 9, 5, 5, 3, 3, 3]),
         film_of(&[9, 9, 9, 9, 9, 3, 3, 3]),
+        bench_rising(ENTRIES, 0),
+        bench_rising(9, 900_000),
+        bench_entry(256, 257_000_000),
+        bench_entry(256, 257_000_001),
+        bench_entry(200, 14_999),
+        bench_entry(0, 0),
     ];
     let mut cards: Vec<Vec<u8>> = records.iter().map(card_bytes).collect();
     cards.push(Vec::new());

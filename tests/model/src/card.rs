@@ -2,8 +2,9 @@
 
 use crate::refusal::{cause, refuse, Refusal};
 
-/// The only kind of card.
-pub const CARD_KIND: u32 = 1;
+/// Kinds of a card (02, ticket 3): overheads by hop and return, or measured ones in a table.
+pub const STRAIGHT: u32 = 1;
+pub const MEASURED: u32 = 2;
 pub const MAX_ZONES: u32 = 64;
 /// Greatest total P of all zones' positions.
 pub const MAX_POSITIONS: u32 = 1_048_576;
@@ -16,12 +17,16 @@ pub const MAX_BLOCK_BYTES: u32 = 4_194_304;
 pub const MAX_RATE: u32 = 10_000_000;
 pub const MAX_HOP: u32 = 1_000_000;
 pub const MAX_RETURN: u32 = 1_000_000;
+/// Entries of the table: overhead for 0 to 256 blocks.
+pub const ENTRIES: usize = 257;
+pub const MAX_OVERHEAD: u32 = 257_000_000;
 /// A number has at most this many bytes.
 pub const MAX_NUMBER_BYTES: usize = 5;
 
 /// The figures of a card as a record.
 #[derive(Clone, Debug, PartialEq, Eq)]
 pub struct Figures {
+    pub kind: u32,
     pub zones: u32,
     /// Positions of each zone, innermost first; zero past the zone count.
     pub positions: [u32; 64],
@@ -33,25 +38,49 @@ pub struct Figures {
     pub block_bytes: u32,
     /// c, top rate in bytes a second.
     pub rate: u32,
-    /// Worst move to one block.
-    pub hop: u32,
-    /// Arm back, once a sweep.
-    pub ret: u32,
+    /// Overhead by the number of blocks in a sweep, of either kind.
+    pub table: [u32; ENTRIES],
+}
+
+/// The table that a card of kind 1 means: hop times the number plus return. What does not fit 32 bits
+/// wraps round, so that hop and return can be had back.
+pub fn straight(hop: u32, ret: u32) -> [u32; ENTRIES] {
+    std::array::from_fn(|count| hop.wrapping_mul(count as u32).wrapping_add(ret))
 }
 
 impl Figures {
     /// The record with every figure zero.
     pub fn zero() -> Figures {
         Figures {
+            kind: 0,
             zones: 0,
             positions: [0; 64],
             times: [0; 64],
             blocks: 0,
             block_bytes: 0,
             rate: 0,
-            hop: 0,
-            ret: 0,
+            table: [0; ENTRIES],
         }
+    }
+
+    /// These figures as a card of kind 1 with this hop and return has them.
+    pub fn with_moves(self, hop: u32, ret: u32) -> Figures {
+        Figures { kind: STRAIGHT, table: straight(hop, ret), ..self }
+    }
+
+    /// These figures as a card of kind 2 with this table has them.
+    pub fn with_table(self, table: [u32; ENTRIES]) -> Figures {
+        Figures { kind: MEASURED, table, ..self }
+    }
+
+    /// Worst move to one block, of a straight table.
+    pub fn hop(&self) -> u32 {
+        self.table[1].wrapping_sub(self.table[0])
+    }
+
+    /// Arm back, once a sweep, of a straight table.
+    pub fn ret(&self) -> u32 {
+        self.table[0]
     }
 
     /// P, the total of positions over the counted zones.
@@ -116,7 +145,7 @@ pub fn read_number(card: &[u8], offset: usize) -> Result<(u32, usize), Refusal> 
 // Ranges of the figures. Each judge answers the cause of its refusal.
 
 fn judge_kind(kind: u32) -> Result<(), u32> {
-    if kind != CARD_KIND {
+    if kind != STRAIGHT && kind != MEASURED {
         return Err(cause::KIND);
     }
     Ok(())
@@ -171,6 +200,30 @@ fn judge_other(value: u32, greatest: u32) -> Result<(), u32> {
     Ok(())
 }
 
+/// An entry of a measured table, after the entries before it.
+fn judge_entry(overhead: u32, before: &[u32]) -> Result<(), u32> {
+    let is_below = before.last().is_some_and(|&last| overhead < last);
+    if !(1..=MAX_OVERHEAD).contains(&overhead) || is_below {
+        return Err(cause::OVERHEAD);
+    }
+    Ok(())
+}
+
+/// A record's table: of kind 1 it comes from a hop and a return in range, of kind 2 it is judged
+/// entry by entry.
+fn judge_table(figures: &Figures) -> Result<(), u32> {
+    let table = &figures.table;
+    if figures.kind == STRAIGHT {
+        judge_other(figures.hop(), MAX_HOP)?;
+        judge_other(figures.ret(), MAX_RETURN)?;
+        if *table != straight(figures.hop(), figures.ret()) {
+            return Err(cause::OTHER_FIGURE);
+        }
+        return Ok(());
+    }
+    (0..ENTRIES).try_for_each(|count| judge_entry(table[count], &table[..count]))
+}
+
 /// Is each zone entry past the zone count zero?
 fn unused_zones_zero(figures: &Figures) -> bool {
     let used = figures.zones as usize;
@@ -178,8 +231,9 @@ fn unused_zones_zero(figures: &Figures) -> bool {
         && figures.times[used..].iter().all(|&time| time == 0)
 }
 
-/// Judges figures given as a record: 4 to 10 and 26 in the order of the card, zone by zone.
+/// Judges figures given as a record: 3 to 10, 25 and 26 in the order of the card, zone by zone.
 pub fn judge_record(figures: &Figures) -> Result<(), u32> {
+    judge_kind(figures.kind)?;
     judge_zone_count(figures.zones)?;
     if !unused_zones_zero(figures) {
         return Err(cause::ZONES);
@@ -193,8 +247,7 @@ pub fn judge_record(figures: &Figures) -> Result<(), u32> {
     judge_blocks(figures.blocks, total)?;
     judge_other(figures.block_bytes, MAX_BLOCK_BYTES)?;
     judge_other(figures.rate, MAX_RATE)?;
-    judge_other(figures.hop, MAX_HOP)?;
-    judge_other(figures.ret, MAX_RETURN)
+    judge_table(figures)
 }
 
 /// A card and how far it has been read.
@@ -224,11 +277,25 @@ impl Reader<'_> {
     }
 }
 
-/// Reads a card number by number; the first fault ends it: 1 to 11, and 26.
+/// The overheads of a card: hop and return, or the table's entries.
+fn read_table(reader: &mut Reader, kind: u32) -> Result<[u32; ENTRIES], Refusal> {
+    if kind == STRAIGHT {
+        let hop = reader.field(|hop| judge_other(hop, MAX_HOP))?;
+        let ret = reader.field(|ret| judge_other(ret, MAX_RETURN))?;
+        return Ok(straight(hop, ret));
+    }
+    let mut table = [0; ENTRIES];
+    for count in 0..ENTRIES {
+        table[count] = reader.field(|overhead| judge_entry(overhead, &table[..count]))?;
+    }
+    Ok(table)
+}
+
+/// Reads a card number by number; the first fault ends it: 1 to 11, 25 and 26.
 pub fn read_card(card: &[u8]) -> Result<Figures, Refusal> {
     let mut reader = Reader { card, offset: 0 };
     let mut figures = Figures::zero();
-    reader.field(judge_kind)?;
+    figures.kind = reader.field(judge_kind)?;
     figures.zones = reader.field(judge_zone_count)?;
     let mut total = 0;
     for zone in 0..figures.zones as usize {
@@ -239,20 +306,23 @@ pub fn read_card(card: &[u8]) -> Result<Figures, Refusal> {
     figures.blocks = reader.field(|blocks| judge_blocks(blocks, total))?;
     figures.block_bytes = reader.field(|bytes| judge_other(bytes, MAX_BLOCK_BYTES))?;
     figures.rate = reader.field(|rate| judge_other(rate, MAX_RATE))?;
-    figures.hop = reader.field(|hop| judge_other(hop, MAX_HOP))?;
-    figures.ret = reader.field(|ret| judge_other(ret, MAX_RETURN))?;
+    figures.table = read_table(&mut reader, figures.kind)?;
     reader.finish()?;
     Ok(figures)
 }
 
 /// The numbers of a card in order. Zones past the 64 of a record are left out.
 pub fn card_numbers(figures: &Figures) -> Vec<u32> {
-    let mut numbers = vec![CARD_KIND, figures.zones];
+    let mut numbers = vec![figures.kind, figures.zones];
     for zone in 0..figures.zones.min(MAX_ZONES) as usize {
         numbers.push(figures.positions[zone]);
         numbers.push(figures.times[zone]);
     }
-    numbers.extend([figures.blocks, figures.block_bytes, figures.rate, figures.hop, figures.ret]);
+    numbers.extend([figures.blocks, figures.block_bytes, figures.rate]);
+    match figures.kind {
+        MEASURED => numbers.extend(figures.table),
+        _ => numbers.extend([figures.hop(), figures.ret()]),
+    }
     numbers
 }
 
@@ -261,7 +331,7 @@ pub fn card_bytes(figures: &Figures) -> Vec<u8> {
     card_numbers(figures).into_iter().flat_map(number_bytes).collect()
 }
 
-/// Writes the card of a record and answers its length: 4 to 10 and 26, then 13, each with place 0.
+/// Writes the card of a record and answers its length: 3 to 10, 25 and 26, then 13, each with place 0.
 /// Bytes past the card keep their contents; a refusal writes none.
 pub fn write_card(figures: &Figures, lent: &mut [u8]) -> Result<usize, Refusal> {
     if let Err(number) = judge_record(figures) {

@@ -254,17 +254,18 @@ fn fetches(desk: &Desk, positions: &[u32]) -> Vec<Entry> {
     entries
 }
 
-/// The sweep bound: fetched times added up, plus count × hop, plus return.
+/// The sweep bound: fetched times added up, plus the overhead for their count.
 pub fn sweep_bound(desk: &Desk) -> u32 {
     let figures = &desk.plan.figures;
-    let mut bound = figures.ret as u128;
+    let mut times = 0;
+    let mut count = 0;
     for slot in desk.used_slots() {
         if is_fetched(desk, slot) {
-            let time = time(figures, desk.showing(), desk.next[slot]);
-            bound += time as u128 + figures.hop as u128;
+            times += time(figures, desk.showing(), desk.next[slot]) as u128;
+            count += 1;
         }
     }
-    narrow(bound)
+    narrow(times + figures.table[count] as u128)
 }
 
 /// Begin a sweep, with the length of the lent fetch list.

@@ -146,9 +146,7 @@ fn figures(drive: &Drive, rows: &[Row], beside: Beside) -> Figures {
     figures.blocks = beside.blocks;
     figures.block_bytes = figure(SECTOR_BYTES * drive.sectors);
     figures.rate = beside.rate;
-    figures.hop = beside.hop;
-    figures.ret = beside.ret;
-    figures
+    figures.with_moves(beside.hop, beside.ret)
 }
 
 /// The figures that a card of a maker's text would give: 22 to 24 with their line, then 4 to 10 and

@@ -179,15 +179,14 @@ pub fn worstat(times: &[u32], showing: Showing) -> u32 {
     earliest.expect("a pair takes worst2") as u32
 }
 
-/// The formula of streams: c × (n × worst2 + 2 × (n × hop + return)) at most 2,000,000 × B.
+/// The formula of streams: c × (n × worst2 + 2 × the overhead for n blocks) at most 2,000,000 × B.
 pub fn fits(figures: &Figures, worst2: u32, n: u32) -> bool {
     let c = figures.rate as u128;
-    let hop = figures.hop as u128;
-    let ret = figures.ret as u128;
+    let overhead = figures.table[n as usize] as u128;
     let bytes = figures.block_bytes as u128;
     let worst2 = worst2 as u128;
     let n = n as u128;
-    c * (n * worst2 + 2 * (n * hop + ret)) <= TWO_MILLION * bytes
+    c * (n * worst2 + 2 * overhead) <= TWO_MILLION * bytes
 }
 
 /// streams: the greatest n from 1 to 256 that fits. All are tried.
@@ -295,7 +294,7 @@ fn plan_judged(
     }
 }
 
-/// The plan of a record for a showing, with the lengths of the two lent lists: 4 to 10 and 26, 13,
+/// The plan of a record for a showing, with the lengths of the two lent lists: 3 to 10, 25 and 26, 13,
 /// 12, each at 0.
 pub fn plan_record_for(
     figures: &Figures,
@@ -314,7 +313,7 @@ pub fn plan_record(figures: &Figures, positions: usize, leads: usize) -> Result<
     plan_record_for(figures, Showing::Once, positions, leads)
 }
 
-/// The plan of a card for a showing, with the lengths of the two lent lists: 1 to 11 and 26 with
+/// The plan of a card for a showing, with the lengths of the two lent lists: 1 to 11, 25 and 26 with
 /// offset, 13, 12.
 pub fn plan_card_for(
     card: &[u8],

@@ -34,6 +34,7 @@ pub mod cause {
     pub const LINE_FORM: u32 = 22;
     pub const LINE_ONE: u32 = 23;
     pub const ROW: u32 = 24;
+    pub const OVERHEAD: u32 = 25;
     pub const HALF_DEAD: u32 = 26;
     pub const WINDOW: u32 = 27;
     pub const TOO_MANY_BLOCKS: u32 = 29;

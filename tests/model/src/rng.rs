@@ -5,6 +5,7 @@ pub mod cards;
 pub mod desks;
 pub mod figures;
 pub mod makers;
+pub mod tables;
 pub mod texts;
 
 /// Splitmix64.

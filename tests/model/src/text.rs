@@ -79,7 +79,7 @@ fn meaning(number: u32) -> &'static str {
     match number {
         1 => "text ends too early",
         2 => "not a decimal number, or above 4,294,967,295",
-        3 => "kind not 1",
+        3 => "kind not 1 or 2",
         4 => "zones out of range",
         5 => "zone without positions, or total so far too great",
         6 => "zone time out of range",
@@ -87,6 +87,7 @@ fn meaning(number: u32) -> &'static str {
         8 => "film blocks out of range",
         9 => "film blocks above positions",
         10 => "block bytes, rate, hop or return out of range",
+        cause::OVERHEAD => "overhead out of range, or below the one before",
         cause::HALF_DEAD => "zone time, times three, below the first zone's time",
         _ => "numbers left over",
     }

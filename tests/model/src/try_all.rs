@@ -54,7 +54,7 @@ fn try_judged(figures: &Figures, showing: Showing) -> Result<Tried, Refusal> {
     }
 }
 
-/// The second planner of a record: 4 to 10 and 26, 29, 12, each at 0.
+/// The second planner of a record: 3 to 10, 25 and 26, 29, 12, each at 0.
 pub fn try_record(figures: &Figures, showing: Showing) -> Result<Tried, Refusal> {
     if let Err(number) = judge_record(figures) {
         return refuse(number, 0);
@@ -62,7 +62,7 @@ pub fn try_record(figures: &Figures, showing: Showing) -> Result<Tried, Refusal>
     try_judged(figures, showing)
 }
 
-/// The second planner of a card: 1 to 11 and 26 with offset, 29, 12.
+/// The second planner of a card: 1 to 11, 25 and 26 with offset, 29, 12.
 pub fn try_card(card: &[u8], showing: Showing) -> Result<Tried, Refusal> {
     try_judged(&read_card(card)?, showing)
 }
@@ -88,12 +88,10 @@ fn small_figures(positions: &[u32], times: &[u32], blocks: u32) -> Figures {
     figures.blocks = blocks;
     figures.block_bytes = 1000;
     figures.rate = 1000;
-    figures.hop = 1;
-    figures.ret = 1;
-    figures
+    figures.with_moves(1, 1)
 }
 
-/// Every legal card with 1 to 3 zones, at most 3 positions a zone, times of 1 to 3, every allowed N
+/// Every legal card of kind 1 with 1 to 3 zones, at most 3 positions a zone, times of 1 to 3, every allowed N
 /// up to 8, and B 1000, c 1000, hop 1 and return 1; by zones, then positions of all zones from the
 /// innermost, then times likewise, then N, lower first.
 pub fn small_cards() -> Vec<Figures> {

@@ -2,7 +2,7 @@
 
 use film_disk_model::plan::{plan_of, worst2, Showing};
 use film_disk_model::rng::borders::{
-    greatest_bound, greatest_buffer, greatest_leads, greatest_load, greatest_rate,
+    greatest_bound, greatest_buffer, greatest_leads, greatest_load, greatest_rate, greatest_table,
 };
 use film_disk_model::{Figures, Planned};
 
@@ -14,16 +14,16 @@ fn planned(figures: Figures) -> Planned {
 fn load() {
     let figures = greatest_load();
     let pair = worst2(&figures, Showing::Once) as u64;
-    let time = 256 * pair + 2 * (256 * figures.hop as u64 + figures.ret as u64);
+    let time = 256 * pair + 2 * figures.table[256] as u64;
     assert_eq!(figures.rate as u64 * time, 25_620_000_000_000_000);
     assert_eq!(plan_of(&figures, Showing::Once), None);
 }
 
 #[test]
 fn bound() {
-    let plan = planned(greatest_bound()).plan;
-    let fetch = plan.figures.times[0] + plan.figures.hop;
-    assert_eq!(plan.streams * fetch + plan.figures.ret, 1_281_000_000);
+    for plan in [greatest_bound(), greatest_table()].map(|figures| planned(figures).plan) {
+        assert_eq!(plan.streams * plan.figures.times[0] + plan.figures.table[256], 1_281_000_000);
+    }
 }
 
 #[test]

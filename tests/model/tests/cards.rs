@@ -1,7 +1,7 @@
 //! Reading, judging and writing cards.
 
 use film_disk_model::bench::{bench_film, figures_of};
-use film_disk_model::card::{number_bytes, read_number};
+use film_disk_model::card::{number_bytes, read_number, straight};
 use film_disk_model::rng::cards::{any_card, damaged_card, legal_card};
 use film_disk_model::rng::figures::{any_figures, legal_figures, random_figures};
 use film_disk_model::*;
@@ -72,7 +72,8 @@ fn every_number_in_its_shortest_form() {
 fn ranges_of_the_numbers() {
     let refused = |place, number| refusal(&least_with(place, number)).0;
     assert_eq!(refusal(&card(&LEAST)), (0, 0));
-    assert_eq!([0, 1, 2].map(|kind| refused(0, kind)), [3, 0, 3]);
+    // The least card with kind 2 ends after two entries of its table.
+    assert_eq!([0, 1, 2, 3].map(|kind| refused(0, kind)), [3, 0, 1, 3]);
     assert_eq!([0, 65].map(|zones| refused(1, zones)), [4, 4]);
     assert_eq!([0, 2, 1_048_576, 1_048_577].map(|count| refused(2, count)), [5, 0, 0, 5]);
     assert_eq!([0, 1, 4_000_000, 4_000_001].map(|time| refused(3, time)), [6, 0, 0, 6]);
@@ -102,8 +103,8 @@ fn offsets_of_the_numbers() {
 #[test]
 fn order_of_the_faults() {
     assert_eq!(refusal(&[0x80, 0x00]), (2, 0));
-    assert_eq!(refusal(&[0x02]), (3, 0));
-    assert_eq!(refusal(&[0x02, 0x80]), (3, 0));
+    assert_eq!(refusal(&[0x03]), (3, 0));
+    assert_eq!(refusal(&[0x03, 0x80]), (3, 0));
     assert_eq!(refusal(&[0x01, 0x80]), (1, 2));
     // A fault of the second zone's positions is found before its time is read.
     assert_eq!(refusal(&card(&[1, 2, 1, 9, 1_048_576])), (5, 4));
@@ -165,13 +166,12 @@ fn planner_order() {
     assert!(plan(&card(&LEAST), 3, 9).is_ok());
 }
 
-/// The record's order: zone count, unused zones, then zone by zone, then N, B, c, hop, return.
+/// The record's order: kind, zone count, unused zones, then zone by zone, then N, B, c, table.
 #[test]
 fn order_of_a_record() {
     let mut figures = figures_of(&[(1, 5), (1, 4), (1, 3)], 3, 1, 1);
     assert_eq!(judge_record(&figures), Ok(()));
-    figures.ret = 0;
-    figures.hop = 1_000_001;
+    figures = figures.with_moves(1_000_001, 0);
     assert_eq!(judge_record(&figures), Err(10));
     figures.blocks = 4;
     assert_eq!(judge_record(&figures), Err(9));
@@ -194,7 +194,11 @@ fn order_of_a_record() {
         assert_eq!(judge_record(&other), Err(4));
     }
     for zones in [0, 65, u32::MAX] {
-        assert_eq!(judge_record(&Figures { zones, ..figures.clone() }), Err(4));
+        figures.zones = zones;
+        assert_eq!(judge_record(&figures), Err(4));
+    }
+    for kind in [0, 3, 256, u32::MAX] {
+        assert_eq!(judge_record(&Figures { kind, ..figures.clone() }), Err(3));
     }
 }
 
@@ -224,7 +228,7 @@ fn written_then_read() {
     let mut rng = Rng::new(2);
     for _ in 0..30_000 {
         let figures = any_figures(&mut rng);
-        let mut lent = [0; 467];
+        let mut lent = [0; 1489];
         match write_card(&figures, &mut lent) {
             Ok(length) => assert_eq!(read_card(&lent[..length]), Ok(figures)),
             Err(refusal) => assert_eq!(judge_record(&figures), Err(refusal.number)),
@@ -246,16 +250,19 @@ fn read_then_written() {
     }
 }
 
-/// A record with its unused zones zero is refused as the card of its numbers is, offset 0.
+/// A record with its unused zones zero, and of kind 1 with a straight table, is refused as the card of
+/// its numbers is, offset 0.
 #[test]
 fn record_and_card_agree() {
     let mut rng = Rng::new(4);
     for _ in 0..30_000 {
         let figures = any_figures(&mut rng);
         let number = judge_record(&figures).err().unwrap_or(0);
-        if number == 4 {
+        let is_bent = figures.kind == 1 && figures.table != straight(figures.hop(), figures.ret());
+        if number == 4 || is_bent && number == 10 {
             continue;
         }
+        assert!(!is_bent || number != 0);
         assert_eq!(refusal(&card_bytes(&figures)).0, number, "{figures:?}");
     }
 }
@@ -306,7 +313,7 @@ fn any_cards_meet_each_answer() {
 fn records_meet_each_refusal() {
     let mut rng = Rng::new(7);
     let counts = tally(50_000, || judge_record(&any_figures(&mut rng)).err().unwrap_or(0));
-    for number in [0, 4, 5, 6, 7, 8, 9, 10, 26] {
+    for number in [0, 3, 4, 5, 6, 7, 8, 9, 10, 25, 26] {
         assert!(counts[number] > 300, "refusal {number}: {counts:?}");
     }
 }
@@ -326,15 +333,17 @@ fn any_bytes_and_any_record() {
     }
 }
 
-/// The longest card has 467 bytes, the least 9.
+/// The longest card of kind 1 has 467 bytes, that of kind 2 1,489; the least has 9.
 #[test]
 fn lengths_of_cards() {
     assert_eq!(card(&LEAST).len(), 9);
     let mut figures = figures_of(&[(16_384, 4_000_000); 64], 16_384, 4_194_304, 10_000_000);
     figures.positions[..63].fill(16_384);
     figures.positions[63] = 1_048_576 - 63 * 16_384;
-    figures.hop = 1_000_000;
-    figures.ret = 1_000_000;
+    let figures = figures.with_moves(1_000_000, 1_000_000);
     assert_eq!(judge_record(&figures), Ok(()));
     assert_eq!(card_bytes(&figures).len(), 2 + 64 * 7 + 3 + 4 + 4 + 3 + 3);
+    let figures = figures.with_table([257_000_000; 257]);
+    assert_eq!(judge_record(&figures), Ok(()));
+    assert_eq!(card_bytes(&figures).len(), 1489);
 }

@@ -368,7 +368,7 @@ fn ends_of_slots() {
 /// A film of two blocks from its last one: filling, tail without playing, drawn empty, free.
 #[test]
 fn tail_without_playing() {
-    let figures = Figures { hop: 1, ..figures_of(&[(2, 1)], 2, 15_003, 1_000_000) };
+    let figures = figures_of(&[(2, 1)], 2, 15_003, 1_000_000).with_moves(1, 15_000);
     let planned = plan_record(&figures, 2, 2).unwrap();
     assert_eq!(planned.plan.streams, 1);
     let mut desk = call(&planned, &desk_with(&planned, &[]), Call::Join { slot: 0, block: 1 }).desk;
@@ -396,13 +396,13 @@ fn check_begin(planned: &Planned, before: &Desk, answer: &Answer) {
     assert_eq!((desk.next, desk.held), (before.next, before.held));
     assert_eq!(answer.count as usize, answer.entries.len());
     assert!(answer.entries.windows(2).all(|two| two[0] < two[1]));
-    let mut bound = figures.ret;
+    let mut bound = figures.table[answer.entries.len()];
     for entry in &answer.entries {
         let slot = entry.slot as usize;
         assert!(is_fetched(desk, slot));
         assert_eq!(entry.block, desk.next[slot]);
         assert_eq!(entry.position, planned.positions[entry.block as usize]);
-        bound += time(figures, desk.showing(), entry.block) + figures.hop;
+        bound += time(figures, desk.showing(), entry.block);
     }
     assert_eq!(answer.bound, bound);
     let fetched = (0..SLOTS).filter(|&slot| is_fetched(desk, slot)).count();

@@ -174,11 +174,11 @@ fn refusals_of_records() {
         plan_loop_record(figures, positions, leads).expect_err("a refusal")
     };
     let at_zero = |number| Refusal { number, place: 0 };
-    assert_eq!(refused(&Figures::zero(), 0, 0), at_zero(4));
+    assert_eq!(refused(&Figures::zero(), 0, 0), at_zero(3));
     assert_eq!(refused(&bench_zero_time(), 0, 0), at_zero(6));
     assert_eq!(refused(&bench_blocks(1), 0, 0), at_zero(8));
     assert_eq!(refused(&bench_blocks(7), 0, 0), at_zero(9));
-    assert_eq!(refused(&Figures { ret: 0, ..two_alike(23_834) }, 0, 0), at_zero(10));
+    assert_eq!(refused(&two_alike(23_834).with_moves(12_670, 0), 0, 0), at_zero(10));
     assert_eq!(refused(&two_alike(23_834), 1, 2), at_zero(13));
     assert_eq!(refused(&two_alike(23_834), 2, 1), at_zero(13));
     assert_eq!(refused(&two_alike(23_834), 2, 2), at_zero(12));

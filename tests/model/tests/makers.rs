@@ -1,5 +1,6 @@
 //! Makers' zone listings: request 1 of 02.
 
+use film_disk_model::card::straight;
 use film_disk_model::maker::{figures_of_text, makercard, Beside};
 use film_disk_model::rng::makers::{any_maker, bench_listing, legal_listing};
 use film_disk_model::*;
@@ -36,7 +37,8 @@ fn figures_of_a_drive() {
     let got = figures(text);
     assert_eq!(zones(&got), [(826, 121_041 + 13_500), (1500, 66_667 + 7200)]);
     assert_eq!((got.blocks, got.block_bytes), (2, 1_048_576));
-    assert_eq!((got.rate, got.hop, got.ret), (500_000, 12_670, 15_000));
+    assert_eq!((got.kind, got.rate), (1, 500_000));
+    assert_eq!(got.table, straight(12_670, 15_000));
     assert_eq!(got.positions[2..], [0; 62]);
     assert_eq!(got.times[2..], [0; 62]);
 }

@@ -130,11 +130,16 @@ fn own_laying() {
     }
 }
 
-/// Streams by division in place of trying them all.
-fn streams_by_division(figures: &Figures, worst2: u32) -> i128 {
+/// Streams of hop and return by division in place of trying them all; those of a table by the first
+/// entry that no longer fits.
+fn streams_by_room(figures: &Figures, worst2: u32) -> i128 {
     let room = 2_000_000 * figures.block_bytes as i128 / figures.rate as i128;
-    let each = worst2 as i128 + 2 * figures.hop as i128;
-    ((room - 2 * figures.ret as i128).div_euclid(each)).min(256)
+    if figures.kind == 1 {
+        let each = worst2 as i128 + 2 * figures.hop() as i128;
+        return ((room - 2 * figures.ret() as i128).div_euclid(each)).min(256);
+    }
+    let needs = (1..=256).map(|n| n * worst2 as i128 + 2 * figures.table[n as usize] as i128);
+    needs.take_while(|&need| need <= room).count() as i128
 }
 
 /// The number of streams is right, and 0, 1, 255 and 256 are all met.
@@ -146,7 +151,7 @@ fn streams_at_the_edges() {
         let figures = tight_figures(&mut rng, Showing::Once, 20);
         let worst2 = worst2(&figures, Showing::Once);
         let n = streams(&figures, worst2).unwrap_or(0);
-        assert_eq!(n as i128, streams_by_division(&figures, worst2).max(0));
+        assert_eq!(n as i128, streams_by_room(&figures, worst2).max(0));
         met[n as usize] += 1;
     }
     for n in [0, 1, 254, 255, 256] {
@@ -157,7 +162,7 @@ fn streams_at_the_edges() {
 /// Both sides of the formula equal: the stream fits.
 #[test]
 fn equality_fits() {
-    let figures = Figures { hop: 1, ret: 1, ..figures_of(&[(2, 1)], 2, 6, 2_000_000) };
+    let figures = figures_of(&[(2, 1)], 2, 6, 2_000_000).with_moves(1, 1);
     let at = |block_bytes| {
         let figures = Figures { block_bytes, ..figures.clone() };
         plan_of(&figures, Showing::Once).map(|planned| planned.plan.streams)
@@ -175,7 +180,7 @@ fn equality_fits() {
 #[test]
 fn greatest_figures() {
     let zones = [(1, 3_999_012), (1, 1_333_004)];
-    let figures = Figures { hop: 1, ret: 1, ..figures_of(&zones, 2, 4_194_304, 8692) };
+    let figures = figures_of(&zones, 2, 4_194_304, 8692).with_moves(1, 1);
     let plan = plan_record(&figures, 2, 2).unwrap().plan;
     assert_eq!((plan.streams, plan.margin, plan.buffer), (181, 2_666_008, 14_680_064));
     let figures = figures_of(&[(1, 3_998_506), (1, 1)], 2, 4_194_304, 9242);

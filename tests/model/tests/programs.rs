@@ -25,14 +25,14 @@ fn run(comparison: &str, arguments: &[&str]) -> (String, Option<i32>) {
 #[test]
 fn own_listing_passes() {
     let (text, status) = run(LISTING_CASES, &[LISTING, "5", "300"]);
-    assert_eq!(text, "seed 5\n362 passed, 0 failed\n");
+    assert_eq!(text, "seed 5\n374 passed, 0 failed\n");
     assert_eq!(status, Some(0));
 }
 
 #[test]
 fn own_windows_pass() {
     let (text, status) = run(WINDOWS_CASES, &[WINDOWS, "5", "300"]);
-    assert_eq!(text, "seed 5\n362 passed, 0 failed\n");
+    assert_eq!(text, "seed 5\n374 passed, 0 failed\n");
     assert_eq!(status, Some(0));
 }
 
@@ -55,7 +55,7 @@ fn arguments_of_listing() {
 #[test]
 fn own_mkcard_passes() {
     let (text, status) = run(MKCARD_CASES, &[MKCARD, "5", "300"]);
-    assert_eq!(text, "seed 5\n384 passed, 0 failed\n");
+    assert_eq!(text, "seed 5\n392 passed, 0 failed\n");
     assert_eq!(status, Some(0));
 }
 
@@ -70,7 +70,10 @@ fn own_makercard_passes() {
 #[test]
 fn mkcard_is_no_makercard() {
     let (text, status) = run(MAKER_CASES, &[MKCARD, "5", "3"]);
-    assert!(text.contains("got [] \"mkcard: refused 3 at line 1: kind not 1\\n\"\n"), "{text}");
+    assert!(
+        text.contains("got [] \"mkcard: refused 3 at line 1: kind not 1 or 2\\n\"\n"),
+        "{text}"
+    );
     assert!(text.ends_with("\n0 passed, 52 failed\n"), "{text}");
     assert_eq!(status, Some(1));
 }
@@ -82,7 +85,7 @@ fn silent_program_fails() {
     assert!(text.starts_with("seed 5\narguments [], input 01 06 01 FE AD 01 "), "{text}");
     assert!(text.contains("line 1: expected \"streams 16\\n\", got nothing\n"), "{text}");
     assert!(text.contains("usage: listing_cases LISTING SEED COUNT\n"), "{text}");
-    assert!(text.ends_with("\n0 passed, 65 failed\n"), "{text}");
+    assert!(text.ends_with("\n0 passed, 77 failed\n"), "{text}");
     assert_eq!(status, Some(1));
 }
 
@@ -91,7 +94,7 @@ fn silent_program_fails() {
 fn other_program_fails() {
     let (text, status) = run(MKCARD_CASES, &[LISTING, "5", "3"]);
     assert!(text.contains("input \"1 6 1 22270 "), "{text}");
-    assert!(text.ends_with("\n0 passed, 87 failed\n"), "{text}");
+    assert!(text.ends_with("\n0 passed, 95 failed\n"), "{text}");
     assert_eq!(status, Some(1));
 }
 
@@ -105,7 +108,7 @@ fn listing_is_no_windows() {
         ),
         "{text}"
     );
-    assert!(text.ends_with("\n18 passed, 44 failed\n"), "{text}");
+    assert!(text.ends_with("\n24 passed, 50 failed\n"), "{text}");
     assert_eq!(status, Some(1));
 }
 

@@ -49,8 +49,7 @@ fn disk(bytes: u32, positions: u32, rates: &[u64]) -> Figures {
     let zones: Vec<(u32, u32)> =
         rates.iter().map(|&rate| (positions, read_time(bytes, rate))).collect();
     let blocks = positions * rates.len() as u32;
-    let figures = figures_of(&zones, blocks, bytes, 524_288);
-    Figures { hop: 8280, ret: 10_090, ..figures }
+    figures_of(&zones, blocks, bytes, 524_288).with_moves(8280, 10_090)
 }
 
 /// The least B that feeds 12 streams, and the buffer with it.

@@ -23,10 +23,45 @@ fn first_fault_and_its_line() {
     assert_eq!(refused(""), (1, 1));
     assert_eq!(refused("1 6\n"), (1, 2));
     assert_eq!(refused("\nx"), (2, 2));
-    assert_eq!(refused("2\nx"), (3, 1));
+    assert_eq!(refused("3\nx"), (3, 1));
+    assert_eq!(refused("2\nx"), (2, 2));
     assert_eq!(refused("1\n65 x"), (4, 2));
     assert_eq!(refused(&BENCH.replace("20550", "0")), (6, 3));
     assert_eq!(refused(&BENCH.replace("6 262144", "7\n262144")), (9, 8));
     assert_eq!(refused(&BENCH.replace("262144", "4294967296")), (2, 8));
     assert_eq!(refused(&format!("{BENCH}\n#\n x")), (11, 12));
+}
+
+/// The bench film of kind 2, an entry of its table a line.
+fn measured_bench(change: impl Fn(usize) -> Option<&'static str>) -> String {
+    let lines: Vec<&str> = BENCH.lines().collect();
+    let mut text = lines[..8].join("\n").replacen('1', "2", 1);
+    for (count, overhead) in bench_film().table.iter().enumerate() {
+        let word = change(count).map_or_else(|| overhead.to_string(), str::to_string);
+        text.push_str(&format!("\n{word}"));
+    }
+    text
+}
+
+#[test]
+fn texts_of_kind_two() {
+    let right = measured_bench(|_| None);
+    let figures = bench_film().with_table(bench_film().table);
+    assert_eq!(card_of_text(right.as_bytes()), Ok(card_bytes(&figures)));
+    for count in [0, 1, 100, 256] {
+        let changed = |word| refused(&measured_bench(|at| (at == count).then_some(word)));
+        assert_eq!(changed("0"), (25, 9 + count));
+        assert_eq!(changed("257000001"), (25, 9 + count));
+        assert_eq!(changed("x"), (2, 9 + count));
+        assert_eq!(changed("4294967296"), (2, 9 + count));
+        // Below the one before, but for the first.
+        let below = measured_bench(|at| (at == count).then_some("14999"));
+        match count {
+            0 => assert!(card_of_text(below.as_bytes()).is_ok()),
+            _ => assert_eq!(refused(&below), (25, 9 + count)),
+        }
+    }
+    assert_eq!(refused(&format!("{right} 1")), (11, 9 + 256));
+    let lines: Vec<&str> = right.lines().collect();
+    assert_eq!(refused(&lines[..lines.len() - 1].join("\n")), (1, 9 + 255));
 }

@@ -3,6 +3,7 @@
 use film_disk_model::bench::{
     bench_blocks, bench_film, bench_zero_time, figures_of, film_of, three_alike, two_alike,
 };
+use film_disk_model::card::straight;
 use film_disk_model::plan::{is_laying, plan_of, worst_time};
 use film_disk_model::rng::cards::any_card;
 use film_disk_model::rng::figures::{any_figures, small_figures};
@@ -151,8 +152,9 @@ fn small_cards_in_order() {
     assert!(cards.windows(2).all(|two| key(&two[0]) < key(&two[1])));
     for figures in &cards {
         assert_eq!(read_card(&card_bytes(figures)).as_ref(), Ok(figures));
-        let others = (figures.block_bytes, figures.rate, figures.hop, figures.ret);
-        assert_eq!(others, (1000, 1000, 1, 1));
+        let others = (figures.kind, figures.block_bytes, figures.rate);
+        assert_eq!(others, (1, 1000, 1000));
+        assert_eq!(figures.table, straight(1, 1));
         assert!(figures.zones <= 3 && figures.blocks <= 8);
         assert!(figures.positions.iter().chain(&figures.times).all(|&number| number <= 3));
     }
@@ -172,8 +174,7 @@ fn no_small_card_is_missing() {
             let zone = |zone: u32| (digit(2 * zone), digit(2 * zone + 1));
             for blocks in 0..=8 {
                 let zones: Vec<(u32, u32)> = (0..zones).map(zone).collect();
-                let figures = figures_of(&zones, blocks, 1000, 1000);
-                let figures = Figures { hop: 1, ret: 1, ..figures };
+                let figures = figures_of(&zones, blocks, 1000, 1000).with_moves(1, 1);
                 let card = card_bytes(&figures);
                 assert_eq!(read_card(&card).is_ok(), listed.contains(&card), "{figures:?}");
                 legal += listed.contains(&card) as usize;

@@ -15,7 +15,7 @@ wide : (c : tie.Start) → Wide (c .args .desk)
 wide c = record { kinds = search needs; next = search needs; held = search needs }
 
 slim : (c : tie.Start) → legality.Wide (c .args .desk .plan .figures)
-slim c = (search needs, search needs)
+slim c = (search needs, search needs, search needs)
 
 judge-join-requires : tie.Need-judge-join-requires
 judge-join-requires c κs = search needs

@@ -15,7 +15,7 @@ wide : (c : tie.Start) → Wide (c .args .t1)
 wide c = record { kinds = search needs; next = search needs; held = search needs }
 
 slim : (c : tie.Start) → legality.Wide (c .args .t1 .plan .figures)
-slim c = (search needs, search needs)
+slim c = (search needs, search needs, search needs)
 
 abbrev entry : tie.After-desk → tie.Start
 entry c = c .before .before .before .before

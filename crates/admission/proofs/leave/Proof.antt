@@ -15,7 +15,7 @@ wide : (c : tie.Start) → Wide (c .args .desk)
 wide c = record { kinds = search needs; next = search needs; held = search needs }
 
 slim : (c : tie.Start) → legality.Wide (c .args .desk .plan .figures)
-slim c = (search needs, search needs)
+slim c = (search needs, search needs, search needs)
 
 judge-leave-requires : tie.Need-judge-leave-requires
 judge-leave-requires c κs = search needs

@@ -4,10 +4,10 @@ use Rattle.case_text.proofs.read_record.Statement.{statement}
 use Rattle.case_text.proofs.read_record.Tie as tie
 
 abbrev Inv-loop : tie.InvT-loop
-Inv-loop text start zones blocks bytes rate hop back positions₀ times₀ at₀ i₀ positions times at i = i ≤ 64
+Inv-loop text start kind zones blocks bytes rate overheads positions₀ times₀ at₀ i₀ positions times at i = i ≤ 64
 
 abbrev μ-loop : tie.MeasureT-loop
-μ-loop text start zones blocks bytes rate hop back positions₀ times₀ at₀ i₀ positions times at i = 64 - i
+μ-loop text start kind zones blocks bytes rate overheads positions₀ times₀ at₀ i₀ positions times at i = 64 - i
 
 read-number-requires : tie.Need-read-number-requires Inv-loop μ-loop
 read-number-requires c κs = search needs
@@ -24,8 +24,8 @@ read-number-requires-4 c κs = search needs
 read-number-requires-5 : tie.Need-read-number-requires-5 Inv-loop μ-loop
 read-number-requires-5 c κs = search needs
 
-read-number-requires-6 : tie.Need-read-number-requires-6 Inv-loop μ-loop
-read-number-requires-6 c κs = search needs
+read-table-requires : tie.Need-read-table-requires Inv-loop μ-loop
+read-table-requires c κs = search needs
 
 no-zones-requires : tie.Need-no-zones-requires Inv-loop μ-loop
 no-zones-requires c κs = search needs
@@ -36,11 +36,11 @@ no-zones-requires-2 c κs = search needs
 loop-holds : tie.Need-loop-holds Inv-loop μ-loop
 loop-holds c = search needs
 
+read-number-requires-6 : tie.Need-read-number-requires-6 Inv-loop μ-loop
+read-number-requires-6 c κs = search needs
+
 read-number-requires-7 : tie.Need-read-number-requires-7 Inv-loop μ-loop
 read-number-requires-7 c κs = search needs
-
-read-number-requires-8 : tie.Need-read-number-requires-8 Inv-loop μ-loop
-read-number-requires-8 c κs = search needs
 
 mul-positions : tie.Need-mul-positions Inv-loop μ-loop
 mul-positions c = search needs
@@ -77,12 +77,12 @@ read-record-spec =
     read-number-requires-3
     read-number-requires-4
     read-number-requires-5
-    read-number-requires-6
+    read-table-requires
     no-zones-requires
     no-zones-requires-2
     loop-holds
+    read-number-requires-6
     read-number-requires-7
-    read-number-requires-8
     mul-positions
     array-write-positions
     mul-times

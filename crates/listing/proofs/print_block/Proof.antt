@@ -10,7 +10,7 @@ use Rattle.listing.proofs.print_block.Statement.{statement}
 use Rattle.listing.proofs.print_block.Tie as tie
 
 wide : (c : tie.Start) → Wide (c .args .plan .figures)
-wide c = (search needs, search needs)
+wide c = (search needs, search needs, search needs)
 
 long : (c : tie.Start) → (c .args .plan .figures .blocks ≤ length (wordsOf (c .args .positions .now))) × (c .args .plan .figures .blocks ≤ length (wordsOf (c .args .leads .now)))
 long c = checked (c .args .plan) (c .args .positions .now) (c .args .leads .now) (c .pre .0) .long

@@ -10,10 +10,14 @@ enter-requires c κs = search needs
 enter-requires-2 : tie.Need-enter-requires-2
 enter-requires-2 c κs = search needs
 
+overheads-requires : tie.Need-overheads-requires
+overheads-requires c κs = search needs
+
 returns : tie.Need-returns
 unfolding figuresOf smallFigures
-returns c = let a = c .before .before .before .before .args .card in
-    λ i. record { zones = a .zones; positions = c .before .enter .ensures i; times = c .enter2 .ensures i; blocks = a .blocks; bytes = 1000; rate = 1000; hop = 1; back = 1 }
+returns c = let times = c .before in
+    let a = times .before .before .before .before .args .card in
+    λ i. record { kind = 1; zones = a .zones; positions = times .before .enter .ensures i; times = times .enter2 .ensures i; blocks = a .blocks; bytes = 1000; rate = 1000; table = c .overheads .ensures i }
 
 pub figures-of-spec : {M : Type 1} → statement M
-figures-of-spec = tie.close (tie.spec enter-requires enter-requires-2 returns)
+figures-of-spec = tie.close (tie.spec enter-requires enter-requires-2 overheads-requires returns)

@@ -15,11 +15,15 @@ use borrow.Author.Needs.{needs}
 use Rattle.planner.proofs.is_plan_with.Statement.{statement}
 use Rattle.planner.proofs.is_plan_with.Tie as tie
 
+-- where the numbers have been looked at, from where the function begins
+abbrev begun : (c : tie.After-has-numbers) → tie.Start
+begun c = c .before .before .before .before .before .before .before
+
 abbrev start : (c : tie.Else1) → tie.Start
-start c = c .before .before .before .before
+start c = begun (c .before)
 
 wide : (c : tie.Start) → Wide (c .args .t1 .figures)
-wide c = (search needs, search needs)
+wide c = (search needs, search needs, search needs)
 
 passed : (c : tie.Else1) → hasNumbers (start c .args .t1) ≡ true
 passed c = sym (c .before .has-numbers .ensures) ∙ not-false _ (c .if1 .left)
@@ -40,8 +44,11 @@ placed c = let a = start (first (c .before)) .args in
     c .same-positions .ensures
     ∙ ap (λ (x : List ℕ). begins x (wordsOf (a .positions .now))) (positions-are (a .t1 .figures) (has (first (c .before)) .legal) _ (sum (c .before)) (showingIn (a .t1)))
 
+has-numbers-requires : tie.Need-has-numbers-requires
+has-numbers-requires c κs = wide (c .before .before .before .before .before .before)
+
 returns : tie.Need-returns
-returns c = let e : hasNumbers (c .before .before .before .before .args .t1) ≡ false = sym (c .before .has-numbers .ensures) ∙ not-true _ (c .if1 .taken) in rw e
+returns c = let e : hasNumbers (begun (c .before) .args .t1) ≡ false = sym (c .before .has-numbers .ensures) ∙ not-true _ (c .if1 .taken) in rw e
 
 sum-positions-requires : tie.Need-sum-positions-requires
 sum-positions-requires c κs = let ok = has (c .before .before) .legal in (legal-zoned _ ok, ok .zones .1)
@@ -73,7 +80,7 @@ pub is-plan-with-spec : {M : Type 1} → statement M
 is-plan-with-spec =
     tie.close
     (tie.spec
-    (λ c κs. search needs)
+    has-numbers-requires
     returns
     sum-positions-requires
     same-positions-requires

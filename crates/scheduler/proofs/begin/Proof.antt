@@ -14,7 +14,7 @@ wide : (c : tie.Start) → Wide (c .args .desk)
 wide c = record { kinds = search needs; next = search needs; held = search needs }
 
 slim : (c : tie.Start) → legality.Wide (c .args .desk .plan .figures)
-slim c = (search needs, search needs)
+slim c = (search needs, search needs, search needs)
 
 -- the answer's number
 number : (c : tie.After-judge-begin) → (let a = c .before .before .before .args in

@@ -21,7 +21,7 @@ wide : (c : tie.Start) → Wide (c .args .t1)
 wide c = record { kinds = search needs; next = search needs; held = search needs }
 
 slim : (c : tie.Start) → legality.Wide (c .args .t1 .plan .figures)
-slim c = (search needs, search needs)
+slim c = (search needs, search needs, search needs)
 
 -- ---- the places, each from a later one
 
@@ -35,10 +35,10 @@ abbrev blank : tie.After-found → tie.After-zeros
 blank c = c .before .before .before .before
 
 abbrev taking : tie.After-desk3 → tie.After-gather-leads
-taking c = c .before .before
+taking c = c .before
 
 abbrev gathering : tie.After-gather → tie.After-gather-leads
-gathering c = taking (c .before .before .before .before .before .before)
+gathering c = taking (c .before .before .before .before .before)
 
 abbrev roomy : tie.After-gather-leads → tie.Else3
 roomy c = blank (c .before) .before
@@ -102,7 +102,7 @@ gather-leads-requires c κs =
 
 gather-requires : tie.Need-gather-requires
 gather-requires c κs =
-    let e = roomy (taking (c .before .before .before .before .before)) .before .before in
+    let e = roomy (taking (c .before .before .before .before)) .before .before in
     let s = start (tested e) in
     let d = s .args .t1 in
     let p = sound-plan _ _ _ (passed e) in

@@ -3,6 +3,7 @@ use mathlib.Core.Bool.{true}
 use native.Mathlib.Omega.{arith}
 use borrow.Author.Needs.{needs}
 use borrow.Author.Tests.{not-true, not-false}
+use Rattle.card.specs.TableLaws.{table-range}
 use Rattle.round_trip.specs.Legality as legality
 use Rattle.desk.specs.declared.Answer.{Answer}
 use Rattle.desk.specs.Desk.{supplyOf, viewOf}
@@ -20,7 +21,7 @@ wide : (c : tie.Start) → Wide (c .args .t1)
 wide c = record { kinds = search needs; next = search needs; held = search needs }
 
 slim : (c : tie.Start) → legality.Wide (c .args .t1 .plan .figures)
-slim c = (search needs, search needs)
+slim c = (search needs, search needs, search needs)
 
 -- the verdict of an answer
 told : {a b : Answer} → a ≡ b → a .verdict ≡ b .verdict
@@ -35,13 +36,13 @@ abbrev tested : tie.Else1 → tie.After-is-sound
 tested c = c .before
 
 abbrev sweeping : tie.After-desk2 → tie.Else2
-sweeping c = c .before .before
+sweeping c = c .before
 
 abbrev gathering : tie.After-gather → tie.Else2
-gathering c = sweeping (c .before .before .before .before .before .before)
+gathering c = sweeping (c .before .before .before .before .before)
 
 abbrev bounding : tie.After-sweep-bound → tie.After-gather
-bounding c = c .before .before .before .before .before .before
+bounding c = c .before .before .before .before .before .before .before
 
 -- ---- what is known there
 
@@ -80,7 +81,7 @@ cast-streams c = search needs
 
 gather-requires : tie.Need-gather-requires
 gather-requires c κs =
-    let e = sweeping (c .before .before .before .before .before) .before in
+    let e = sweeping (c .before .before .before .before) .before in
     let s = start (tested e) in
     let d = s .args .t1 in
     let p = sound-plan _ _ _ (passed e) in
@@ -92,11 +93,11 @@ sub-sweep-bound c = let e = gathering (c .before .before .before .before .before
 
 sweep-bound-requires : tie.Need-sweep-bound-requires
 sweep-bound-requires c κs =
-    let g = c .before .before .before .before .before in
+    let g = c .before .before .before .before .before .before in
     let e = gathering g .before in
     let r = ready e in
     let i = in-range _ (wide (start (tested e))) r _ _ (sound-plan _ _ _ (passed e)) (g .gather .result) (g .gather .ensures) in
-    (streams-are _ r, i .times, r .legal .hop .1, r .legal .back .1)
+    (streams-are _ r, i .times, λ k h. table-range _ (r .legal) k h .1)
 
 most-drawn-requires : tie.Need-most-drawn-requires
 most-drawn-requires c κs = search needs

@@ -22,7 +22,7 @@ abbrev given : tie.Start → Desk
 given c = let a = c .args in recordOf (a .plan) (a .phase) (a .kinds .now) (a .next .now) (a .held .now)
 
 slim : (c : tie.Start) → legality.Wide (given c .plan .figures)
-slim c = (search needs, search needs)
+slim c = (search needs, search needs, search needs)
 
 -- ---- the places, each from a later one
 

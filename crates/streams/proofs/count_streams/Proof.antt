@@ -1,5 +1,6 @@
 use Prim.Native.Nat.{ℕ, _*_, _/_, _≤_, _<_}
 use mathlib.Core.Path.{_≡_, sym, _∙_, ap}
+use mathlib.Core.List.{List}
 use native.Mathlib.Omega.{arith}
 use borrow.Author.Needs.{needs}
 use Rattle.numbers.specs.Limits.{maxStreams}
@@ -9,16 +10,16 @@ use Rattle.streams.proofs.count_streams.Statement.{statement}
 use Rattle.streams.proofs.count_streams.Tie as tie
 
 -- every number above n has failed, and room is the time that the rate leaves
-record Tries (rate worst2 hop back bytes room n : ℕ) : Type 0 where
+record Tries (rate worst2 : ℕ) (table : List ℕ) (bytes room n : ℕ) : Type 0 where
   few : n ≤ maxStreams
   left : room ≡ parts * bytes / rate
-  same : tried rate worst2 (overhead hop back) bytes n ≡ streams rate worst2 (overhead hop back) bytes
+  same : tried rate worst2 (overhead table) bytes n ≡ streams rate worst2 (overhead table) bytes
 
 abbrev Inv-loop : tie.InvT-loop
-Inv-loop rate worst2 hop back bytes room n₀ n = Tries rate worst2 hop back bytes room n
+Inv-loop rate worst2 table bytes room n₀ n = Tries rate worst2 table bytes room n
 
 abbrev μ-loop : tie.MeasureT-loop
-μ-loop rate worst2 hop back bytes room n₀ n = n
+μ-loop rate worst2 table bytes room n₀ n = n
 
 product-requires : tie.Need-product-requires Inv-loop μ-loop
 product-requires c κs = search needs
@@ -31,7 +32,7 @@ loop-holds c = let a = c .before .args in
     record {
       few = omega arith;
       left = ap (λ (m : ℕ). m / a .rate) (c .product .ensures);
-      same = tried-all (a .rate) (a .worst2) (overhead (a .hop) (a .back)) (a .bytes);
+      same = tried-all (a .rate) (a .worst2) (overhead (a .table .now)) (a .bytes);
     }
 
 two-sweeps-requires : tie.Need-two-sweeps-requires Inv-loop μ-loop
@@ -50,7 +51,7 @@ loop-again : tie.Need-loop-again Inv-loop μ-loop
 loop-again c = let s = c .before .before .before .before .before in
     let a = s .args in
     let l = c .before .before .before .loop in
-    let over = overhead (a .hop) (a .back) in
+    let over = overhead (a .table .now) in
     let late : parts * a .bytes / a .rate < twoSweeps (a .worst2) over (l .n) = omega (arith, l .inv .left, c .before .two-sweeps .ensures) in
     record {
       few = omega (arith, l .inv .few);
@@ -60,13 +61,13 @@ loop-again c = let s = c .before .before .before .before .before in
 
 returns : tie.Need-returns Inv-loop μ-loop
 returns c = let a = c .before .before .before .args in let l = c .before .loop in
-    sym (tried-none (a .rate) (a .worst2) (overhead (a .hop) (a .back)) (a .bytes) (l .n) (c .if1 .taken)) ∙ l .inv .same
+    sym (tried-none (a .rate) (a .worst2) (overhead (a .table .now)) (a .bytes) (l .n) (c .if1 .taken)) ∙ l .inv .same
 
 returns-2 : tie.Need-returns-2 Inv-loop μ-loop
 returns-2 c = let s = c .before .before .before .before .before in
     let a = s .args in
     let l = c .before .before .before .loop in
-    let over = overhead (a .hop) (a .back) in
+    let over = overhead (a .table .now) in
     let soon : twoSweeps (a .worst2) over (l .n) ≤ parts * a .bytes / a .rate = omega (arith, l .inv .left, c .before .two-sweeps .ensures) in
     sym (tried-hit (a .rate) (a .worst2) over (a .bytes) (l .n) (omega arith) (time-fits (a .rate) (a .worst2) over (a .bytes) (l .n) (s .pre .1) soon)) ∙ l .inv .same
 

@@ -1,5 +1,6 @@
 use native.Mathlib.Omega.{arith}
 use mathlib.Core.Path.{_≡_, refl}
+use Rattle.card.specs.TableLaws.{table-range}
 use Rattle.rules.specs.Scheduler.{started, begun}
 use Rattle.rules.specs.Arrays.{slotsOf}
 use Rattle.desk.specs.View.{Wide}
@@ -17,7 +18,7 @@ wide c = record { kinds = search needs; next = search needs; held = search needs
 -- ---- the places, each from a later one
 
 abbrev start : tie.After-low-water → tie.Start
-start c = c .before .before .before .before
+start c = c .before .before
 
 abbrev marked : tie.After-start-playing → tie.After-low-water
 marked c = c .before .before .before .before
@@ -29,7 +30,7 @@ abbrev leveled : tie.After-grant-asked → tie.After-least-level
 leveled c = c .before .before
 
 abbrev granted : tie.After-sweep-bound → tie.After-grant-asked
-granted c = c .before .before .before .before .before .before
+granted c = c .before .before .before .before .before .before .before
 
 -- ---- what is known there
 
@@ -60,10 +61,10 @@ cast-streams : tie.Need-cast-streams
 cast-streams c = search needs
 
 sub-room : tie.Need-sub-room
-sub-room c = let s = c .before .before in omega (arith, buffer-has (s .args .t1 .plan) (s .pre .0 .planned))
+sub-room c = omega (arith, buffer-has (c .args .t1 .plan) (c .pre .0 .planned))
 
 low-water-requires : tie.Need-low-water-requires
-low-water-requires c κs = let s = c .before .before .before in (s .pre .0 .legal .bytes .1, s .pre .0 .legal .rate .1)
+low-water-requires c κs = let s = c .before in (s .pre .0 .legal .bytes .1, s .pre .0 .legal .rate .1)
 
 start-playing-requires : tie.Need-start-playing-requires
 start-playing-requires c κs = let s = start (c .before .before .before) in (streams-are (s .args .t1) (s .pre .0), wide s .kinds)
@@ -85,8 +86,8 @@ grant-asked-requires c κs =
     )
 
 sweep-bound-requires : tie.Need-sweep-bound-requires
-sweep-bound-requires c κs = let s = start (marked (played (leveled (c .before .before .before .before .before)))) in
-    (streams-are (s .args .t1) (s .pre .0), s .pre .2 .times, s .pre .0 .legal .hop .1, s .pre .0 .legal .back .1)
+sweep-bound-requires c κs = let s = start (marked (played (leveled (c .before .before .before .before .before .before)))) in
+    (streams-are (s .args .t1) (s .pre .0), s .pre .2 .times, λ k h. table-range _ (s .pre .0 .legal) k h .1)
 
 list-fetches-requires : tie.Need-list-fetches-requires
 list-fetches-requires c κs = let s = start (marked (played (leveled (granted (c .before .before .before .before .before .before))))) in

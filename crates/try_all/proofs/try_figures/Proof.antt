@@ -3,6 +3,7 @@ use mathlib.Core.Path.{_≡_, sym, _∙_}
 use native.Mathlib.Omega.{arith}
 use Rattle.numbers.specs.Limits.{maxTried}
 use Rattle.card.specs.Card.{Legal}
+use Rattle.card.specs.TableLaws.{table-range}
 use Rattle.plan.specs.Plan.{showingOf}
 use Rattle.plan.specs.Legal.{worst2-small}
 use Rattle.layings.specs.Layings.{leastOf, countOf}
@@ -14,7 +15,7 @@ use Rattle.try_all.proofs.try_figures.Tie as tie
 
 -- past the test of the film's length
 abbrev start : (c : tie.Else2) → tie.Start
-start c = c .before .before .before .before .before .before
+start c = c .before .before .before .before .before
 
 accepted : (c : tie.Else2) → start c .args .read .verdict .number ≡ 0
 accepted c = omega arith
@@ -29,7 +30,7 @@ returns : tie.Need-returns
 returns c = let a = c .before .before .before .before .args in c .refused .ensures ∙ by-figures (showingOf (a .showing)) (a .read) (c .before .if1 .taken)
 
 returns-2 : tie.Need-returns-2
-returns-2 c = let a = c .before .before .before .before .before .before .before .args in
+returns-2 c = let a = c .before .before .before .before .before .before .args in
     c .refused2 .ensures ∙ by-length (showingOf (a .showing)) (a .read) (omega arith) (c .before .if2 .taken)
 
 film-times-requires : tie.Need-film-times-requires
@@ -48,15 +49,16 @@ found c =
 
 count-streams-requires : tie.Need-count-streams-requires
 count-streams-requires c κs =
-    let e = c .before .before in
+    let t = c .before .before in
+    let e = t .before .before in
     let a = start e .args in
     let x = showingOf (a .showing) in
     let f = a .read .figures in
-    (record { pair = omega (arith, found c .0, least-is-planned x f (legal e), worst2-small x f (legal e)); hops = legal e .hop .1; backs = legal e .back .1 }, legal e .rate .0)
+    (record { pair = omega (arith, found t .0, least-is-planned x f (legal e), worst2-small x f (legal e)); moves = λ k h. table-range f (legal e) k h .1 }, legal e .rate .0)
 
 returns-3 : tie.Need-returns-3
 returns-3 c =
-    let t = c .before .before .before in
+    let t = c .before .before .before .before .before in
     let e = t .before .before in
     let a = start e .args in
     let f = found t in
@@ -64,7 +66,7 @@ returns-3 c =
 
 returns-4 : tie.Need-returns-4
 returns-4 c =
-    let t = c .before .before in
+    let t = c .before .before .before .before in
     let e = t .before .before in
     let a = start e .args in
     let f = found t in

@@ -15,7 +15,7 @@ use Rattle.window.proofs.worst_window.Statement.{statement}
 use Rattle.window.proofs.worst_window.Tie as tie
 
 wide : (c : tie.Start) → Wide (c .args .t1 .figures)
-wide c = (search needs, search needs)
+wide c = (search needs, search needs, search needs)
 
 abbrev start : (c : tie.After-fault) → tie.Start
 start c = c .before .before .before .before

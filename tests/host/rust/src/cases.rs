@@ -10,6 +10,7 @@ use film_disk_model::rng::borders::{border_card, border_plan_for};
 use film_disk_model::rng::cards::any_card;
 use film_disk_model::rng::desks::{alter_plan, any_step, longer_list, sound_desk, spoiled_list};
 use film_disk_model::rng::figures::{desk_plan_for, large_desk_plan_for, uneven_plan_for};
+use film_disk_model::rng::tables::{alter_overheads, some_entry};
 use film_disk_model::{card_bytes, read_card, Desk, Plan, Planned, Rng, Showing, Step};
 
 /// Bytes of no meaning.
@@ -233,6 +234,27 @@ pub fn worst_pair_case(rng: &mut Rng) -> (Call, Strings) {
     let (_, step) = any_step(rng, &planned);
     let mut desk = sound_desk(rng, &planned);
     desk.plan.worstat = other_worstat(rng, &planned.plan);
+    opening_or_step(rng, &desk, &step)
+}
+
+/// An opening or a call on a desk whose overheads are others: the kind turned over or a third one, an entry of the table changed. A table
+/// that is still measured may leave the plan what it is, and then the sweep's bound goes by it.
+pub fn overhead_case(rng: &mut Rng) -> (Call, Strings) {
+    let planned = some_plan(rng);
+    let (_, step) = any_step(rng, &planned);
+    let mut desk = sound_desk(rng, &planned);
+    let figures = &mut desk.plan.figures;
+    if rng.once_in(2) {
+        figures.kind = rng.pick(&[1, 2, 2, 2, 0, 3]);
+    }
+    if rng.once_in(2) {
+        let entry = some_entry(rng);
+        let own = figures.table[entry];
+        figures.table[entry] =
+            rng.pick(&[own + 1, own + 1, own.wrapping_sub(1), 0, 257_000_000, 257_000_001]);
+    } else if rng.once_in(2) {
+        alter_overheads(rng, figures);
+    }
     opening_or_step(rng, &desk, &step)
 }
 

@@ -4,9 +4,10 @@
 use crate::lists::List;
 use crate::trial::Trial;
 use crate::windows::film_windows;
-use film_disk_model::bench::figures_of;
-use film_disk_model::plan::{plan_of, worst2};
+use film_disk_model::bench::{bench_rising, figures_of};
+use film_disk_model::plan::plan_of;
 use film_disk_model::rng::desks::{fair_draws, Draw};
+use film_disk_model::rng::figures::sweep_need;
 use film_disk_model::{Call, Planned, Rng, Showing, Step};
 
 const BLOCKS: [u32; 14] = [2, 3, 4, 5, 6, 7, 8, 9, 63, 64, 65, 256, 16_383, 16_384];
@@ -18,8 +19,8 @@ const ROUNDS: u128 = 3;
 const SCREENS: u32 = 4;
 const RATE: u32 = 100_000;
 
-/// A film of the last N positions, over zones of any size about N / zones, with blocks that just feed so many streams. A short one
-/// feeds few, so that its screens get a block in most sweeps.
+/// A film of the last N positions, over zones of any size about N / zones, with blocks that just feed so many streams, by hop and return
+/// or by a table that rises from there on. A short one feeds few, so that its screens get a block in most sweeps.
 fn film(rng: &mut Rng, blocks: u32, zones: u32, showing: Showing) -> Planned {
     let each = (blocks / zones).max(1);
     let mut sizes: Vec<u32> = (0..zones).map(|_| rng.between(1, 2 * each)).collect();
@@ -31,8 +32,10 @@ fn film(rng: &mut Rng, blocks: u32, zones: u32, showing: Showing) -> Planned {
     let zones: Vec<(u32, u32)> = sizes.iter().enumerate().map(timed).collect();
     let mut figures = figures_of(&zones, blocks, 1, RATE);
     let streams = if blocks <= SHORT { rng.between(1, 3) } else { rng.pick(&[1, 16, 256]) };
-    let time = worst2(&figures, showing) as u64 + 2 * figures.hop as u64;
-    let need = streams as u64 * time + 2 * figures.ret as u64;
+    if rng.once_in(2) {
+        figures = figures.with_table(bench_rising(streams as usize + 1, 1000).table);
+    }
+    let need = sweep_need(&figures, showing, streams);
     figures.block_bytes = (RATE as u64 * need).div_ceil(2_000_000) as u32;
     plan_of(&figures, showing).expect("so many streams fit")
 }

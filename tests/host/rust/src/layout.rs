@@ -2,8 +2,8 @@
 
 use film_disk_model::{Desk, Entry, Figures, Plan, SLOTS};
 
-pub const PLAN_BYTES: usize = 560;
-pub const DESK_BYTES: usize = 3636;
+pub const PLAN_BYTES: usize = 1584;
+pub const DESK_BYTES: usize = 4660;
 pub const ENTRY_BYTES: usize = 4;
 pub const FETCH_BYTES: usize = 12;
 
@@ -19,10 +19,11 @@ pub fn words_of(bytes: &[u8]) -> Vec<u32> {
 
 fn plan_words(plan: &Plan) -> Vec<u32> {
     let figures = &plan.figures;
-    let mut words = vec![figures.zones];
+    let mut words = vec![figures.kind, figures.zones];
     words.extend(figures.positions);
     words.extend(figures.times);
-    words.extend([figures.blocks, figures.block_bytes, figures.rate, figures.hop, figures.ret]);
+    words.extend([figures.blocks, figures.block_bytes, figures.rate]);
+    words.extend(figures.table);
     words.extend([plan.streams, plan.buffer, plan.worst2, plan.margin, plan.showing, plan.worstat]);
     words
 }
@@ -34,23 +35,23 @@ fn array<const COUNT: usize>(words: &[u32], first: usize) -> [u32; COUNT] {
 
 fn plan_in(words: &[u32]) -> Plan {
     let figures = Figures {
-        zones: words[0],
-        positions: array(words, 1),
-        times: array(words, 65),
-        blocks: words[129],
-        block_bytes: words[130],
-        rate: words[131],
-        hop: words[132],
-        ret: words[133],
+        kind: words[0],
+        zones: words[1],
+        positions: array(words, 2),
+        times: array(words, 66),
+        blocks: words[130],
+        block_bytes: words[131],
+        rate: words[132],
+        table: array(words, 133),
     };
     Plan {
         figures,
-        streams: words[134],
-        buffer: words[135],
-        worst2: words[136],
-        margin: words[137],
-        showing: words[138],
-        worstat: words[139],
+        streams: words[390],
+        buffer: words[391],
+        worst2: words[392],
+        margin: words[393],
+        showing: words[394],
+        worstat: words[395],
     }
 }
 
@@ -58,7 +59,7 @@ pub fn plan_bytes(plan: &Plan) -> Vec<u8> {
     bytes_of(&plan_words(plan))
 }
 
-/// The plan in a string of 560 bytes.
+/// The plan in a string of 1,584 bytes.
 pub fn read_plan(bytes: &[u8]) -> Plan {
     plan_in(&words_of(bytes))
 }
@@ -72,15 +73,15 @@ pub fn desk_bytes(desk: &Desk) -> Vec<u8> {
     bytes_of(&words)
 }
 
-/// The desk in a string of 3,636 bytes.
+/// The desk in a string of 4,660 bytes.
 pub fn read_desk(bytes: &[u8]) -> Desk {
     let words = words_of(bytes);
     Desk {
         plan: plan_in(&words),
-        phase: words[140],
-        kinds: array(&words, 141),
-        next: array(&words, 141 + SLOTS),
-        held: array(&words, 141 + 2 * SLOTS),
+        phase: words[396],
+        kinds: array(&words, 397),
+        next: array(&words, 397 + SLOTS),
+        held: array(&words, 397 + 2 * SLOTS),
     }
 }
 

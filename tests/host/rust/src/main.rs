@@ -14,7 +14,9 @@ mod lists;
 mod trial;
 mod windows;
 
-use cases::{desk_case, edge_case, open_case, plan_case, showing_case, worst_pair_case};
+use cases::{
+    desk_case, edge_case, open_case, overhead_case, plan_case, showing_case, worst_pair_case,
+};
 use film_disk_model::Rng;
 use films::{all_films, film_case};
 use library::set_scene;
@@ -30,7 +32,7 @@ const SHOWN: u64 = 10;
 
 fn run_case(trial: &mut Trial, seed: u64) -> Result<(), String> {
     let mut rng = Rng::new(seed);
-    let (call, strings) = match rng.below(14) {
+    let (call, strings) = match rng.below(16) {
         0..=2 => plan_case(&mut rng),
         3 => open_case(&mut rng),
         4 | 5 => desk_case(&mut rng),
@@ -38,6 +40,7 @@ fn run_case(trial: &mut Trial, seed: u64) -> Result<(), String> {
         9 => showing_case(&mut rng),
         10 => worst_pair_case(&mut rng),
         11 | 12 => window_case(&mut rng),
+        13 | 14 => overhead_case(&mut rng),
         _ => return list_case(&mut rng, trial),
     };
     trial.both(&mut rng, call, &strings).map(|_| ())

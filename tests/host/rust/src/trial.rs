@@ -12,6 +12,8 @@ const NUMBERS: usize = 28;
 const MANY_ROUNDS: u128 = 5;
 /// Where the worst pair of a film may be.
 const PLACES: [&str; 3] = ["at block 0", "in mid film", "at the last block"];
+/// Kinds of a card.
+const KINDS: [&str; 2] = ["of kind 1", "of kind 2"];
 /// Where the worst window of a film may be.
 const WINDOWS: [&str; 3] = ["at block 0", "in mid film", "past the last block"];
 
@@ -23,6 +25,8 @@ pub struct Trial {
     rounds: u128,
     /// For each place, how many planned films have their worst pair there.
     worst_pairs: [u64; PLACES.len()],
+    /// For each kind of card, how many were planned.
+    kinds: [u64; KINDS.len()],
     /// For each place, how many worst windows of more than one block are there.
     windows: [u64; WINDOWS.len()],
 }
@@ -67,6 +71,7 @@ impl Trial {
             tally: [[0; NUMBERS]; SORTS.len()],
             rounds: 0,
             worst_pairs: [0; PLACES.len()],
+            kinds: [0; KINDS.len()],
             windows: [0; WINDOWS.len()],
         }
     }
@@ -95,7 +100,9 @@ impl Trial {
         }
         match call {
             Call::Plan(_) => {
-                self.worst_pairs[worst_place(&read_plan(&wanted.strings[PLAN]))] += 1;
+                let plan = read_plan(&wanted.strings[PLAN]);
+                self.worst_pairs[worst_place(&plan)] += 1;
+                self.kinds[plan.figures.kind as usize - 1] += 1;
             }
             Call::Window { blocks } if blocks > 1 => {
                 let plan = read_plan(&wanted.strings[PLAN]);
@@ -133,13 +140,14 @@ impl Trial {
         }
         println!("worst pairs: {}", tallied(&PLACES, &self.worst_pairs));
         println!("worst windows: {}", tallied(&WINDOWS, &self.windows));
+        println!("plans: {}", tallied(&KINDS, &self.kinds));
         println!("loops: a slot went round {} times", self.rounds);
     }
 
     /// The numbers that each sort of call can answer and that no call was answered; places where no
-    /// worst pair or window was; and loops, if none went round often enough.
+    /// worst pair or window was; a kind of card; and loops, if none went round often enough.
     pub fn missing(&self) -> Vec<String> {
-        let plan: Vec<usize> = (0..=13).chain([26]).collect();
+        let plan: Vec<usize> = (0..=13).chain([25, 26]).collect();
         let answers: [&[usize]; SORTS.len()] = [
             &plan,
             &plan,
@@ -158,6 +166,9 @@ impl Trial {
         }
         for (place, _) in PLACES.iter().zip(self.worst_pairs).filter(|&(_, count)| count == 0) {
             missing.push(format!("a worst pair {place}"));
+        }
+        for (kind, _) in KINDS.iter().zip(self.kinds).filter(|&(_, count)| count == 0) {
+            missing.push(format!("a plan {kind}"));
         }
         for (place, _) in WINDOWS.iter().zip(self.windows).filter(|&(_, count)| count == 0) {
             missing.push(format!("a worst window {place}"));

@@ -3,6 +3,8 @@
 //! Arguments: path of the mkcard program, seed, count of random texts. The fixed texts and some
 //! long ones are always run before the random ones. Exit status 0 only if all passed.
 
+use film_disk_model::bench::bench_film;
+use film_disk_model::card::card_numbers;
 use film_disk_model::mkcard;
 use film_disk_model::programs::{is_equal, Comparison, Given, Written};
 use film_disk_model::rng::texts::{any_text, bench_words, long_text};
@@ -10,7 +12,7 @@ use film_disk_model::Rng;
 use std::process::ExitCode;
 
 /// Short texts at the edges of the form.
-const SHORT_TEXTS: [&str; 26] = [
+const SHORT_TEXTS: [&str; 30] = [
     "",
     "\n",
     "#",
@@ -20,6 +22,10 @@ const SHORT_TEXTS: [&str; 26] = [
     "1\n",
     "01 6",
     "2",
+    "3",
+    "3 x",
+    "2 1 2 9 2 1 1 0",
+    "2 1 2 9 2 1 1 5\n4",
     "0",
     "x",
     "1 x",
@@ -38,6 +44,19 @@ const SHORT_TEXTS: [&str; 26] = [
     "1 4294967296",
     "\u{feff}1 6",
 ];
+
+/// The bench film of kind 2, whole, with a word too many, and cut off.
+fn measured_texts() -> Vec<String> {
+    let figures = bench_film().with_table(bench_film().table);
+    let words: Vec<String> = card_numbers(&figures).iter().map(u32::to_string).collect();
+    let rows: Vec<String> = words.chunks(10).map(|row| row.join(" ")).collect();
+    vec![
+        words.join("\n"),
+        rows.join("\n"),
+        format!("{}\n1", rows.join("  # ten\n")),
+        words[..words.len() - 1].join(" "),
+    ]
+}
 
 /// The bench film in several layouts, and with a word too many.
 fn bench_texts() -> Vec<String> {
@@ -70,6 +89,7 @@ fn texts_of_length(length: usize) -> [String; 5] {
 /// The texts that are always run.
 fn first_texts(rng: &mut Rng) -> Vec<Given> {
     let mut texts = bench_texts();
+    texts.extend(measured_texts());
     texts.extend(SHORT_TEXTS.map(String::from));
     for length in [65_534, 65_535, 65_536, 65_537, 131_072, 1_000_000] {
         texts.extend(texts_of_length(length));

@@ -1,15 +1,17 @@
 //! Figures whose products are the greatest there are, or carry between the 16-bit halves of their numbers in every way.
 
-use super::figures::small_figures;
+use super::figures::{small_figures, sweep_need};
 use super::Rng;
 use crate::bench::figures_of;
-use crate::card::{card_bytes, Figures, MAX_BLOCK_BYTES, MAX_HOP, MAX_RATE, MAX_RETURN, MAX_TIME};
-use crate::plan::{plan_record_for, worst2, Planned, Showing};
+use crate::card::{
+    card_bytes, straight, Figures, ENTRIES, MAX_BLOCK_BYTES, MAX_HOP, MAX_OVERHEAD, MAX_RATE,
+    MAX_RETURN, MAX_TIME, MEASURED, STRAIGHT,
+};
+use crate::plan::{plan_record_for, Planned, Showing};
 
 /// One zone or two, N 2, the greatest B; rate, and hop and return alike.
 fn two_blocks(zones: &[(u32, u32)], rate: u32, moves: u32) -> Figures {
-    let figures = figures_of(zones, 2, MAX_BLOCK_BYTES, rate);
-    Figures { hop: moves, ret: moves, ..figures }
+    figures_of(zones, 2, MAX_BLOCK_BYTES, rate).with_moves(moves, moves)
 }
 
 /// The formula of streams is 25,620,000,000,000,000 at 256, and no stream fits.
@@ -37,9 +39,22 @@ pub fn greatest_rate() -> Figures {
     two_blocks(&[(2, 1)], MAX_RATE, 1)
 }
 
-/// Figures that reach the greatest values of 01's formulas.
+/// The greatest overhead for every number of blocks; the bound of 256 is 1,281,000,000 too.
+pub fn greatest_table() -> Figures {
+    greatest_bound().with_table([MAX_OVERHEAD; ENTRIES])
+}
+
+/// Figures that reach the greatest values of the formulas.
 fn greatest_figures(rng: &mut Rng) -> Figures {
-    rng.pick(&[greatest_load, greatest_bound, greatest_buffer, greatest_leads, greatest_rate])()
+    let all = [
+        greatest_load,
+        greatest_bound,
+        greatest_buffer,
+        greatest_leads,
+        greatest_rate,
+        greatest_table,
+    ];
+    rng.pick(&all)()
 }
 
 /// From 1 to `greatest`: an end, or a multiple of 65,536 or a number beside one.
@@ -48,6 +63,19 @@ fn border(rng: &mut Rng, greatest: u32) -> u32 {
     let beside = multiple - 1 + rng.between(0, 2);
     let end = greatest.saturating_sub(rng.between(0, 1));
     rng.pick(&[1, end, beside, beside, beside]).clamp(1, greatest)
+}
+
+/// Overheads of such numbers, of either kind.
+fn set_border_overheads(rng: &mut Rng, figures: &mut Figures) {
+    if rng.once_in(2) {
+        figures.kind = STRAIGHT;
+        figures.table = straight(border(rng, MAX_HOP), border(rng, MAX_RETURN));
+        return;
+    }
+    let most = rng.pick(&[MAX_OVERHEAD, MAX_RETURN]);
+    figures.kind = MEASURED;
+    figures.table = std::array::from_fn(|_| border(rng, most));
+    figures.table.sort_unstable();
 }
 
 /// Figures of a short film with such times, rates and the like. Half of them keep all times above a
@@ -64,15 +92,13 @@ fn border_figures(rng: &mut Rng) -> Figures {
     figures.times[..zones].sort_unstable_by(|one, other| other.cmp(one));
     figures.block_bytes = border(rng, MAX_BLOCK_BYTES);
     figures.rate = border(rng, MAX_RATE);
-    figures.hop = border(rng, MAX_HOP);
-    figures.ret = border(rng, MAX_RETURN);
+    set_border_overheads(rng, &mut figures);
     figures
 }
 
 /// Sets c and B so that n streams fit, c at such a number and B often just enough.
 fn fit(rng: &mut Rng, figures: &mut Figures, showing: Showing, n: u32) {
-    let each = worst2(figures, showing) as u64 + 2 * figures.hop as u64;
-    let need = n as u64 * each + 2 * figures.ret as u64;
+    let need = sweep_need(figures, showing, n);
     let most = 2_000_000 * MAX_BLOCK_BYTES as u64 / need;
     figures.rate = border(rng, most.min(MAX_RATE as u64) as u32);
     let least = (figures.rate as u64 * need).div_ceil(2_000_000) as u32;

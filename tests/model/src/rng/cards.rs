@@ -3,6 +3,7 @@
 use super::figures::{
     alter_figure, legal_figures, set_to_limit, set_to_third, small_figures, tight_figures,
 };
+use super::tables::{any_table, set_entry_to_limit};
 use super::Rng;
 use crate::card::{card_bytes, card_numbers, number_bytes, MAX_POSITIONS, MAX_ZONES};
 use crate::plan::Showing;
@@ -128,6 +129,22 @@ fn half_dead_times(rng: &mut Rng) -> Vec<u8> {
     card_bytes(&figures)
 }
 
+/// A table with a number at or past its limit, or below the one before; once in two times with a
+/// fault in another number too.
+fn other_table(rng: &mut Rng) -> Vec<u8> {
+    let mut figures = small_figures(rng, 50);
+    figures = figures.with_table(any_table(rng));
+    if rng.once_in(4) {
+        figures.table[0] = 0;
+    } else {
+        set_entry_to_limit(rng, &mut figures);
+    }
+    if rng.once_in(2) {
+        set_to_limit(rng, &mut figures);
+    }
+    card_bytes(&figures)
+}
+
 /// As many blocks as positions, or one more.
 fn full_film(rng: &mut Rng) -> Vec<u8> {
     let mut figures = small_figures(rng, 50);
@@ -158,7 +175,7 @@ fn many_zones(rng: &mut Rng) -> Vec<u8> {
 /// Bytes of no card.
 fn noise(rng: &mut Rng) -> Vec<u8> {
     let length = rng.pick(&[0, 1, 2, 5, 40]);
-    let mut bytes = vec![1, rng.between(0, 70) as u8];
+    let mut bytes = vec![rng.pick(&[1, 2]), rng.between(0, 70) as u8];
     for _ in 0..length {
         bytes.push(if rng.once_in(2) { rng.between(0, 127) as u8 } else { rng.bits() as u8 });
     }
@@ -172,7 +189,7 @@ pub fn damaged_card(rng: &mut Rng) -> Vec<u8> {
     let figures = tight_figures(rng, showing, 60);
     let numbers = card_numbers(&figures);
     let card = card_bytes(&figures);
-    match rng.below(15) {
+    match rng.below(17) {
         0 => cut_off(rng, &card),
         1 | 2 => flip(rng, card),
         3 | 4 => bad_form(rng, &numbers),
@@ -184,6 +201,7 @@ pub fn damaged_card(rng: &mut Rng) -> Vec<u8> {
         11 => full_disk(rng),
         12 => many_zones(rng),
         13 => half_dead_times(rng),
+        14 | 15 => other_table(rng),
         _ => noise(rng),
     }
 }

@@ -1,8 +1,9 @@
 //! Figures: legal records of every size, tight ones, and records with a fault.
 
+use super::tables::{alter_overheads, set_overheads, set_overheads_to_limit};
 use super::Rng;
 use crate::card::{
-    Figures, MAX_BLOCKS, MAX_BLOCK_BYTES, MAX_HOP, MAX_POSITIONS, MAX_RATE, MAX_RETURN, MAX_TIME,
+    straight, Figures, MAX_BLOCKS, MAX_BLOCK_BYTES, MAX_POSITIONS, MAX_RATE, MAX_RETURN, MAX_TIME,
     MAX_ZONES, MIN_BLOCKS, TIMES_AS_FAST,
 };
 use crate::plan::{plan_of, worst2, Planned, Showing};
@@ -41,8 +42,7 @@ fn set_blocks(rng: &mut Rng, figures: &mut Figures, limit: u32) {
 fn set_others(rng: &mut Rng, figures: &mut Figures) {
     figures.block_bytes = rng.spread(1, MAX_BLOCK_BYTES);
     figures.rate = rng.spread(1, MAX_RATE);
-    figures.hop = rng.spread(1, MAX_HOP);
-    figures.ret = rng.spread(1, MAX_RETURN);
+    set_overheads(rng, figures);
 }
 
 /// Few zones, few positions, N up to `limit`.
@@ -104,10 +104,14 @@ fn tight_rate(rng: &mut Rng, need: u64, most: u32) -> u32 {
     }
 }
 
+/// n × worst2 + 2 × the overhead for n blocks.
+pub fn sweep_need(figures: &Figures, showing: Showing, n: u32) -> u64 {
+    n as u64 * worst2(figures, showing) as u64 + 2 * figures.table[n as usize] as u64
+}
+
 /// Sets c and B so that n streams just fit.
 pub fn tighten(rng: &mut Rng, figures: &mut Figures, showing: Showing, n: u32) {
-    let each = worst2(figures, showing) as u64 + 2 * figures.hop as u64;
-    let need = n as u64 * each + 2 * figures.ret as u64;
+    let need = sweep_need(figures, showing, n);
     let most = 2_000_000 * MAX_BLOCK_BYTES as u64 / need;
     figures.rate = tight_rate(rng, need, most.min(MAX_RATE as u64) as u32);
     let bytes = (figures.rate as u64 * need).div_ceil(2_000_000);
@@ -139,10 +143,9 @@ pub fn legal_figures(rng: &mut Rng) -> Figures {
 }
 
 /// Small overheads and times against a great return, so that a sweep with few fetches still
-/// draws much.
+/// draws much. The kind stays.
 fn set_great_return(rng: &mut Rng, figures: &mut Figures) {
-    figures.ret = MAX_RETURN;
-    figures.hop = rng.between(1, 1000);
+    figures.table = straight(rng.between(1, 1000), MAX_RETURN);
     for zone in 0..figures.zones as usize {
         figures.times[zone] = figures.times[zone].div_ceil(400);
     }
@@ -200,15 +203,14 @@ pub fn uneven_plan_for(rng: &mut Rng, showing: Showing) -> Planned {
 pub fn alter_figure(rng: &mut Rng, figures: &mut Figures) {
     let used = figures.zones.clamp(1, MAX_ZONES) as usize;
     let zone = if rng.once_in(4) { rng.below(64) } else { rng.below(used) };
-    let figure = match rng.below(10) {
+    let figure = match rng.below(11) {
         0 => &mut figures.zones,
         1 | 2 => &mut figures.positions[zone],
         3 | 4 => &mut figures.times[zone],
         5 => &mut figures.blocks,
         6 => &mut figures.block_bytes,
         7 => &mut figures.rate,
-        8 => &mut figures.hop,
-        _ => &mut figures.ret,
+        _ => return alter_overheads(rng, figures),
     };
     *figure = rng.other_than(*figure);
 }
@@ -218,15 +220,15 @@ pub fn set_to_limit(rng: &mut Rng, figures: &mut Figures) {
     let zone = rng.below(figures.zones.clamp(1, MAX_ZONES) as usize);
     let total = figures.total_positions();
     let room = (MAX_POSITIONS as u64 + figures.positions[zone] as u64).saturating_sub(total);
-    let (figure, limit) = match rng.below(8) {
+    let (figure, limit) = match rng.below(9) {
         0 => (&mut figures.zones, MAX_ZONES),
         1 => (&mut figures.positions[zone], room as u32),
         2 => (&mut figures.times[zone], MAX_TIME),
         3 => (&mut figures.blocks, rng.pick(&[1, MAX_BLOCKS, total.min(99_999) as u32])),
         4 => (&mut figures.block_bytes, MAX_BLOCK_BYTES),
         5 => (&mut figures.rate, MAX_RATE),
-        6 => (&mut figures.hop, MAX_HOP),
-        _ => (&mut figures.ret, MAX_RETURN),
+        6 => (&mut figures.kind, 2),
+        _ => return set_overheads_to_limit(rng, figures),
     };
     *figure = rng.pick(&[0, 1, limit, limit + 1]);
 }
@@ -249,6 +251,7 @@ pub fn set_to_third(rng: &mut Rng, figures: &mut Figures) {
 /// A record of anything.
 pub fn random_figures(rng: &mut Rng) -> Figures {
     let mut figures = Figures::zero();
+    figures.kind = rng.any();
     figures.zones = rng.any();
     for zone in 0..64 {
         figures.positions[zone] = rng.any();
@@ -257,8 +260,7 @@ pub fn random_figures(rng: &mut Rng) -> Figures {
     figures.blocks = rng.any();
     figures.block_bytes = rng.any();
     figures.rate = rng.any();
-    figures.hop = rng.any();
-    figures.ret = rng.any();
+    figures.table = std::array::from_fn(|_| rng.any());
     figures
 }
 

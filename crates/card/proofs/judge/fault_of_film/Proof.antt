@@ -26,19 +26,12 @@ returns-3 : tie.Need-returns-3
 unfolding filmFault
 returns-3 c = first-stops (c .before .fault3 .ensures) _ (c .if3 .taken) ∙ first-goes (c .before .before .before .fault2 .ensures) _ (c .before .before .if2 .left) ∙ first-goes (c .before .before .before .before .before .fault .ensures) _ (c .before .before .before .before .if1 .left)
 
-fault-requires-4 : tie.Need-fault-requires-4
-fault-requires-4 c κs = search needs
+fault-of-table-requires : tie.Need-fault-of-table-requires
+fault-of-table-requires c κs = search needs
 
 returns-4 : tie.Need-returns-4
 unfolding filmFault
-returns-4 c = first-stops (c .before .fault4 .ensures) _ (c .if4 .taken) ∙ first-goes (c .before .before .before .fault3 .ensures) _ (c .before .before .if3 .left) ∙ first-goes (c .before .before .before .before .before .fault2 .ensures) _ (c .before .before .before .before .if2 .left) ∙ first-goes (c .before .before .before .before .before .before .before .fault .ensures) _ (c .before .before .before .before .before .before .if1 .left)
-
-fault-requires-5 : tie.Need-fault-requires-5
-fault-requires-5 c κs = search needs
-
-returns-5 : tie.Need-returns-5
-unfolding filmFault
-returns-5 c = c .fault5 .ensures ∙ first-goes (c .before .before .fault4 .ensures) _ (c .before .if4 .left) ∙ first-goes (c .before .before .before .before .fault3 .ensures) _ (c .before .before .before .if3 .left) ∙ first-goes (c .before .before .before .before .before .before .fault2 .ensures) _ (c .before .before .before .before .before .if2 .left) ∙ first-goes (c .before .before .before .before .before .before .before .before .fault .ensures) _ (c .before .before .before .before .before .before .before .if1 .left)
+returns-4 c = c .fault-of-table .ensures ∙ first-goes (c .before .before .fault3 .ensures) _ (c .before .if3 .left) ∙ first-goes (c .before .before .before .before .fault2 .ensures) _ (c .before .before .before .if2 .left) ∙ first-goes (c .before .before .before .before .before .before .fault .ensures) _ (c .before .before .before .before .before .if1 .left)
 
 pub fault-of-film-spec : {M : Type 1} → statement M
 fault-of-film-spec =
@@ -50,7 +43,5 @@ fault-of-film-spec =
     returns-2
     fault-requires-3
     returns-3
-    fault-requires-4
-    returns-4
-    fault-requires-5
-    returns-5)
+    fault-of-table-requires
+    returns-4)

@@ -1,8 +1,9 @@
-use mathlib.Core.Path.{_∙_}
-use Rattle.card_reader.proofs.ReaderWays.{card-stops, card-goes, end-left, end-none}
-use Rattle.card.specs.Read.{filmFrom}
-use Rattle.card_reader.specs.Film.{cardWith}
+use mathlib.Core.Path.{_≡_, refl, _∙_}
 use borrow.Author.Needs.{needs}
+use Rattle.card.specs.declared.Figures.{Figures}
+use Rattle.card.specs.Read.{withFilm, withTable, tableFrom, filmFrom}
+use Rattle.card_reader.specs.Film.{cardWith}
+use Rattle.card_reader.proofs.ReaderWays.{card-stops, card-goes, end-left, end-none}
 use Rattle.card_reader.proofs.figures.read_film.Statement.{statement}
 use Rattle.card_reader.proofs.figures.read_film.Tie as tie
 
@@ -20,7 +21,7 @@ refused-film-requires c κs = search needs
 
 returns : tie.Need-returns
 unfolding filmFrom
-returns c g = c .refused-film .ensures g ∙ card-stops (c .before .before .before .read-field .ensures) _ _ (c .before .enum-told .given .1)
+returns c = λ f e. c .refused-film .ensures (withTable f _) ∙ card-stops (c .before .before .before .read-field .ensures) _ _ (c .before .enum-told .given .1)
 
 read-field-requires-2 : tie.Need-read-field-requires-2
 read-field-requires-2 c κs = search needs
@@ -36,7 +37,10 @@ refused-film-requires-2 c κs = search needs
 
 returns-2 : tie.Need-returns-2
 unfolding filmFrom
-returns-2 c g = c .refused-film2 .ensures g ∙ card-stops (c .before .before .before .read-field2 .ensures) _ _ (c .before .enum-told2 .given .1) ∙ card-goes (c .before .before .before .before .before .before .before .read-field .ensures) _ (c .before .before .before .before .before .first .given .1)
+returns-2 c =
+    let blocks = c .before .before .before .before in
+    λ f e. c .refused-film2 .ensures (withTable f _) ∙ card-stops (c .before .before .before .read-field2 .ensures) _ _ (c .before .enum-told2 .given .1)
+    ∙ card-goes (blocks .before .before .before .read-field .ensures) _ (blocks .before .first .given .1)
 
 read-field-requires-3 : tie.Need-read-field-requires-3
 read-field-requires-3 c κs = search needs
@@ -52,13 +56,30 @@ refused-film-requires-3 c κs = search needs
 
 returns-3 : tie.Need-returns-3
 unfolding filmFrom
-returns-3 c g = c .refused-film3 .ensures g ∙ card-stops (c .before .before .before .read-field3 .ensures) _ _ (c .before .enum-told3 .given .1) ∙ card-goes (c .before .before .before .before .before .before .before .read-field2 .ensures) _ (c .before .before .before .before .before .second .given .1) ∙ card-goes (c .before .before .before .before .before .before .before .before .before .before .before .read-field .ensures) _ (c .before .before .before .before .before .before .before .before .before .first .given .1)
+returns-3 c =
+    let bytes = c .before .before .before .before in
+    let blocks = bytes .before .before .before .before in
+    λ f e. c .refused-film3 .ensures (withTable f _) ∙ card-stops (c .before .before .before .read-field3 .ensures) _ _ (c .before .enum-told3 .given .1)
+    ∙ card-goes (bytes .before .before .before .read-field2 .ensures) _ (bytes .before .second .given .1)
+    ∙ card-goes (blocks .before .before .before .read-field .ensures) _ (blocks .before .first .given .1)
 
-read-field-requires-4 : tie.Need-read-field-requires-4
-read-field-requires-4 c κs = search needs
+-- after N, B and c the overheads are left
+overheads-left : (c : tie.After-known-told3) (f : Figures)
+    → tableFrom (c .before .before .before .before .before .before .before .before .before .before .before .before .before .args .card .now) (c .before .third .given .0 .1 .0) (withFilm f (c .before .before .before .before .before .before .before .before .before .first .given .0 .0) (c .before .before .before .before .before .second .given .0 .0) (c .before .third .given .0 .0))
+    ≡ filmFrom (c .before .before .before .before .before .before .before .before .before .before .before .before .before .args .card .now) (c .before .before .before .before .before .before .before .before .before .before .before .before .before .args .at) f (c .before .before .before .before .before .before .before .before .before .before .before .before .before .args .total)
+unfolding filmFrom
+overheads-left c f =
+    let bytes = c .before .before .before .before in
+    let blocks = bytes .before .before .before .before in
+    card-goes (c .before .before .before .read-field3 .ensures) _ (c .before .third .given .1)
+    ∙ card-goes (bytes .before .before .before .read-field2 .ensures) _ (bytes .before .second .given .1)
+    ∙ card-goes (blocks .before .before .before .read-field .ensures) _ (blocks .before .first .given .1)
 
-enum-known-fourth : tie.Need-enum-known-fourth
-enum-known-fourth c = search needs
+read-table-requires : tie.Need-read-table-requires
+read-table-requires c κs = search needs
+
+enum-known-last : tie.Need-enum-known-last
+enum-known-last c = search needs
 
 enum-told-4 : tie.Need-enum-told-4
 enum-told-4 c = search needs
@@ -67,32 +88,24 @@ refused-film-requires-4 : tie.Need-refused-film-requires-4
 refused-film-requires-4 c κs = search needs
 
 returns-4 : tie.Need-returns-4
-unfolding filmFrom
-returns-4 c g = c .refused-film4 .ensures g ∙ card-stops (c .before .before .before .read-field4 .ensures) _ _ (c .before .enum-told4 .given .1) ∙ card-goes (c .before .before .before .before .before .before .before .read-field3 .ensures) _ (c .before .before .before .before .before .third .given .1) ∙ card-goes (c .before .before .before .before .before .before .before .before .before .before .before .read-field2 .ensures) _ (c .before .before .before .before .before .before .before .before .before .second .given .1) ∙ card-goes (c .before .before .before .before .before .before .before .before .before .before .before .before .before .before .before .read-field .ensures) _ (c .before .before .before .before .before .before .before .before .before .before .before .before .before .first .given .1)
-
-read-field-requires-5 : tie.Need-read-field-requires-5
-read-field-requires-5 c κs = search needs
-
-enum-known-fifth : tie.Need-enum-known-fifth
-enum-known-fifth c = search needs
-
-enum-told-5 : tie.Need-enum-told-5
-enum-told-5 c = search needs
-
-refused-film-requires-5 : tie.Need-refused-film-requires-5
-refused-film-requires-5 c κs = search needs
+returns-4 c =
+    let table = c .before .before .before in
+    λ f e. c .refused-film4 .ensures (withTable f _) ∙ card-stops refl _ _ (c .before .enum-told4 .given .1)
+    ∙ table .read-table .ensures (withFilm f _ _ _) e ∙ overheads-left (table .before .before) (withTable f _)
 
 returns-5 : tie.Need-returns-5
-unfolding filmFrom
-returns-5 c g = c .refused-film5 .ensures g ∙ card-stops (c .before .before .before .read-field5 .ensures) _ _ (c .before .enum-told5 .given .1) ∙ card-goes (c .before .before .before .before .before .before .before .read-field4 .ensures) _ (c .before .before .before .before .before .fourth .given .1) ∙ card-goes (c .before .before .before .before .before .before .before .before .before .before .before .read-field3 .ensures) _ (c .before .before .before .before .before .before .before .before .before .third .given .1) ∙ card-goes (c .before .before .before .before .before .before .before .before .before .before .before .before .before .before .before .read-field2 .ensures) _ (c .before .before .before .before .before .before .before .before .before .before .before .before .before .second .given .1) ∙ card-goes (c .before .before .before .before .before .before .before .before .before .before .before .before .before .before .before .before .before .before .before .read-field .ensures) _ (c .before .before .before .before .before .before .before .before .before .before .before .before .before .before .before .before .before .first .given .1)
+unfolding cardWith
+returns-5 c =
+    let table = c .before .before .before .before in
+    λ f e. end-left _ _ (withTable (withFilm f _ _ _) _) (c .if1 .taken) ∙ card-goes refl _ (c .before .before .last .given .1)
+    ∙ table .read-table .ensures (withFilm f _ _ _) e ∙ overheads-left (table .before .before) (withTable f _)
 
 returns-6 : tie.Need-returns-6
-unfolding filmFrom cardWith
-returns-6 c g = end-left _ _ _ (c .if1 .taken) ∙ card-goes (c .before .before .before .before .read-field5 .ensures) _ (c .before .before .fifth .given .1) ∙ card-goes (c .before .before .before .before .before .before .before .before .read-field4 .ensures) _ (c .before .before .before .before .before .before .fourth .given .1) ∙ card-goes (c .before .before .before .before .before .before .before .before .before .before .before .before .read-field3 .ensures) _ (c .before .before .before .before .before .before .before .before .before .before .third .given .1) ∙ card-goes (c .before .before .before .before .before .before .before .before .before .before .before .before .before .before .before .before .read-field2 .ensures) _ (c .before .before .before .before .before .before .before .before .before .before .before .before .before .before .second .given .1) ∙ card-goes (c .before .before .before .before .before .before .before .before .before .before .before .before .before .before .before .before .before .before .before .before .read-field .ensures) _ (c .before .before .before .before .before .before .before .before .before .before .before .before .before .before .before .before .before .before .first .given .1)
-
-returns-7 : tie.Need-returns-7
-unfolding filmFrom cardWith
-returns-7 c g = end-none _ _ _ (c .if1 .left) ∙ card-goes (c .before .before .before .before .read-field5 .ensures) _ (c .before .before .fifth .given .1) ∙ card-goes (c .before .before .before .before .before .before .before .before .read-field4 .ensures) _ (c .before .before .before .before .before .before .fourth .given .1) ∙ card-goes (c .before .before .before .before .before .before .before .before .before .before .before .before .read-field3 .ensures) _ (c .before .before .before .before .before .before .before .before .before .before .third .given .1) ∙ card-goes (c .before .before .before .before .before .before .before .before .before .before .before .before .before .before .before .before .read-field2 .ensures) _ (c .before .before .before .before .before .before .before .before .before .before .before .before .before .before .second .given .1) ∙ card-goes (c .before .before .before .before .before .before .before .before .before .before .before .before .before .before .before .before .before .before .before .before .read-field .ensures) _ (c .before .before .before .before .before .before .before .before .before .before .before .before .before .before .before .before .before .before .first .given .1)
+unfolding cardWith
+returns-6 c =
+    let table = c .before .before .before .before in
+    λ f e. end-none _ _ (withTable (withFilm f _ _ _) _) (c .if1 .left) ∙ card-goes refl _ (c .before .before .last .given .1)
+    ∙ table .read-table .ensures (withFilm f _ _ _) e ∙ overheads-left (table .before .before) (withTable f _)
 
 pub read-film-spec : {M : Type 1} → statement M
 read-film-spec =
@@ -113,15 +126,10 @@ read-film-spec =
     enum-told-3
     refused-film-requires-3
     returns-3
-    read-field-requires-4
-    enum-known-fourth
+    read-table-requires
+    enum-known-last
     enum-told-4
     refused-film-requires-4
     returns-4
-    read-field-requires-5
-    enum-known-fifth
-    enum-told-5
-    refused-film-requires-5
     returns-5
-    returns-6
-    returns-7)
+    returns-6)

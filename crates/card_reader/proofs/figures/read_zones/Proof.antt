@@ -1,26 +1,28 @@
 use Prim.Native.Nat.{ℕ, _-_, _≤_}
-use mathlib.Core.Path.{_≡_, ap₂, _∙_}
+use mathlib.Core.Path.{_≡_, refl, ap, ap₂, _∙_}
 use native.Mathlib.Omega.{arith}
 use borrow.Author.Needs.{needs}
 use mathlib.Core.List.{List}
-use Rattle.numbers.specs.Limits.{maxPositions, maxTime}
+use lib.ListN.{length}
+use Rattle.numbers.specs.Limits.{maxPositions, maxTime, tableLength}
 use Rattle.card.specs.declared.Figures.{Figures}
-use Rattle.card_reader.proofs.ReaderWays.{field-fits, film-stops, film-goes, read-done, read-few, read-slow, read-more}
-use Rattle.card.specs.Read.{zonesFrom, withZones}
+use Rattle.card_reader.proofs.ReaderWays.{blank-long, field-fits, film-stops, film-goes, read-done, read-few, read-slow, read-more}
+use Rattle.card.specs.Read.{zonesFrom, withZones, withTable}
 use Rattle.card_reader.proofs.figures.read_zones.Statement.{statement}
 use Rattle.card_reader.proofs.figures.read_zones.Tie as tie
 
 -- the zones before the i-th are read
-record Read (card : List ℕ) (start zones : ℕ) (f : Figures) (at total before i : ℕ) : Type 0 where
+record Read (card : List ℕ) (start kind zones : ℕ) (f : Figures) (at total before i : ℕ) : Type 0 where
   within : i ≤ zones
   few : total ≤ maxPositions
-  same : zonesFrom (zones - i) card at i f total before ≡ zonesFrom zones card start 0 (withZones zones) 0 maxTime
+  long : length (f .table) ≡ tableLength
+  same : zonesFrom (zones - i) card at i f total before ≡ zonesFrom zones card start 0 (withZones kind zones) 0 maxTime
 
 abbrev Inv-loop : tie.InvT-loop
-Inv-loop card start zones f₀ at₀ total₀ before₀ i₀ f at total before i = Read card start zones f at total before i
+Inv-loop card start kind zones f₀ at₀ total₀ before₀ i₀ f at total before i = Read card start kind zones f at total before i
 
 abbrev μ-loop : tie.MeasureT-loop
-μ-loop card start zones f₀ at₀ total₀ before₀ i₀ f at total before i = zones - i
+μ-loop card start kind zones f₀ at₀ total₀ before₀ i₀ f at total before i = zones - i
 
 with-zones-requires : tie.Need-with-zones-requires Inv-loop μ-loop
 with-zones-requires c κs = search needs
@@ -32,6 +34,7 @@ loop-holds c =
     record {
       within = omega arith;
       few = omega arith;
+      long = ap (λ (f : Figures). length (f .table)) (c .with-zones .ensures) ∙ blank-long;
       same = ap₂ (λ (n : ℕ) (f : Figures). zonesFrom n (a .card .now) (a .start) 0 f 0 maxTime) e (c .with-zones .ensures);
     }
 
@@ -105,11 +108,12 @@ loop-again c =
     record {
       within = omega arith;
       few = field-fits _ _ _ (positions .before .before .read-field .ensures) (positions .first .given .1);
+      long = l .inv .long;
       same = read-more _ (l .at) (l .i) (l .f) (l .total) (l .before) _ (positions .before .before .read-field .ensures) (positions .first .given .1) (c .before .before .before .read-time .ensures) _ (omega arith) (c .before .second .given .1) ∙ l .inv .same;
     }
 
 read-film-requires : tie.Need-read-film-requires Inv-loop μ-loop
-read-film-requires c κs = search needs
+read-film-requires c κs = c .before .before .loop .inv .long
 
 enum-known-film : tie.Need-enum-known-film Inv-loop μ-loop
 enum-known-film c = search needs
@@ -125,14 +129,14 @@ accepted-card-requires c κs = search needs
 
 returns-3 : tie.Need-returns-3 Inv-loop μ-loop
 returns-3 c =
-    let l = c .before .before .before .before .before .before .loop in
-    c .refused-card .ensures ∙ film-stops (l .f) (c .before .before .film .given .1) ∙ c .before .before .before .before .read-film .ensures (l .f)
+    let l = c .before .before .before .before .before .before .before .loop in
+    c .refused-card .ensures ∙ film-stops (withTable (l .f) _) (c .before .before .film .given .1) ∙ c .before .before .before .before .read-film .ensures (l .f) refl
     ∙ read-done _ _ _ _ _ _ _ (omega arith) ∙ l .inv .same
 
 returns-4 : tie.Need-returns-4 Inv-loop μ-loop
 returns-4 c =
-    let l = c .before .before .before .before .before .before .loop in
-    c .accepted-card .ensures ∙ film-goes (l .f) (c .before .before .film2 .given .1) ∙ c .before .before .before .before .read-film .ensures (l .f)
+    let l = c .before .before .before .before .before .before .before .loop in
+    c .accepted-card .ensures ∙ film-goes (withTable (l .f) _) (c .before .before .film2 .given .1) ∙ c .before .before .before .before .read-film .ensures (l .f) refl
     ∙ read-done _ _ _ _ _ _ _ (omega arith) ∙ l .inv .same
 
 pub read-zones-spec : {M : Type 1} → statement M

@@ -1,10 +1,10 @@
 use mathlib.Core.Path.{refl}
-use Rattle.card.specs.Read.{blankZones}
+use Rattle.card.specs.Read.{blankZones, blankTable}
 use Rattle.card_reader.proofs.figures.with_zones.Statement.{statement}
 use Rattle.card_reader.proofs.figures.with_zones.Tie as tie
 
 returns : tie.Need-returns
-unfolding blankZones
+unfolding blankZones blankTable
 returns c = refl
 
 pub with-zones-spec : {M : Type 1} → statement M

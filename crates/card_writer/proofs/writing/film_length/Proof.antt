@@ -19,20 +19,14 @@ number-length-requires-3 c κs = search needs
 add-result-2 : tie.Need-add-result-2
 add-result-2 c = search needs
 
-number-length-requires-4 : tie.Need-number-length-requires-4
-number-length-requires-4 c κs = search needs
+table-length-requires : tie.Need-table-length-requires
+table-length-requires c κs = search needs
 
 add-result-3 : tie.Need-add-result-3
 add-result-3 c = search needs
 
-number-length-requires-5 : tie.Need-number-length-requires-5
-number-length-requires-5 c κs = search needs
-
-add-result-4 : tie.Need-add-result-4
-add-result-4 c = search needs
-
 returns : tie.Need-returns
-returns c = let h = length-film (c .before .before .before .before .before .args .figures) in omega arith
+returns c = let h = length-film (c .before .before .before .before .before .before .args .t1) in omega (arith, h, c .table-length .ensures)
 
 pub film-length-spec : {M : Type 1} → statement M
 film-length-spec =
@@ -43,8 +37,6 @@ film-length-spec =
     add-result
     number-length-requires-3
     add-result-2
-    number-length-requires-4
+    table-length-requires
     add-result-3
-    number-length-requires-5
-    add-result-4
     returns)

@@ -1,4 +1,7 @@
 use mathlib.Core.Path.{refl}
+use Prim.Native.Nat.{_*_}
+use Rattle.numbers.specs.Limits.{straightKind}
+use Rattle.numbers.specs.Units.{sectorBytes}
 use Rattle.maker.specs.Maker.{filled}
 use borrow.Author.Needs.{needs}
 use Rattle.maker.proofs.figures.figures_of.Statement.{statement}
@@ -7,9 +10,21 @@ use Rattle.maker.proofs.figures.figures_of.Tie as tie
 mul-t10 : tie.Need-mul-t10
 mul-t10 c = search needs
 
+table-of-requires : tie.Need-table-of-requires
+table-of-requires c κs = search needs
+
 returns : tie.Need-returns
 unfolding filled
-returns c = refl
+returns c = let a = c .before .before .before .args in λ t. record {
+  kind = straightKind;
+  zones = a .count;
+  positions = a .zones .positions;
+  times = a .zones .times;
+  blocks = a .blocks;
+  bytes = sectorBytes * a .block;
+  rate = a .rate;
+  table = c .table-of .ensures t;
+}
 
 pub figures-of-spec : {M : Type 1} → statement M
-figures-of-spec = tie.close (tie.spec mul-t10 returns)
+figures-of-spec = tie.close (tie.spec mul-t10 table-of-requires returns)

@@ -9,9 +9,13 @@ no-zones-requires c κs = search needs
 no-zones-requires-2 : tie.Need-no-zones-requires-2
 no-zones-requires-2 c κs = search needs
 
+no-table-requires : tie.Need-no-table-requires
+no-table-requires c κs = search needs
+
 returns : tie.Need-returns
 unfolding blankFigures
-returns c = λ t. record { zones = 0; positions = c .before .no-zones .ensures t; times = c .no-zones2 .ensures t; blocks = 0; bytes = 0; rate = 0; hop = 0; back = 0 }
+returns c = let times = c .before in
+    λ t. record { kind = 0; zones = 0; positions = times .before .no-zones .ensures t; times = times .no-zones2 .ensures t; blocks = 0; bytes = 0; rate = 0; table = c .no-table .ensures t }
 
 pub no-figures-spec : {M : Type 1} → statement M
-no-figures-spec = tie.close (tie.spec no-zones-requires no-zones-requires-2 returns)
+no-figures-spec = tie.close (tie.spec no-zones-requires no-zones-requires-2 no-table-requires returns)

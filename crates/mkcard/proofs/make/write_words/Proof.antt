@@ -5,25 +5,25 @@ use native.Mathlib.Omega.{arith}
 use lib.ListN.{getD}
 use Rattle.card_writer.proofs.WriterWays.{Writes, writes-start, writes-next}
 use Rattle.decimal.specs.Decimal.{capped}
-use Rattle.mkcard.specs.Scan.{numbersFrom}
+use Rattle.mkcard.specs.Scan.{mostWords, numbersFrom}
 use Rattle.mkcard.proofs.WordWays.{numbers-kept, numbers-end, numbers-done, capped-long, card-room, words-done}
 use Rattle.mkcard.proofs.make.write_words.Statement.{statement}
 use Rattle.mkcard.proofs.make.write_words.Tie as tie
 
 abbrev Inv-loop : tie.InvT-loop
-Inv-loop out₀ s at₀ i₀ out at i = (i ≤ 136) × (at ≤ 5 * i) × Writes out₀ 0 (numbersFrom 136 0 s) out at (numbersFrom (136 - i) i s)
+Inv-loop out₀ s at₀ i₀ out at i = (i ≤ mostWords) × (at ≤ 5 * i) × Writes out₀ 0 (numbersFrom mostWords 0 s) out at (numbersFrom (mostWords - i) i s)
 
 abbrev μ-loop : tie.MeasureT-loop
-μ-loop out₀ s at₀ i₀ out at i = 136 - i
+μ-loop out₀ s at₀ i₀ out at i = mostWords - i
 
 loop-holds : tie.Need-loop-holds Inv-loop μ-loop
-loop-holds c = let a = c .before .args in (omega arith, omega arith, writes-start (a .out .now) 0 (numbersFrom 136 0 (a .t1)))
+loop-holds c = let a = c .before .args in (omega arith, omega arith, writes-start (a .out .now) 0 (numbersFrom mostWords 0 (a .t1)))
 
 same-length : tie.Need-same-length Inv-loop μ-loop
 same-length c = c .before .before .loop .inv .2 .long
 
 returns : tie.Need-returns Inv-loop μ-loop
-returns c = let l = c .before .before .loop in let s = c .before .before .before .before .args .t1 in words-done s (numbersFrom (136 - l .i) (l .i) s) (numbers-end s (136 - l .i) (l .i) (c .if1 .taken)) (l .inv .2)
+returns c = let l = c .before .before .loop in let s = c .before .before .before .before .args .t1 in words-done s (numbersFrom (mostWords - l .i) (l .i) s) (numbers-end s (mostWords - l .i) (l .i) (c .if1 .taken)) (l .inv .2)
 
 mul-write-word : tie.Need-mul-write-word Inv-loop μ-loop
 mul-write-word c = search needs
@@ -45,15 +45,15 @@ loop-again c = let l = c .before .before .before .before .before .before .before
     let a = c .before .before .before .before .before .before .before .before .before in
     let s = a .args .t1 in
     let e = c .before .before .write-word .ensures in
-    let w : Writes (a .args .out .now) 0 (numbersFrom 136 0 s) (l .out) (l .at) (capped (getD (s .values) (l .i) 0) ∷ numbersFrom (136 - (l .i + 1)) (l .i + 1) s) =
-    rw (numbers-kept s (136 - l .i) (l .i) (omega arith) (omega arith) (omega arith)) at (l .inv .2) in
+    let w : Writes (a .args .out .now) 0 (numbersFrom mostWords 0 s) (l .out) (l .at) (capped (getD (s .values) (l .i) 0) ∷ numbersFrom (mostWords - (l .i + 1)) (l .i + 1) s) =
+    rw (numbers-kept s (mostWords - l .i) (l .i) (omega arith) (omega arith) (omega arith)) at (l .inv .2) in
     (omega arith, omega (arith, l .inv .1, e .0, capped-long (getD (s .values) (l .i) 0)), writes-next w (card-room s (omega (arith, a .pre))) (e .0) (e .1))
 
 same-length-2 : tie.Need-same-length-2 Inv-loop μ-loop
 same-length-2 c = c .before .loop .inv .2 .long
 
 returns-2 : tie.Need-returns-2 Inv-loop μ-loop
-returns-2 c = let l = c .before .loop in let s = c .before .before .before .args .t1 in words-done s (numbersFrom (136 - l .i) (l .i) s) (numbers-done s (136 - l .i) (l .i) (omega arith)) (l .inv .2)
+returns-2 c = let l = c .before .loop in let s = c .before .before .before .args .t1 in words-done s (numbersFrom (mostWords - l .i) (l .i) s) (numbers-done s (mostWords - l .i) (l .i) (omega arith)) (l .inv .2)
 
 pub write-words-spec : {M : Type 1} → statement M
 write-words-spec =

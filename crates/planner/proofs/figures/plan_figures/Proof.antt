@@ -48,29 +48,29 @@ returns-3 c = let f = c .before .before .before .before .before .before .before 
     let o = by-plan (showingOf (a .showing)) (a .t1) (a .positions .now) (a .leads .now) 12 (f .if1 .left) (short-leads (showingOf (a .showing)) (a .t1 .figures) _ _ (omega (arith, c .before .before .before .before .if2 .left)) (omega (arith, c .before .if3 .taken))) in
     (c .refused3 .ensures ∙ o .0, o .1, o .2)
 
-plan-of-requires : tie.Need-plan-of-requires
-plan-of-requires c κs = legal (c .before)
+plan-numbers-requires : tie.Need-plan-numbers-requires
+plan-numbers-requires c κs = legal (c .before .before .before .before)
 
 returns-4 : tie.Need-returns-4
 returns-4 c = let n = c .before .before in
     let p = n .before in
-    let e = p .before .before in
+    let e = p .before .before .before .before .before in
     let a = start e .args in
     let k = n .stream-fault .ensures .0 (c .before .if4 .taken) in
-    let o = by-plan (showingOf (a .showing)) (a .t1) (a .positions .now) (a .leads .now) 11 (accepted e) (no-stream (showingOf (a .showing)) (a .t1 .figures) _ _ (long e .0) (long e .1) (sym (plan-streams (showingOf (a .showing)) (a .t1 .figures) (p .plan-of .result) (p .plan-of .ensures)) ∙ k .0)) in
+    let o = by-plan (showingOf (a .showing)) (a .t1) (a .positions .now) (a .leads .now) 11 (accepted e) (no-stream (showingOf (a .showing)) (a .t1 .figures) _ _ (long e .0) (long e .1) (sym (plan-streams (showingOf (a .showing)) (a .t1 .figures) _ (p .plan-numbers .ensures)) ∙ k .0)) in
     (c .refused4 .ensures ∙ ap (λ (j : ℕ). refusal j 0) (k .1) ∙ o .0, o .1, o .2)
 
-abbrev made : (c : tie.After-sum-positions) → tie.After-plan-of
+abbrev made : (c : tie.After-sum-positions) → tie.After-plan-numbers
 made c = c .before .before .before .before .before
 
 abbrev past : (c : tie.After-sum-positions) → tie.Else3
-past c = made c .before .before
+past c = made c .before .before .before .before .before
 
 total : (c : tie.After-sum-positions) → c .sum-positions .result ≡ totalPositions (start (past c) .args .t1 .figures)
 total c = c .sum-positions .ensures ∙ total-zones _ (legal (past c))
 
 sum-positions-requires : tie.Need-sum-positions-requires
-sum-positions-requires c κs = let ok = legal (c .before .before .before .before .before .before) in (legal-zoned _ ok, ok .zones .1)
+sum-positions-requires c κs = let ok = legal (c .before .before .before .before .before .before .before .before .before) in (legal-zoned _ ok, ok .zones .1)
 
 write-positions-requires : tie.Need-write-positions-requires
 write-positions-requires c κs = let t = c .before in
@@ -81,19 +81,19 @@ write-leads-requires : tie.Need-write-leads-requires
 write-leads-requires c κs = let t = c .before .before .before .before .before .before .before .before in (film-on _ (legal (past t)) _ (total t), long (past t) .1)
 
 returns-5 : tie.Need-returns-5
-returns-5 c = let w = c .before .before in
+returns-5 c = let w = c .before .before .before in
     let q = w .before .before .before .before .before .before .before in
     let t = q .before .before in
-    let p = made t .plan-of in
+    let p = made t .plan-numbers in
     let e = past t in
     let a = start e .args in
     let f = a .t1 .figures in
     let n = t .before .before .before .before .stream-fault in
     let z = t .before .before .before .if4 .left in
-    let o = by-none (showingOf (a .showing)) (a .t1) (a .positions .now) (a .leads .now) (accepted e) (some-stream (showingOf (a .showing)) f _ _ (long e .0) (long e .1) (λ y. omega (arith, n .ensures .1 z, plan-streams (showingOf (a .showing)) f (p .result) (p .ensures)))) in (
+    let o = by-none (showingOf (a .showing)) (a .t1) (a .positions .now) (a .leads .now) (accepted e) (some-stream (showingOf (a .showing)) f _ _ (long e .0) (long e .1) (λ y. omega (arith, n .ensures .1 z, plan-streams (showingOf (a .showing)) f _ (p .ensures)))) in (
       (λ i. record { verdict = record { number = z i; place = 0 }; plan = p .ensures i }) ∙ o .0,
       q .write-positions .ensures ∙ ap (withWords (a .positions .now) 0) (positions-are f (legal e) _ (total t) (showingOf (a .showing))) ∙ o .1,
-      w .write-leads .ensures ∙ ap (withWords (a .leads .now) 0) (leads-are f (legal e) _ (total t) (showingOf (a .showing)) _ (plan-worst2 (showingOf (a .showing)) f (p .result) (p .ensures))) ∙ o .2,
+      w .write-leads .ensures ∙ ap (withWords (a .leads .now) 0) (leads-are f (legal e) _ (total t) (showingOf (a .showing)) _ (plan-worst2 (showingOf (a .showing)) f _ (p .ensures))) ∙ o .2,
     )
 
 pub plan-figures-spec : {M : Type 1} → statement M
@@ -112,7 +112,7 @@ plan-figures-spec =
     (λ c. search needs)
     (λ c. search needs)
     returns-3
-    plan-of-requires
+    plan-numbers-requires
     (λ c κs. search needs)
     (λ c κs. search needs)
     (λ c. search needs)

@@ -8,7 +8,7 @@ use Rattle.planner.proofs.film.same_numbers.Tie as tie
 returns : tie.Need-returns
 returns c = let timed = c .before .before .before .before .before .before in
     let shown = timed .before .before .before .before .before .before in
-    rw (c .both5 .ensures, c .before .both4 .ensures, timed .both3 .ensures, timed .before .both2 .ensures, shown .both .ensures)
+    λ f. rw (c .both5 .ensures, c .before .both4 .ensures, timed .both3 .ensures, timed .before .both2 .ensures, shown .both .ensures)
 
 pub same-numbers-spec : {M : Type 1} → statement M
 same-numbers-spec =
