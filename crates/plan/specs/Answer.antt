@@ -49,7 +49,7 @@ positionsAfter x r ps ls = filled (r .verdict .number) (faultAfter x r ps ls) ps
 unfoldable pub leadsAfter : Showing → CardRead → List ℕ → List ℕ → List ℕ
 leadsAfter x r ps ls = filled (r .verdict .number) (faultAfter x r ps ls) ls (leadsOf x (r .figures))
 
--- a record's figures, judged: 4 to 10 and 26, offset 0
+-- a record's figures, judged: 3 to 10, 25 and 26, offset 0
 unfoldable pub judged : Figures → CardRead
 judged f = record { verdict = judgeRecord f; figures = f }
 
