@@ -79,14 +79,14 @@ enum filmdisk_fetch_word { FILMDISK_FETCH_POSITION, FILMDISK_FETCH_SLOT, FILMDIS
 #define FILMDISK_FETCH_BYTES (FILMDISK_FETCH_WORDS * FILMDISK_WORD_BYTES) /* an entry of the fetch list */
 
 /* Stack in bytes that a call takes below the caller's frame, at most. */
-#define FILMDISK_STACK_PLAN 8500
-#define FILMDISK_STACK_PLAN_LOOP 8500
-#define FILMDISK_STACK_WINDOW 5600
-#define FILMDISK_STACK_OPEN 8300
-#define FILMDISK_STACK_JOIN 10400
-#define FILMDISK_STACK_LEAVE 10400
-#define FILMDISK_STACK_BEGIN 27500
-#define FILMDISK_STACK_END 13600
+#define FILMDISK_STACK_PLAN 3900
+#define FILMDISK_STACK_PLAN_LOOP 3900
+#define FILMDISK_STACK_WINDOW 2600
+#define FILMDISK_STACK_OPEN 2600
+#define FILMDISK_STACK_JOIN 5800
+#define FILMDISK_STACK_LEAVE 5800
+#define FILMDISK_STACK_BEGIN 14100
+#define FILMDISK_STACK_END 11000
 
 /* The kind of a card: overheads by hop and return, or measured for each number of blocks. */
 enum filmdisk_card_kind { FILMDISK_STRAIGHT = 1, FILMDISK_MEASURED = 2 };

@@ -1,4 +1,5 @@
 // The calls open, join and leave.
+use card::Scalars;
 use card::Verdict;
 use desk::Answer;
 use desk::Desk;
@@ -16,13 +17,18 @@ use numbers::refusals::WRONG_PHASE;
 use numbers::slots::BETWEEN;
 use numbers::slots::FREE;
 use numbers::slots::WAITING;
+use plan::Numbers;
 use plan::Plan;
+use plan::numbers_in;
+use plan::scalars_in;
 use soundness::is_sound;
 ghost use mathlib.Core.Path.{_≡_};
+ghost use lib.ListN.{length};
+ghost use Rattle.numbers.specs.Limits.{maxZones, tableLength};
 ghost use Rattle.desk.specs.Desk.{openDesk, joinDesk, leaveDesk};
 ghost use Rattle.desk.specs.View.{Wide};
-ghost use Rattle.soundness.specs.Facts.{recordOf};
-ghost use Rattle.admission.specs.Slot.{SlotPassed, SlotRefused};
+ghost use Rattle.desk.specs.Records.{lentDesk};
+ghost use Rattle.admission.specs.Slot.{SlotPassed, SlotRefused, placeVerdict};
 
 // Opens a desk: 14 where the record and the lists are not the plan of its figures; the new desk is then all zero.
 pub fn open(plan: Plan, positions: &[u8], leads: &[u8]) -> Answer
@@ -34,9 +40,23 @@ pub fn open(plan: Plan, positions: &[u8], leads: &[u8]) -> Answer
     answer_with(fresh_desk(plan), ACCEPTED, 0)
 }
 
-// What a join and a leave are refused for alike, 14 to 16, or 0.
+// 16 where a plan of so many streams has no such slot, or 0.
+fn judge_place(streams: u32, slot: u32) -> Verdict
+    ensures { λ r. ⌜ r ≡ placeVerdict streams slot ⌝ }
+{
+    if slot >= streams {
+        return verdict(NO_SUCH_SLOT, slot as usize);
+    }
+    verdict(ACCEPTED, 0)
+}
+
+// What a join and a leave of a desk, its arrays lent, are refused for alike, 14 to 16, or 0.
 fn judge_slot<'a>(
-    plan: Plan,
+    figures: Scalars,
+    sizes: &'a [u32; 64],
+    times: &'a [u32; 64],
+    table: &'a [u32; 257],
+    plan: Numbers,
     phase: u32,
     kinds: &'a [u32; 256],
     next: &'a [u32; 256],
@@ -45,20 +65,30 @@ fn judge_slot<'a>(
     leads: &[u8],
     slot: u32,
 ) -> Verdict
-    requires { ⌜ Wide (recordOf plan phase (now kinds) (now next) (now held)) ⌝ }
-    ensures passed { λ r. ⌜ (r .number ≡ 0 → SlotPassed (recordOf plan phase (now (kinds .entry)) (now (next .entry)) (now (held .entry))) (now (positions .entry)) (now (leads .entry)) slot) ⌝ }
-    ensures refused { λ r. ⌜ ((r .number ≡ 0 → ⊥) → SlotRefused (recordOf plan phase (now (kinds .entry)) (now (next .entry)) (now (held .entry))) (now (positions .entry)) (now (leads .entry)) slot r) ⌝ }
+    requires { ⌜ Wide (lentDesk figures (now sizes) (now times) (now table) plan phase (now kinds) (now next) (now held))
+        × (length (now sizes) ≡ maxZones) × (length (now times) ≡ maxZones) × (length (now table) ≡ tableLength) ⌝ }
+    ensures passed { λ r. ⌜ (r .number ≡ 0 → SlotPassed (lentDesk figures (now (sizes .entry)) (now (times .entry)) (now (table .entry)) plan phase (now (kinds .entry)) (now (next .entry)) (now (held .entry))) (now (positions .entry)) (now (leads .entry)) slot) ⌝ }
+    ensures refused { λ r. ⌜ ((r .number ≡ 0 → ⊥) → SlotRefused (lentDesk figures (now (sizes .entry)) (now (times .entry)) (now (table .entry)) plan phase (now (kinds .entry)) (now (next .entry)) (now (held .entry))) (now (positions .entry)) (now (leads .entry)) slot r) ⌝ }
 {
-    if !is_sound(plan, phase, kinds, next, held, positions, leads) {
+    if !is_sound(
+        figures,
+        sizes,
+        times,
+        table,
+        plan,
+        phase,
+        kinds,
+        next,
+        held,
+        positions,
+        leads,
+    ) {
         return verdict(NOT_SOUND, 0);
     }
     if phase != BETWEEN {
         return verdict(WRONG_PHASE, 0);
     }
-    if slot >= plan.streams {
-        return verdict(NO_SUCH_SLOT, slot as usize);
-    }
-    verdict(ACCEPTED, 0)
+    judge_place(plan.streams, slot)
 }
 
 // The refusal of a join, 14 to 18, or 0.
@@ -66,7 +96,11 @@ pub fn judge_join(desk: Desk, positions: &[u8], leads: &[u8], slot: u32, block: 
     ensures { λ r. ⌜ r ≡ joinDesk desk (now (positions .entry)) (now (leads .entry)) slot block .verdict ⌝ }
 {
     let judged = judge_slot(
-        desk.plan,
+        scalars_in(desk.plan),
+        &desk.plan.figures.positions,
+        &desk.plan.figures.times,
+        &desk.plan.figures.table,
+        numbers_in(desk.plan),
         desk.phase,
         &desk.kinds,
         &desk.next,
@@ -107,7 +141,11 @@ pub fn judge_leave(desk: Desk, positions: &[u8], leads: &[u8], slot: u32) -> Ver
     ensures { λ r. ⌜ r ≡ leaveDesk desk (now (positions .entry)) (now (leads .entry)) slot .verdict ⌝ }
 {
     let judged = judge_slot(
-        desk.plan,
+        scalars_in(desk.plan),
+        &desk.plan.figures.positions,
+        &desk.plan.figures.times,
+        &desk.plan.figures.table,
+        numbers_in(desk.plan),
         desk.phase,
         &desk.kinds,
         &desk.next,

@@ -1,17 +1,20 @@
 // The two lent lists: the positions and the leads of the film's blocks, in either showing.
+use numbers::showings::LOOP;
 use streams::lead;
 use words::entries;
 use words::put_word;
 use words::word_at;
 use zones::position_of;
+use zones::run_from;
 use zones::set_out;
 use zones::side;
-use zones::walk_on;
+use zones::zone_of;
 ghost use mathlib.Core.Path.{_≡_};
 ghost use mathlib.Core.Bool.{_&&_};
 ghost use Prim.Native.Nat.{_≤_, _<_};
 ghost use lib.ListN.{length};
 ghost use Rattle.numbers.specs.Limits.{maxPositions};
+ghost use Rattle.placement.specs.Circle.{ring};
 ghost use Rattle.placement.specs.Showing.{laying};
 ghost use Rattle.words.specs.Words.{wordsOf, withWords};
 ghost use Rattle.zones.specs.Walk.{sideOf};
@@ -19,12 +22,42 @@ ghost use Rattle.plan.specs.Plan.{showingOf, row};
 ghost use Rattle.plan.specs.Answer.{begins};
 ghost use Rattle.plan.specs.Disk.{Film, leadAt};
 ghost use Rattle.block_lists.specs.Runs.{Within, written, has};
+ghost use Rattle.block_lists.specs.Turns.{turnOf, Turns};
+
+// Writes the positions of a run of a loop's blocks, not of block 0. As the number of a block rises, those of one parity fall: of odd blocks
+// if `odd` is 1, of even ones if it is 0.
+fn put_turns(list: &mut [u8], from: u32, to: u32, total: u32, blocks: u32, odd: u32)
+    requires { ⌜ (Within (now list) from to) × (Turns total blocks from to odd) ⌝ }
+    ensures { λ _. ⌜ now (list .exit) ≡ written (now (list .entry)) (turnOf total blocks odd) from to ⌝ }
+{
+    let below = total - blocks;
+    let mut b = from;
+    while b < to {
+        put_word(list, b as usize, side(b + odd, total - b, below + b - 1));
+        b += 1;
+    }
+}
+
+// Writes the positions of a loop: those of odd blocks fall up to the half, past it those of blocks an even number before the end.
+fn put_ring(list: &mut [u8], total: u32, blocks: u32)
+    requires { ⌜ (0 < blocks) × (blocks ≤ total) × (total ≤ maxPositions) × (blocks ≤ length (wordsOf (now list))) ⌝ }
+    ensures { λ _. ⌜ now (list .exit) ≡ withWords (now (list .entry)) 0 (row (ring total blocks) 0 blocks) ⌝ }
+{
+    let past = blocks / 2 + 1;
+    put_word(list, 0, total - blocks);
+    put_turns(list, 1, past, total, blocks, 1);
+    put_turns(list, past, blocks, total, blocks, blocks % 2);
+}
 
 // Writes the first `blocks` positions; `total` is P.
 pub fn write_positions(showing: u32, total: u32, blocks: u32, positions: &mut [u8])
     requires { ⌜ (0 < blocks) × (blocks ≤ total) × (total ≤ maxPositions) × (blocks ≤ length (wordsOf (now positions))) ⌝ }
     ensures { λ _. ⌜ now (positions .exit) ≡ withWords (now (positions .entry)) 0 (row (laying (showingOf showing) total blocks) 0 blocks) ⌝ }
 {
+    if showing == LOOP {
+        put_ring(positions, total, blocks);
+        return;
+    }
     let mut b: u32 = 0;
     while b < blocks {
         let entry = b as usize;
@@ -61,7 +94,9 @@ pub fn write_leads<'a>(
     let mut walk = set_out(sizes);
     let mut b: u32 = 0;
     while b < blocks {
-        walk = walk_on(sizes, times, showing, total, blocks, walk, b);
+        let low = zone_of(sizes, showing, total, blocks, walk.low, b + b % 2);
+        let high = zone_of(sizes, showing, total, blocks, walk.high, b + 1 - b % 2);
+        walk = run_from(sizes, times, showing, total, blocks, low, high, b);
         let to = walk.until;
         put_run(
             leads,
@@ -84,6 +119,34 @@ pub fn both(a: bool, b: bool) -> bool
     false
 }
 
+// A list has the positions of a run of a loop's blocks, not of block 0; `odd` as above.
+fn same_turns(list: &[u8], from: u32, to: u32, total: u32, blocks: u32, odd: u32) -> bool
+    requires { ⌜ (Within (now list) from to) × (Turns total blocks from to odd) ⌝ }
+    ensures { λ r. ⌜ r ≡ has (turnOf total blocks odd) (wordsOf (now (list .entry))) from to ⌝ }
+{
+    let below = total - blocks;
+    let mut same = true;
+    let mut b = from;
+    while b < to {
+        let have = word_at(list, b as usize);
+        same = both(have == side(b + odd, total - b, below + b - 1), same);
+        b += 1;
+    }
+    same
+}
+
+// A list begins with the positions of a loop.
+fn same_ring(list: &[u8], total: u32, blocks: u32) -> bool
+    requires { ⌜ (0 < blocks) × (blocks ≤ total) × (total ≤ maxPositions) × (blocks ≤ length (wordsOf (now list))) ⌝ }
+    ensures { λ r. ⌜ r ≡ begins (row (ring total blocks) 0 blocks) (wordsOf (now (list .entry))) ⌝ }
+{
+    let past = blocks / 2 + 1;
+    let first = both(word_at(list, 0) == total - blocks, true);
+    let early = both(same_turns(list, 1, past, total, blocks, 1), first);
+    let late = same_turns(list, past, blocks, total, blocks, blocks % 2);
+    both(late, early)
+}
+
 // The list begins with the `blocks` positions of the film; `total` is P.
 pub fn same_positions(showing: u32, total: u32, blocks: u32, positions: &[u8]) -> bool
     requires { ⌜ (0 < blocks) × (blocks ≤ total) × (total ≤ maxPositions) ⌝ }
@@ -91,6 +154,9 @@ pub fn same_positions(showing: u32, total: u32, blocks: u32, positions: &[u8]) -
 {
     if entries(positions) < blocks as usize {
         return false;
+    }
+    if showing == LOOP {
+        return same_ring(positions, total, blocks);
     }
     let mut same = true;
     let mut b: u32 = 0;
@@ -137,7 +203,9 @@ pub fn same_leads<'a>(
     let mut same = true;
     let mut b: u32 = 0;
     while b < blocks {
-        walk = walk_on(sizes, times, showing, total, blocks, walk, b);
+        let low = zone_of(sizes, showing, total, blocks, walk.low, b + b % 2);
+        let high = zone_of(sizes, showing, total, blocks, walk.high, b + 1 - b % 2);
+        walk = run_from(sizes, times, showing, total, blocks, low, high, b);
         let to = walk.until;
         let run = same_run(
             leads,

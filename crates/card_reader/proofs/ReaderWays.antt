@@ -6,7 +6,7 @@ use mathlib.Core.List.{List}
 use native.Mathlib.Omega.{arith}
 use lib.ListN.{length, getD, set}
 use borrow.Author.Tests.{lt-ltb, le-ltb, eq-eqb, ne-eqb}
-use Rattle.numbers.specs.Limits.{straightKind, maxZones, maxPositions, maxMove, tableLength}
+use Rattle.numbers.specs.Limits.{straightKind, maxZones, maxPositions, maxTime, maxMove, tableLength}
 use Rattle.numbers.specs.Refusals.{cardGoesOn}
 use Rattle.leb128.specs.declared.Number.{Number}
 use Rattle.leb128.specs.declared.Number.the-variants as number
@@ -18,10 +18,8 @@ use Rattle.card.specs.declared.fields.Field.{Field}
 use Rattle.card.specs.declared.fields.Field.the-variants.{Value, Refused}
 use Rattle.card.specs.RangeLaws.{positions-range, zones-range, measure-range}
 use Rattle.card.specs.Ranges.{faultOf, timeFault}
-use Rattle.card.specs.Read.{onFault, onNumber, fieldAt, blankTable, thenField, refusedCard, cardEnd, movesFrom, entriesFrom, tableFrom, filmFrom, zonesFrom, withZone, withFilm, withTable}
-use Rattle.card_reader.specs.declared.figures.Film.{Film}
-use Rattle.card_reader.specs.declared.figures.Film.the-variants as film
-use Rattle.card_reader.specs.Film.{acceptedCard, cardWith}
+use Rattle.card.specs.Read.{onFault, onNumber, fieldAt, blankZones, blankTable, thenField, refusedCard, cardEnd, movesFrom, entriesFrom, tableFrom, filmFrom, zonesFrom, withZones, withZone, withTable}
+use Rattle.card_reader.specs.Told.{zonesRead, acceptedCard}
 
 module _ {F G : Field} (same : F ≡ G) where
   pub card-stops : (go go′ : ℕ → ℕ → CardRead) {k o : ℕ} → F ≡ Refused k o → thenField F go′ ≡ thenField G go
@@ -40,16 +38,6 @@ module _ (s : List ℕ) (at : ℕ) (f : Figures) where
   pub end-none : length s ≤ at → acceptedCard f ≡ cardEnd s at f
   unfolding cardEnd
   end-none h = rw (le-ltb _ _ h)
-
--- a film that is read, and the card that it ends
-module _ (f : Figures) {F : Film} where
-  pub film-stops : {k o : ℕ} → F ≡ film.Refused k o → refusedCard k o ≡ cardWith f F
-  unfolding cardWith
-  film-stops e = ap (cardWith f) (sym e)
-
-  pub film-goes : {n b c : ℕ} → F ≡ film.Figures n b c → acceptedCard (withFilm f n b c) ≡ cardWith f F
-  unfolding cardWith
-  film-goes e = ap (cardWith f) (sym e)
 
 module _ (s : List ℕ) (at i : ℕ) (f : Figures) (total before : ℕ) where
   pub read-done : (left : ℕ) → left ≤ 0 → filmFrom s at f total ≡ zonesFrom left s at i f total before
@@ -110,6 +98,11 @@ module _ (s : List ℕ) (at k : ℕ) (f : Figures) (before : ℕ) where
 pub blank-long : length blankTable ≡ tableLength
 unfolding blankTable
 blank-long = refl
+
+-- zones are read into arrays that are all zero
+pub zones-blank : (left : ℕ) (s : List ℕ) (at kind z : ℕ) {ps ts os : List ℕ} → ps ≡ blankZones → ts ≡ blankZones → os ≡ blankTable
+    → zonesFrom left s at 0 (zonesRead kind z ps ts os) 0 maxTime ≡ zonesFrom left s at 0 (withZones kind z) 0 maxTime
+zones-blank left s at kind z p t o = λ i. zonesFrom left s at 0 (zonesRead kind z (p i) (t i) (o i)) 0 maxTime
 
 -- by the kind
 module _ (s : List ℕ) (at : ℕ) (f : Figures) where

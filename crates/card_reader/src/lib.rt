@@ -3,15 +3,32 @@ mod figures; // the zones and the film
 mod table; // the overheads
 
 use card::CardRead;
+use card::Figures;
+use card::Verdict;
 use card::fields::Field;
 use card::fields::Rule;
 use card::fields::read_field;
+use numbers::refusals::ACCEPTED;
 ghost use mathlib.Core.Path.{_≡_};
-ghost use Rattle.card.specs.Read.{readCard};
+ghost use Rattle.card.specs.Read.{blankZones, blankTable, refusedCard, readCard};
+ghost use Rattle.card_reader.specs.Told.{toldCard};
 
-// Reads a card: refusals 1 to 11, 26 right after 7, and 25 for the overheads of kind 2.
-pub fn read_card(card: &[u8]) -> CardRead
-    ensures { λ r. ⌜ r ≡ readCard (now (card .entry)) ⌝ }
+// What a card tells beside its arrays: kind, zones, N, B and c, or the refusal's number with its offset.
+pub enum Told {
+    Figures(u32, u32, u32, u32, u32),
+    Refused(u32, usize),
+}
+
+// Reads a card into lent arrays that are all zero: refusals 1 to 11, 26 right after 7, and 25 for the overheads of kind 2. Refused, they
+// hold what was read before the fault.
+pub fn read_into(
+    card: &[u8],
+    sizes: &mut [u32; 64],
+    times: &mut [u32; 64],
+    table: &mut [u32; 257],
+) -> Told
+    requires { ⌜ (now sizes ≡ blankZones) × (now times ≡ blankZones) × (now table ≡ blankTable) ⌝ }
+    ensures { λ r. ⌜ toldCard (now (sizes .exit)) (now (times .exit)) (now (table .exit)) r ≡ readCard (now (card .entry)) ⌝ }
 {
     let first = read_field(card, 0, Rule::Kind, 0);
     let Field::Value(kind, at) = first else {
@@ -21,5 +38,57 @@ pub fn read_card(card: &[u8]) -> CardRead
     let Field::Value(zones, next) = second else {
         return figures::refused_field(second);
     };
-    figures::read_zones(card, next, kind, zones)
+    figures::read_zones(card, next, kind, zones, sizes, times, table)
+}
+
+// A refused card.
+fn refused_card(number: u32, place: usize) -> CardRead
+    ensures { λ r. ⌜ r ≡ refusedCard number place ⌝ }
+{
+    let none = [0u32; 64];
+    CardRead {
+        verdict: Verdict {
+            number: number,
+            place: place,
+        },
+        figures: Figures {
+            kind: 0,
+            zones: 0,
+            positions: none,
+            times: none,
+            blocks: 0,
+            bytes: 0,
+            rate: 0,
+            table: [0u32; 257],
+        },
+    }
+}
+
+// Reads a card.
+pub fn read_card(card: &[u8]) -> CardRead
+    ensures { λ r. ⌜ r ≡ readCard (now (card .entry)) ⌝ }
+{
+    let mut sizes = [0u32; 64];
+    let mut times = [0u32; 64];
+    let mut table = [0u32; 257];
+    let told = read_into(card, &mut sizes, &mut times, &mut table);
+    match told {
+        Told::Refused(number, place) => refused_card(number, place),
+        Told::Figures(kind, zones, blocks, bytes, rate) => CardRead {
+            verdict: Verdict {
+                number: ACCEPTED,
+                place: 0,
+            },
+            figures: Figures {
+                kind: kind,
+                zones: zones,
+                positions: sizes,
+                times: times,
+                blocks: blocks,
+                bytes: bytes,
+                rate: rate,
+                table: table,
+            },
+        },
+    }
 }

@@ -11,7 +11,7 @@ ghost use lib.ListN.{length};
 ghost use Rattle.numbers.specs.Limits.{tableLength};
 ghost use Rattle.card.specs.declared.Figures.{Figures};
 ghost use Rattle.card.specs.Read.{withTable, movesFrom, entriesFrom, tableFrom};
-ghost use Rattle.card_reader.specs.Film.{tableWith};
+ghost use Rattle.card_reader.specs.Told.{tableWith};
 
 // Hop and return, and the table that they make.
 fn read_moves(card: &[u8], at: usize, table: &mut [u32; 257]) -> Field

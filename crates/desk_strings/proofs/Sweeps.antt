@@ -8,14 +8,14 @@ use native.Mathlib.Omega.{arith}
 use lib.ListN.{length}
 use borrow.Author.Tests.{eq-eqb, ne-eqb}
 use Rattle.numbers.specs.Refusals.{notSound}
-use Rattle.numbers.specs.Slots.{sweeping}
+use Rattle.numbers.specs.Slots.{between, sweeping}
 use Rattle.words.specs.Words.{wordsOf, withWords}
 use Rattle.words.specs.Laws.{withWords-none}
 use Rattle.desk.specs.declared.Desk.{Desk}
 use Rattle.desk.specs.declared.Answer.{Answer}
 use Rattle.desk.specs.declared.Begun.{Begun}
 use Rattle.desk.specs.Desk.{beginDesk, fetchesOf, entriesOf, fetchListAfter, endDesk}
-use Rattle.desk.specs.Records.{notBegun}
+use Rattle.desk.specs.Records.{recordOf, notBegun}
 use Rattle.desk.specs.View.{Wide}
 use Rattle.desk.specs.Ready.{Ready}
 use Rattle.round_trip.specs.Legality as legality
@@ -143,11 +143,13 @@ module _ (ps ls draws D : List ℕ) (d : Desk) (v : Verdict) (h : Judged (λ (x 
     unfolding said
     end-ready = rw (h .read) (ended .ready, ended .drawn)
 
-    pub end-put : (r : FilmdiskAnswer) (t : List ℕ) (x : Desk) → r ≡ verdictAnswer v → x ≡ endedDesk d (wordsOf draws) → t ≡ withWords D 0 (deskWords x)
-        → (r ≡ endAnswer D ps ls draws) × (t ≡ endString D ps ls draws)
+    pub end-put : (r : FilmdiskAnswer) (t ks xs hs : List ℕ) → r ≡ verdictAnswer v → recordOf (d .plan) between ks xs hs ≡ endedDesk d (wordsOf draws)
+        → t ≡ withWords D 0 (deskWords (recordOf (deskIn (wordsOf D) .plan) between ks xs hs)) → (r ≡ endAnswer D ps ls draws) × (t ≡ endString D ps ls draws)
     unfolding endAnswer endString said
-    end-put r t x q e w = (
+    end-put r t ks xs hs q e w = (
       q ∙ judged-answer _ D d v h,
       written-string _ D d v h t
-          (w ∙ ap (λ (y : Desk). withWords D 0 (deskWords y)) (e ∙ ap (λ (y : Desk). endedDesk y (wordsOf draws)) (h .read) ∙ ap (λ (a : Answer). a .desk) (ended .answer))),
+          (w
+          ∙ ap (λ (y : Desk). withWords D 0 (deskWords (recordOf (y .plan) between ks xs hs))) (sym (h .read))
+          ∙ ap (λ (y : Desk). withWords D 0 (deskWords y)) (e ∙ ap (λ (y : Desk). endedDesk y (wordsOf draws)) (h .read) ∙ ap (λ (a : Answer). a .desk) (ended .answer))),
     )

@@ -2,48 +2,63 @@
 use admission::judge_join;
 use admission::judge_leave;
 use card::Verdict;
-use desk::Answer;
-use desk::answer_with;
-use desk::blank_desk;
+use ends::end_slots;
 use layout::DESK_BYTES;
 use layout::FilmdiskAnswer;
 use layout::PLAN_BYTES;
+use layout::clear_desk;
 use layout::put_kinds;
 use layout::put_slot;
+use layout::put_slots;
 use layout::read_desk;
 use layout::read_plan;
 use layout::verdict_answer;
-use layout::write_desk;
 use layout::write_entries;
+use layout::write_fresh;
 use numbers::refusals::ACCEPTED;
 use numbers::refusals::NOT_SOUND;
 use numbers::refusals::TOO_SHORT;
+use numbers::slots::BETWEEN;
 use numbers::slots::FREE;
 use numbers::slots::SWEEPING;
 use numbers::slots::WAITING;
+use plan::numbers_in;
+use plan::scalars_in;
+use planner::is_plan_of;
+use scheduler::end_verdict;
 use scheduler::judge_begin;
-use scheduler::judge_end;
 use sweep::Swept;
-use sweep::end_sweep;
 ghost use mathlib.Core.Path.{_≡_};
 ghost use Prim.Native.Nat.{_≤_};
 ghost use lib.ListN.{length};
 ghost use Rattle.numbers.specs.Refusals.{notSound};
 ghost use Rattle.numbers.specs.Slots.{sweeping};
 ghost use Rattle.words.specs.Words.{wordsOf, withWords};
+ghost use Rattle.desk.specs.Desk.{blankDesk};
 ghost use Rattle.layout.specs.Layout.{deskWords, deskIn, deskSize, withKinds};
 ghost use Rattle.layout.specs.Entries.{rows};
-ghost use Rattle.desk_strings.specs.Calls.{refusedBy, openedFrom, openAnswer, openString, joinAnswer, joinString, leaveAnswer, leaveString, beginAnswer, beginString, fetchString, endAnswer, endString};
+ghost use Rattle.desk_strings.specs.Calls.{refusedBy, stringBy, openAnswer, openString, joinAnswer, joinString, leaveAnswer, leaveString, beginAnswer, beginString, fetchString, endAnswer, endString};
 ghost use Rattle.desk_strings.specs.Inner.{FetchesFit, sweptAnswer};
 
-// Opens what a plan string says; 14 where it has another length.
-fn open_plan(plan: &[u8], positions: &[u8], leads: &[u8]) -> Answer
-    ensures { λ r. ⌜ r ≡ openedFrom (now (plan .entry)) (now (positions .entry)) (now (leads .entry)) ⌝ }
+// An answer that is a number alone.
+fn number_answer(number: u32) -> FilmdiskAnswer
+    ensures { λ r. ⌜ r ≡ refusedBy number ⌝ }
 {
-    if plan.len() != PLAN_BYTES {
-        return answer_with(blank_desk(), NOT_SOUND, 0);
+    verdict_answer(Verdict {
+        number: number,
+        place: 0,
+    })
+}
+
+// Refuses an opening: 14. A desk string of the right length is then all zero.
+fn refuse_open(desk: &mut [u8]) -> FilmdiskAnswer
+    ensures { λ r. ⌜ (r ≡ refusedBy notSound) × (now (desk .exit) ≡ stringBy (now (desk .entry)) blankDesk) ⌝ }
+{
+    if desk.len() == DESK_BYTES {
+        clear_desk(desk);
+        return number_answer(NOT_SOUND);
     }
-    admission::open(read_plan(plan), positions, leads)
+    number_answer(NOT_SOUND)
 }
 
 // Opens a desk: 14, then 13 where the desk string has another length.
@@ -51,29 +66,35 @@ pub fn open(plan: &[u8], positions: &[u8], leads: &[u8], desk: &mut [u8]) -> Fil
     ensures { λ r. ⌜ (r ≡ openAnswer (now (plan .entry)) (now (positions .entry)) (now (leads .entry)) (now (desk .entry)))
         × (now (desk .exit) ≡ openString (now (plan .entry)) (now (positions .entry)) (now (leads .entry)) (now (desk .entry))) ⌝ }
 {
-    let opened = open_plan(plan, positions, leads);
-    let verdict = opened.verdict;
-    if desk.len() == DESK_BYTES {
-        write_desk(desk, opened.desk);
-        return verdict_answer(verdict);
+    if plan.len() != PLAN_BYTES {
+        return refuse_open(desk);
     }
-    if verdict.number != ACCEPTED {
-        return verdict_answer(verdict);
+    let read = read_plan(plan);
+    let figures = scalars_in(read);
+    let numbers = numbers_in(read);
+    if !is_plan_of(
+        figures,
+        &read.figures.positions,
+        &read.figures.times,
+        &read.figures.table,
+        numbers,
+        positions,
+        leads,
+    ) {
+        return refuse_open(desk);
     }
-    verdict_answer(Verdict {
-        number: TOO_SHORT,
-        place: 0,
-    })
-}
-
-// The answer where a desk string has another length: 14.
-fn not_sound() -> FilmdiskAnswer
-    ensures { λ r. ⌜ r ≡ refusedBy notSound ⌝ }
-{
-    verdict_answer(Verdict {
-        number: NOT_SOUND,
-        place: 0,
-    })
+    if desk.len() != DESK_BYTES {
+        return number_answer(TOO_SHORT);
+    }
+    write_fresh(
+        desk,
+        figures,
+        &read.figures.positions,
+        &read.figures.times,
+        &read.figures.table,
+        numbers,
+    );
+    number_answer(ACCEPTED)
 }
 
 // A free slot becomes asked: 14 to 18. A refused call writes nothing, another its slot alone.
@@ -88,7 +109,7 @@ pub fn join(
         × (now (desk .exit) ≡ joinString (now (desk .entry)) (now (positions .entry)) (now (leads .entry)) slot block) ⌝ }
 {
     if desk.len() != DESK_BYTES {
-        return not_sound();
+        return number_answer(NOT_SOUND);
     }
     let judged = judge_join(read_desk(desk), positions, leads, slot, block);
     if judged.number != ACCEPTED {
@@ -104,7 +125,7 @@ pub fn leave(desk: &mut [u8], positions: &[u8], leads: &[u8], slot: u32) -> Film
         × (now (desk .exit) ≡ leaveString (now (desk .entry)) (now (positions .entry)) (now (leads .entry)) slot) ⌝ }
 {
     if desk.len() != DESK_BYTES {
-        return not_sound();
+        return number_answer(NOT_SOUND);
     }
     let judged = judge_leave(read_desk(desk), positions, leads, slot);
     if judged.number != ACCEPTED {
@@ -146,7 +167,7 @@ pub fn begin(desk: &mut [u8], positions: &[u8], leads: &[u8], fetches: &mut [u8]
         × (now (fetches .exit) ≡ fetchString (now (desk .entry)) (now (positions .entry)) (now (leads .entry)) (now (fetches .entry))) ⌝ }
 {
     if desk.len() != DESK_BYTES {
-        return not_sound();
+        return number_answer(NOT_SOUND);
     }
     let room = words::entries(fetches) / 3;
     let swept = judge_begin(read_desk(desk), positions, leads, room);
@@ -163,13 +184,32 @@ pub fn end(desk: &mut [u8], positions: &[u8], leads: &[u8], draws: &[u8]) -> Fil
         × (now (desk .exit) ≡ endString (now (desk .entry)) (now (positions .entry)) (now (leads .entry)) (now (draws .entry))) ⌝ }
 {
     if desk.len() != DESK_BYTES {
-        return not_sound();
+        return number_answer(NOT_SOUND);
     }
     let read = read_desk(desk);
-    let judged = judge_end(read, positions, leads, draws);
+    let figures = scalars_in(read.plan);
+    let numbers = numbers_in(read.plan);
+    let judged = end_verdict(
+        figures,
+        &read.plan.figures.positions,
+        &read.plan.figures.times,
+        &read.plan.figures.table,
+        numbers,
+        read.phase,
+        &read.kinds,
+        &read.next,
+        &read.held,
+        positions,
+        leads,
+        draws,
+    );
     if judged.number != ACCEPTED {
         return verdict_answer(judged);
     }
-    write_desk(desk, end_sweep(read, draws));
+    let mut kinds = read.kinds;
+    let mut next = read.next;
+    let mut held = read.held;
+    end_slots(figures, numbers, &mut kinds, &mut next, &mut held, draws);
+    put_slots(desk, BETWEEN, &kinds, &next, &held);
     verdict_answer(judged)
 }

@@ -1,10 +1,11 @@
 // End: each slot loses its draw, and each that was fetched for gains a block.
-use desk::Desk;
+use card::Scalars;
 use numbers::showings::LOOP;
 use numbers::slots::DRAINING;
 use numbers::slots::FILLING;
 use numbers::slots::FREE;
 use numbers::slots::PLAYING;
+use plan::Numbers;
 use words::word_at;
 ghost use mathlib.Core.Path.{_≡_};
 ghost use Prim.Native.Nat.{ℕ, _+_, _≤_, _<_};
@@ -16,9 +17,9 @@ ghost use Rattle.plan.specs.Plan.{showingOf};
 ghost use Rattle.rules.specs.Supply.{Supply};
 ghost use Rattle.rules.specs.Scheduler.{endedSlot, ended};
 ghost use Rattle.desk.specs.Desk.{supplyOf, slotsIn};
-ghost use Rattle.desk.specs.Ready.{Ready};
+ghost use Rattle.desk.specs.Records.{recordOf};
 ghost use Rattle.desk.specs.Slots.{withSlots};
-ghost use Rattle.ends.specs.Ends.{Drawn, Film, slotIn, Fair};
+ghost use Rattle.ends.specs.Ends.{Film, slotIn, Fair, Ends, planIn, deskIn};
 
 // A slot of the desk.
 pub struct Slot {
@@ -110,29 +111,41 @@ fn ended_slot(slot: Slot, draw: u32, showing: u32, blocks: u32, bytes: u32, room
     }
 }
 
-// All slots after the sweep.
-pub fn end_slots(desk: Desk, draws: &[u8]) -> Desk
-    requires { ⌜ (Ready desk) × (Drawn desk (wordsOf (now draws))) ⌝ }
-    ensures { λ r. ⌜ r ≡ withSlots desk (ended (supplyOf (desk .plan)) (slotsIn desk) (wordsOf (now (draws .entry)))) ⌝ }
+// All slots after the sweep, in place. They are those of a desk with these figures and numbers.
+pub fn end_slots(
+    figures: Scalars,
+    plan: Numbers,
+    kinds: &mut [u32; 256],
+    next: &mut [u32; 256],
+    held: &mut [u32; 256],
+    draws: &[u8],
+)
+    requires { ⌜ Ends figures plan (now kinds) (now next) (now held) (wordsOf (now draws)) ⌝ }
+    ensures { λ _. ⌜ ((e : Ends figures plan (now (kinds .entry)) (now (next .entry)) (now (held .entry)) (wordsOf (now (draws .entry))))
+        → recordOf (planIn e) (e .phase) (now (kinds .exit)) (now (next .exit)) (now (held .exit))
+        ≡ withSlots (deskIn e) (ended (supplyOf (planIn e)) (slotsIn (deskIn e)) (wordsOf (now (draws .entry))))) ⌝ }
 {
-    let showing = desk.plan.showing;
-    let blocks = desk.plan.figures.blocks;
-    let bytes = desk.plan.figures.bytes;
-    let room = desk.plan.buffer - bytes;
-    let count = desk.plan.streams as usize;
-    let mut d = desk;
+    let room = plan.buffer - figures.bytes;
+    let count = plan.streams as usize;
     let mut i: usize = 0;
     while i < count {
         let slot = Slot {
-            kind: d.kinds[i],
-            next: d.next[i],
-            held: d.held[i],
+            kind: kinds[i],
+            next: next[i],
+            held: held[i],
         };
-        let after = ended_slot(slot, word_at(draws, i), showing, blocks, bytes, room);
-        d.kinds[i] = after.kind;
-        d.next[i] = after.next;
-        d.held[i] = after.held;
+        let draw = word_at(draws, i);
+        let after = ended_slot(
+            slot,
+            draw,
+            plan.showing,
+            figures.blocks,
+            figures.bytes,
+            room,
+        );
+        kinds[i] = after.kind;
+        next[i] = after.next;
+        held[i] = after.held;
         i += 1;
     }
-    d
 }

@@ -1,7 +1,7 @@
--- What a join, a leave and a begin write alone of a desk string: a slot, the phase and the kinds. All else stays.
+-- What a join, a leave, a begin and an end write alone of a desk string: a slot, the phase and the kinds, the phase and all slots. All else stays.
 -- Assumes nothing.
-use Prim.Native.Nat.{ℕ, _≤_, _<_}
-use mathlib.Core.Path.{_≡_, _∙_}
+use Prim.Native.Nat.{ℕ, _+_, _≤_, _<_}
+use mathlib.Core.Path.{_≡_, refl, sym, ap, _∙_}
 use mathlib.Core.List.{List, [], _∷_, _++_}
 use native.Mathlib.Omega.{arith}
 use mir.Syntax.{w8}
@@ -10,7 +10,7 @@ use lib.ListN.{length, getD, take, drop}
 use Rattle.numbers.specs.Limits.{maxStreams}
 use Rattle.words.specs.Words.{wordsOf, withWords}
 use Rattle.words.specs.Laws.{bytes-fit, words-length}
-use Rattle.desk.specs.Records.{withSlot}
+use Rattle.desk.specs.Records.{recordOf, withSlot}
 use Rattle.layout.specs.Fields.{Field, _&_, wordCount}
 use Rattle.layout.specs.FieldLaws.{stored, fields-stored, part-written, columnStored, column-written}
 use Rattle.layout.specs.Layout.{planFields, planWordCount, slotFields, deskWords, deskIn, deskSize, withKinds}
@@ -36,3 +36,18 @@ pub kinds-written : (s t : List ℕ) (x : ℕ) (ks : List ℕ) → ((j : ℕ) �
 unfolding deskWords deskIn
 kinds-written s t x ks y h l e =
     e ∙ fields-stored kindFields planWordCount s [] (x & ks & tt) (omega arith) ∙ part-written planFields kindFields (drop 2 slotFields) s (bytes-fit s y) (omega (arith, words-length s)) (x & ks & tt) (omega arith)
+
+-- ---- the phase and all slots: u is the string after the phase and the kinds
+
+pub slots-written : (s u t : List ℕ) (x : ℕ) (ks xs hs : List ℕ) → ((j : ℕ) → Fits w8 (getD s j 0)) → deskSize ≤ length s
+    → (length ks ≡ maxStreams) × (length xs ≡ maxStreams) × (length hs ≡ maxStreams)
+    → u ≡ withWords s 0 (deskWords (withKinds (deskIn (wordsOf s)) x ks))
+    → t ≡ stored (drop 2 slotFields) (planWordCount + wordCount kindFields) u [] (xs & hs & tt)
+    → t ≡ withWords s 0 (deskWords (recordOf (deskIn (wordsOf s) .plan) x ks xs hs))
+unfolding deskWords deskIn
+slots-written s u t x ks xs hs y h l q e =
+    let slots = x & ks & xs & hs & tt in
+    e
+    ∙ ap (λ (v : List ℕ). stored (drop 2 slotFields) (planWordCount + wordCount kindFields) v [] (xs & hs & tt)) (q ∙ sym (kinds-written s _ x ks y h (l .0) refl))
+    ∙ fields-stored slotFields planWordCount s [] slots (omega arith)
+    ∙ part-written planFields slotFields [] s (bytes-fit s y) (omega (arith, words-length s)) slots (omega arith)

@@ -8,7 +8,7 @@ use native.Mathlib.Omega.{arith}
 use lib.ListN.{length, replicate, length-replicate, drop-of-length-le}
 use Rattle.numbers.specs.Limits.{maxZones, maxStreams, tableLength}
 use Rattle.laws.specs.Overwrite.{overwrite, overwrite-front}
-use Rattle.words.specs.Words.{Bytes, Words, wordsOf, withWords, bytesOf}
+use Rattle.words.specs.Words.{Bytes, Words, wordsOf, withWords, zeroWords, bytesOf}
 use Rattle.words.specs.Laws.{words-length, withWords-append, withWords-overwrite}
 use Rattle.card.specs.Read.{blankZones, blankTable, blankFigures}
 use Rattle.plan.specs.declared.Plan.{Plan}
@@ -72,18 +72,22 @@ pub plan-stored : (p : Plan) (s t : List ℕ) → PlanSized p → t ≡ stored p
 unfolding planWords
 plan-stored p s t z e = let l = plan-table p z in (e ∙ fields-stored planFields 0 s [] (planValues p) l, packed-length planFields (planValues p) l)
 
--- its plan is written first
-pub desk-stored : (d : Desk) (s t : List ℕ) → length (planWords (d .plan)) ≡ planWordCount → Sized slotFields (slotValues d)
-    → t ≡ stored slotFields planWordCount (withWords s 0 (planWords (d .plan))) [] (slotValues d) → t ≡ withWords s 0 (deskWords d)
-unfolding planWords deskWords
-desk-stored d s t l z e =
-    let plan : List ℕ = packed planFields (planValues (d .plan)) in
-    let slots : List ℕ = packed slotFields (slotValues d) in
+-- a new desk: zeros behind its plan
+fresh-slots : (p : Plan) → zeroWords (wordCount slotFields) ≡ packed slotFields (slotValues (freshDesk p))
+unfolding freshDesk zeros zeroWords
+fresh-slots p = refl
+
+pub fresh-stored : (p : Plan) (s t : List ℕ) → length (planWords p) ≡ planWordCount
+    → t ≡ withWords (withWords s 0 (planWords p)) planWordCount (zeroWords (wordCount slotFields)) → t ≡ withWords s 0 (deskWords (freshDesk p))
+unfolding planWords deskWords freshDesk
+fresh-stored p s t l e =
+    let plan : List ℕ = packed planFields (planValues p) in
+    let slots : List ℕ = packed slotFields (slotValues (freshDesk p)) in
     let far : planWordCount ≡ 0 + length plan = omega arith in
     e
-    ∙ fields-stored slotFields planWordCount (withWords s 0 plan) [] (slotValues d) z
+    ∙ ap (withWords (withWords s 0 plan) planWordCount) (fresh-slots p)
     ∙ ap (λ (n : ℕ). withWords (withWords s 0 plan) n slots) far
-    ∙ sym (ap (withWords s 0) (packed-joined planFields slotFields (planValues (d .plan)) (slotValues d)) ∙ withWords-append s 0 plan slots)
+    ∙ sym (ap (withWords s 0) (packed-joined planFields slotFields (planValues p) (slotValues (freshDesk p))) ∙ withWords-append s 0 plan slots)
 
 -- ---- written and read
 
@@ -120,6 +124,16 @@ words-zero s n e =
     ∙ overwrite-front s (replicate (4 * n) 0)
     ∙ ap (λ (t : List ℕ). replicate (4 * n) 0 ++ t) (drop-of-length-le s {i = length {A = ℕ} (replicate (4 * n) 0)} (omega (arith, length-replicate {A = ℕ} (4 * n) 0)))
     ∙ append-nil (replicate (4 * n) 0)
+
+-- the plan that is all zero is zeros
+pub plan-blank : planWords blankPlan ≡ zeroWords planWordCount
+unfolding zeroWords planWords blankPlan blankFigures blankZones blankTable
+plan-blank = refl
+
+-- and so is the desk
+pub desk-blank : deskWords blankDesk ≡ zeroWords deskWordCount
+unfolding zeroWords deskWords blankDesk freshDesk zeros blankPlan blankFigures blankZones blankTable
+desk-blank = refl
 
 -- a refused plan is all zero
 pub plan-zero : (s : List ℕ) → length s ≡ planSize → withWords s 0 (planWords blankPlan) ≡ zeroBytes planSize

@@ -3,9 +3,12 @@
 mod offsets; // the word at which each field starts
 
 use card::Figures;
+use card::Scalars;
 use card::Verdict;
 use desk::Desk;
+use plan::Numbers;
 use plan::Plan;
+use words::clear_words;
 use words::read_64;
 use words::read_256;
 use words::read_257;
@@ -19,9 +22,12 @@ ghost use Prim.Native.Nat.{ℕ, _*_, _≤_, _<_};
 ghost use mathlib.Core.List.{List};
 ghost use lib.ListN.{length};
 ghost use Rattle.words.specs.Words.{Bytes, Words, wordsOf, withWords};
+ghost use Rattle.card.specs.Read.{figuresFrom};
 ghost use Rattle.plan.specs.declared.Plan.{Plan};
+ghost use Rattle.plan.specs.Plan.{planFrom, blankPlan};
 ghost use Rattle.desk.specs.declared.Desk.{Desk};
-ghost use Rattle.desk.specs.Records.{withSlot};
+ghost use Rattle.desk.specs.Desk.{freshDesk, blankDesk};
+ghost use Rattle.desk.specs.Records.{recordOf, lentPlan, withSlot};
 ghost use Rattle.numbers.specs.Limits.{maxStreams};
 ghost use Rattle.layout.specs.Fields.{wordCount, unpacked, Same};
 ghost use Rattle.layout.specs.Layout.{figureFields, figureValues, plannedFields, plannedValues, planWords, planIn, planWordCount, planSize, slotFields, slotValues, deskWords, deskIn, deskWordCount, deskSize, withKinds};
@@ -126,24 +132,28 @@ pub fn read_plan(list: &[u8]) -> Plan
     plan_at(list)
 }
 
-// Writes a plan at the front of a string.
-pub fn write_plan(list: &mut [u8], plan: Plan)
+// Writes a plan, its arrays lent, at the front of a string.
+pub fn write_parts<'a>(
+    list: &mut [u8],
+    figures: Scalars,
+    sizes: &'a [u32; 64],
+    times: &'a [u32; 64],
+    table: &'a [u32; 257],
+    plan: Numbers,
+)
     requires { ⌜ planSize ≤ length (now list) ⌝ }
-    ensures { λ _. ⌜ (now (list .exit) ≡ withWords (now (list .entry)) 0 (planWords plan)) × (length (planWords plan) ≡ planWordCount) ⌝ }
+    ensures { λ _. ⌜ (let p = planFrom (figuresFrom figures (now (sizes .entry)) (now (times .entry)) (now (table .entry))) plan in
+        (now (list .exit) ≡ withWords (now (list .entry)) 0 (planWords p)) × (length (planWords p) ≡ planWordCount)) ⌝ }
 {
-    write_words(
-        list,
-        offsets::KIND,
-        &[plan.figures.kind, plan.figures.zones],
-    );
-    write_64(list, offsets::POSITIONS, &plan.figures.positions);
-    write_64(list, offsets::TIMES, &plan.figures.times);
+    write_words(list, offsets::KIND, &[figures.kind, figures.zones]);
+    write_64(list, offsets::POSITIONS, sizes);
+    write_64(list, offsets::TIMES, times);
     write_words(
         list,
         offsets::BLOCKS,
-        &[plan.figures.blocks, plan.figures.bytes, plan.figures.rate],
+        &[figures.blocks, figures.bytes, figures.rate],
     );
-    write_257(list, offsets::TABLE, &plan.figures.table);
+    write_257(list, offsets::TABLE, table);
     write_words(
         list,
         offsets::STREAMS,
@@ -156,6 +166,14 @@ pub fn write_plan(list: &mut [u8], plan: Plan)
             plan.worstat,
         ],
     );
+}
+
+// Writes the plan that is all zero at the front of a string.
+pub fn clear_plan(list: &mut [u8])
+    requires { ⌜ planSize ≤ length (now list) ⌝ }
+    ensures { λ _. ⌜ now (list .exit) ≡ withWords (now (list .entry)) 0 (planWords blankPlan) ⌝ }
+{
+    clear_words(list, 0, offsets::PLAN_WORDS);
 }
 
 // The desk at the front of a string, field by field.
@@ -180,16 +198,28 @@ pub fn read_desk(list: &[u8]) -> Desk
     desk_at(list)
 }
 
-// Writes a desk at the front of a string.
-pub fn write_desk(list: &mut [u8], desk: Desk)
+// Writes the new desk of a plan, its arrays lent, at the front of a string.
+pub fn write_fresh<'a>(
+    list: &mut [u8],
+    figures: Scalars,
+    sizes: &'a [u32; 64],
+    times: &'a [u32; 64],
+    table: &'a [u32; 257],
+    plan: Numbers,
+)
     requires { ⌜ deskSize ≤ length (now list) ⌝ }
-    ensures { λ _. ⌜ now (list .exit) ≡ withWords (now (list .entry)) 0 (deskWords desk) ⌝ }
+    ensures { λ _. ⌜ now (list .exit) ≡ withWords (now (list .entry)) 0 (deskWords (freshDesk (lentPlan figures (now (sizes .entry)) (now (times .entry)) (now (table .entry)) plan))) ⌝ }
 {
-    write_plan(list, desk.plan);
-    write_words(list, offsets::PHASE, &[desk.phase]);
-    write_256(list, offsets::KINDS, &desk.kinds);
-    write_256(list, offsets::NEXT, &desk.next);
-    write_256(list, offsets::HELD, &desk.held);
+    write_parts(list, figures, sizes, times, table, plan);
+    clear_words(list, offsets::PHASE, offsets::SLOT_WORDS);
+}
+
+// Writes the desk that is all zero at the front of a string.
+pub fn clear_desk(list: &mut [u8])
+    requires { ⌜ deskSize ≤ length (now list) ⌝ }
+    ensures { λ _. ⌜ now (list .exit) ≡ withWords (now (list .entry)) 0 (deskWords blankDesk) ⌝ }
+{
+    clear_words(list, 0, offsets::DESK_WORDS);
 }
 
 // Writes slot i of the desk at the front of a string: a kind, a next block and nothing held.
@@ -205,10 +235,27 @@ pub fn put_slot(list: &mut [u8], i: usize, kind: u32, next: u32)
 // Writes the phase and the kinds of the desk at the front of a string.
 pub fn put_kinds(list: &mut [u8], phase: u32, kinds: &[u32; 256])
     requires { ⌜ deskSize ≤ length (now list) ⌝ }
-    ensures { λ _. ⌜ now (list .exit) ≡ withWords (now (list .entry)) 0 (deskWords (withKinds (deskIn (wordsOf (now (list .entry)))) phase (now (kinds .entry)))) ⌝ }
+    ensures { λ _. ⌜ (now (list .exit) ≡ withWords (now (list .entry)) 0 (deskWords (withKinds (deskIn (wordsOf (now (list .entry)))) phase (now (kinds .entry)))))
+        × (length (now (kinds .entry)) ≡ maxStreams) ⌝ }
 {
     write_words(list, offsets::PHASE, &[phase]);
     write_256(list, offsets::KINDS, kinds);
+}
+
+// Writes the phase and all slots of the desk at the front of a string.
+pub fn put_slots<'a>(
+    list: &mut [u8],
+    phase: u32,
+    kinds: &'a [u32; 256],
+    next: &'a [u32; 256],
+    held: &'a [u32; 256],
+)
+    requires { ⌜ deskSize ≤ length (now list) ⌝ }
+    ensures { λ _. ⌜ now (list .exit) ≡ withWords (now (list .entry)) 0 (deskWords (recordOf (deskIn (wordsOf (now (list .entry))) .plan) phase (now (kinds .entry)) (now (next .entry)) (now (held .entry)))) ⌝ }
+{
+    put_kinds(list, phase, kinds);
+    write_256(list, offsets::NEXT, next);
+    write_256(list, offsets::HELD, held);
 }
 
 // Writes the first `count` entries into a lent byte string; what stands past them stays.

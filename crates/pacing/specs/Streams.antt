@@ -1,7 +1,7 @@
 -- Streams (P4) and buffer (P7), over any overhead of a sweep.
 -- Assumes nothing.
-use Prim.Native.Nat.{ℕ, _+_, _*_, _-_, _/_, _≤_, _<_, min}
-use mathlib.Core.Path.{_≡_, refl, ap}
+use Prim.Native.Nat.{ℕ, zero, suc, _+_, _*_, _-_, _/_, _≤_, _<_, min}
+use mathlib.Core.Path.{_≡_, refl, sym, ap, _∙_}
 use mathlib.Core.Bool.{Bool}
 use mathlib.Core.List.{List}
 use native.Mathlib.Nat.{mul-le-mul-left, mul-le-mul-right, le-refl, le-div-iff-mul-le, div-lt-iff-lt-mul}
@@ -120,6 +120,16 @@ module _ (c w : ℕ) (over : ℕ → ℕ) (B : ℕ) where
   pub time-passes : (n : ℕ) → 0 < c → parts * B / c < twoSweeps w over n → parts * B < load c w over n
   unfolding load
   time-passes n p l = omega (arith, div-lt-iff-lt-mul {k = c} {x = parts * B} {y = twoSweeps w over n} p .0 l)
+
+  -- the start from a lower number, where each above it takes too long
+  pub tried-from : (n : ℕ) → n ≤ maxStreams → ((k : ℕ) → n < k → k ≤ maxStreams → parts * B < load c w over k) → tried c w over B n ≡ streams c w over B
+  tried-from n u h = go (maxStreams - n) n (omega arith) h
+    where
+      go : (d m : ℕ) → m + d ≡ maxStreams → ((k : ℕ) → m < k → k ≤ maxStreams → parts * B < load c w over k) → tried c w over B m ≡ streams c w over B
+      go zero m e g = let q : m ≡ maxStreams = omega arith in ap (tried c w over B) q ∙ tried-all
+      go (suc d) m e g =
+          let q : suc m - 1 ≡ m = omega arith in
+          sym (tried-down (suc m) (omega arith) (g (suc m) (omega arith) (omega arith)) ∙ ap (tried c w over B) q) ∙ go d (suc m) (omega arith) (λ k i u. g k (omega arith) u)
 
   -- no number is left
   pub tried-none : (n : ℕ) → n ≡ 0 → tried c w over B n ≡ 0

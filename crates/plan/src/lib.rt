@@ -2,6 +2,7 @@
 // rely on; the plan that is all zero, and a record's figures with their verdict.
 use card::CardRead;
 use card::Figures;
+use card::Scalars;
 use card::Verdict;
 ghost use mathlib.Core.Path.{_≡_};
 ghost use Prim.Native.Nat.{ℕ, _*_, _≤_, _<_};
@@ -9,10 +10,11 @@ ghost use Rattle.numbers.specs.Limits.{maxStreams};
 ghost use Rattle.numbers.specs.Units.{parts};
 ghost use Rattle.card.specs.declared.Figures.{Figures};
 ghost use Rattle.card.specs.Card.{Legal, totalPositions};
+ghost use Rattle.card.specs.Read.{figuresFrom};
 ghost use Rattle.placement.specs.Placement.{Laying};
 ghost use Rattle.placement.specs.Showing.{Showing, worstOf};
 ghost use Rattle.pacing.specs.Streams.{load};
-ghost use Rattle.plan.specs.Plan.{timeOn, positionOf, worst2Of, worstAtOf, overOf, streamsOf, leadOf, blankPlan};
+ghost use Rattle.plan.specs.Plan.{planFrom, timeOn, positionOf, worst2Of, worstAtOf, overOf, streamsOf, leadOf, blankPlan};
 ghost use Rattle.plan.specs.Answer.{planFault, judged};
 ghost use Rattle.plan.specs.Greatest.{Starts, GreatestRun, MostStreams, TooMany, EarliestPair};
 ghost use Rattle.plan.specs.Promise.{LeadLaws, Promise};
@@ -48,6 +50,33 @@ pub struct Numbers {
 pub struct Planned {
     pub verdict: Verdict,
     pub plan: Plan,
+}
+
+// The single numbers among a plan's figures.
+pub fn scalars_in(plan: Plan) -> Scalars
+    ensures { λ r. ⌜ figuresFrom r (plan .figures .positions) (plan .figures .times) (plan .figures .table) ≡ plan .figures ⌝ }
+{
+    Scalars {
+        kind: plan.figures.kind,
+        zones: plan.figures.zones,
+        blocks: plan.figures.blocks,
+        bytes: plan.figures.bytes,
+        rate: plan.figures.rate,
+    }
+}
+
+// The numbers of a plan beside its figures.
+pub fn numbers_in(plan: Plan) -> Numbers
+    ensures { λ r. ⌜ planFrom (plan .figures) r ≡ plan ⌝ }
+{
+    Numbers {
+        streams: plan.streams,
+        buffer: plan.buffer,
+        worst2: plan.worst2,
+        margin: plan.margin,
+        showing: plan.showing,
+        worstat: plan.worstat,
+    }
 }
 
 // A plan that is all zero.

@@ -1,24 +1,31 @@
 // The plan calls on lent byte strings, one for each showing. Strings lent to one call share no byte.
+use card::Scalars;
 use card::Verdict;
+use card_reader::Told;
 use layout::FilmdiskAnswer;
 use layout::PLAN_BYTES;
+use layout::clear_plan;
 use layout::verdict_answer;
-use layout::write_plan;
+use layout::write_parts;
 use numbers::refusals::ACCEPTED;
 use numbers::refusals::TOO_SHORT;
 use numbers::showings::LOOP;
 use numbers::showings::ONCE;
-use plan::Planned;
-use planner::plan_card;
-use planner::plan_loop_card;
+use planner::figures::plan_legal;
 ghost use mathlib.Core.Path.{_≡_};
-ghost use Rattle.card.specs.Read.{readCard};
+ghost use Prim.Native.Nat.{_≤_};
+ghost use lib.ListN.{length};
+ghost use Rattle.words.specs.Words.{withWords};
+ghost use Rattle.card.specs.Card.{Legal};
+ghost use Rattle.card.specs.Read.{figuresFrom, readCard};
+ghost use Rattle.card_reader.specs.Told.{acceptedCard};
 ghost use Rattle.numbers.specs.Refusals.{tooShort};
 ghost use Rattle.placement.specs.Showing.{Showing, one, loop};
-ghost use Rattle.plan.specs.Plan.{showingOf};
+ghost use Rattle.plan.specs.Plan.{showingOf, blankPlan};
 ghost use Rattle.plan.specs.Answer.{answer, planned, positionsAfter, leadsAfter};
+ghost use Rattle.layout.specs.Layout.{planWords, planSize};
 ghost use Rattle.layout.specs.Answers.{verdictAnswer};
-ghost use Rattle.plan_strings.specs.Calls.{planAnswer, planString, positionsString, leadsString};
+ghost use Rattle.plan_strings.specs.Calls.{planFilled, planAnswer, planString, positionsString, leadsString};
 
 // The answer where the plan string has another length, in either showing: the card's refusal, or 13.
 fn unwritten(card: &[u8]) -> FilmdiskAnswer
@@ -35,16 +42,49 @@ fn unwritten(card: &[u8]) -> FilmdiskAnswer
     })
 }
 
-// The planner's answer to a card, by the word of the showing.
-fn plan_by(showing: u32, card: &[u8], positions: &mut [u8], leads: &mut [u8]) -> Planned
-    ensures { λ r. ⌜ (r ≡ planned (showingOf showing) (readCard (now (card .entry))) (now (positions .entry)) (now (leads .entry)))
-        × (now (positions .exit) ≡ positionsAfter (showingOf showing) (readCard (now (card .entry))) (now (positions .entry)) (now (leads .entry)))
-        × (now (leads .exit) ≡ leadsAfter (showingOf showing) (readCard (now (card .entry))) (now (positions .entry)) (now (leads .entry))) ⌝ }
+// A refusal after which the plan string is all zero.
+fn refused(plan: &mut [u8], number: u32, place: usize) -> FilmdiskAnswer
+    requires { ⌜ planSize ≤ length (now plan) ⌝ }
+    ensures { λ r. ⌜ (r ≡ verdictAnswer (record { number = number; place = place })) × (now (plan .exit) ≡ withWords (now (plan .entry)) 0 (planWords blankPlan)) ⌝ }
 {
-    if showing == LOOP {
-        return plan_loop_card(card, positions, leads);
+    clear_plan(plan);
+    verdict_answer(Verdict {
+        number: number,
+        place: place,
+    })
+}
+
+// Plans the legal figures of a card, their arrays lent, where the plan string has its length: 13, then 12.
+fn plan_into<'a>(
+    figures: Scalars,
+    sizes: &'a [u32; 64],
+    times: &'a [u32; 64],
+    table: &'a [u32; 257],
+    showing: u32,
+    plan: &mut [u8],
+    positions: &mut [u8],
+    leads: &mut [u8],
+) -> FilmdiskAnswer
+    requires { ⌜ (length (now plan) ≡ planSize) × Legal (figuresFrom figures (now sizes) (now times) (now table)) ⌝ }
+    ensures { λ r. ⌜ (let x = showingOf showing in let card = acceptedCard (figuresFrom figures (now (sizes .entry)) (now (times .entry)) (now (table .entry))) in
+        (r ≡ verdictAnswer (planned x card (now (positions .entry)) (now (leads .entry)) .verdict))
+        × (now (plan .exit) ≡ planFilled (now (plan .entry)) (planned x card (now (positions .entry)) (now (leads .entry))))
+        × (now (positions .exit) ≡ positionsAfter x card (now (positions .entry)) (now (leads .entry)))
+        × (now (leads .exit) ≡ leadsAfter x card (now (positions .entry)) (now (leads .entry)))) ⌝ }
+{
+    let made = plan_legal(figures, sizes, times, table, showing, positions, leads);
+    let answer = verdict_answer(Verdict {
+        number: made.number,
+        place: 0,
+    });
+    if made.number == TOO_SHORT {
+        return answer;
     }
-    plan_card(card, positions, leads)
+    if made.number != ACCEPTED {
+        return refused(plan, made.number, 0);
+    }
+    write_parts(plan, figures, sizes, times, table, made.plan);
+    answer
 }
 
 // Plans a card in a showing: 1 to 11, 25 and 26, then 13, then 12.
@@ -63,13 +103,29 @@ fn plan_showing(
     if plan.len() != PLAN_BYTES {
         return unwritten(card);
     }
-    let planned = plan_by(showing, card, positions, leads);
-    let verdict = planned.verdict;
-    if verdict.number == TOO_SHORT {
-        return verdict_answer(verdict);
+    let mut sizes = [0u32; 64];
+    let mut times = [0u32; 64];
+    let mut table = [0u32; 257];
+    let told = card_reader::read_into(card, &mut sizes, &mut times, &mut table);
+    match told {
+        Told::Refused(number, place) => refused(plan, number, place),
+        Told::Figures(kind, zones, blocks, bytes, rate) => plan_into(
+            Scalars {
+                kind: kind,
+                zones: zones,
+                blocks: blocks,
+                bytes: bytes,
+                rate: rate,
+            },
+            &sizes,
+            &times,
+            &table,
+            showing,
+            plan,
+            positions,
+            leads,
+        ),
     }
-    write_plan(plan, planned.plan);
-    verdict_answer(verdict)
 }
 
 // Plans a card for one showing.

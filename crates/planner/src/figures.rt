@@ -3,21 +3,26 @@ use crate::film::plan_numbers;
 use block_lists::write_leads;
 use block_lists::write_positions;
 use card::CardRead;
+use card::Figures;
 use card::Scalars;
 use card::Verdict;
 use numbers::refusals::ACCEPTED;
 use numbers::refusals::NO_STREAM;
 use numbers::refusals::TOO_SHORT;
+use plan::Numbers;
 use plan::Plan;
 use plan::Planned;
 use plan::blank_plan;
 use zones::sum_positions;
 ghost use mathlib.Core.Path.{_≡_};
 ghost use Prim.Native.Nat.{_<_};
+ghost use lib.ListN.{length};
 ghost use Rattle.numbers.specs.Refusals.{noStream};
+ghost use Rattle.words.specs.Words.{wordsOf};
 ghost use Rattle.card.specs.Card.{Legal};
-ghost use Rattle.plan.specs.Plan.{showingOf};
-ghost use Rattle.plan.specs.Answer.{refusal, planned, positionsAfter, leadsAfter};
+ghost use Rattle.card.specs.Read.{accepted, figuresFrom};
+ghost use Rattle.plan.specs.Plan.{showingOf, planOf, planFrom, positionsOf, leadsOf};
+ghost use Rattle.plan.specs.Answer.{planFault, filled, refusal, planned, positionsAfter, leadsAfter};
 
 // A refusal.
 fn refused(number: u32, place: usize) -> Planned
@@ -42,6 +47,89 @@ fn stream_fault(streams: u32) -> u32
     ACCEPTED
 }
 
+// What the planner makes of legal figures: 13, 12 or 0, and where it is 0 the numbers of their plan.
+pub struct Made {
+    pub number: u32,
+    pub plan: Numbers,
+}
+
+// No plan is made.
+fn not_made(number: u32) -> Made
+    ensures { λ r. ⌜ r .number ≡ number ⌝ }
+{
+    Made {
+        number: number,
+        plan: Numbers {
+            streams: 0,
+            buffer: 0,
+            worst2: 0,
+            margin: 0,
+            showing: 0,
+            worstat: 0,
+        },
+    }
+}
+
+// Plans legal figures, their arrays lent, in a showing: 13, then 12. A refusal leaves both lists.
+pub fn plan_legal<'a>(
+    figures: Scalars,
+    sizes: &'a [u32; 64],
+    times: &'a [u32; 64],
+    table: &'a [u32; 257],
+    showing: u32,
+    positions: &mut [u8],
+    leads: &mut [u8],
+) -> Made
+    requires { ⌜ Legal (figuresFrom figures (now sizes) (now times) (now table)) ⌝ }
+    ensures { λ r. ⌜ (let x = showingOf showing in let f = figuresFrom figures (now (sizes .entry)) (now (times .entry)) (now (table .entry)) in
+        let fault = planFault x f (length (wordsOf (now (positions .entry)))) (length (wordsOf (now (leads .entry)))) in
+        (r .number ≡ fault) × (r .number ≡ 0 → planFrom f (r .plan) ≡ planOf x f)
+        × (now (positions .exit) ≡ filled 0 fault (now (positions .entry)) (positionsOf x f))
+        × (now (leads .exit) ≡ filled 0 fault (now (leads .entry)) (leadsOf x f))) ⌝ }
+{
+    let blocks = figures.blocks as usize;
+    if words::entries(positions) < blocks {
+        return not_made(TOO_SHORT);
+    }
+    if words::entries(leads) < blocks {
+        return not_made(TOO_SHORT);
+    }
+    let own = plan_numbers(figures, sizes, times, table, showing);
+    let number = stream_fault(own.streams);
+    if number != ACCEPTED {
+        return not_made(number);
+    }
+    let total = sum_positions(sizes, figures.zones);
+    write_positions(showing, total, figures.blocks, positions);
+    let worst2 = own.worst2;
+    write_leads(sizes, times, showing, total, figures.blocks, worst2, leads);
+    Made {
+        number: number,
+        plan: own,
+    }
+}
+
+// An accepted answer.
+fn planned_with(figures: Figures, own: Numbers) -> Planned
+    ensures { λ r. ⌜ (r .verdict ≡ accepted) × (r .plan ≡ planFrom figures own) ⌝ }
+{
+    Planned {
+        verdict: Verdict {
+            number: ACCEPTED,
+            place: 0,
+        },
+        plan: Plan {
+            figures: figures,
+            streams: own.streams,
+            buffer: own.buffer,
+            worst2: own.worst2,
+            margin: own.margin,
+            showing: own.showing,
+            worstat: own.worstat,
+        },
+    }
+}
+
 // Plans figures that were read or judged, in a showing: their refusal, else 13, then 12.
 pub fn plan_figures(read: CardRead, showing: u32, positions: &mut [u8], leads: &mut [u8]) -> Planned
     requires { ⌜ (read .verdict .number ≡ 0 → Legal (read .figures)) ⌝ }
@@ -53,14 +141,7 @@ pub fn plan_figures(read: CardRead, showing: u32, positions: &mut [u8], leads: &
     if verdict.number != ACCEPTED {
         return refused(verdict.number, verdict.place);
     }
-    let blocks = read.figures.blocks as usize;
-    if words::entries(positions) < blocks {
-        return refused(TOO_SHORT, 0);
-    }
-    if words::entries(leads) < blocks {
-        return refused(TOO_SHORT, 0);
-    }
-    let own = plan_numbers(
+    let made = plan_legal(
         Scalars {
             kind: read.figures.kind,
             zones: read.figures.zones,
@@ -72,35 +153,11 @@ pub fn plan_figures(read: CardRead, showing: u32, positions: &mut [u8], leads: &
         &read.figures.times,
         &read.figures.table,
         showing,
-    );
-    let number = stream_fault(own.streams);
-    if number != ACCEPTED {
-        return refused(number, 0);
-    }
-    let total = sum_positions(&read.figures.positions, read.figures.zones);
-    write_positions(showing, total, read.figures.blocks, positions);
-    write_leads(
-        &read.figures.positions,
-        &read.figures.times,
-        showing,
-        total,
-        read.figures.blocks,
-        own.worst2,
+        positions,
         leads,
     );
-    Planned {
-        verdict: Verdict {
-            number: number,
-            place: 0,
-        },
-        plan: Plan {
-            figures: read.figures,
-            streams: own.streams,
-            buffer: own.buffer,
-            worst2: own.worst2,
-            margin: own.margin,
-            showing: own.showing,
-            worstat: own.worstat,
-        },
+    if made.number != ACCEPTED {
+        return refused(made.number, 0);
     }
+    planned_with(read.figures, made.plan)
 }

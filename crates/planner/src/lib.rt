@@ -1,7 +1,7 @@
 // The planner: from the figures of a card it lays the film, for one showing or for a loop, and says how many streams may be fed and with what
 // buffers.
 mod film; // the plan of legal figures
-mod figures; // the answer to figures that were read or judged
+pub mod figures; // the answer to figures that were read or judged
 
 use crate::figures::plan_figures;
 use crate::film::plan_numbers;
@@ -19,6 +19,8 @@ use plan::Numbers;
 use plan::Plan;
 use plan::Planned;
 use plan::judged_figures;
+use plan::numbers_in;
+use plan::scalars_in;
 use zones::sum_positions;
 ghost use mathlib.Core.Path.{_≡_};
 ghost use mathlib.Core.Bool.{not, _&&_, _||_};
@@ -83,61 +85,94 @@ fn has_numbers<'a>(
     both(0 < own.streams, same_numbers(plan, own))
 }
 
-// Is this record the plan of its figures, and do the lists begin with its N entries? The leads are looked at where they are asked for.
-fn is_plan_with(plan: Plan, positions: &[u8], leads: &[u8], asked: bool) -> bool
-    ensures { λ r. ⌜ r ≡ (hasNumbers plan && (hasPositions plan (now (positions .entry)) && (not asked || hasLeads plan (now (leads .entry))))) ⌝ }
+// Is a plan, its arrays lent, the plan of its figures, and do the lists begin with its N entries? The leads are looked at where they are asked
+// for.
+fn is_plan_with<'a>(
+    figures: Scalars,
+    sizes: &'a [u32; 64],
+    times: &'a [u32; 64],
+    table: &'a [u32; 257],
+    plan: Numbers,
+    positions: &[u8],
+    leads: &[u8],
+    asked: bool,
+) -> bool
+    requires { ⌜ (length (now sizes) ≡ maxZones) × (length (now times) ≡ maxZones) × (length (now table) ≡ tableLength) ⌝ }
+    ensures { λ r. ⌜ (let p = planFrom (figuresFrom figures (now (sizes .entry)) (now (times .entry)) (now (table .entry))) plan in r ≡ (hasNumbers p && (hasPositions p (now (positions .entry)) && (not asked || hasLeads p (now (leads .entry)))))) ⌝ }
 {
-    let figures = Scalars {
-        kind: plan.figures.kind,
-        zones: plan.figures.zones,
-        blocks: plan.figures.blocks,
-        bytes: plan.figures.bytes,
-        rate: plan.figures.rate,
-    };
-    let numbers = Numbers {
-        streams: plan.streams,
-        buffer: plan.buffer,
-        worst2: plan.worst2,
-        margin: plan.margin,
-        showing: plan.showing,
-        worstat: plan.worstat,
-    };
-    if !has_numbers(
-        figures,
-        &plan.figures.positions,
-        &plan.figures.times,
-        &plan.figures.table,
-        numbers,
-    ) {
+    if !has_numbers(figures, sizes, times, table, plan) {
         return false;
     }
-    let total = sum_positions(&plan.figures.positions, plan.figures.zones);
-    let placed = same_positions(plan.showing, total, plan.figures.blocks, positions);
+    let total = sum_positions(sizes, figures.zones);
+    let placed = same_positions(plan.showing, total, figures.blocks, positions);
     if !asked {
         return placed;
     }
     let led = same_leads(
-        &plan.figures.positions,
-        &plan.figures.times,
+        sizes,
+        times,
         plan.showing,
         total,
-        plan.figures.blocks,
+        figures.blocks,
         plan.worst2,
         leads,
     );
     both(placed, led)
 }
 
+// Is a plan, its arrays lent, the plan of its figures, and do both lists begin with its N entries?
+pub fn is_plan_of<'a>(
+    figures: Scalars,
+    sizes: &'a [u32; 64],
+    times: &'a [u32; 64],
+    table: &'a [u32; 257],
+    plan: Numbers,
+    positions: &[u8],
+    leads: &[u8],
+) -> bool
+    requires { ⌜ (length (now sizes) ≡ maxZones) × (length (now times) ≡ maxZones) × (length (now table) ≡ tableLength) ⌝ }
+    ensures { λ r. ⌜ r ≡ isPlan (planFrom (figuresFrom figures (now (sizes .entry)) (now (times .entry)) (now (table .entry))) plan) (now (positions .entry)) (now (leads .entry)) ⌝ }
+{
+    is_plan_with(figures, sizes, times, table, plan, positions, leads, true)
+}
+
+// The same for a call that has no leads.
+pub fn is_laid_of<'a>(
+    figures: Scalars,
+    sizes: &'a [u32; 64],
+    times: &'a [u32; 64],
+    table: &'a [u32; 257],
+    plan: Numbers,
+    positions: &[u8],
+) -> bool
+    requires { ⌜ (length (now sizes) ≡ maxZones) × (length (now times) ≡ maxZones) × (length (now table) ≡ tableLength) ⌝ }
+    ensures { λ r. ⌜ (let p = planFrom (figuresFrom figures (now (sizes .entry)) (now (times .entry)) (now (table .entry))) plan in r ≡ (hasNumbers p && hasPositions p (now (positions .entry)))) ⌝ }
+{
+    is_plan_with(
+        figures,
+        sizes,
+        times,
+        table,
+        plan,
+        positions,
+        positions,
+        false,
+    )
+}
+
 // Is this record the plan of its figures, and do both lists begin with its N entries?
 pub fn is_plan(plan: Plan, positions: &[u8], leads: &[u8]) -> bool
     ensures { λ r. ⌜ r ≡ isPlan plan (now (positions .entry)) (now (leads .entry)) ⌝ }
 {
-    is_plan_with(plan, positions, leads, true)
-}
-
-// The same for a call that has no leads.
-pub fn is_laid(plan: Plan, positions: &[u8]) -> bool
-    ensures { λ r. ⌜ r ≡ (hasNumbers plan && hasPositions plan (now (positions .entry))) ⌝ }
-{
-    is_plan_with(plan, positions, positions, false)
+    let figures = scalars_in(plan);
+    let numbers = numbers_in(plan);
+    is_plan_of(
+        figures,
+        &plan.figures.positions,
+        &plan.figures.times,
+        &plan.figures.table,
+        numbers,
+        positions,
+        leads,
+    )
 }

@@ -12,7 +12,6 @@ use Rattle.numbers.specs.Units.{parts}
 use Rattle.card.specs.declared.Figures.{Figures}
 use Rattle.words.specs.Words.{wordsOf}
 use Rattle.placement.specs.Showing.{Showing}
-use Rattle.plan.specs.declared.Plan.{Plan}
 use Rattle.plan.specs.Plan.{leadOf}
 use Rattle.plan.specs.Answer.{isPlan}
 use Rattle.rules.specs.Sound.{sound}
@@ -23,10 +22,6 @@ use Rattle.floor.specs.Floor.{mostLead}
 -- the phase and the slots are sound
 abbrev pub slotsSound : Desk → Bool
 slotsSound d = sound (supplyOf (d .plan)) (orderOf (d .plan)) (viewOf d)
-
--- the record of a plan, a phase and the kinds, next blocks and held bytes of its slots
-abbrev pub recordOf : Plan → ℕ → List ℕ → List ℕ → List ℕ → Desk
-recordOf p phase ks xs hs = record { plan = p; phase = phase; kinds = ks; next = xs; held = hs }
 
 -- THE RECORD IS SOUND with its lent lists
 abbrev pub soundDesk : Desk → List ℕ → List ℕ → Bool

@@ -6,9 +6,8 @@ use numbers::slots::FREE;
 use numbers::slots::PLAYING;
 use numbers::slots::WAITING;
 use numbers::units::PARTS;
-use streams::product;
 ghost use mathlib.Core.Path.{_≡_};
-ghost use Prim.Native.Nat.{_*_, _≤_};
+ghost use Prim.Native.Nat.{ℕ, _*_, _≤_};
 ghost use Rattle.numbers.specs.Limits.{maxStreams};
 ghost use Rattle.numbers.specs.Slots.{playing};
 ghost use Rattle.numbers.specs.Units.{parts};
@@ -94,17 +93,28 @@ pub fn all_tidy<'a>(
     true
 }
 
-// Does a slot hold the low-water mark (01: the floor), given in two-millionths of a byte, where it plays?
-fn holds_mark(kind: u32, held: u32, mark: u64) -> bool
-    ensures { λ r. ⌜ Tells r (kind ≡ playing → mark ≤ parts * held) ⌝ }
+// The whole bytes that hold a mark given in two-millionths of a byte: rounded up.
+fn least_held(mark: u64) -> u64
+    ensures { λ r. ⌜ ((h : ℕ) → (r ≤ h → mark ≤ parts * h) × (mark ≤ parts * h → r ≤ h)) ⌝ }
+{
+    if mark == 0 {
+        return 0;
+    }
+    (mark - 1) / (PARTS as u64) + 1
+}
+
+// Does a slot hold so many bytes where it plays?
+fn holds_least(kind: u32, held: u32, least: u64) -> bool
+    ensures { λ r. ⌜ Tells r (kind ≡ playing → least ≤ held) ⌝ }
 {
     match kind {
-        PLAYING => mark <= product(PARTS, held),
+        PLAYING => least <= (held as u64),
         _ => true,
     }
 }
 
-// Does each playing slot of the first n hold at least the mark?
+// Does each playing slot of the first n hold at least the low-water mark (01: the floor), given in two-millionths of a byte? All are looked
+// at, so that the compiler takes several at a time.
 pub fn players_hold<'a>(
     streams: usize,
     kinds: &'a [u32; 256],
@@ -114,12 +124,14 @@ pub fn players_hold<'a>(
     requires { ⌜ streams ≤ maxStreams ⌝ }
     ensures { λ r. ⌜ Tells r (PlayersHold streams (now (kinds .entry)) (now (held .entry)) mark) ⌝ }
 {
+    let least = least_held(mark);
+    let mut all = true;
     let mut i: usize = 0;
     while i < streams {
-        if !holds_mark(kinds[i], held[i], mark) {
-            return false;
+        if !holds_least(kinds[i], held[i], least) {
+            all = false;
         }
         i += 1;
     }
-    true
+    all
 }

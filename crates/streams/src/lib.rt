@@ -7,7 +7,7 @@ use crate::halves::upper;
 use numbers::limits::MAX_STREAMS;
 use numbers::units::PARTS;
 ghost use mathlib.Core.Path.{_≡_};
-ghost use Prim.Native.Nat.{_+_, _-_, _*_, _≤_, _<_};
+ghost use Prim.Native.Nat.{ℕ, _+_, _-_, _*_, _≤_, _<_};
 ghost use lib.ListN.{getD};
 ghost use Rattle.numbers.specs.Limits.{maxNumber, maxTime, maxStreams};
 ghost use Rattle.pacing.specs.Streams.{overhead, twoSweeps, streams, bufferOf};
@@ -36,6 +36,20 @@ pub fn two_sweeps(worst2: u32, table: &[u32; 257], n: u32) -> u32
     n * worst2 + 2 * overhead(table, n)
 }
 
+// The highest number of streams that is worth a try, at most 256: above it the blocks alone take more time than there is.
+fn highest_tried(room: u64, worst2: u32) -> u32
+    ensures { λ r. ⌜ (r ≤ maxStreams) × ((k : ℕ) → r < k → k ≤ maxStreams → room < k * worst2) ⌝ }
+{
+    if worst2 == 0 {
+        return MAX_STREAMS;
+    }
+    let most = room / (worst2 as u64);
+    if most < (MAX_STREAMS as u64) {
+        return most as u32;
+    }
+    MAX_STREAMS
+}
+
 // The greatest number from 1 to 256 that meets the formula; 0 where none does. c × a time is at most 2,000,000 × B exactly where the time is at
 // most the quotient of the two, so that no try forms a product with c.
 pub fn count_streams(rate: u32, worst2: u32, table: &[u32; 257], bytes: u32) -> u32
@@ -43,7 +57,7 @@ pub fn count_streams(rate: u32, worst2: u32, table: &[u32; 257], bytes: u32) -> 
     ensures { λ r. ⌜ r ≡ streams rate worst2 (overhead (now (table .entry))) bytes ⌝ }
 {
     let room = product(PARTS, bytes) / (rate as u64);
-    let mut n: u32 = MAX_STREAMS;
+    let mut n: u32 = highest_tried(room, worst2);
     loop {
         if n == 0 {
             break 0;

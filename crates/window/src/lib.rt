@@ -9,7 +9,9 @@ use numbers::refusals::NOT_SOUND;
 use numbers::refusals::WRONG_WINDOW;
 use numbers::showings::LOOP;
 use plan::Plan;
-use planner::is_laid;
+use plan::numbers_in;
+use plan::scalars_in;
+use planner::is_laid_of;
 use zones::sum_positions;
 ghost use mathlib.Core.Path.{_≡_};
 ghost use mathlib.Core.Bool.{true, cond};
@@ -101,10 +103,17 @@ fn last_place(showing: u32, blocks: u32, count: u32) -> u32
 pub fn worst_window(plan: Plan, positions: &[u8], count: u32) -> Window
     ensures { λ r. ⌜ r ≡ windowAnswer plan (now (positions .entry)) count ⌝ }
 {
-    let number = fault(
-        is_laid(plan, positions),
-        is_outside(count, plan.figures.blocks),
+    let figures = scalars_in(plan);
+    let numbers = numbers_in(plan);
+    let laid = is_laid_of(
+        figures,
+        &plan.figures.positions,
+        &plan.figures.times,
+        &plan.figures.table,
+        numbers,
+        positions,
     );
+    let number = fault(laid, is_outside(count, plan.figures.blocks));
     if number != ACCEPTED {
         return refused(number);
     }

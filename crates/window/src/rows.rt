@@ -1,5 +1,5 @@
 // The worst of the rows of k blocks, in one pass: two walks over the film, one k blocks ahead of the other. A row gains the block that the one
-// has passed and loses the block that the other has.
+// has passed and loses the block that the other has. Within a run of either walk the rows slide on without a look at the zones.
 use zones::Pair;
 use zones::Walk;
 use zones::set_out;
@@ -8,7 +8,7 @@ use zones::walk_on;
 use zones::worse;
 ghost use mathlib.Core.Path.{_≡_};
 ghost use mathlib.Core.List.{List};
-ghost use Prim.Native.Nat.{ℕ, suc, _≤_, _<_};
+ghost use Prim.Native.Nat.{ℕ, suc, _≤_, _<_, min};
 ghost use Rattle.laws.specs.Greatest.{Peak};
 ghost use Rattle.numbers.specs.Limits.{maxWindow};
 ghost use Rattle.placement.specs.Circle.{round};
@@ -16,7 +16,7 @@ ghost use Rattle.placement.specs.Showing.{laying};
 ghost use Rattle.placement.specs.Zones.{timeAt};
 ghost use Rattle.plan.specs.Plan.{showingOf};
 ghost use Rattle.plan.specs.Disk.{Zoned, Film};
-ghost use Rattle.window.specs.Rows.{past, Comes, Stands, rowTime};
+ghost use Rattle.window.specs.Rows.{past, Comes, Stands, rowTime, Slides};
 
 // A walk that has passed a block: its time, and the block that comes next.
 pub struct Step {
@@ -35,7 +35,7 @@ pub struct Row {
 fn start(sizes: &[u32; 64]) -> Step
     requires { ⌜ Zoned (now sizes) ⌝ }
     ensures at { λ r. ⌜ r .next ≡ 0 ⌝ }
-    ensures comes { λ r. ⌜ ((ts : List ℕ) (l : ℕ → ℕ) → Comes (now (sizes .entry)) ts l (r .walk) (r .next)) ⌝ }
+    ensures comes { λ r. ⌜ ((ts : List ℕ) (l : ℕ → ℕ) (N : ℕ) → Comes (now (sizes .entry)) ts l N (r .walk) (r .next)) ⌝ }
 {
     Step {
         walk: set_out(sizes),
@@ -66,8 +66,8 @@ fn walk_to<'a>(
     walk: Walk,
     b: u32,
 ) -> Walk
-    requires { ⌜ (Film (now sizes) (now times) total blocks) × (Comes (now sizes) (now times) (laying (showingOf showing) total blocks) walk b) × (b < blocks) ⌝ }
-    ensures { λ r. ⌜ Stands (now (sizes .entry)) (now (times .entry)) (laying (showingOf showing) total blocks) r b ⌝ }
+    requires { ⌜ (Film (now sizes) (now times) total blocks) × (Comes (now sizes) (now times) (laying (showingOf showing) total blocks) blocks walk b) × (b < blocks) ⌝ }
+    ensures { λ r. ⌜ Stands (now (sizes .entry)) (now (times .entry)) (laying (showingOf showing) total blocks) blocks r b ⌝ }
 {
     if 0 < b {
         if b < walk.until {
@@ -86,8 +86,8 @@ fn step_on<'a>(
     blocks: u32,
     at: Step,
 ) -> Step
-    requires { ⌜ (Film (now sizes) (now times) total blocks) × (Comes (now sizes) (now times) (laying (showingOf showing) total blocks) (at .walk) (at .next)) × (at .next < blocks) ⌝ }
-    ensures comes { λ r. ⌜ Comes (now (sizes .entry)) (now (times .entry)) (laying (showingOf showing) total blocks) (r .walk) (r .next) ⌝ }
+    requires { ⌜ (Film (now sizes) (now times) total blocks) × (Comes (now sizes) (now times) (laying (showingOf showing) total blocks) blocks (at .walk) (at .next)) × (at .next < blocks) ⌝ }
+    ensures comes { λ r. ⌜ Comes (now (sizes .entry)) (now (times .entry)) (laying (showingOf showing) total blocks) blocks (r .walk) (r .next) ⌝ }
     ensures time { λ r. ⌜ r .time ≡ timeAt (now (sizes .entry)) (now (times .entry)) (laying (showingOf showing) total blocks (at .next)) ⌝ }
     ensures next { λ r. ⌜ r .next ≡ round blocks (at .next) ⌝ }
 {
@@ -110,7 +110,7 @@ fn first_row<'a>(
     count: u32,
 ) -> Row
     requires { ⌜ (Film (now sizes) (now times) total blocks) × (count ≤ maxWindow) ⌝ }
-    ensures comes { λ r. ⌜ Comes (now (sizes .entry)) (now (times .entry)) (laying (showingOf showing) total blocks) (r .ahead .walk) (r .ahead .next) ⌝ }
+    ensures comes { λ r. ⌜ Comes (now (sizes .entry)) (now (times .entry)) (laying (showingOf showing) total blocks) blocks (r .ahead .walk) (r .ahead .next) ⌝ }
     ensures next { λ r. ⌜ r .ahead .next ≡ past blocks count 0 ⌝ }
     ensures time { λ r. ⌜ r .time ≡ rowTime (now (sizes .entry)) (now (times .entry)) (laying (showingOf showing) total blocks) blocks count 0 ⌝ }
 {
@@ -128,6 +128,43 @@ fn first_row<'a>(
     }
 }
 
+// The row that has slid on to a block: its time, and the worst up to it.
+pub struct Slid {
+    pub sum: u32,
+    pub worst: Pair,
+}
+
+// Rows slide on up to block `to`, while neither walk leaves its run: a row gains the block ahead, `front` the first of them, and loses its own
+// first block.
+fn slide(ahead: Walk, behind: Walk, front: u32, from: u32, to: u32, row: Slid) -> Slid
+    requires { ⌜ ((g : ℕ → ℕ) × Slides g ahead behind front from to (row .sum) (row .worst)) ⌝ }
+    ensures { λ r. ⌜ ((g : ℕ → ℕ) → Slides g ahead behind front from to (row .sum) (row .worst) → (r .sum ≡ g to) × Peak g (suc to) (r .worst .first) (r .worst .time)) ⌝ }
+{
+    let mut sum = row.sum;
+    let mut worst = row.worst;
+    let mut a = front;
+    let mut b = from;
+    while b < to {
+        sum = sum + side(a, ahead.even, ahead.odd) - side(b, behind.even, behind.odd);
+        a += 1;
+        b += 1;
+        worst = worse(worst, sum, b);
+    }
+    Slid {
+        sum: sum,
+        worst: worst,
+    }
+}
+
+fn lesser(a: u32, b: u32) -> u32
+    ensures { λ r. ⌜ r ≡ min a b ⌝ }
+{
+    if a < b {
+        return a;
+    }
+    b
+}
+
 // The worst row of `count` blocks of those that start at block 0 to `last`, the earliest where several are equal; `total` is P.
 pub fn worst_row<'a>(
     sizes: &'a [u32; 64],
@@ -141,19 +178,25 @@ pub fn worst_row<'a>(
     requires { ⌜ (Film (now sizes) (now times) total blocks) × (count ≤ maxWindow) × (last < blocks) ⌝ }
     ensures { λ r. ⌜ Peak (rowTime (now (sizes .entry)) (now (times .entry)) (laying (showingOf showing) total blocks) blocks count) (suc last) (r .first) (r .time) ⌝ }
 {
-    let row = first_row(sizes, times, showing, total, blocks, count);
-    let mut ahead = row.ahead;
-    let mut behind = start(sizes);
-    let mut sum = row.time;
-    let mut worst = Pair {
-        time: sum,
-        first: 0,
+    let first = first_row(sizes, times, showing, total, blocks, count);
+    let mut ahead = first.ahead.walk;
+    let mut a = first.ahead.next;
+    let mut behind = set_out(sizes);
+    let mut b: u32 = 0;
+    let mut row = Slid {
+        sum: first.time,
+        worst: Pair {
+            time: first.time,
+            first: 0,
+        },
     };
-    while behind.next < last {
-        ahead = step_on(sizes, times, showing, total, blocks, ahead);
-        behind = step_on(sizes, times, showing, total, blocks, behind);
-        sum = sum + ahead.time - behind.time;
-        worst = worse(worst, sum, behind.next);
+    while b < last {
+        ahead = walk_to(sizes, times, showing, total, blocks, ahead, a);
+        behind = walk_to(sizes, times, showing, total, blocks, behind, b);
+        let to = lesser(last, lesser(behind.until, b + (ahead.until - a)));
+        row = slide(ahead, behind, a, b, to, row);
+        a = following(blocks, a + (to - b) - 1);
+        b = to;
     }
-    worst
+    row.worst
 }

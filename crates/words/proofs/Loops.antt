@@ -7,8 +7,8 @@ use native.Mathlib.Omega.{arith}
 use native.Mathlib.Numerals.{add-one}
 use lib.ListN.{length, getD, set, take, drop, length-set, length-drop}
 use lib.Seq.{take-all, take-suc, take-suc-set, getD-drop}
-use Rattle.words.specs.Words.{wordsOf, withWord, withWords}
-use Rattle.words.specs.Laws.{withWords-none, withWords-more, withWords-entries, withWords-length}
+use Rattle.words.specs.Words.{wordsOf, withWord, withWords, zeroWords}
+use Rattle.words.specs.Laws.{withWords-none, withWords-more, withWords-entries, withWords-length, zeroWords-length, zeroWords-at}
 
 -- out is filled up to i with the numbers of ws from start on
 pub record Reading (ws : List ℕ) (start : ℕ) (out₀ out : List ℕ) (i : ℕ) : Type 0 where
@@ -58,3 +58,8 @@ module _ (s : List ℕ) (start : ℕ) (vs : List ℕ) where
 
   pub write-end : (t : List ℕ) (i : ℕ) → Writing s start vs t i → length vs ≤ i → t ≡ withWords s start vs
   write-end t i w h = w .written ∙ ap (withWords s start) (take-all i vs h)
+
+-- a turn that writes zero
+pub clear-more : (s : List ℕ) (start n : ℕ) (t u : List ℕ) (i : ℕ) → Writing s start (zeroWords n) t i → i < n → u ≡ withWord t (start + i) 0 → Writing s start (zeroWords n) u (i + 1)
+clear-more s start n t u i w h e =
+    write-more s start (zeroWords n) t u i w (omega (arith, zeroWords-length n)) (e ∙ ap (withWord t (start + i)) (sym (zeroWords-at n i)))

@@ -10,10 +10,11 @@ use native.Mathlib.Decide.{decLt}
 use native.Mathlib.Numerals.{add-one, add-two, add-three}
 use mir.Syntax.{w8}
 use mir.Val.{Fits}
-use lib.ListN.{length, getD, set, take, drop, length-set, drop-of-length-le}
+use lib.ListN.{length, getD, set, take, drop, length-set, length-replicate, drop-of-length-le}
 use lib.Seq.{getD-set-other, drop-set-lt, drop-cons, take-append-seam, drop-at, length-take-le, sets, sets-eq}
+use Rattle.laws.specs.Each.{zero-at}
 use Rattle.laws.specs.Overwrite.{overwrite, overwrite-none, overwrite-more}
-use Rattle.words.specs.Words.{Bytes, Words, wordsOf, withWord, withWords, bytesOf}
+use Rattle.words.specs.Words.{Bytes, Words, wordsOf, withWord, withWords, zeroWords, bytesOf}
 
 -- ---- ranges, from what the checker knows of a slice or an array
 
@@ -186,6 +187,18 @@ pub withWords-bytes : (s : List ℕ) (start : ℕ) (vs : List ℕ) → Bytes s �
 unfolding withWords
 withWords-bytes s start [] y = y
 withWords-bytes s start (v ∷ vs) y = withWords-bytes (withWord s start v) (start + 1) vs (withWord-bytes s start v y)
+
+-- ---- zeros
+
+pub zeroWords-length : (n : ℕ) → length (zeroWords n) ≡ n
+unfolding zeroWords
+zeroWords-length n = length-replicate {A = ℕ} n 0
+
+pub zeroWords-at : (n i : ℕ) → getD (zeroWords n) i 0 ≡ 0
+unfolding zeroWords
+zeroWords-at n i = zero-at n i
+
+-- ---- what stays
 
 -- a byte of another entry, or a spare one, stays
 withWord-other : (s : List ℕ) (i v j : ℕ) → j / 4 ≢ i → getD (withWord s i v) j 0 ≡ getD s j 0

@@ -1,7 +1,7 @@
 -- Lists of 32-bit numbers in byte strings: four bytes an entry, lowest byte first, no padding. Whole entries count; spare bytes at the end are no entry.
 use Prim.Native.Nat.{ℕ, _+_, _*_, _/_, _%_, _<_}
 use mathlib.Core.List.{List, [], _∷_}
-use lib.ListN.{getD, set}
+use lib.ListN.{getD, set, replicate}
 
 -- every element is a byte
 abbrev pub Bytes : List ℕ → Type 0
@@ -28,6 +28,10 @@ withWord s i v =
 unfoldable pub withWords : List ℕ → ℕ → List ℕ → List ℕ
 withWords s start [] = s
 withWords s start (v ∷ vs) = withWords (withWord s start v) (start + 1) vs
+
+-- so many numbers, all zero
+unfoldable pub zeroWords : ℕ → List ℕ
+zeroWords n = replicate n 0
 
 -- the bytes of a list of numbers
 unfoldable pub bytesOf : List ℕ → List ℕ

@@ -2,7 +2,7 @@
 ghost use mathlib.Core.Path.{_≡_};
 ghost use Prim.Native.Nat.{_+_, _*_, _≤_, _<_};
 ghost use lib.ListN.{length, getD, take, drop};
-ghost use Rattle.words.specs.Words.{wordsOf, withWord, withWords};
+ghost use Rattle.words.specs.Words.{wordsOf, withWord, withWords, zeroWords};
 
 // A byte as a number of 32 bits.
 fn wide(b: u8) -> u32
@@ -71,6 +71,18 @@ pub fn write_words(list: &mut [u8], start: usize, a: &[u32])
     while i < a.len() {
         let v = a[i];
         put_word(list, start + i, v);
+        i += 1;
+    }
+}
+
+// Writes zero as `count` entries from start on.
+pub fn clear_words(list: &mut [u8], start: usize, count: usize)
+    requires { ⌜ 4 * (start + count) ≤ length (now list) ⌝ }
+    ensures { λ _. ⌜ now (list .exit) ≡ withWords (now (list .entry)) start (zeroWords count) ⌝ }
+{
+    let mut i: usize = 0;
+    while i < count {
+        put_word(list, start + i, 0);
         i += 1;
     }
 }

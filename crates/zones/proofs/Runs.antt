@@ -1,6 +1,6 @@
 -- A run of blocks that lie in the same two zones, and the greatest time over it.
 -- Assumes nothing.
-use Prim.Native.Nat.{ℕ, zero, suc, _+_, _-_, _%_, _≤_, _<_, max}
+use Prim.Native.Nat.{ℕ, suc, _+_, _-_, _%_, _≤_, _<_}
 use mathlib.Core.Path.{_≡_, refl, sym, ap, _∙_}
 use mathlib.Core.Logic.{by-cases}
 use mathlib.Core.Bool.{Bool, true, false, cond}
@@ -19,7 +19,7 @@ use Rattle.plan.specs.Disk.{Film}
 use Rattle.zones.specs.declared.Zone.{Zone}
 use Rattle.zones.specs.declared.Walk.{Walk}
 use Rattle.zones.specs.declared.Pair.{Pair}
-use Rattle.zones.specs.Walk.{Holds, Position, RunEnd, sideOf, Runs}
+use Rattle.zones.specs.Walk.{Holds, RunEnd, sideOf, Runs}
 use Rattle.zones.proofs.Cursors.{time-held}
 
 -- one of two successive blocks is even
@@ -32,8 +32,8 @@ both-sides even odd k = go (eqb (k % 2) 0) refl (eqb (suc k % 2) 0) refl
     go false d true e = omega arith
     go false d false e = absurd (omega (arith, eqb-false (k % 2) 0 d, eqb-false (suc k % 2) 0 e))
 
-module _ (ps ts : List ℕ) (P N : ℕ) (l : ℕ → ℕ) (b : ℕ) (film : Film ps ts P N) (low high : Zone) (p q t : ℕ)
-    (even : Position P N l (b + b % 2) p) (odd : Position P N l (b + 1 - b % 2) q) (inner : Holds ps low p) (outer : Holds ps high q) (e : RunEnd N l b low high t) where
+module _ (ps ts : List ℕ) (P N : ℕ) (l : ℕ → ℕ) (b : ℕ) (film : Film ps ts P N) (low high : Zone) (t : ℕ)
+    (inner : Holds ps low (l (b + b % 2))) (outer : Holds ps high (l (b + 1 - b % 2))) (e : RunEnd N l b low high t) where
   -- the time of a block that lies in its zone
   time-of : (k : ℕ) → (k % 2 ≡ 0 → (low .first ≤ l k) × (l k < low .end)) → (k % 2 ≡ 1 → (high .first ≤ l k) × (l k < high .end))
       → timeAt ps ts (l k) ≡ sideOf (getD ts (low .index) 0) (getD ts (high .index) 0) k
@@ -47,9 +47,9 @@ module _ (ps ts : List ℕ) (P N : ℕ) (l : ℕ → ℕ) (b : ℕ) (film : Film
   near : (k : ℕ) → b ≤ k → k ≤ suc b → timeAt ps ts (l k) ≡ sideOf (getD ts (low .index) 0) (getD ts (high .index) 0) k
   near k i j = time-of k
       (λ x. let d : b + b % 2 ≡ k = omega arith in
-      let h : (low .first ≤ l (b + b % 2)) × (l (b + b % 2) < low .end) = (omega (arith, even .is, inner .from), omega (arith, even .is, inner .to)) in rw d at h)
+      let h : (low .first ≤ l (b + b % 2)) × (l (b + b % 2) < low .end) = (inner .from, inner .to) in rw d at h)
       (λ x. let d : b + 1 - b % 2 ≡ k = omega arith in
-      let h : (high .first ≤ l (b + 1 - b % 2)) × (l (b + 1 - b % 2) < high .end) = (omega (arith, odd .is, outer .from), omega (arith, odd .is, outer .to)) in rw d at h)
+      let h : (high .first ≤ l (b + 1 - b % 2)) × (l (b + 1 - b % 2) < high .end) = (outer .from, outer .to) in rw d at h)
 
   pub run-is : Runs ps ts l N b (record { low = low; high = high; even = getD ts (low .index) 0; odd = getD ts (high .index) 0; until = t })
   run-is = record {

@@ -27,6 +27,15 @@ pub record Seeks (ps : List ℕ) (z : Zone) (q : ℕ) : Type 0 where
   pub zone : ZoneOf ps z
   pub on : q < total ps
 
+-- the zone of block b of N, or of the block past the last, is looked for from a zone of a disk of P positions
+pub record Meets (ps : List ℕ) (P N : ℕ) (z : Zone) (b : ℕ) : Type 0 where
+  pub zoned : Zoned ps
+  pub zone : ZoneOf ps z
+  pub whole : P ≡ total ps
+  pub some : 0 < N
+  pub room : N ≤ P
+  pub block : b ≤ N
+
 -- the zone that position q is in
 pub record Holds (ps : List ℕ) (z : Zone) (q : ℕ) : Type 0 where
   pub zone : ZoneOf ps z

@@ -1,7 +1,7 @@
 // The zones of a disk, and one walk over a film in either showing: how long each block takes where it lies.
 use numbers::showings::LOOP;
 ghost use mathlib.Core.Path.{_≡_};
-ghost use Prim.Native.Nat.{_≤_, _<_, min};
+ghost use Prim.Native.Nat.{_+_, _-_, _%_, _≤_, _<_, min};
 ghost use lib.ListN.{take};
 ghost use Rattle.numbers.specs.Limits.{maxPositions};
 ghost use Rattle.placement.specs.Placement.{zigzag};
@@ -10,7 +10,7 @@ ghost use Rattle.placement.specs.Showing.{laying, worstOf, worstAt};
 ghost use Rattle.placement.specs.Zones.{total, timeAt};
 ghost use Rattle.plan.specs.Plan.{showingOf};
 ghost use Rattle.plan.specs.Disk.{Zoned, Film};
-ghost use Rattle.zones.specs.Walk.{ZoneOf, Seeks, Holds, Position, Ends, firstPast, RunEnd, Cursors, sideOf, Runs};
+ghost use Rattle.zones.specs.Walk.{ZoneOf, Seeks, Meets, Holds, Position, Ends, firstPast, RunEnd, Cursors, sideOf, Runs};
 
 // A zone by its number, with its first position and the first after it.
 pub struct Zone {
@@ -249,7 +249,42 @@ pub fn set_out(sizes: &[u32; 64]) -> Walk
     }
 }
 
-// The walk goes on to block b: the times of b, of the next, and of all that lie in the same two zones.
+// The zone of block b of a film, or of the block past the last, from any zone.
+pub fn zone_of(sizes: &[u32; 64], showing: u32, total: u32, blocks: u32, at: Zone, b: u32) -> Zone
+    requires { ⌜ Meets (now sizes) total blocks at b ⌝ }
+    ensures { λ r. ⌜ Holds (now (sizes .entry)) r (laying (showingOf showing) total blocks b) ⌝ }
+{
+    zone_near(sizes, at, position_of(showing, total, blocks, b))
+}
+
+// The run of blocks from b on that lie in the zones of b and of the next.
+pub fn run_from<'a>(
+    sizes: &'a [u32; 64],
+    times: &'a [u32; 64],
+    showing: u32,
+    total: u32,
+    blocks: u32,
+    low: Zone,
+    high: Zone,
+    b: u32,
+) -> Walk
+    requires { ⌜ (Film (now sizes) (now times) total blocks) × (b < blocks)
+        × (Holds (now sizes) low (laying (showingOf showing) total blocks (b + b % 2))) × (Holds (now sizes) high (laying (showingOf showing) total blocks (b + 1 - b % 2))) ⌝ }
+    ensures { λ r. ⌜ Runs (now (sizes .entry)) (now (times .entry)) (laying (showingOf showing) total blocks) blocks b r ⌝ }
+{
+    let inner = low.index;
+    let outer = high.index;
+    Walk {
+        low: low,
+        high: high,
+        even: times[inner],
+        odd: times[outer],
+        until: run_end(showing, total, blocks, b, low, high),
+    }
+}
+
+// The walk goes on to block b: the times of b, of the next, and of all that lie in the same two zones. (The loops over a whole film take
+// these three steps themselves: this function is too long to be built into them, and a walk would pass through memory at each run.)
 pub fn walk_on<'a>(
     sizes: &'a [u32; 64],
     times: &'a [u32; 64],
@@ -262,19 +297,9 @@ pub fn walk_on<'a>(
     requires { ⌜ (Film (now sizes) (now times) total blocks) × (Cursors (now sizes) walk) × (b < blocks) ⌝ }
     ensures { λ r. ⌜ Runs (now (sizes .entry)) (now (times .entry)) (laying (showingOf showing) total blocks) blocks b r ⌝ }
 {
-    let even = b + b % 2;
-    let odd = b + 1 - b % 2;
-    let low = zone_near(sizes, walk.low, position_of(showing, total, blocks, even));
-    let high = zone_near(sizes, walk.high, position_of(showing, total, blocks, odd));
-    let inner = low.index;
-    let outer = high.index;
-    Walk {
-        low: low,
-        high: high,
-        even: times[inner],
-        odd: times[outer],
-        until: run_end(showing, total, blocks, b, low, high),
-    }
+    let low = zone_of(sizes, showing, total, blocks, walk.low, b + b % 2);
+    let high = zone_of(sizes, showing, total, blocks, walk.high, b + 1 - b % 2);
+    run_from(sizes, times, showing, total, blocks, low, high, b)
 }
 
 // What a walk has for block b: the first of two for an even number, the second for an odd one.
@@ -318,7 +343,9 @@ pub fn worst_pair<'a>(
     let mut worst = Pair { time: 0, first: 0 };
     let mut b: u32 = 0;
     while b < last {
-        walk = walk_on(sizes, times, showing, total, blocks, walk, b);
+        let low = zone_of(sizes, showing, total, blocks, walk.low, b + b % 2);
+        let high = zone_of(sizes, showing, total, blocks, walk.high, b + 1 - b % 2);
+        walk = run_from(sizes, times, showing, total, blocks, low, high, b);
         worst = worse(worst, walk.even + walk.odd, b);
         b = walk.until - 1;
     }

@@ -1,13 +1,14 @@
-use Prim.Native.Nat.{_≤_}
-use mathlib.Core.Path.{_∙_}
+use mathlib.Core.Path.{_∙_, subst}
 use native.Mathlib.Omega.{arith}
 use borrow.Author.Needs.{needs}
 use Rattle.round_trip.specs.Legality as legality
+use Rattle.desk.specs.declared.Desk.{Desk}
 use Rattle.desk.specs.View.{Wide}
+use Rattle.desk.specs.Lent.{lent-desk}
 use Rattle.soundness.specs.Ready.{plan-streams, sound-plan}
 use Rattle.admission.specs.Slot.{SlotPassed}
 use Rattle.admission.specs.Answers.{leave-vacant, leave-done}
-use Rattle.admission.proofs.Judging.{told}
+use Rattle.admission.proofs.Judging.{told, Judged}
 use Rattle.admission.proofs.judge_leave.Statement.{statement}
 use Rattle.admission.proofs.judge_leave.Tie as tie
 
@@ -17,21 +18,48 @@ wide c = record { kinds = search needs; next = search needs; held = search needs
 slim : (c : tie.Start) → legality.Wide (c .args .t1 .plan .figures)
 slim c = (search needs, search needs, search needs)
 
-abbrev entry : tie.After-desk → tie.Start
-entry c = c .before .before .before .before
+-- ---- the places, each from a later one
+
+abbrev numbers : tie.After-judge-slot-arg6 → tie.After-numbers-in
+numbers c = c .before .before .before
+
+abbrev scalars : tie.After-judge-slot-arg6 → tie.After-scalars-in
+scalars c = numbers c .before .before .before .before .before .before
+
+abbrev entry : tie.After-judge-slot-arg6 → tie.Start
+entry c = scalars c .before .before .before .before
 
 abbrev start : tie.After-judge-slot → tie.Start
-start c = entry (c .before .before .before .before)
+start c = entry (c .before)
+
+-- ---- what is known there
+
+judged : (c : tie.After-judge-slot) → (let a = start c .args in Judged (a .t1) (a .positions .now) (a .leads .now) (a .slot) (c .judge-slot .result))
+judged c =
+    let a = start c .args in
+    let d = lent-desk _ _ (a .t1) (scalars (c .before) .scalars-in .ensures) (numbers (c .before) .numbers-in .ensures) in
+    subst (λ (d : Desk). Judged d (a .positions .now) (a .leads .now) (a .slot) (c .judge-slot .result)) d (c .judge-slot .ensures)
 
 -- past 14 to 16
 passed : (c : tie.Else1) → (let a = start (c .before .before) .args in SlotPassed (a .t1) (a .positions .now) (a .leads .now) (a .slot))
-passed c = c .before .before .judge-slot .ensures .0 (c .if1 .left)
+passed c = judged (c .before .before) .0 (c .if1 .left)
+
+-- ---- the needs
+
+scalars-in-requires : tie.Need-scalars-in-requires
+scalars-in-requires c κs = search needs
+
+numbers-in-requires : tie.Need-numbers-in-requires
+numbers-in-requires c κs = search needs
 
 judge-slot-requires : tie.Need-judge-slot-requires
-judge-slot-requires c κs = wide (entry (c .before .before .before))
+judge-slot-requires c κs =
+    let w = wide (entry c) in
+    let z = slim (entry c) in
+    (record { kinds = w .kinds; next = w .next; held = w .held }, z .0, z .1, z .2)
 
 returns : tie.Need-returns
-returns c = c .before .before .judge-slot .ensures .1 (c .if1 .taken) .leaves
+returns c = judged (c .before .before) .1 (c .if1 .taken) .leaves
 
 mul-if2 : tie.Need-mul-if2
 mul-if2 c = search needs
@@ -64,6 +92,8 @@ pub judge-leave-spec : {M : Type 1} → statement M
 judge-leave-spec =
     tie.close
     (tie.spec
+    scalars-in-requires
+    numbers-in-requires
     judge-slot-requires
     returns
     mul-if2

@@ -4,14 +4,21 @@ use native.Mathlib.Omega.{arith}
 use borrow.Author.Needs.{needs}
 use borrow.Author.Tests.{not-true, not-false}
 use Rattle.desk.specs.declared.Desk.{Desk}
-use Rattle.soundness.specs.Facts.{recordOf, soundDesk}
-use Rattle.admission.proofs.Judging.{slot-unsound, slot-in-sweep, slot-unused, refuses, passes}
+use Rattle.desk.specs.View.{Wide}
+use Rattle.desk.specs.Records.{lentDesk}
+use Rattle.soundness.specs.Facts.{soundDesk}
+use Rattle.admission.proofs.Judging.{slot-unsound, slot-in-sweep, refuses, placed}
 use Rattle.admission.proofs.judge_slot.Statement.{statement}
 use Rattle.admission.proofs.judge_slot.Tie as tie
 
 -- the record that is judged
 abbrev given : tie.Start → Desk
-given c = let a = c .args in recordOf (a .plan) (a .phase) (a .kinds .now) (a .next .now) (a .held .now)
+given c =
+    let a = c .args in
+    lentDesk (a .figures) (a .sizes .now) (a .times .now) (a .table .now) (a .plan) (a .phase) (a .kinds .now) (a .next .now) (a .held .now)
+
+wide : (c : tie.Start) → Wide (given c)
+wide c = c .pre .0
 
 abbrev start : tie.After-is-sound → tie.Start
 start c = c .before .before .before
@@ -30,7 +37,7 @@ returns : tie.Need-returns
 returns c =
     let t = c .before .before in
     let s = start t in
-    refuses (given s) (s .pre) _ _ _ _ _ _ (omega arith) (slot-unsound (given s) (s .pre) _ _ _ (sym (t .is-sound .ensures) ∙ not-true _ (c .before .if1 .taken))) (c .verdict .ensures)
+    refuses (given s) (wide s) _ _ _ _ _ _ (omega arith) (slot-unsound (given s) (wide s) _ _ _ (sym (t .is-sound .ensures) ∙ not-true _ (c .before .if1 .taken))) (c .verdict .ensures)
 
 verdict-requires-2 : tie.Need-verdict-requires-2
 verdict-requires-2 c κs = search needs
@@ -39,27 +46,17 @@ returns-2 : tie.Need-returns-2
 returns-2 c =
     let e = c .before .before in
     let s = start (e .before) in
-    refuses (given s) (s .pre) _ _ _ _ _ _ (omega arith) (slot-in-sweep (given s) (s .pre) _ _ _ (passed e) (c .before .if2 .taken)) (c .verdict2 .ensures)
+    refuses (given s) (wide s) _ _ _ _ _ _ (omega arith) (slot-in-sweep (given s) (wide s) _ _ _ (passed e) (c .before .if2 .taken)) (c .verdict2 .ensures)
 
-verdict-requires-3 : tie.Need-verdict-requires-3
-verdict-requires-3 c κs = search needs
+judge-place-requires : tie.Need-judge-place-requires
+judge-place-requires c κs = search needs
 
 returns-3 : tie.Need-returns-3
 returns-3 c =
-    let p = c .before .before .before in
+    let p = c .before in
     let e = p .before in
     let s = start (e .before) in
-    refuses (given s) (s .pre) _ _ _ _ _ _ (omega arith) (slot-unused (given s) (s .pre) _ _ _ (passed e) (p .if2 .left) (c .before .if3 .taken)) (c .verdict3 .ensures)
-
-verdict-requires-4 : tie.Need-verdict-requires-4
-verdict-requires-4 c κs = search needs
-
-returns-4 : tie.Need-returns-4
-returns-4 c =
-    let p = c .before .before .before in
-    let e = p .before in
-    let s = start (e .before) in
-    passes (given s) (s .pre) _ _ _ _ (record { sound = passed e; phase = p .if2 .left; used = c .before .if3 .left }) (c .verdict4 .ensures)
+    placed (given s) (wide s) _ _ _ (passed e) (p .if2 .left) _ (c .judge-place .ensures)
 
 pub judge-slot-spec : {M : Type 1} → statement M
 judge-slot-spec =
@@ -70,7 +67,5 @@ judge-slot-spec =
     returns
     verdict-requires-2
     returns-2
-    verdict-requires-3
-    returns-3
-    verdict-requires-4
-    returns-4)
+    judge-place-requires
+    returns-3)

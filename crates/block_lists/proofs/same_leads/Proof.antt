@@ -6,6 +6,7 @@ use native.Mathlib.Omega.{arith}
 use Rattle.words.specs.Words.{wordsOf}
 use Rattle.zones.specs.declared.Walk.{Walk}
 use Rattle.zones.specs.Walk.{Cursors}
+use Rattle.zones.specs.Meets.{meets}
 use Rattle.placement.specs.Showing.{laying}
 use Rattle.plan.specs.Plan.{showingOf}
 use Rattle.plan.specs.Disk.{leadAt}
@@ -34,11 +35,20 @@ loop-holds : tie.Need-loop-holds Inv-loop μ-loop
 loop-holds c = let a = c .before .before .before .before .args in
     record { cursors = c .set-out .ensures; leads = compares-start (wordsOf (a .leads .now)) (leadAt (a .sizes .now) (a .times .now) (laying (showingOf (a .showing)) (a .total) (a .blocks)) (a .worst2)) 0 (a .blocks) (omega arith) }
 
+zone-of-requires : tie.Need-zone-of-requires Inv-loop μ-loop
+zone-of-requires c κs = let l = c .before in meets (l .before .before .before .before .before .pre) (l .loop .inv .cursors .low) (omega arith)
+
+zone-of-requires-2 : tie.Need-zone-of-requires-2 Inv-loop μ-loop
+zone-of-requires-2 c κs = let l = c .before .before in meets (l .before .before .before .before .before .pre) (l .loop .inv .cursors .high) (omega arith)
+
+run-from-requires : tie.Need-run-from-requires Inv-loop μ-loop
+run-from-requires c κs = let l = c .before .before .before in (l .before .before .before .before .before .pre, omega arith, c .before .zone-of .ensures, c .zone-of2 .ensures)
+
 loop-again : tie.Need-loop-again Inv-loop μ-loop
 loop-again c = let run = c .before in
     let w = run .before .before .before in
-    let l = w .before .before in
-    let r = w .walk-on .ensures in
+    let l = w .before .before .before .before in
+    let r = w .run-from .ensures in
     record {
       cursors = r .cursors;
       leads = compares-run (l .loop .inv .leads) (omega arith) (r .within) (c .both .ensures) (run .same-run .ensures)
@@ -60,7 +70,12 @@ same-leads-spec =
     returns
     (λ c κs. search needs)
     loop-holds
-    (λ c κs. search needs)
+    (λ c. search needs)
+    zone-of-requires
+    (λ c. search needs)
+    (λ c. search needs)
+    zone-of-requires-2
+    run-from-requires
     (λ c κs. search needs)
     (λ c κs. search needs)
     (λ c κs. search needs)

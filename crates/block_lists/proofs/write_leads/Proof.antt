@@ -3,7 +3,8 @@ use mathlib.Core.Path.{_∙_}
 use mathlib.Core.List.{List}
 use native.Mathlib.Omega.{arith}
 use Rattle.zones.specs.declared.Walk.{Walk}
-use Rattle.zones.specs.Walk.{sideOf, Cursors}
+use Rattle.zones.specs.Walk.{Cursors}
+use Rattle.zones.specs.Meets.{meets}
 use Rattle.placement.specs.Showing.{laying}
 use Rattle.plan.specs.Plan.{showingOf}
 use Rattle.plan.specs.Disk.{leadAt}
@@ -26,12 +27,26 @@ loop-holds : tie.Need-loop-holds Inv-loop μ-loop
 loop-holds c = let a = c .before .before .args in
     record { cursors = c .set-out .ensures; leads = writes-start (a .leads .now) (leadAt (a .sizes .now) (a .times .now) (laying (showingOf (a .showing)) (a .total) (a .blocks)) (a .worst2)) 0 (a .blocks) (omega arith) }
 
+zone-of-requires : tie.Need-zone-of-requires Inv-loop μ-loop
+zone-of-requires c κs = let l = c .before in meets (l .before .before .before .pre .0) (l .loop .inv .cursors .low) (omega arith)
+
+zone-of-requires-2 : tie.Need-zone-of-requires-2 Inv-loop μ-loop
+zone-of-requires-2 c κs = let l = c .before .before in meets (l .before .before .before .pre .0) (l .loop .inv .cursors .high) (omega arith)
+
+run-from-requires : tie.Need-run-from-requires Inv-loop μ-loop
+run-from-requires c κs = let l = c .before .before .before in (l .before .before .before .pre .0, omega arith, c .before .zone-of .ensures, c .zone-of2 .ensures)
+
+put-run-requires : tie.Need-put-run-requires Inv-loop μ-loop
+put-run-requires c κs = let r = c .before .before .before .run-from .ensures in
+    let l = c .before .before .before .before .before .before .before in
+    record { order = omega (arith, r .ahead); room = omega (arith, r .within, l .loop .inv .leads .room, l .before .before .before .pre .1) }
+
 loop-again : tie.Need-loop-again Inv-loop μ-loop
 loop-again c = let put = c .before .before in
     let w = put .before .before .before .before in
-    let l = w .before .before in
+    let l = w .before .before .before .before in
     let a = l .before .before .before .args in
-    let r = w .walk-on .ensures in
+    let r = w .run-from .ensures in
     record {
       cursors = r .cursors;
       leads = writes-run (l .loop .inv .leads) (omega arith) (r .within) (put .put-run .ensures)
@@ -55,10 +70,15 @@ write-leads-spec =
     μ-loop
     (λ c κs. search needs)
     loop-holds
+    (λ c. search needs)
+    zone-of-requires
+    (λ c. search needs)
+    (λ c. search needs)
+    zone-of-requires-2
+    run-from-requires
     (λ c κs. search needs)
     (λ c κs. search needs)
-    (λ c κs. search needs)
-    (λ c κs. search needs)
+    put-run-requires
     (λ c. omega arith)
     loop-again
     same-length

@@ -3,7 +3,9 @@ use mathlib.Core.Path.{_∙_}
 use native.Mathlib.Omega.{arith}
 use Rattle.placement.specs.Showing.{laying}
 use Rattle.plan.specs.Plan.{showingOf}
+use Rattle.plan.specs.Check.{shows-loop}
 use Rattle.block_lists.proofs.Runs.{Writes, writes-start, writes-one, writes-end, written-all}
+use borrow.Author.Needs.{needs}
 use Rattle.block_lists.proofs.write_positions.Statement.{statement}
 use Rattle.block_lists.proofs.write_positions.Tie as tie
 
@@ -14,22 +16,30 @@ abbrev μ-loop : tie.MeasureT-loop
 μ-loop showing total blocks positions₀ b₀ positions b = blocks - b
 
 loop-holds : tie.Need-loop-holds Inv-loop μ-loop
-loop-holds c = let a = c .before .args in writes-start (a .positions .now) (laying (showingOf (a .showing)) (a .total) (a .blocks)) 0 (a .blocks) (omega arith)
+loop-holds c = let a = c .before .before .args in writes-start (a .positions .now) (laying (showingOf (a .showing)) (a .total) (a .blocks)) 0 (a .blocks) (omega arith)
 
 put-word-requires : tie.Need-put-word-requires Inv-loop μ-loop
 put-word-requires c κs = let w = c .before .before .before .loop .inv in omega arith
 
 loop-again : tie.Need-loop-again Inv-loop μ-loop
 loop-again c = let l = c .before .before .before .before .before .before in
-    let a = l .before .before .args in
     writes-one (l .loop .inv) (omega arith) (c .before .before .put-word .ensures) (c .before .before .before .position-of .ensures .is)
 
+put-ring-requires : tie.Need-put-ring-requires Inv-loop μ-loop
+put-ring-requires c κs = c .before .before .before .pre
+
 same-length : tie.Need-same-length Inv-loop μ-loop
-same-length c = c .before .loop .inv .kept
+same-length c = search needs
 
 returns : tie.Need-returns Inv-loop μ-loop
-returns c = let l = c .before in
-    let a = l .before .before .args in
+returns c = rw (shows-loop _ (c .before .before .before .before .if1 .taken)) (c .before .before .put-ring .ensures)
+
+same-length-2 : tie.Need-same-length-2 Inv-loop μ-loop
+same-length-2 c = c .before .loop .inv .kept
+
+returns-2 : tie.Need-returns-2 Inv-loop μ-loop
+returns-2 c = let l = c .before in
+    let a = l .before .before .before .args in
     writes-end (l .loop .inv) (omega arith)
     ∙ written-all (a .positions .now) (laying (showingOf (a .showing)) (a .total) (a .blocks)) (a .blocks)
 
@@ -39,6 +49,9 @@ write-positions-spec =
     (tie.spec
     Inv-loop
     μ-loop
+    put-ring-requires
+    same-length
+    returns
     loop-holds
     (λ c. omega arith)
     (λ c κs. omega arith)
@@ -46,5 +59,5 @@ write-positions-spec =
     (λ c. omega arith)
     (λ c. omega arith)
     loop-again
-    same-length
-    returns)
+    same-length-2
+    returns-2)

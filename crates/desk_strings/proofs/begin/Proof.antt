@@ -37,11 +37,11 @@ judged c =
       bytes = right d .before .before .before .before .slice-known .given;
     }
 
-not-sound-requires : tie.Need-not-sound-requires
-not-sound-requires c κs = search needs
+number-answer-requires : tie.Need-number-answer-requires
+number-answer-requires c κs = search needs
 
 returns : tie.Need-returns
-returns c = begin-other _ _ _ _ (c .before .if1 .taken) _ (c .not-sound .ensures)
+returns c = begin-other _ _ _ _ (c .before .if1 .taken) _ (c .number-answer .ensures)
 
 entries-requires : tie.Need-entries-requires
 entries-requires c κs = search needs
@@ -84,7 +84,7 @@ pub begin-spec : {M : Type 1} → statement M
 begin-spec =
     tie.close
     (tie.spec
-    not-sound-requires
+    number-answer-requires
     returns
     entries-requires
     read-desk-requires

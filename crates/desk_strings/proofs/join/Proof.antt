@@ -21,12 +21,12 @@ judged c = record {
   bytes = right c .before .before .before .slice-known .given;
 }
 
-not-sound-requires : tie.Need-not-sound-requires
-not-sound-requires c κs = search needs
+number-answer-requires : tie.Need-number-answer-requires
+number-answer-requires c κs = search needs
 
 returns : tie.Need-returns
 unfolding joinAnswer joinString
-returns c = other-call _ _ _ _ (c .before .if1 .taken) (c .not-sound .ensures)
+returns c = other-call _ _ _ _ (c .before .if1 .taken) (c .number-answer .ensures)
 
 read-desk-requires : tie.Need-read-desk-requires
 read-desk-requires c κs = search needs
@@ -64,7 +64,7 @@ pub join-spec : {M : Type 1} → statement M
 join-spec =
     tie.close
     (tie.spec
-    not-sound-requires
+    number-answer-requires
     returns
     read-desk-requires
     judge-join-requires

@@ -17,7 +17,7 @@ same-length : tie.Need-same-length
 same-length c = search needs
 
 returns : tie.Need-returns
-returns c = kinds-written _ _ _ _ (search needs) (omega arith) (omega arith) cc
+returns c = (kinds-written _ _ _ _ (search needs) (omega arith) (omega arith) cc, omega arith)
 
 pub put-kinds-spec : {M : Type 1} → statement M
 put-kinds-spec =

@@ -1,11 +1,24 @@
-use Rattle.plan_strings.proofs.Ways.{other-length, short-list, judged-plan}
+use mathlib.Core.Path.{refl, _∙_}
+use Rattle.words.specs.Words.{Bytes}
+use Rattle.words.specs.Laws.{bytes-fit}
+use Rattle.card.specs.Read.{blankZones, blankTable}
+use Rattle.card_reader.specs.Told.{told-refused, told-figures}
+use Rattle.plan.specs.Ways.{card-legal}
+use Rattle.plan_strings.proofs.Ways.{other-length, refused-card, planned-card}
 use borrow.Author.Needs.{needs}
 use Rattle.plan_strings.proofs.plan_showing.Statement.{statement}
 use Rattle.plan_strings.proofs.plan_showing.Tie as tie
 
--- where the plan was made
-abbrev made : tie.After-struct-known → tie.After-plan-by
-made c = c .before .before .before .before .before .before
+-- where the plan string has its length
+abbrev start : tie.Else1 → tie.Start
+start c = c .before .before .before .before .before
+
+bytes : (c : tie.Else1) → Bytes (start c .args .card .now)
+bytes c = bytes-fit (start c .args .card .now) (c .before .before .before .before .shared-slice-known .given)
+
+-- where the card was read
+abbrev sized : tie.After-read-into → tie.Else1
+sized c = c .before .before .before .before
 
 unwritten-requires : tie.Need-unwritten-requires
 unwritten-requires c κs = search needs
@@ -13,28 +26,39 @@ unwritten-requires c κs = search needs
 returns : tie.Need-returns
 returns c = other-length _ _ _ _ _ (c .before .if1 .taken) _ (c .unwritten .ensures _)
 
-plan-by-requires : tie.Need-plan-by-requires
-plan-by-requires c κs = search needs
+read-into-requires : tie.Need-read-into-requires
+unfolding blankZones blankTable
+read-into-requires c κs = (refl, refl, refl)
 
-verdict-answer-requires : tie.Need-verdict-answer-requires
-verdict-answer-requires c κs = search needs
+enum-known-told : tie.Need-enum-known-told
+enum-known-told c = search needs
+
+refused-requires : tie.Need-refused-requires
+refused-requires c κs = search needs
+
+enum-known-told-2 : tie.Need-enum-known-told-2
+enum-known-told-2 c = search needs
+
+plan-into-requires : tie.Need-plan-into-requires
+plan-into-requires c κs =
+    let t = c .before .before .before .before .before .before .before in
+    let r = t .before .before in
+    let z = sized r in
+    (z .if1 .left, card-legal _ (bytes z) _ (told-figures _ _ _ (t .told2 .given .1) ∙ r .read-into .ensures) refl)
 
 same-length : tie.Need-same-length
 same-length c = search needs
 
-same-length-2 : tie.Need-same-length-2
-same-length-2 c = search needs
-
 returns-2 : tie.Need-returns-2
 returns-2 c =
-    let m = made (c .before .before) in
-    short-list _ _ _ _ _ (m .before .before .before .if1 .left) (m .plan-by .result) _ _ (m .plan-by .ensures) _ (c .verdict-answer .ensures) (c .before .if2 .taken)
+    let w = c .before .before in
+    let t = w .before .before .before in
+    let r = t .before .before in
+    let z = sized r in
+    refused-card _ _ _ _ _ (z .if1 .left) (bytes z) _ _ (told-refused _ _ _ (t .told .given .1) ∙ r .read-into .ensures) _ (w .refused .ensures .0) _ (w .refused .ensures .1)
 
-write-plan-requires : tie.Need-write-plan-requires
-write-plan-requires c κs = search needs
-
-verdict-answer-requires-2 : tie.Need-verdict-answer-requires-2
-verdict-answer-requires-2 c κs = search needs
+same-length-2 : tie.Need-same-length-2
+same-length-2 c = search needs
 
 same-length-3 : tie.Need-same-length-3
 same-length-3 c = search needs
@@ -42,15 +66,12 @@ same-length-3 c = search needs
 same-length-4 : tie.Need-same-length-4
 same-length-4 c = search needs
 
-same-length-5 : tie.Need-same-length-5
-same-length-5 c = search needs
-
 returns-3 : tie.Need-returns-3
 returns-3 c =
-    let w = c .before .before .before in
-    let e = w .before .before in
-    let m = made (e .before) in
-    judged-plan _ _ _ _ _ (m .before .before .before .if1 .left) (m .plan-by .result) _ _ (m .plan-by .ensures) _ (c .verdict-answer2 .ensures) (e .if2 .left) _ (w .write-plan .ensures .0)
+    let p = c .before .before .before .before .before .before in
+    let t = p .before .before .before .before .before .before .before .before in
+    let r = t .before .before in
+    planned-card _ _ _ _ _ (sized r .if1 .left) _ (told-figures _ _ _ (t .told2 .given .1) ∙ r .read-into .ensures) _ _ _ _ (p .plan-into .ensures)
 
 pub plan-showing-spec : {M : Type 1} → statement M
 plan-showing-spec =
@@ -58,14 +79,14 @@ plan-showing-spec =
     (tie.spec
     unwritten-requires
     returns
-    plan-by-requires
-    verdict-answer-requires
+    read-into-requires
+    enum-known-told
+    refused-requires
+    enum-known-told-2
+    plan-into-requires
     same-length
-    same-length-2
     returns-2
-    write-plan-requires
-    verdict-answer-requires-2
+    same-length-2
     same-length-3
     same-length-4
-    same-length-5
     returns-3)

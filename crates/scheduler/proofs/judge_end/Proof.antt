@@ -1,19 +1,10 @@
-use mathlib.Core.Path.{_≡_, sym, ap, _∙_}
-use mathlib.Core.Bool.{true}
-use native.Mathlib.Omega.{arith}
-use borrow.Author.Needs.{needs}
-use borrow.Author.Tests.{not-true, not-false}
-use Rattle.card.specs.TableLaws.{table-range}
+use mathlib.Core.Path.{ap, _∙_}
 use Rattle.round_trip.specs.Legality as legality
-use Rattle.desk.specs.declared.Answer.{Answer}
-use Rattle.desk.specs.Desk.{supplyOf, viewOf}
+use Rattle.desk.specs.declared.Desk.{Desk}
+use Rattle.desk.specs.Desk.{endDesk}
 use Rattle.desk.specs.View.{Wide}
-use Rattle.desk.specs.Ready.{Ready, streams-are, buffer-has}
-use Rattle.soundness.specs.Facts.{soundDesk}
-use Rattle.soundness.specs.Ready.{sound-ready, sound-plan}
-use Rattle.gather.specs.Ready.{zoned, reached, gathers, in-range}
-use Rattle.scheduler.specs.Answers.{end-unsound, end-between, end-judged}
-use Rattle.scheduler.proofs.Sweeping.{timed, sweeps}
+use Rattle.desk.specs.Lent.{lent-desk}
+use borrow.Author.Needs.{needs}
 use Rattle.scheduler.proofs.judge_end.Statement.{statement}
 use Rattle.scheduler.proofs.judge_end.Tie as tie
 
@@ -23,115 +14,30 @@ wide c = record { kinds = search needs; next = search needs; held = search needs
 slim : (c : tie.Start) → legality.Wide (c .args .t1 .plan .figures)
 slim c = (search needs, search needs, search needs)
 
--- the verdict of an answer
-told : {a b : Answer} → a ≡ b → a .verdict ≡ b .verdict
-told e = ap (λ (a : Answer). a .verdict) e
+abbrev taken : tie.After-numbers-in → tie.After-scalars-in
+taken c = c .before .before .before .before .before .before
 
--- ---- the places, each from a later one
+abbrev start : tie.After-numbers-in → tie.Start
+start c = taken c .before .before .before .before .before
 
-abbrev start : tie.After-is-sound → tie.Start
-start c = c .before .before .before .before .before .before .before .before .before
+scalars-in-requires : tie.Need-scalars-in-requires
+scalars-in-requires c κs = search needs
 
-abbrev tested : tie.Else1 → tie.After-is-sound
-tested c = c .before
+numbers-in-requires : tie.Need-numbers-in-requires
+numbers-in-requires c κs = search needs
 
-abbrev sweeping : tie.After-desk2 → tie.Else2
-sweeping c = c .before
-
-abbrev gathering : tie.After-gather → tie.Else2
-gathering c = sweeping (c .before .before .before .before .before)
-
-abbrev bounding : tie.After-sweep-bound → tie.After-gather
-bounding c = c .before .before .before .before .before .before .before
-
--- ---- what is known there
-
--- past the test of soundness
-passed : (c : tie.Else1) → (let a = start (tested c) .args in soundDesk (a .t1) (a .positions .now) (a .leads .now) ≡ true)
-passed c = sym (tested c .is-sound .ensures) ∙ not-false _ (c .if1 .left)
-
-ready : (c : tie.Else1) → Ready (start (tested c) .args .t1)
-ready c = sound-ready _ _ _ (slim (start (tested c))) (passed c)
-
--- ---- the needs
-
-is-sound-requires : tie.Need-is-sound-requires
-is-sound-requires c κs = wide (c .before .before .before .before .before .before .before .before)
-
-verdict-requires : tie.Need-verdict-requires
-verdict-requires c κs = search needs
+end-verdict-requires : tie.Need-end-verdict-requires
+end-verdict-requires c κs =
+    let s = start (c .before .before .before) in
+    let w = wide s in
+    (record { kinds = w .kinds; next = w .next; held = w .held }, slim s .0, slim s .1, slim s .2)
 
 returns : tie.Need-returns
 returns c =
-    let t = c .before .before in
-    let s = start t in
-    c .verdict .ensures ∙ told (end-unsound (s .args .t1) (wide s) _ _ _ (sym (t .is-sound .ensures) ∙ not-true _ (c .before .if1 .taken)))
-
-verdict-requires-2 : tie.Need-verdict-requires-2
-verdict-requires-2 c κs = search needs
-
-returns-2 : tie.Need-returns-2
-returns-2 c =
-    let e = c .before .before in
-    let s = start (tested e) in
-    c .verdict2 .ensures ∙ told (end-between (s .args .t1) (wide s) _ _ _ (passed e) (c .before .if2 .taken))
-
-cast-streams : tie.Need-cast-streams
-cast-streams c = search needs
-
-gather-requires : tie.Need-gather-requires
-gather-requires c κs =
-    let e = sweeping (c .before .before .before .before) .before in
-    let s = start (tested e) in
-    let d = s .args .t1 in
-    let p = sound-plan _ _ _ (passed e) in
-    (streams-are d (ready e), zoned d (wide s) (ready e) _ _ p, reached d (wide s) (ready e) _ _ p)
-
-sub-sweep-bound : tie.Need-sub-sweep-bound
-sub-sweep-bound c = let e = gathering (c .before .before .before .before .before) .before in
-    omega (arith, buffer-has (start (tested e) .args .t1 .plan) (ready e .planned))
-
-sweep-bound-requires : tie.Need-sweep-bound-requires
-sweep-bound-requires c κs =
-    let g = c .before .before .before .before .before .before in
-    let e = gathering g .before in
-    let r = ready e in
-    let i = in-range _ (wide (start (tested e))) r _ _ (sound-plan _ _ _ (passed e)) (g .gather .result) (g .gather .ensures) in
-    (streams-are _ r, i .times, λ k h. table-range _ (r .legal) k h .1)
-
-most-drawn-requires : tie.Need-most-drawn-requires
-most-drawn-requires c κs = search needs
-
-judge-draws-requires : tie.Need-judge-draws-requires
-judge-draws-requires c κs = let g = bounding (c .before .before .before .before) in streams-are _ (ready (gathering g .before))
-
-returns-3 : tie.Need-returns-3
-returns-3 c =
-    let m = c .before .before .before .before in
-    let b = m .before in
-    let g = bounding b in
-    let e = gathering g .before in
-    let s = start (tested e) in
-    let d = s .args .t1 in
-    let p = supplyOf (d .plan) in
-    let f = gathers d (wide s) (ready e) _ _ (sound-plan _ _ _ (passed e)) (g .gather .result) (g .gather .ensures) in
-    let t = b .sweep-bound .ensures p (d .next) (timed d (wide s) (ready e) (g .gather .result) f) in
-    c .judge-draws .ensures p (viewOf d) (d .next) (sweeps d (wide s) (ready e) (gathering g .if2 .left) _ _ t (m .most-drawn .ensures))
-    ∙ end-judged d (wide s) _ _ _ (passed e)
+    let n = c .before .before .before .before in
+    let a = start n .args in
+    c .end-verdict .ensures
+    ∙ ap (λ (d : Desk). endDesk d (a .positions .now) (a .leads .now) (a .draws .now) .verdict) (lent-desk _ _ (a .t1) (taken n .scalars-in .ensures) (n .numbers-in .ensures))
 
 pub judge-end-spec : {M : Type 1} → statement M
-judge-end-spec =
-    tie.close
-    (tie.spec
-    is-sound-requires
-    verdict-requires
-    returns
-    verdict-requires-2
-    returns-2
-    cast-streams
-    gather-requires
-    sub-sweep-bound
-    sweep-bound-requires
-    most-drawn-requires
-    judge-draws-requires
-    returns-3)
+judge-end-spec = tie.close (tie.spec scalars-in-requires numbers-in-requires end-verdict-requires returns)

@@ -10,7 +10,9 @@ use Rattle.plan.specs.Answer.{isPlan}
 use Rattle.plan.specs.Check.{checked-legal}
 use Rattle.desk.specs.declared.Desk.{Desk}
 use Rattle.desk.specs.Desk.{supplyOf}
-use Rattle.soundness.specs.Facts.{recordOf, AllTidy, LeadList}
+use Rattle.desk.specs.View.{Wide}
+use Rattle.desk.specs.Records.{lentDesk}
+use Rattle.soundness.specs.Facts.{AllTidy, LeadList}
 use Rattle.soundness.specs.Tests.{tidy-slots, tidy-listed, tidy-leads, unsound-phase, unsound-slots, sound-told}
 use Rattle.soundness.specs.Ready.{plan-leads, plan-streams}
 use Rattle.soundness.proofs.Tells.{fails-first, then-second}
@@ -19,10 +21,15 @@ use Rattle.soundness.proofs.is_sound.Tie as tie
 
 -- the record that is tested
 abbrev given : tie.Start → Desk
-given c = let a = c .args in recordOf (a .plan) (a .phase) (a .kinds .now) (a .next .now) (a .held .now)
+given c =
+    let a = c .args in
+    lentDesk (a .figures) (a .sizes .now) (a .times .now) (a .table .now) (a .plan) (a .phase) (a .kinds .now) (a .next .now) (a .held .now)
+
+wide : (c : tie.Start) → Wide (given c)
+wide c = c .pre .0
 
 slim : (c : tie.Start) → legality.Wide (given c .plan .figures)
-slim c = (search needs, search needs, search needs)
+slim c = (c .pre .1, c .pre .2, c .pre .3)
 
 -- ---- the places, each from a later one
 
@@ -35,8 +42,8 @@ planned c = c .before .before .before .before
 -- ---- what is known there
 
 -- past the check of the plan
-passed : (c : tie.Else1) → (let a = start c .args in isPlan (a .plan) (a .positions .now) (a .leads .now) ≡ true)
-passed c = sym (c .before .is-plan .ensures) ∙ not-false _ (c .if1 .left)
+passed : (c : tie.Else1) → (let s = start c in isPlan (given s .plan) (s .args .positions .now) (s .args .leads .now) ≡ true)
+passed c = sym (c .before .is-plan-of .ensures) ∙ not-false _ (c .if1 .left)
 
 legal : (c : tie.Else1) → Legal (given (start c) .plan .figures)
 legal c = checked-legal _ _ _ (slim (start c)) (passed c)
@@ -53,15 +60,15 @@ tidy c = c .before .all-tidy .ensures .yes (not-false _ (c .if3 .left))
 
 -- ---- the needs
 
-is-plan-requires : tie.Need-is-plan-requires
-is-plan-requires c κs = search needs
+is-plan-of-requires : tie.Need-is-plan-of-requires
+is-plan-of-requires c κs = slim (c .before .before)
 
 returns : tie.Need-returns
-returns c = fails-first _ _ (sym (c .before .is-plan .ensures) ∙ not-true _ (c .if1 .taken))
+returns c = fails-first _ _ (sym (c .before .is-plan-of .ensures) ∙ not-true _ (c .if1 .taken))
 
 returns-2 : tie.Need-returns-2
 returns-2 c = let e = c .before in
-    then-second _ _ _ (passed e) (unsound-phase (given (start e)) (start e .pre) (c .if2 .taken))
+    then-second _ _ _ (passed e) (unsound-phase (given (start e)) (wide (start e)) (c .if2 .taken))
 
 cast-streams : tie.Need-cast-streams
 cast-streams c = search needs
@@ -72,12 +79,12 @@ all-tidy-requires c κs = few (c .before .before)
 returns-3 : tie.Need-returns-3
 returns-3 c = let e = c .before .before .before .before in
     let s = start e in
-    then-second _ _ _ (passed e) (unsound-slots (given s) (s .pre) (c .before .all-tidy .ensures .no (not-true _ (c .if3 .taken))))
+    then-second _ _ _ (passed e) (unsound-slots (given s) (wide s) (c .before .all-tidy .ensures .no (not-true _ (c .if3 .taken))))
 
 sum-leads-requires : tie.Need-sum-leads-requires
 sum-leads-requires c κs = let e = planned c in
     let s = start e in
-    (few e, tidy-listed (given s) (s .pre) (tidy c) (few e) _ (lent e))
+    (few e, tidy-listed (given s) (wide s) (tidy c) (few e) _ (lent e))
 
 low-water-requires : tie.Need-low-water-requires
 low-water-requires c κs = let h = legal (planned (c .before)) in (h .bytes .1, h .rate .1)
@@ -93,15 +100,15 @@ returns-4 c =
     let e = planned t in
     let s = start e in
     let d = given s in
-    let f = l .sum-leads .ensures .sums (supplyOf (d .plan)) (d .held) (tidy-slots d (s .pre) (tidy t)) (tidy-leads d (s .pre) (tidy t) (few e) _ (lent e)) in
+    let f = l .sum-leads .ensures .sums (supplyOf (d .plan)) (d .held) (tidy-slots d (wide s) (tidy t)) (tidy-leads d (wide s) (tidy t) (few e) _ (lent e)) in
     then-second _ _ _ (passed e)
-    (sound-told d (s .pre) _ _ _ f (m .low-water .ensures) (t .before .before .before .if2 .left) (tidy t) (c .players-hold .ensures))
+    (sound-told d (wide s) _ _ _ f (m .low-water .ensures) (t .before .before .before .if2 .left) (tidy t) (c .players-hold .ensures))
 
 pub is-sound-spec : {M : Type 1} → statement M
 is-sound-spec =
     tie.close
     (tie.spec
-    is-plan-requires
+    is-plan-of-requires
     returns
     returns-2
     cast-streams

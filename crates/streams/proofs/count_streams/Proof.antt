@@ -5,7 +5,7 @@ use native.Mathlib.Omega.{arith}
 use borrow.Author.Needs.{needs}
 use Rattle.numbers.specs.Limits.{maxStreams}
 use Rattle.numbers.specs.Units.{parts}
-use Rattle.pacing.specs.Streams.{overhead, twoSweeps, streams, tried, tried-all, tried-hit, tried-down, tried-none, time-fits, time-passes}
+use Rattle.pacing.specs.Streams.{overhead, twoSweeps, streams, tried, tried-from, tried-hit, tried-down, tried-none, time-fits, time-passes}
 use Rattle.streams.proofs.count_streams.Statement.{statement}
 use Rattle.streams.proofs.count_streams.Tie as tie
 
@@ -28,15 +28,20 @@ div-room : tie.Need-div-room Inv-loop μ-loop
 div-room c = c .before .pre .1
 
 loop-holds : tie.Need-loop-holds Inv-loop μ-loop
-loop-holds c = let a = c .before .args in
+loop-holds c = let s = c .before .before in
+    let a = s .args in
+    let h = c .highest-tried .ensures in
+    let over = overhead (a .table .now) in
+    let left = ap (λ (m : ℕ). m / a .rate) (c .before .product .ensures) in
     record {
-      few = omega arith;
-      left = ap (λ (m : ℕ). m / a .rate) (c .product .ensures);
-      same = tried-all (a .rate) (a .worst2) (overhead (a .table .now)) (a .bytes);
+      few = h .0;
+      left = left;
+      same = tried-from (a .rate) (a .worst2) over (a .bytes) _ (h .0)
+          (λ k i u. time-passes (a .rate) (a .worst2) over (a .bytes) k (s .pre .1) (omega (arith, left, h .1 k i u)));
     }
 
 two-sweeps-requires : tie.Need-two-sweeps-requires Inv-loop μ-loop
-two-sweeps-requires c κs = (c .before .before .before .pre .0, c .before .loop .inv .few)
+two-sweeps-requires c κs = (c .before .before .before .before .pre .0, c .before .loop .inv .few)
 
 cast-if2 : tie.Need-cast-if2 Inv-loop μ-loop
 cast-if2 c = search needs
@@ -48,7 +53,7 @@ loop-less : tie.Need-loop-less Inv-loop μ-loop
 loop-less c = omega arith
 
 loop-again : tie.Need-loop-again Inv-loop μ-loop
-loop-again c = let s = c .before .before .before .before .before in
+loop-again c = let s = c .before .before .before .before .before .before in
     let a = s .args in
     let l = c .before .before .before .loop in
     let over = overhead (a .table .now) in
@@ -60,11 +65,11 @@ loop-again c = let s = c .before .before .before .before .before in
     }
 
 returns : tie.Need-returns Inv-loop μ-loop
-returns c = let a = c .before .before .before .args in let l = c .before .loop in
+returns c = let a = c .before .before .before .before .args in let l = c .before .loop in
     sym (tried-none (a .rate) (a .worst2) (overhead (a .table .now)) (a .bytes) (l .n) (c .if1 .taken)) ∙ l .inv .same
 
 returns-2 : tie.Need-returns-2 Inv-loop μ-loop
-returns-2 c = let s = c .before .before .before .before .before in
+returns-2 c = let s = c .before .before .before .before .before .before in
     let a = s .args in
     let l = c .before .before .before .loop in
     let over = overhead (a .table .now) in
@@ -79,6 +84,7 @@ count-streams-spec =
     μ-loop
     product-requires
     div-room
+    (λ c κs. search needs)
     loop-holds
     two-sweeps-requires
     cast-if2

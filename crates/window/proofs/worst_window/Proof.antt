@@ -1,12 +1,14 @@
-use mathlib.Core.Path.{_≡_, sym, ap₂, _∙_}
+use mathlib.Core.Path.{_≡_, sym, ap, ap₂, _∙_}
 use mathlib.Core.Bool.{Bool, cond}
 use native.Mathlib.Omega.{arith}
 use native.Mathlib.Nat.{mul-le-mul}
 use Rattle.numbers.specs.Refusals.{notSound, wrongWindow}
+use Rattle.card.specs.declared.Figures.{Figures}
 use Rattle.card.specs.Card.{Legal, totalPositions}
 use Rattle.round_trip.specs.Legality.{Wide}
 use Rattle.plan.specs.Legal.{legal-zoned, total-zones}
-use Rattle.plan.specs.Plan.{showingIn}
+use Rattle.plan.specs.declared.Plan.{Plan}
+use Rattle.plan.specs.Plan.{planFrom, showingIn}
 use Rattle.plan.specs.Ways.{film-on}
 use borrow.Author.Needs.{needs}
 use Rattle.window.specs.Window.{isLaid, windowFault}
@@ -17,13 +19,29 @@ use Rattle.window.proofs.worst_window.Tie as tie
 wide : (c : tie.Start) → Wide (c .args .t1 .figures)
 wide c = (search needs, search needs, search needs)
 
+abbrev numbers : tie.After-is-laid-of → tie.After-numbers-in
+numbers c = c .before .before .before .before .before
+
+abbrev entry : tie.After-numbers-in → tie.Start
+entry c = c .before .before .before
+
 abbrev start : (c : tie.After-fault) → tie.Start
-start c = c .before .before .before .before
+start c = entry (numbers (c .before .before))
+
+-- the test of the plan, of its parts and so of the whole
+laid : (c : tie.After-is-laid-of) → (let a = entry (numbers c) .args in c .is-laid-of .result ≡ isLaid (a .t1) (a .positions .now))
+unfolding isLaid
+laid c =
+    let n = numbers c in
+    let a = entry n .args in
+    c .is-laid-of .ensures
+    ∙ ap (λ (f : Figures). isLaid (planFrom f (n .numbers-in .result)) (a .positions .now)) (n .before .scalars-in .ensures)
+    ∙ ap (λ (p : Plan). isLaid p (a .positions .now)) (n .numbers-in .ensures)
 
 -- the number of the refusal
 judged : (c : tie.After-fault) → (let a = start c .args in c .fault .result ≡ windowFault (a .t1) (a .positions .now) (a .count))
-unfolding windowFault isLaid
-judged c = c .fault .ensures ∙ ap₂ (λ (x y : Bool). cond x (cond y wrongWindow 0) notSound) (c .before .before .is-laid .ensures) (c .before .is-outside .ensures)
+unfolding windowFault
+judged c = c .fault .ensures ∙ ap₂ (λ (x y : Bool). cond x (cond y wrongWindow 0) notSound) (laid (c .before .before)) (c .before .is-outside .ensures)
 
 -- past the refusals
 passed : (c : tie.Else1) → (let a = start (c .before) .args in Accepted (a .t1) (a .positions .now) (a .count))
@@ -34,6 +52,9 @@ legal c = let s = start (c .before) in laid-legal (s .args .t1) (s .args .positi
 
 sum : (c : tie.After-sum-positions) → c .sum-positions .result ≡ totalPositions (start (c .before .before .before .before) .args .t1 .figures)
 sum c = let d = c .before .before .before in c .sum-positions .ensures ∙ total-zones (start (d .before) .args .t1 .figures) (legal d)
+
+is-laid-of-requires : tie.Need-is-laid-of-requires
+is-laid-of-requires c κs = wide (entry (c .before .before .before .before))
 
 returns : tie.Need-returns
 returns c = let f = c .before .before in
@@ -68,6 +89,8 @@ worst-window-spec =
     tie.close
     (tie.spec
     (λ c κs. search needs)
+    (λ c κs. search needs)
+    is-laid-of-requires
     (λ c κs. search needs)
     (λ c κs. search needs)
     (λ c κs. search needs)

@@ -1,5 +1,5 @@
 use Prim.Native.Nat.{ℕ, _-_, _<_}
-use mathlib.Core.Path.{_≡_, sym, ap, _∙_}
+use mathlib.Core.Path.{_≡_, sym, _∙_}
 use mathlib.Core.List.{List}
 use native.Mathlib.Omega.{arith}
 use Rattle.laws.specs.Greatest.{Peak, peak-start, peak-earliest, peak-same}
@@ -11,6 +11,7 @@ use Rattle.plan.specs.Check.{shows-loop, shows-once}
 use Rattle.zones.specs.declared.Pair.{Pair}
 use Rattle.zones.specs.declared.Walk.{Walk}
 use Rattle.zones.specs.Walk.{Cursors, Runs}
+use Rattle.zones.specs.Meets.{meets}
 use Rattle.zones.proofs.Runs.{pairOf, peak-on, worst-run, before-last, last-pair}
 use borrow.Author.Needs.{needs}
 use Rattle.zones.proofs.worst_pair.Statement.{statement}
@@ -37,15 +38,24 @@ measured x τ l N w p = (p .value ∙ sym (worst-pair x τ l N), peak-earliest (
 loop-holds : tie.Need-loop-holds Inv-loop μ-loop
 loop-holds c = record { cursors = c .set-out .ensures; within = c .before .pre .some; worst = peak-start _ }
 
+zone-of-requires : tie.Need-zone-of-requires Inv-loop μ-loop
+zone-of-requires c κs = meets (c .before .before .before .pre) (c .before .loop .inv .cursors .low) (omega arith)
+
+zone-of-requires-2 : tie.Need-zone-of-requires-2 Inv-loop μ-loop
+zone-of-requires-2 c κs = let l = c .before .before in meets (l .before .before .pre) (l .loop .inv .cursors .high) (omega arith)
+
+run-from-requires : tie.Need-run-from-requires Inv-loop μ-loop
+run-from-requires c κs = let l = c .before .before .before in (l .before .before .pre, l .loop .inv .within, c .before .zone-of .ensures, c .zone-of2 .ensures)
+
 loop-again : tie.Need-loop-again Inv-loop μ-loop
 loop-again c = let w = c .before .before .before in
-    let l = w .before .before in
-    let r = w .walk-on .ensures in
+    let l = w .before .before .before .before in
+    let r = w .run-from .ensures in
     let s = c .before .worse in
     record {
       cursors = r .cursors;
       within = omega arith;
-      worst = peak-on _ (l .loop .b) (w .walk-on .result .until - 1) _ (l .loop .worst .first) (l .loop .worst .time) (s .result) (omega arith) (worst-run r) (l .loop .inv .worst) (s .ensures .0) (s .ensures .1);
+      worst = peak-on _ (l .loop .b) (w .run-from .result .until - 1) _ (l .loop .worst .first) (l .loop .worst .time) (s .result) (omega arith) (worst-run r) (l .loop .inv .worst) (s .ensures .0) (s .ensures .1);
     }
 
 -- all pairs but a loop's closing one
@@ -71,7 +81,7 @@ returns-2 c =
     let q = shows-loop _ (x .if1 .left) in
     let τ = timeAt (a .sizes .now) (a .times .now) in
     let some : 0 < a .blocks = x .before .before .before .before .pre .some in
-    let r : Runs (a .sizes .now) (a .times .now) (ring (a .total) (a .blocks)) (a .blocks) (a .blocks - 1) (w .walk-on2 .result) = rw q at (w .walk-on2 .ensures) in
+    let r : Runs (a .sizes .now) (a .times .now) (ring (a .total) (a .blocks)) (a .blocks) (a .blocks - 1) (w .walk-on .result) = rw q at (w .walk-on .ensures) in
     let g = pairTime loop τ (ring (a .total) (a .blocks)) (a .blocks) in
     let p = peak-same _ g (a .blocks - 1) (f .first) (f .time) (before-last (a .sizes .now) (a .times .now) (a .total) (a .blocks) some) (rw q at (all (x .before))) in
     rw q
@@ -88,7 +98,12 @@ worst-pair-spec =
     (λ c. search needs)
     (λ c κs. search needs)
     loop-holds
-    (λ c κs. search needs)
+    (λ c. search needs)
+    zone-of-requires
+    (λ c. search needs)
+    (λ c. search needs)
+    zone-of-requires-2
+    run-from-requires
     (λ c. omega arith)
     (λ c κs. search needs)
     (λ c. omega arith)

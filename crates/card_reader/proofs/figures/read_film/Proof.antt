@@ -1,8 +1,9 @@
 use mathlib.Core.Path.{_≡_, refl, _∙_}
+use mathlib.Core.List.{[]}
 use borrow.Author.Needs.{needs}
 use Rattle.card.specs.declared.Figures.{Figures}
-use Rattle.card.specs.Read.{withFilm, withTable, tableFrom, filmFrom}
-use Rattle.card_reader.specs.Film.{cardWith}
+use Rattle.card.specs.Read.{withFilm, tableFrom, filmFrom}
+use Rattle.card_reader.specs.Told.{zonesRead, toldCard}
 use Rattle.card_reader.proofs.ReaderWays.{card-stops, card-goes, end-left, end-none}
 use Rattle.card_reader.proofs.figures.read_film.Statement.{statement}
 use Rattle.card_reader.proofs.figures.read_film.Tie as tie
@@ -16,12 +17,12 @@ enum-known-first c = search needs
 enum-told : tie.Need-enum-told
 enum-told c = search needs
 
-refused-film-requires : tie.Need-refused-film-requires
-refused-film-requires c κs = search needs
+refused-field-requires : tie.Need-refused-field-requires
+refused-field-requires c κs = search needs
 
 returns : tie.Need-returns
 unfolding filmFrom
-returns c = λ f e. c .refused-film .ensures (withTable f _) ∙ card-stops (c .before .before .before .read-field .ensures) _ _ (c .before .enum-told .given .1)
+returns c = λ ps ts. c .refused-field .ensures ps ts _ ∙ card-stops (c .before .before .before .read-field .ensures) _ _ (c .before .enum-told .given .1)
 
 read-field-requires-2 : tie.Need-read-field-requires-2
 read-field-requires-2 c κs = search needs
@@ -32,14 +33,14 @@ enum-known-second c = search needs
 enum-told-2 : tie.Need-enum-told-2
 enum-told-2 c = search needs
 
-refused-film-requires-2 : tie.Need-refused-film-requires-2
-refused-film-requires-2 c κs = search needs
+refused-field-requires-2 : tie.Need-refused-field-requires-2
+refused-field-requires-2 c κs = search needs
 
 returns-2 : tie.Need-returns-2
 unfolding filmFrom
 returns-2 c =
     let blocks = c .before .before .before .before in
-    λ f e. c .refused-film2 .ensures (withTable f _) ∙ card-stops (c .before .before .before .read-field2 .ensures) _ _ (c .before .enum-told2 .given .1)
+    λ ps ts. c .refused-field2 .ensures ps ts _ ∙ card-stops (c .before .before .before .read-field2 .ensures) _ _ (c .before .enum-told2 .given .1)
     ∙ card-goes (blocks .before .before .before .read-field .ensures) _ (blocks .before .first .given .1)
 
 read-field-requires-3 : tie.Need-read-field-requires-3
@@ -51,15 +52,15 @@ enum-known-third c = search needs
 enum-told-3 : tie.Need-enum-told-3
 enum-told-3 c = search needs
 
-refused-film-requires-3 : tie.Need-refused-film-requires-3
-refused-film-requires-3 c κs = search needs
+refused-field-requires-3 : tie.Need-refused-field-requires-3
+refused-field-requires-3 c κs = search needs
 
 returns-3 : tie.Need-returns-3
 unfolding filmFrom
 returns-3 c =
     let bytes = c .before .before .before .before in
     let blocks = bytes .before .before .before .before in
-    λ f e. c .refused-film3 .ensures (withTable f _) ∙ card-stops (c .before .before .before .read-field3 .ensures) _ _ (c .before .enum-told3 .given .1)
+    λ ps ts. c .refused-field3 .ensures ps ts _ ∙ card-stops (c .before .before .before .read-field3 .ensures) _ _ (c .before .enum-told3 .given .1)
     ∙ card-goes (bytes .before .before .before .read-field2 .ensures) _ (bytes .before .second .given .1)
     ∙ card-goes (blocks .before .before .before .read-field .ensures) _ (blocks .before .first .given .1)
 
@@ -84,28 +85,28 @@ enum-known-last c = search needs
 enum-told-4 : tie.Need-enum-told-4
 enum-told-4 c = search needs
 
-refused-film-requires-4 : tie.Need-refused-film-requires-4
-refused-film-requires-4 c κs = search needs
+refused-field-requires-4 : tie.Need-refused-field-requires-4
+refused-field-requires-4 c κs = search needs
 
 returns-4 : tie.Need-returns-4
 returns-4 c =
     let table = c .before .before .before in
-    λ f e. c .refused-film4 .ensures (withTable f _) ∙ card-stops refl _ _ (c .before .enum-told4 .given .1)
-    ∙ table .read-table .ensures (withFilm f _ _ _) e ∙ overheads-left (table .before .before) (withTable f _)
+    λ ps ts. c .refused-field4 .ensures ps ts _ ∙ card-stops refl _ _ (c .before .enum-told4 .given .1)
+    ∙ table .read-table .ensures (withFilm (zonesRead _ _ ps ts []) _ _ _) refl ∙ overheads-left (table .before .before) (zonesRead _ _ ps ts _)
 
 returns-5 : tie.Need-returns-5
-unfolding cardWith
+unfolding toldCard
 returns-5 c =
     let table = c .before .before .before .before in
-    λ f e. end-left _ _ (withTable (withFilm f _ _ _) _) (c .if1 .taken) ∙ card-goes refl _ (c .before .before .last .given .1)
-    ∙ table .read-table .ensures (withFilm f _ _ _) e ∙ overheads-left (table .before .before) (withTable f _)
+    λ ps ts. end-left _ _ (withFilm (zonesRead _ _ ps ts _) _ _ _) (c .if1 .taken) ∙ card-goes refl _ (c .before .before .last .given .1)
+    ∙ table .read-table .ensures (withFilm (zonesRead _ _ ps ts []) _ _ _) refl ∙ overheads-left (table .before .before) (zonesRead _ _ ps ts _)
 
 returns-6 : tie.Need-returns-6
-unfolding cardWith
+unfolding toldCard
 returns-6 c =
     let table = c .before .before .before .before in
-    λ f e. end-none _ _ (withTable (withFilm f _ _ _) _) (c .if1 .left) ∙ card-goes refl _ (c .before .before .last .given .1)
-    ∙ table .read-table .ensures (withFilm f _ _ _) e ∙ overheads-left (table .before .before) (withTable f _)
+    λ ps ts. end-none _ _ (withFilm (zonesRead _ _ ps ts _) _ _ _) (c .if1 .left) ∙ card-goes refl _ (c .before .before .last .given .1)
+    ∙ table .read-table .ensures (withFilm (zonesRead _ _ ps ts []) _ _ _) refl ∙ overheads-left (table .before .before) (zonesRead _ _ ps ts _)
 
 pub read-film-spec : {M : Type 1} → statement M
 read-film-spec =
@@ -114,22 +115,22 @@ read-film-spec =
     read-field-requires
     enum-known-first
     enum-told
-    refused-film-requires
+    refused-field-requires
     returns
     read-field-requires-2
     enum-known-second
     enum-told-2
-    refused-film-requires-2
+    refused-field-requires-2
     returns-2
     read-field-requires-3
     enum-known-third
     enum-told-3
-    refused-film-requires-3
+    refused-field-requires-3
     returns-3
     read-table-requires
     enum-known-last
     enum-told-4
-    refused-film-requires-4
+    refused-field-requires-4
     returns-4
     returns-5
     returns-6)

@@ -1,60 +1,61 @@
-use Prim.Native.Nat.{ℕ, _-_, _≤_, _<_}
+use Prim.Native.Nat.{ℕ, _+_, _-_, _≤_, _<_}
+use mathlib.Core.Path.{_≡_, sym, subst}
+use mathlib.Core.Logic.{⊎-elim}
+use mathlib.Core.Bool.{Bool}
 use mathlib.Core.List.{List}
 use native.Mathlib.Omega.{arith}
+use lib.ListN.{getD}
 use borrow.Author.Needs.{needs}
 use borrow.Author.Count.{below-more}
 use borrow.Author.Tests.{not-true, not-false}
-use Rattle.soundness.specs.Facts.{PlayersHold}
+use Rattle.numbers.specs.Slots.{playing}
+use Rattle.soundness.specs.Facts.{Tells}
 use Rattle.soundness.proofs.Tells.{tells-yes, tells-no}
 use Rattle.soundness.proofs.slots.players_hold.Statement.{statement}
 use Rattle.soundness.proofs.slots.players_hold.Tie as tie
 
--- the first i slots hold the mark where they play
-record Holding (streams : ℕ) (kinds held : List ℕ) (mark i : ℕ) : Type 0 where
+-- the first i slots hold so many bytes where they play
+abbrev Hold : List ℕ → List ℕ → ℕ → ℕ → Type 0
+Hold kinds held least i = (j : ℕ) → j < i → getD kinds j 0 ≡ playing → least ≤ getD held j 0
+
+record Holding (streams : ℕ) (kinds held : List ℕ) (least : ℕ) (all : Bool) (i : ℕ) : Type 0 where
   few : i ≤ streams
-  hold : PlayersHold i kinds held mark
+  tells : Tells all (Hold kinds held least i)
 
 abbrev Inv-loop : tie.InvT-loop
-Inv-loop streams kinds held mark i₀ i = Holding streams kinds held mark i
+Inv-loop streams kinds held mark least all₀ i₀ all i = Holding streams kinds held least all i
 
 abbrev μ-loop : tie.MeasureT-loop
-μ-loop streams kinds held mark i₀ i = streams - i
+μ-loop streams kinds held mark least all₀ i₀ all i = streams - i
 
 loop-holds : tie.Need-loop-holds Inv-loop μ-loop
-loop-holds c = record { few = omega arith; hold = λ j h. absurd (omega arith) }
-
-mul-holds-mark : tie.Need-mul-holds-mark Inv-loop μ-loop
-mul-holds-mark c = omega arith
-
-element-copy-out-holds-mark : tie.Need-element-copy-out-holds-mark Inv-loop μ-loop
-element-copy-out-holds-mark c = omega arith
-
-mul-holds-mark-2 : tie.Need-mul-holds-mark-2 Inv-loop μ-loop
-mul-holds-mark-2 c = omega arith
-
-element-copy-out-holds-mark-2 : tie.Need-element-copy-out-holds-mark-2 Inv-loop μ-loop
-element-copy-out-holds-mark-2 c = omega arith
-
-holds-mark-requires : tie.Need-holds-mark-requires Inv-loop μ-loop
-holds-mark-requires c κs = search needs
-
-returns : tie.Need-returns Inv-loop μ-loop
-returns c = let t = c .before .before .before .before in
-    tells-no (λ f. c .before .holds-mark .ensures .no (not-true _ (c .if1 .taken)) (f (t .before .loop .i) (t .loop-test .taken)))
-
-add-i : tie.Need-add-i Inv-loop μ-loop
-add-i c = omega arith
-
-loop-less : tie.Need-loop-less Inv-loop μ-loop
-loop-less c = omega arith
+loop-holds c = record { few = omega arith; tells = tells-yes (λ j h. absurd (omega arith)) }
 
 loop-again : tie.Need-loop-again Inv-loop μ-loop
 loop-again c = let t = c .before .before .before .before in
     let l = t .before .loop in
-    record { few = omega (arith, t .loop-test .taken); hold = below-more _ (l .i) (l .inv .hold) (c .before .holds-mark .ensures .yes (not-false _ (c .if1 .left))) }
+    let a = t .before .before .before .args in
+    let h = c .before .holds-least .ensures in
+    let T : Bool → Type 0 = λ x. Tells x (Hold (a .kinds .now) (a .held .now) (t .before .before .least-held .result) (l .i + 1)) in
+    record {
+      few = omega (arith, t .loop-test .taken);
+      tells = ⊎-elim
+          (λ w. subst T (sym (w .1)) (tells-no (λ f. h .no (not-true _ (w .0 .taken)) (f (l .i) (omega arith)))))
+          (λ w. subst T (sym (w .1))
+          (record {
+            yes = λ e. below-more _ (l .i) (l .inv .tells .yes e) (h .yes (not-false _ (w .0 .left)));
+            no = λ e f. l .inv .tells .no e (λ j u. f j (omega arith));
+          }))
+          (c .if1 .came);
+    }
 
-returns-2 : tie.Need-returns-2 Inv-loop μ-loop
-returns-2 c = let l = c .before .loop in tells-yes (λ j h. l .inv .hold j (omega (arith, c .loop-test .left)))
+returns : tie.Need-returns Inv-loop μ-loop
+returns c = let l = c .before .loop in
+    let least = c .before .before .least-held .ensures in
+    record {
+      yes = λ e j u k. least _ .0 (l .inv .tells .yes e j (omega (arith, c .loop-test .left)) k);
+      no = λ e f. l .inv .tells .no e (λ j u k. least _ .1 (f j (omega (arith, l .inv .few)) k));
+    }
 
 pub players-hold-spec : {M : Type 1} → statement M
 players-hold-spec =
@@ -62,14 +63,14 @@ players-hold-spec =
     (tie.spec
     Inv-loop
     μ-loop
+    (λ c κs. search needs)
     loop-holds
-    mul-holds-mark
-    element-copy-out-holds-mark
-    mul-holds-mark-2
-    element-copy-out-holds-mark-2
-    holds-mark-requires
-    returns
-    add-i
-    loop-less
+    (λ c. omega arith)
+    (λ c. omega arith)
+    (λ c. omega arith)
+    (λ c. omega arith)
+    (λ c κs. search needs)
+    (λ c. omega arith)
+    (λ c. omega arith)
     loop-again
-    returns-2)
+    returns)

@@ -16,7 +16,7 @@ use Rattle.window.proofs.rows.first_row.Tie as tie
 
 -- the first i blocks
 record Grown (ps ts : List ℕ) (l : ℕ → ℕ) (N count : ℕ) (ahead : Step) (sum i : ℕ) : Type 0 where
-  comes : Comes ps ts l (ahead .walk) (ahead .next)
+  comes : Comes ps ts l N (ahead .walk) (ahead .next)
   next : ahead .next ≡ past N i 0
   time : sum ≡ rowTime ps ts l N i 0
   within : i ≤ count
@@ -29,7 +29,7 @@ abbrev μ-loop : tie.MeasureT-loop
 
 loop-holds : tie.Need-loop-holds Inv-loop μ-loop
 unfolding past span
-loop-holds c = record { comes = c .start .ensures .1 _ _; next = c .start .ensures .0; time = refl; within = omega arith }
+loop-holds c = record { comes = c .start .ensures .1 _ _ _; next = c .start .ensures .0; time = refl; within = omega arith }
 
 step-on-requires : tie.Need-step-on-requires Inv-loop μ-loop
 step-on-requires c κs = let s = c .before .before .before in
