@@ -85,10 +85,6 @@ drawAboveLimit = 20
 abbrev pub drawAboveHeld : ℕ
 drawAboveHeld = 21
 
--- overhead out of range, or below the one before (document 02, ticket 3)
-abbrev pub wrongOverhead : ℕ
-wrongOverhead = 25
-
 -- a line of a maker's text of another form, or no line at all (document 02, ticket 1)
 abbrev pub lineForm : ℕ
 lineForm = 22
@@ -100,6 +96,10 @@ wrongHeading = 23
 -- a row out of range, with its last cylinder below its first, or not following on the cylinder before
 abbrev pub wrongRow : ℕ
 wrongRow = 24
+
+-- overhead out of range, or below the one before (document 02, ticket 3)
+abbrev pub wrongOverhead : ℕ
+wrongOverhead = 25
 
 -- zone time, times three, below the first zone's (document 02, ticket 8)
 abbrev pub halfDeadTime : ℕ

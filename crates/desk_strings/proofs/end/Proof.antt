@@ -28,7 +28,7 @@ abbrev start : tie.After-numbers-in → tie.Start
 start c = right c .before .before .before .before .before
 
 abbrev numbers : tie.After-end-verdict → tie.After-numbers-in
-numbers c = c .before .before .before .before .before .before .before .before
+numbers c = let sizes = c .before .before .before .before .before in sizes .before .before .before
 
 abbrev accepted : tie.After-held2 → tie.Else2
 accepted c = c .before .before .before .before .before .before

@@ -70,27 +70,37 @@ loop-holds c = let s = c .before .before .before in
     }
 
 sub-time-at : tie.Need-sub-time-at Inv-loop μ-loop
-sub-time-at c = let l = c .before .before .before .before .loop in
-    let s = c .before .before .before .before .before .before .before .before in
+sub-time-at c = let at = c .before .before .before .before in
+    let l = at .loop in
+    let s = at .before .before .before .before in
     omega (arith, l .inv .all, s .pre .0 .room)
 
 add-time-at : tie.Need-add-time-at Inv-loop μ-loop
-add-time-at c = let l = c .before .before .before .before .loop in
-    let s = c .before .before .before .before .before .before .before .before in
+add-time-at c = let at = c .before .before .before .before in
+    let l = at .loop in
+    let s = at .before .before .before .before in
     omega (arith, l .inv .all, s .pre .0 .total, s .pre .1, l .inv .within)
 
 time-at-requires : tie.Need-time-at-requires Inv-loop μ-loop
-time-at-requires c κs = let l = c .before .before .before .before .loop in
-    let s = c .before .before .before .before .before .before .before .before in
+time-at-requires c κs = let at = c .before .before .before .before in
+    let l = at .loop in
+    let s = at .before .before .before .before in
     (legal-zoned (s .args .t1) (s .pre .0), omega (arith, on-disk (s .args .t1) (s .pre .0) _ (l .i) (l .inv .all) (c .before .before .before .loop-test .taken), total-is (s .args .t1) (s .pre .0)))
 
-below : (c : tie.After-time-at Inv-loop μ-loop) → c .before .before .before .before .before .loop .i < c .before .before .before .before .before .before .before .before .before .args .t1 .blocks
+-- the turn of the loop, and where the function begins
+abbrev turn : tie.After-time-at Inv-loop μ-loop → tie.At-loop Inv-loop μ-loop
+turn c = c .before .before .before .before .before
+
+abbrev start : tie.After-time-at Inv-loop μ-loop → tie.Start Inv-loop μ-loop
+start c = turn c .before .before .before .before
+
+below : (c : tie.After-time-at Inv-loop μ-loop) → turn c .loop .i < start c .args .t1 .blocks
 below c = omega (arith, c .before .before .before .before .loop-test .taken)
 
 loop-again : tie.Need-loop-again Inv-loop μ-loop
 loop-again c =
-    let l = c .before .before .before .before .before .loop in
-    let s = c .before .before .before .before .before .before .before .before .before in
+    let l = turn c .loop in
+    let s = start c in
     let f = s .args .t1 in
     let e : c .time-at .result ≡ timeOn f (totalPositions f - f .blocks + l .i) = c .time-at .ensures ∙ ap (λ (p : ℕ). timeOn f (p - f .blocks + l .i)) (l .inv .all) in
     gathering-next f _ (f .blocks) (l .times) (l .i) _ (below c) (s .pre .1) e (rw e (time-small f (s .pre .0) (totalPositions f - f .blocks + l .i) (omega (arith, below c, s .pre .0 .room)))) (l .inv)
@@ -115,9 +125,9 @@ film-times-spec =
     sub-time-at
     add-time-at
     time-at-requires
-    (λ c. omega (arith, below c, c .before .before .before .before .before .before .before .before .before .pre .1))
-    (λ c. omega (arith, below c, c .before .before .before .before .before .before .before .before .before .pre .1))
-    (λ c. omega (arith, below c, c .before .before .before .before .before .before .before .before .before .pre .1))
+    (λ c. omega (arith, below c, start c .pre .1))
+    (λ c. omega (arith, below c, start c .pre .1))
+    (λ c. omega (arith, below c, start c .pre .1))
     (λ c. omega (arith, below c))
     loop-again
     returns)

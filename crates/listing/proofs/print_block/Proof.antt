@@ -26,7 +26,9 @@ time-at-requires c κs = let w = c .before .before .before in
     (plan-zoned (a .plan) (a .positions .now) (a .leads .now) (wide s) (s .pre .0), omega (arith, q, w .word-at .ensures))
 
 word-at-requires-2 : tie.Need-word-at-requires-2
-word-at-requires-2 c κs = let s = c .before .before .before .before .before .before .before .before in omega (arith, long s, s .pre)
+word-at-requires-2 c κs = let t = c .before .before .before .before in
+    let s = t .before .before .before .before in
+    omega (arith, long s, s .pre)
 
 empty-requires : tie.Need-empty-requires
 empty-requires c κs = search needs

@@ -69,7 +69,8 @@ same-length-4 c = search needs
 returns-3 : tie.Need-returns-3
 returns-3 c =
     let p = c .before .before .before .before .before .before in
-    let t = p .before .before .before .before .before .before .before .before in
+    let lent = p .before .before .before .before in
+    let t = lent .before .before .before .before in
     let r = t .before .before in
     planned-card _ _ _ _ _ (sized r .if1 .left) _ (told-figures _ _ _ (t .told2 .given .1) ∙ r .read-into .ensures) _ _ _ _ (p .plan-into .ensures)
 

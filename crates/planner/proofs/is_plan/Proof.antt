@@ -12,7 +12,7 @@ wide : (c : tie.Start) → Wide (c .args .t1 .figures)
 wide c = (search needs, search needs, search needs)
 
 is-plan-of-requires : tie.Need-is-plan-of-requires
-is-plan-of-requires c κs = wide (c .before .before .before .before .before .before .before .before)
+is-plan-of-requires c κs = let n = c .before .before .before .before in wide (n .before .before .before .before)
 
 returns : tie.Need-returns
 returns c =

@@ -44,7 +44,8 @@ same-length c = search needs
 returns : tie.Need-returns
 unfolding beginDesk fetchListAfter
 returns c =
-    let j = c .before .before .before .before .before .before .before .before .before in
+    let w = c .before .before .before in
+    let j = w .before .before .before .before .before .before in
     let s = j .before .before .before .before .before .before in
     let d = s .args .desk in
     let ps = s .args .positions .now in

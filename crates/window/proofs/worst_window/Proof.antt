@@ -73,7 +73,8 @@ worst-row-requires c κs = let t = c .before .before .before .before in
     (film-on _ (legal d) _ (sum t), passed d .most, c .last-place .ensures .1)
 
 window-bytes-requires : tie.Need-window-bytes-requires
-window-bytes-requires c κs = let d = c .before .before .before .before .before .before .before .before in
+window-bytes-requires c κs = let t = c .before .before .before .before .before in
+    let d = t .before .before .before in
     omega (arith, mul-le-mul (passed d .most) (legal d .bytes .1))
 
 returns-2 : tie.Need-returns-2

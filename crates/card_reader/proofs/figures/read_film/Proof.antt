@@ -66,8 +66,9 @@ returns-3 c =
 
 -- after N, B and c the overheads are left
 overheads-left : (c : tie.After-known-told3) (f : Figures)
-    → tableFrom (c .before .before .before .before .before .before .before .before .before .before .before .before .before .args .card .now) (c .before .third .given .0 .1 .0) (withFilm f (c .before .before .before .before .before .before .before .before .before .first .given .0 .0) (c .before .before .before .before .before .second .given .0 .0) (c .before .third .given .0 .0))
-    ≡ filmFrom (c .before .before .before .before .before .before .before .before .before .before .before .before .before .args .card .now) (c .before .before .before .before .before .before .before .before .before .before .before .before .before .args .at) f (c .before .before .before .before .before .before .before .before .before .before .before .before .before .args .total)
+    → (let third = c .before in let second = third .before .before .before .before in let first = second .before .before .before .before in let a = first .before .before .before .before .args in
+    tableFrom (a .card .now) (third .third .given .0 .1 .0) (withFilm f (first .first .given .0 .0) (second .second .given .0 .0) (third .third .given .0 .0))
+    ≡ filmFrom (a .card .now) (a .at) f (a .total))
 unfolding filmFrom
 overheads-left c f =
     let bytes = c .before .before .before .before in

@@ -66,8 +66,9 @@ loop-less c = search needs
 
 loop-again : tie.Need-loop-again Inv-loop μ-loop
 loop-again c =
-    let l = c .before .before .before .before .before .loop in
-    let f = c .before .before .before .before .before .before .before .before .args .t1 in (
+    let turn = c .before .before .before .before .before in
+    let l = turn .loop in
+    let f = turn .before .before .before .args .t1 in (
       omega arith,
       omega (arith, c .before .before .number-length3 .ensures, c .number-length4 .ensures),
       omega (arith, length-more f (l .i) (f .zones - l .i) (f .zones - (l .i + 1)) (omega arith), c .before .before .number-length3 .ensures, c .number-length4 .ensures, l .inv .2),

@@ -41,7 +41,9 @@ loop-less : tie.Need-loop-less Inv-loop μ-loop
 loop-less c = search needs
 
 loop-again : tie.Need-loop-again Inv-loop μ-loop
-loop-again c = (omega arith, writes-next (entry-left (c .before .before .before .before .before)) (c .before .before .before .before .before .before .before .before .pre .1) (c .before .before .write-number .ensures .0) (c .before .before .write-number .ensures .1))
+loop-again c = let w = c .before .before in
+    let t = w .before .before .before in
+    (omega arith, writes-next (entry-left t) (t .before .before .before .pre .1) (w .write-number .ensures .0) (w .write-number .ensures .1))
 
 same-length : tie.Need-same-length Inv-loop μ-loop
 same-length c = search needs

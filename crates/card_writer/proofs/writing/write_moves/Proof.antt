@@ -17,7 +17,9 @@ same-length : tie.Need-same-length
 same-length c = search needs
 
 returns : tie.Need-returns
-returns c = writes-done (writes-next (back-left (c .before .before .before .before .before .before)) (c .before .before .before .before .before .before .before .before .before .pre) (c .before .before .write-number2 .ensures .0) (c .before .before .write-number2 .ensures .1))
+returns c = let w = c .before .before in
+    let first = w .before .before .before .before in
+    writes-done (writes-next (back-left first) (first .before .before .before .pre) (w .write-number2 .ensures .0) (w .write-number2 .ensures .1))
 
 pub write-moves-spec : {M : Type 1} → statement M
 write-moves-spec = tie.close (tie.spec write-number-requires write-number-requires-2 same-length returns)

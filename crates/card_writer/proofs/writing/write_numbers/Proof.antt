@@ -31,8 +31,10 @@ write-number-requires-2 c κs = writes-fits (so1 (c .before .before .before)) (r
 
 write-zones-requires : tie.Need-write-zones-requires
 write-zones-requires c κs =
-    let w = so2 (c .before .before .before) in
-    (c .before .before .before .before .before .before .before .before .before .before .pre .0, omega (arith, w .ends, w .long, room (c .before .before .before .before .before .before .before .before .before .before)))
+    let second = c .before .before .before in
+    let w = so2 second in
+    let s = second .before .before .before .before .before .before .before in
+    (s .pre .0, omega (arith, w .ends, w .long, room s))
 
 same-length : tie.Need-same-length
 same-length c = search needs

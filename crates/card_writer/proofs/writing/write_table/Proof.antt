@@ -28,8 +28,9 @@ same-length c = search needs
 
 returns : tie.Need-returns
 returns c =
-    let a = c .before .before .before .before .before .before .before .before .args in
-    c .before .before .write-moves .ensures ∙ ap (λ (vs : List ℕ). overwrite (a .out .now) (a .start) (bytesOf vs)) (sym (moves (c .before .before .before .before .before)))
+    let t = c .before .before .before .before .before in
+    let a = t .before .before .before .args in
+    c .before .before .write-moves .ensures ∙ ap (λ (vs : List ℕ). overwrite (a .out .now) (a .start) (bytesOf vs)) (sym (moves t))
 
 write-entries-requires : tie.Need-write-entries-requires
 write-entries-requires c κs =

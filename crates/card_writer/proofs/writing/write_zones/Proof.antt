@@ -51,7 +51,7 @@ element-copy-out-write-number-2 : tie.Need-element-copy-out-write-number-2 Inv-l
 element-copy-out-write-number-2 c = search needs
 
 write-number-requires-2 : tie.Need-write-number-requires-2 Inv-loop μ-loop
-write-number-requires-2 c κs = writes-fits (time-left (c .before .before .before .before)) (c .before .before .before .before .before .before .before .before .before .before .pre .1)
+write-number-requires-2 c κs = let w = c .before .before .before .before in writes-fits (time-left w) (w .before .before .before .before .before .before .pre .1)
 
 add-i : tie.Need-add-i Inv-loop μ-loop
 add-i c = search needs
@@ -60,7 +60,9 @@ loop-less : tie.Need-loop-less Inv-loop μ-loop
 loop-less c = search needs
 
 loop-again : tie.Need-loop-again Inv-loop μ-loop
-loop-again c = (omega arith, writes-next (time-left (c .before .before .before .before .before .before .before)) (c .before .before .before .before .before .before .before .before .before .before .before .before .before .pre .1) (c .before .before .write-number2 .ensures .0) (c .before .before .write-number2 .ensures .1))
+loop-again c = let t = c .before .before in
+    let w = t .before .before .before .before .before in
+    (omega arith, writes-next (time-left w) (w .before .before .before .before .before .before .pre .1) (t .write-number2 .ensures .0) (t .write-number2 .ensures .1))
 
 write-film-requires : tie.Need-write-film-requires Inv-loop μ-loop
 write-film-requires c κs =

@@ -88,8 +88,9 @@ loop-less c = search needs
 
 loop-again : tie.Need-loop-again Inv-loop μ-loop
 loop-again c =
-    let l = c .before .before .before .before .before .loop in
-    let s = c .before .before .before .before .before .before .before .before in
+    let turn = c .before .before .before .before .before in
+    let l = turn .loop in
+    let s = turn .before .before .before in
     let a = s .args in
     record {
       places = build-more _ (positionsAt (a .drive) (a .t2)) _ _ _ (l .inv .places) (omega arith) (s .pre .few) _ (c .before .positions .ensures);

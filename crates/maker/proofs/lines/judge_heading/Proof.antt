@@ -19,7 +19,7 @@ switch-in c = sym (c .before .is-within2 .ensures) ∙ not-false _ (c .if2 .left
 heads-in : (c : tie.Else3) → within maxHeads (c .before .before .before .before .before .before .args .heads) ≡ true
 heads-in c = sym (c .before .is-within3 .ensures) ∙ not-false _ (c .if3 .left)
 
-block-in : (c : tie.Else4) → within maxBlock (c .before .before .before .before .before .before .before .before .args .block) ≡ true
+block-in : (c : tie.Else4) → (let switch = c .before .before .before .before in within maxBlock (switch .before .before .before .before .args .block) ≡ true)
 block-in c = sym (c .before .is-within4 .ensures) ∙ not-false _ (c .if4 .left)
 
 is-within-requires : tie.Need-is-within-requires

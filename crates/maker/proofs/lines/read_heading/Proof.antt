@@ -47,9 +47,11 @@ enum-told-3 c = search needs
 returns-3 : tie.Need-returns-3
 unfolding headingRead
 returns-3 c =
+    let second = c .before .before .before .before in
+    let first = second .before .before .before .before in
     word-stops (c .before .before .read-word3 .ensures) _ _ (c .enum-told3 .given .1)
-    ∙ word-goes (c .before .before .before .before .before .before .read-word2 .ensures) _ _ (c .before .before .before .before .second .given .1)
-    ∙ word-goes (c .before .before .before .before .before .before .before .before .before .before .read-word .ensures) _ _ (c .before .before .before .before .before .before .before .before .first .given .1)
+    ∙ word-goes (second .before .before .read-word2 .ensures) _ _ (second .second .given .1)
+    ∙ word-goes (first .before .before .read-word .ensures) _ _ (first .first .given .1)
     ∙ heading-read _
 
 read-word-requires-4 : tie.Need-read-word-requires-4
@@ -64,10 +66,13 @@ enum-told-4 c = search needs
 returns-4 : tie.Need-returns-4
 unfolding headingRead
 returns-4 c =
+    let third = c .before .before .before .before in
+    let second = third .before .before .before .before in
+    let first = second .before .before .before .before in
     word-stops (c .before .before .read-word4 .ensures) _ _ (c .enum-told4 .given .1)
-    ∙ word-goes (c .before .before .before .before .before .before .read-word3 .ensures) _ _ (c .before .before .before .before .third .given .1)
-    ∙ word-goes (c .before .before .before .before .before .before .before .before .before .before .read-word2 .ensures) _ _ (c .before .before .before .before .before .before .before .before .second .given .1)
-    ∙ word-goes (c .before .before .before .before .before .before .before .before .before .before .before .before .before .before .read-word .ensures) _ _ (c .before .before .before .before .before .before .before .before .before .before .before .before .first .given .1)
+    ∙ word-goes (third .before .before .read-word3 .ensures) _ _ (third .third .given .1)
+    ∙ word-goes (second .before .before .read-word2 .ensures) _ _ (second .second .given .1)
+    ∙ word-goes (first .before .before .read-word .ensures) _ _ (first .first .given .1)
     ∙ heading-read _
 
 judge-heading-requires : tie.Need-judge-heading-requires
@@ -76,11 +81,15 @@ judge-heading-requires c κs = search needs
 returns-5 : tie.Need-returns-5
 unfolding headingRead
 returns-5 c =
+    let fourth = c .before .before in
+    let third = fourth .before .before .before .before in
+    let second = third .before .before .before .before in
+    let first = second .before .before .before .before in
     c .judge-heading .ensures
-    ∙ word-goes (c .before .before .before .before .read-word4 .ensures) _ _ (c .before .before .fourth .given .1)
-    ∙ word-goes (c .before .before .before .before .before .before .before .before .read-word3 .ensures) _ _ (c .before .before .before .before .before .before .third .given .1)
-    ∙ word-goes (c .before .before .before .before .before .before .before .before .before .before .before .before .read-word2 .ensures) _ _ (c .before .before .before .before .before .before .before .before .before .before .second .given .1)
-    ∙ word-goes (c .before .before .before .before .before .before .before .before .before .before .before .before .before .before .before .before .read-word .ensures) _ _ (c .before .before .before .before .before .before .before .before .before .before .before .before .before .before .first .given .1)
+    ∙ word-goes (fourth .before .before .read-word4 .ensures) _ _ (fourth .fourth .given .1)
+    ∙ word-goes (third .before .before .read-word3 .ensures) _ _ (third .third .given .1)
+    ∙ word-goes (second .before .before .read-word2 .ensures) _ _ (second .second .given .1)
+    ∙ word-goes (first .before .before .read-word .ensures) _ _ (first .first .given .1)
     ∙ heading-read _
 
 pub read-heading-spec : {M : Type 1} → statement M

@@ -47,9 +47,11 @@ enum-told-3 c = search needs
 returns-3 : tie.Need-returns-3
 unfolding rowRead
 returns-3 c =
+    let two = c .before .before .before .before in
+    let one = two .before .before .before .before in
     word-stops (c .before .before .read-word3 .ensures) _ _ (c .enum-told3 .given .1)
-    ∙ word-goes (c .before .before .before .before .before .before .read-word2 .ensures) _ _ (c .before .before .before .before .two .given .1)
-    ∙ word-goes (c .before .before .before .before .before .before .before .before .before .before .read-word .ensures) _ _ (c .before .before .before .before .before .before .before .before .one .given .1)
+    ∙ word-goes (two .before .before .read-word2 .ensures) _ _ (two .two .given .1)
+    ∙ word-goes (one .before .before .read-word .ensures) _ _ (one .one .given .1)
     ∙ row-read _ (search needs) _ _
 
 judge-row-requires : tie.Need-judge-row-requires
@@ -58,10 +60,13 @@ judge-row-requires c κs = search needs
 returns-4 : tie.Need-returns-4
 unfolding rowRead
 returns-4 c =
+    let three = c .before .before in
+    let two = three .before .before .before .before in
+    let one = two .before .before .before .before in
     c .judge-row .ensures
-    ∙ word-goes (c .before .before .before .before .read-word3 .ensures) _ _ (c .before .before .three .given .1)
-    ∙ word-goes (c .before .before .before .before .before .before .before .before .read-word2 .ensures) _ _ (c .before .before .before .before .before .before .two .given .1)
-    ∙ word-goes (c .before .before .before .before .before .before .before .before .before .before .before .before .read-word .ensures) _ _ (c .before .before .before .before .before .before .before .before .before .before .one .given .1)
+    ∙ word-goes (three .before .before .read-word3 .ensures) _ _ (three .three .given .1)
+    ∙ word-goes (two .before .before .read-word2 .ensures) _ _ (two .two .given .1)
+    ∙ word-goes (one .before .before .read-word .ensures) _ _ (one .one .given .1)
     ∙ row-read _ (search needs) _ _
 
 pub read-row-spec : {M : Type 1} → statement M

@@ -43,7 +43,7 @@ slice-reshare-prefix-numbers-before : tie.Need-slice-reshare-prefix-numbers-befo
 slice-reshare-prefix-numbers-before c = fits (c .before .before .before .before .before .before .before)
 
 slice-aggregate-numbers-before : tie.Need-slice-aggregate-numbers-before
-slice-aggregate-numbers-before c = sym (length-take-le _ _ (fits (c .before .before .before .before .before .before .before .before)))
+slice-aggregate-numbers-before c = sym (length-take-le _ _ (let r = c .before .before .before .before in fits (r .before .before .before .before)))
 
 numbers-before-requires : tie.Need-numbers-before-requires
 numbers-before-requires c κs = search needs
@@ -55,8 +55,8 @@ same-length-2 : tie.Need-same-length-2
 same-length-2 c = search needs
 
 returns-2 : tie.Need-returns-2
-returns-2 c = let w = c .before .before .before .before .before .before .before .before .before .before in
-    let r = c .before .before .before .before .before .before in
+returns-2 c = let r = c .before .before .before .before .before .before in
+    let w = r .before .before .before .before in
     let s = w .before .before .before .args .s in
     let front : (n : ℕ) → numbersIn (take n (take (w .write-words .result) (w .write-words .last .1 .0))) ≡ numbersIn (take n (cardOfWords s)) = λ n. ap (λ (x : List ℕ). numbersIn (take n x)) (taken w) in
     (made-none _ _ (read r) (c .before .before .before .if1 .left) _ (c .line-of .ensures ∙ ap (lineOf s) (c .before .numbers-before .ensures ∙ front (r .read-card .result .verdict .place))), w .write-words .ensures .1)

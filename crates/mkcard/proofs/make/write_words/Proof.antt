@@ -41,8 +41,9 @@ loop-less : tie.Need-loop-less Inv-loop μ-loop
 loop-less c = search needs
 
 loop-again : tie.Need-loop-again Inv-loop μ-loop
-loop-again c = let l = c .before .before .before .before .before .before .before .loop in
-    let a = c .before .before .before .before .before .before .before .before .before in
+loop-again c = let turn = c .before .before .before .before .before .before .before in
+    let l = turn .loop in
+    let a = turn .before .before in
     let s = a .args .t1 in
     let e = c .before .before .write-word .ensures in
     let w : Writes (a .args .out .now) 0 (numbersFrom mostWords 0 s) (l .out) (l .at) (capped (getD (s .values) (l .i) 0) ∷ numbersFrom (mostWords - (l .i + 1)) (l .i + 1) s) =

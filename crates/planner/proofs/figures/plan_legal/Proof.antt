@@ -35,8 +35,11 @@ module _ (x : Showing) (f : Figures) (ps ls : List ℕ) where
   made-plan e m h p qs ms q l = (h ∙ sym e, λ _. p, rw e q, rw e l)
 
 -- past the tests of both lengths
+abbrev measured : (c : tie.Else2) → tie.Else1
+measured c = c .before .before .before
+
 abbrev start : (c : tie.Else2) → tie.Start
-start c = c .before .before .before .before .before .before .before .before .before
+start c = measured c .before .before .before .before .before .before
 
 abbrev figures : (c : tie.Start) → Figures
 figures c = let a = c .args in figuresFrom (a .figures) (a .sizes .now) (a .times .now) (a .table .now)
@@ -64,7 +67,8 @@ returns-2 : tie.Need-returns-2
 returns-2 c =
     let e = c .before .before .before .before .before .entries .ensures in
     let d = c .before .before .entries2 .ensures in
-    let s = c .before .before .before .before .before .before .before .before .before .before in
+    let e1 = c .before .before .before .before in
+    let s = e1 .before .before .before .before .before .before in
     let a = s .args in
     made-none (showing s) (figures s) (a .positions .now) (a .leads .now) 12
     (short-leads (showing s) (figures s) _ _ (omega (arith, c .before .before .before .before .if1 .left)) (omega (arith, c .before .if2 .taken))) _ (c .not-made2 .ensures)

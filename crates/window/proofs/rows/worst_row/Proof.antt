@@ -53,7 +53,8 @@ walk-to-requires-2 c κs = let l = c .before .before .loop in
     (s .pre .0, l .inv .rear, omega (arith, l .inv .within, s .pre .2))
 
 add-lesser : tie.Need-add-lesser Inv-loop μ-loop
-add-lesser c = let s = c .before .before .before .before .before .before .before .before in
+add-lesser c = let l = c .before .before .before .before in
+    let s = l .before .before .before .before in
     let f = s .pre .0 in
     omega (arith, c .before .before .walk-to .ensures .film, c .before .before .before .loop-test .taken, s .pre .2, f .room, f .whole, f .disk .zoned .small)
 
@@ -92,7 +93,8 @@ slide-requires c κs = (_, run c)
 
 add-following : tie.Need-add-following Inv-loop μ-loop
 add-following c = let f = far (c .before) in
-    let p = c .before .before .before .before .before .before .before .before .before .before .before .pre .0 in
+    let w = c .before .before .before .before in
+    let p = w .before .before .before .before .before .before .before .pre .0 in
     omega (arith, f .near, f .film, p .room, p .whole, p .disk .zoned .small)
 
 following-requires : tie.Need-following-requires Inv-loop μ-loop
