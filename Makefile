@@ -1,7 +1,7 @@
 # Commands of the repository. `make test` is the gate; `make run` shows the product's main job.
-.PHONY: test run programs library build install uninstall cases fuzz bench mutants pictures fmt
+.PHONY: test edits run programs library build install uninstall cases fuzz bench mutants pictures fmt
 
-VERSION = 0.7.0
+VERSION = 0.8.0
 
 # The programs that are installed, each with a page man/NAME.1.
 PROGRAMS = listing makercard mkcard windows
@@ -16,6 +16,13 @@ MANDIR ?= $(PREFIX)/share/man
 
 test:
 	@sh tests/run
+
+# The must-fail edits over each crate's incremental folder, some seconds each, for the day's work: the verdict is the gate's, which checks
+# each from nothing. CRATES names some crates, as 'card plan'; else all are tried.
+CRATES =
+edits:
+	@sh tests/tools rt python3
+	@python3 -B tests/edits $(CRATES)
 
 # The listing of the bench film: reads its card from standard input.
 run:
@@ -72,9 +79,11 @@ fuzz: library
 	@sh tests/tools cc
 	@sh tests/fuzz/run target/staticlib target-tests/fuzz $(FUZZ_SECONDS)
 
-# The library against plain C, in one run; docs/BENCH.md tells how. Not part of the gate.
+# The library against plain C, in one run, or with EARLIER=libfilmdisk.a of an earlier commit against that; docs/BENCH.md tells how. Not
+# part of the gate.
+EARLIER =
 bench:
-	@sh bench/run
+	@sh bench/run $(EARLIER)
 
 # Changes the code, one small change at a time, and has the prover judge each; docs/MUTANTS.md tells how. MUTANTS is what else the tool is
 # told, as '--crate card --count 40'. Not part of the gate.

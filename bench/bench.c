@@ -1,5 +1,6 @@
 /*
- * The library against plain C doing the same checks: same input, one run, both in turn. Prints times a call, ratios with their
+ * The library against plain C doing the same checks, or against an earlier library in its place, which the argument then names: same
+ * input, one run, both in turn. Prints times a call, ratios with their
  * quartiles, and stack use. Each repetition compares what the two answered and wrote, byte for byte.
  */
 #define _XOPEN_SOURCE 700
@@ -22,6 +23,9 @@ static struct strings strings[TWINS];
 static double times[TWINS][COPIES][REPETITIONS];
 
 static int rows, missed;
+
+/* What the library is compared with. */
+static const char *other_name = "C";
 
 struct range {
     double low, median, high; /* quartiles */
@@ -94,8 +98,8 @@ static void compare(const char *name, const filmdisk_answer answers[TWINS], uint
     if (answers[PLAIN_C].number == expected && same_answer(answers[LIBRARY], answers[PLAIN_C]) &&
         memcmp(&strings[LIBRARY], &strings[PLAIN_C], sizeof strings[LIBRARY]) == 0)
         return;
-    fprintf(stderr, "bench: %s: the library answers %u, C %u, expected %u; or they write other bytes\n", name,
-            answers[LIBRARY].number, answers[PLAIN_C].number, expected);
+    fprintf(stderr, "bench: %s: the library answers %u, %s %u, expected %u; or they write other bytes\n", name,
+            answers[LIBRARY].number, other_name, answers[PLAIN_C].number, expected);
     exit(1);
 }
 
@@ -158,7 +162,7 @@ __attribute__((format(printf, 4, 5))) static void measure(call *c, bool in_place
 
 static void head(const char *title)
 {
-    printf("\n%s\n\n| Case | Library, ns | C, ns | Library / C | over places |\n|---|---|---|---|---|\n", title);
+    printf("\n%s\n\n| Case | Library, ns | %s, ns | Library / %s | over places |\n|---|---|---|---|---|\n", title, other_name, other_name);
 }
 
 /* The measurements. */
@@ -350,7 +354,7 @@ static void print_stack(const char *name, call *c, uint32_t phase, uint32_t firs
 static void print_stacks(void)
 {
     printf("\nStack of an accepted call, in bytes (N 1000, 64 zones, 256 streams)\n\n");
-    printf("| Call | Library | C |\n|---|---|---|\n");
+    printf("| Call | Library | %s |\n|---|---|---|\n", other_name);
     print_stack("plan", call_plan, FILMDISK_BETWEEN, 0);
     print_stack("plan_loop", call_plan_loop, FILMDISK_BETWEEN, 0);
     print_stack("open", call_open, FILMDISK_BETWEEN, 0);
@@ -361,8 +365,10 @@ static void print_stacks(void)
     print_stack("window", call_window, FILMDISK_BETWEEN, 0);
 }
 
-int main(void)
+int main(int argc, char **argv)
 {
+    if (argc > 1)
+        other_name = argv[1];
     printf("Median nanoseconds a call, and ratios (median, quartiles) of %d repetitions, all in turn in each.\n", REPETITIONS);
     printf("Each implementation stands at three places in memory; times are of its best one.\n");
     printf("Strings are not cleared between calls; each in-place call gets a fresh desk, copied outside the time.\n");
@@ -376,6 +382,6 @@ int main(void)
     measure_windows();
     measure_growth();
     print_stacks();
-    printf("\n%d rows, %d above 1.1 x C\n", rows, missed);
+    printf("\n%d rows, %d above 1.1 x %s\n", rows, missed, other_name);
     return 0;
 }

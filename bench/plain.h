@@ -20,7 +20,8 @@
     filmdisk_answer prefix##_end(uint8_t *desk, size_t desk_len, const uint8_t *positions, size_t positions_len, \
                                  const uint8_t *leads, size_t leads_len, const uint8_t *draws, size_t draws_len); \
     filmdisk_window_answer prefix##_window(const uint8_t *plan, size_t plan_len, const uint8_t *positions, size_t positions_len, \
-                                           uint32_t blocks);
+                                           uint32_t blocks); \
+    uint64_t prefix##_draw_limit(const uint8_t *desk, size_t desk_len, uint32_t slot, uint32_t bound);
 
 DECLARE_TWIN(plain)
 

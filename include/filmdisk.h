@@ -12,8 +12,8 @@
  * Threads: the library has no globals and keeps nothing between calls, so calls on different strings may run at once. A string that is
  * only read, such as the lists of several desks, may be lent to several calls at a time.
  *
- * Cost: each call on a desk judges its plan and both lists anew, so its time grows with N (docs/BENCH.md: about 2 microseconds at
- * N 1,000, about 25 at N 16,384). So does that of a window.
+ * Cost: each call on a desk but a draw limit judges its plan and both lists anew, so its time grows with N; so does that of a window.
+ * Microseconds by docs/BENCH.md: with 16 streams about 1 at N 1,000 and 10 at N 16,384, and 24 for a begin with 256 streams or a window there.
  *
  * Memory: the stack alone, for each call at most FILMDISK_STACK_ bytes below the caller's frame.
  */
@@ -27,9 +27,9 @@
 extern "C" {
 #endif
 
-#define FILMDISK_VERSION "0.7.0"
+#define FILMDISK_VERSION "0.8.0"
 #define FILMDISK_VERSION_MAJOR 0
-#define FILMDISK_VERSION_MINOR 7
+#define FILMDISK_VERSION_MINOR 8
 #define FILMDISK_VERSION_PATCH 0
 
 /* Limits. */
@@ -83,10 +83,11 @@ enum filmdisk_fetch_word { FILMDISK_FETCH_POSITION, FILMDISK_FETCH_SLOT, FILMDIS
 #define FILMDISK_STACK_PLAN_LOOP 3900
 #define FILMDISK_STACK_WINDOW 2600
 #define FILMDISK_STACK_OPEN 2600
-#define FILMDISK_STACK_JOIN 5800
-#define FILMDISK_STACK_LEAVE 5800
-#define FILMDISK_STACK_BEGIN 14100
-#define FILMDISK_STACK_END 11000
+#define FILMDISK_STACK_JOIN 2600
+#define FILMDISK_STACK_LEAVE 2600
+#define FILMDISK_STACK_BEGIN 13900
+#define FILMDISK_STACK_DRAW_LIMIT 16
+#define FILMDISK_STACK_END 10400
 
 /* The kind of a card: overheads by hop and return, or measured for each number of blocks. */
 enum filmdisk_card_kind { FILMDISK_STRAIGHT = 1, FILMDISK_MEASURED = 2 };
@@ -135,7 +136,7 @@ enum filmdisk_number {
     FILMDISK_REFUSED_WINDOW = 27
 };
 
-/* The answer of every call but that of windows. Refused: number and place, the rest 0. Accepted: number and place 0. */
+/* The answer of every call but that of windows and of draw limits. Refused: number and place, the rest 0. Accepted: number and place 0. */
 typedef struct filmdisk_answer {
     uint32_t number; /* 0, or why the call is refused */
     size_t place;
@@ -223,13 +224,16 @@ static inline filmdisk_pair filmdisk_worst_pair(const uint8_t *plan)
     return pair;
 }
 
-/* The kind of a slot below FILMDISK_MAX_STREAMS, by a desk. */
+/*
+ * The kind of a slot. This function and the next two take any slot of a desk, 0 to FILMDISK_MAX_STREAMS - 1, and do not test it: with a
+ * greater one they read other bytes. Slots from the plan's streams on are free.
+ */
 static inline uint32_t filmdisk_slot_kind(const uint8_t *desk, uint32_t slot)
 {
     return filmdisk_word(desk, (size_t)FILMDISK_DESK_KINDS + slot);
 }
 
-/* The block that the slot gets next. */
+/* The block that the slot gets next; N for a tail, 0 for a free slot. */
 static inline uint32_t filmdisk_slot_next(const uint8_t *desk, uint32_t slot)
 {
     return filmdisk_word(desk, (size_t)FILMDISK_DESK_NEXT + slot);
@@ -239,15 +243,6 @@ static inline uint32_t filmdisk_slot_next(const uint8_t *desk, uint32_t slot)
 static inline uint32_t filmdisk_slot_held(const uint8_t *desk, uint32_t slot)
 {
     return filmdisk_word(desk, (size_t)FILMDISK_DESK_HELD + slot);
-}
-
-/* The most bytes that a slot may draw in a sweep of this bound, by the desk that the begin left: above it the end answers 20. */
-static inline uint64_t filmdisk_draw_limit(const uint8_t *desk, uint32_t slot, uint32_t bound)
-{
-    const uint32_t kind = filmdisk_slot_kind(desk, slot);
-    if (kind != FILMDISK_PLAYING && kind != FILMDISK_TAIL)
-        return 0;
-    return (uint64_t)filmdisk_word(desk, FILMDISK_PLAN_RATE) * bound / 1000000;
 }
 
 /* An entry of the fetch list: read the block at this position into the slot's buffer. */
@@ -274,7 +269,10 @@ filmdisk_answer filmdisk_plan(const uint8_t *card, size_t card_len,
                               uint8_t *positions, size_t positions_len,
                               uint8_t *leads, size_t leads_len);
 
-/* Plans a card as a loop, for screens that play the film round and round; all else as above. Loops have a laying of their own. */
+/*
+ * Plans a card as a loop, for screens that play the film round and round; all else as above, the refusals too: 1 to 11, 25 and 26, then
+ * 13, then 12. Loops have a laying of their own.
+ */
 filmdisk_answer filmdisk_plan_loop(const uint8_t *card, size_t card_len,
                                    uint8_t *plan, size_t plan_len,
                                    uint8_t *positions, size_t positions_len,
@@ -311,6 +309,13 @@ filmdisk_answer filmdisk_begin(uint8_t *desk, size_t desk_len,
                                const uint8_t *positions, size_t positions_len,
                                const uint8_t *leads, size_t leads_len,
                                uint8_t *fetches, size_t fetches_len);
+
+/*
+ * The most bytes that a slot may draw in the sweep, by the desk and the bound that the begin left: above it the end answers 20. Refuses
+ * nothing and writes nothing: 0 for a slot that neither plays nor is tail, for one from FILMDISK_MAX_STREAMS on, and for a string of another
+ * length than a desk's. Of an accepted begin it has 32 bits.
+ */
+uint64_t filmdisk_draw_limit(const uint8_t *desk, size_t desk_len, uint32_t slot, uint32_t bound);
 
 /*
  * Ends a sweep, with the bytes that each of the n slots drew: alters the desk in place. Refusals 14, 15, 19, 20, 21. After the last block

@@ -140,7 +140,7 @@ static void sweep(struct desk_run *run)
     const struct sample *sample = take_sample(run);
     note_delay(run, sample);
     for (int room = 0; room < ROOMS; room++) {
-        uint64_t draw = filmdisk_draw_limit(desk, (uint32_t)room, begun.bound) * draw_share(room, run->time) / 100;
+        uint64_t draw = filmdisk_draw_limit(desk, sizeof desk, (uint32_t)room, begun.bound) * draw_share(room, run->time) / 100;
         if (sample->kinds[room] == FILMDISK_TAIL && draw > sample->held[room])
             draw = sample->held[room];
         filmdisk_put_word(draws, (size_t)room, (uint32_t)draw);

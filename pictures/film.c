@@ -10,16 +10,17 @@ const struct card bench_card = {
 
 const struct card barracuda_card = {
     7, {598, 776, 1163, 1363, 1606, 1080, 2285}, {135594, 125000, 114286, 103897, 96386, 89888, 86957},
-    8871, 1048576, 524288, 8280, 10090
+    8871, 1048576, 524288, 8380, 10090
 };
 
 const struct card deskstar_card = {1, {2}, {52258}, 2, 1829000, 187500, 12670, 15000};
 
 const struct card evening_card = {
     7, {3, 4, 6, 7, 9, 6, 13}, {135594, 125000, 114286, 103897, 96386, 89888, 86957},
-    48, 1048576, 1048576, 8280, 10090
+    48, 1048576, 1048576, 8380, 10090
 };
 
+/* Hop and return are those by which 001 has 109.45 ms for 12 blocks: for comparing with it only, as this hop is below a full turn. */
 struct card example_card(uint32_t bytes)
 {
     struct card card = {.zones = 6, .blocks = 6, .bytes = bytes, .rate = 524288, .hop = 8280, .back = 10090};

@@ -68,7 +68,7 @@ static void sweep(struct lobby_run *run)
     run->time += begun.bound;
     run->sweeps++;
     for (uint32_t slot = 0; slot < SCREENS; slot++) {
-        uint64_t draw = filmdisk_draw_limit(desk, slot, begun.bound);
+        uint64_t draw = filmdisk_draw_limit(desk, sizeof desk, slot, begun.bound);
         filmdisk_put_word(draws, slot, (uint32_t)draw);
         count_draw(run, &run->screens[slot], draw);
     }

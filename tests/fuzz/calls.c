@@ -35,12 +35,13 @@ struct interface {
     __typeof__(filmdisk_begin) *begin;
     __typeof__(filmdisk_end) *end;
     __typeof__(filmdisk_window) *window;
+    __typeof__(filmdisk_draw_limit) *draw_limit;
 };
 
-static const struct interface library = {filmdisk_plan,  filmdisk_plan_loop, filmdisk_open, filmdisk_join,
-                                         filmdisk_leave, filmdisk_begin,     filmdisk_end,  filmdisk_window};
-static const struct interface twin = {plain_plan,  plain_plan_loop, plain_open, plain_join,
-                                      plain_leave, plain_begin,     plain_end,  plain_window};
+static const struct interface library = {filmdisk_plan,  filmdisk_plan_loop, filmdisk_open,   filmdisk_join,      filmdisk_leave,
+                                         filmdisk_begin, filmdisk_end,       filmdisk_window, filmdisk_draw_limit};
+static const struct interface twin = {plain_plan,  plain_plan_loop, plain_open,   plain_join,      plain_leave,
+                                      plain_begin, plain_end,       plain_window, plain_draw_limit};
 
 static uint8_t contents[STRINGS][MOST_BYTES];
 static size_t lengths[STRINGS];
@@ -159,6 +160,22 @@ static void window_both(enum lent plan, uint32_t blocks)
     abort();
 }
 
+/* What a slot of the desk may draw. Neither writes a byte. */
+static void limit_both(uint32_t slot, uint32_t bound)
+{
+    uint8_t *s[STRINGS];
+    lend_all(s, (int)(slot + input_left) & 1);
+    guarded_seal(&lent[DESK], 1);
+    uint64_t got = library.draw_limit(s[DESK], lengths[DESK], slot, bound);
+    guarded_seal(&lent[DESK], 0);
+    uint64_t wanted = twin.draw_limit(contents[DESK], lengths[DESK], slot, bound);
+    if (got == wanted)
+        return;
+    fprintf(stderr, "draw limit of slot %u, bound %u: library %llu; twin %llu\n", slot, bound, (unsigned long long)got,
+            (unsigned long long)wanted);
+    abort();
+}
+
 /* Inputs as calls. */
 
 /* A string of bytes without meaning. */
@@ -217,7 +234,7 @@ static uint32_t word(enum lent which, size_t index)
 /* The draw of a slot: nothing, its limit, what it holds, and one beside these. */
 static uint32_t choose_draw(uint32_t slot, uint32_t choice)
 {
-    uint64_t limit = filmdisk_draw_limit(contents[DESK], slot, last_bound);
+    uint64_t limit = plain_draw_limit(contents[DESK], FILMDISK_DESK_BYTES, slot, last_bound);
     uint32_t kind = filmdisk_slot_kind(contents[DESK], slot), held = filmdisk_slot_held(contents[DESK], slot);
     if (kind != FILMDISK_PLAYING && kind != FILMDISK_TAIL)
         return choice % 16 == 15;
@@ -235,6 +252,7 @@ static void begin_sweep(void)
 /* One choice for all slots but one. */
 static void end_sweep(uint32_t all, uint32_t one, uint32_t slot)
 {
+    limit_both(slot, last_bound);
     for (uint32_t i = 0; i < FILMDISK_MAX_STREAMS; i++)
         filmdisk_put_word(contents[DRAWS], i, choose_draw(i, i == slot ? one : all));
     call_both(CALL_END, 0, 0);
@@ -326,6 +344,7 @@ static void take_call(void)
     uint32_t slot, all, one, choice = take();
     if (choice >= 240) {
         window_both(DESK, take_number());
+        limit_both(choice, take_number());
         return;
     }
     if (choice >= 232) {

@@ -850,7 +850,7 @@ static void slots_and_fetches_by_the_header(void)
     }
 }
 
-/* c x bound / 1,000,000 rounded down for playing and tail slots, 0 for the others; the products go beyond 32 bits. */
+/* c x bound / 1,000,000 rounded down for playing and tail slots, 0 for the others and for other strings; the products go beyond 32 bits. */
 static void draw_limits(void)
 {
     static const uint32_t cases[][3] = {
@@ -867,9 +867,18 @@ static void draw_limits(void)
         }
     }
     check(draw_limit(FILMDISK_TAIL, 0xFFFFFFFFu) == 42949672950ull, "the limit has 64 bits");
+    put(DESK, FILMDISK_DESK_KINDS + FILMDISK_MAX_STREAMS - 1, FILMDISK_PLAYING);
+    put(DESK, FILMDISK_DESK_NEXT, FILMDISK_PLAYING);
+    check(draw_limit(FILMDISK_MAX_STREAMS - 1, 1000000) == 10000000, "the last slot plays");
+    check(draw_limit(FILMDISK_MAX_STREAMS, 1000000) == 0 && draw_limit(0xFFFFFFFFu, 1000000) == 0, "there are no more slots");
+    static const size_t others[] = {0, 1, FILMDISK_PLAN_BYTES, FILMDISK_DESK_BYTES - 1, FILMDISK_DESK_BYTES + 1};
+    for (size_t i = 0; i < COUNT(others); i++) {
+        resize(DESK, others[i]);
+        check(draw_limit(FILMDISK_TAIL, 1000000) == 0, "a string of %zu bytes is no desk", others[i]);
+    }
 }
 
-/* A slot of each kind: what the header lets it draw is accepted, one byte more is 20. */
+/* A slot of each kind: what the limit lets it draw is accepted, one byte more is 20. */
 static void draw_limits_of_a_sweep(void)
 {
     mixed_desk(FILMDISK_BETWEEN);

@@ -161,7 +161,7 @@ uint32_t held(uint32_t slot)
 
 uint64_t draw_limit(uint32_t slot, uint32_t bound)
 {
-    return filmdisk_draw_limit(bytes_of(DESK), slot, bound);
+    return filmdisk_draw_limit(LENT(DESK), slot, bound);
 }
 
 filmdisk_fetch fetch(size_t entry)

@@ -48,6 +48,11 @@ static void call_window(void)
     answer = (filmdisk_answer){.number = window.number, .place = window.place};
 }
 
+static void call_draw_limit(void)
+{
+    answer = (filmdisk_answer){.bound = (uint32_t)filmdisk_draw_limit(LENT(DESK), 0, 1000000)};
+}
+
 /* The accepted call takes no more than the header says, and not less than half of it. */
 static void expect_stack(void (*call)(void), size_t most)
 {
@@ -115,6 +120,16 @@ static void stack_of_window(void)
     }
 }
 
+static void stack_of_draw_limit(void)
+{
+    for (size_t i = 0; i < COUNT(planners); i++) {
+        open_bench(planners[i]);
+        put(DESK, FILMDISK_DESK_KINDS, FILMDISK_PLAYING);
+        call_draw_limit();
+        expect_stack(call_draw_limit, FILMDISK_STACK_DRAW_LIMIT);
+    }
+}
+
 static const test tests[] = {
     TEST(stack_of_plan),
     TEST(stack_of_plan_loop),
@@ -122,6 +137,7 @@ static const test tests[] = {
     TEST(stack_of_join_and_leave),
     TEST(stack_of_begin_and_end),
     TEST(stack_of_window),
+    TEST(stack_of_draw_limit),
 };
 
 int main(int argc, char **argv)

@@ -94,7 +94,7 @@ static void expect_all_windows(void)
 static void every_window_of_some_films(void)
 {
     static const uint32_t evening[] = {
-        1, 7, 3, 135594, 4, 125000, 6, 114286, 7, 103897, 9, 96386, 6, 89888, 13, 86957, 48, 1048576, 1048576, 8280, 10090,
+        1, 7, 3, 135594, 4, 125000, 6, 114286, 7, 103897, 9, 96386, 6, 89888, 13, 86957, 48, 1048576, 1048576, 8380, 10090,
     };
     uint32_t times[40];
     for (size_t i = 0; i < COUNT(planners); i++) {

@@ -1,4 +1,4 @@
--- The answers of open, join and leave, a law for each way that their code can take: the rows of 01's table, then what an accepted call makes.
+-- The answers of an opening and of a move, a law for each way that their code can take: the rows of 01's table, then what an accepted call makes.
 -- Assumes nothing.
 use Prim.Native.Nat.{ℕ, _≤_, _<_}
 use mathlib.Core.Path.{_≡_, refl, sym, ap, _∙_}
@@ -8,9 +8,11 @@ use mathlib.Core.List.{List}
 use native.Mathlib.Omega.{arith}
 use native.Mathlib.Decide.{decLt, ℕ-discrete}
 use lib.ListN.{getD, set, length-set}
-use borrow.Author.Tests.{lt-ltb, le-ltb}
+use lib.Dec.{eqb}
+use borrow.Author.Tests.{lt-ltb, le-ltb, eq-eqb, ne-eqb}
 use Rattle.numbers.specs.Refusals.{notSound, wrongPhase, noSuchSlot, slotState, noSuchBlock}
 use Rattle.numbers.specs.Slots.{free, waiting, between}
+use Rattle.card.specs.declared.Verdict.{Verdict}
 use Rattle.plan.specs.declared.Plan.{Plan}
 use Rattle.plan.specs.Answer.{isPlan}
 use Rattle.rules.specs.Scheduler.{Call, join, leave, joined, left}
@@ -18,15 +20,17 @@ use Rattle.rules.specs.Order.{bySlot}
 use Rattle.turns.specs.ArrayLaws.{slots-set}
 use Rattle.rules.specs.Refusals as refusals
 use Rattle.rules.specs.Calls as calls
-use Rattle.safety.specs.Lists.{answer-accepted, answer-refused}
+use Rattle.turns.specs.Answers.{answer-accepted, answer-refused}
 use Rattle.turns.specs.Rows.{refuse, join-phase, join-slot, join-occupied, join-fault, join-accepted, leave-phase, leave-slot, leave-free, leave-accepted}
 use Rattle.desk.specs.declared.Desk.{Desk}
 use Rattle.desk.specs.declared.Answer.{Answer}
-use Rattle.desk.specs.Desk.{supplyOf, rulesOf, orderOf, slotsIn, viewOf, deskOf, freshDesk, blankDesk, verdict, openDesk, answerOf, answered, joinDesk, leaveDesk}
+use Rattle.desk.specs.Desk.{supplyOf, rulesOf, orderOf, slotsIn, viewOf, deskOf, freshDesk, blankDesk, verdict, openDesk, answerOf, answered}
 use Rattle.desk.specs.View.{Wide, same-length, desk-of-view}
 use Rattle.desk.specs.Slots.{kind-in}
 use Rattle.desk.specs.Records.{answers, withSlot}
 use Rattle.soundness.specs.Facts.{soundDesk}
+use Rattle.admission.specs.declared.Move.{Move}
+use Rattle.admission.specs.Moves.{callOf, moveDesk, kindAfter, nextAfter, stateVerdict, state-clear}
 use Rattle.admission.specs.Refused.{refused-desk}
 
 -- ---- open
@@ -50,7 +54,8 @@ module _ (d : Desk) (w : Wide d) (ps ls : List ℕ) where
   unfolding answered answerOf calls.refusals
   refused-is c k i h e =
       let p = supplyOf (d .plan) in
-      ap (answered d) (answer-refused p (orderOf (d .plan)) (rulesOf (d .plan)) (viewOf d) (record { call = c; fair = isPlan (d .plan) ps ls; room = 0 }) k i h e)
+      ap (answered d) (answer-refused p (orderOf (d .plan)) (rulesOf (d .plan)) (viewOf d)
+      (record { call = c; fair = isPlan (d .plan) ps ls; room = 0 }) k i h e)
       ∙ λ t. record { verdict = verdict k i; desk = desk-of-view d w t }
 
   -- the record with a slot set, and its view
@@ -81,122 +86,143 @@ module _ (d : Desk) (w : Wide d) (ps ls : List ℕ) where
   unfolding refusals.verdict
   sound-row c e = rw e
 
-  -- ---- join
+  -- the answer to an accepted call
+  accepted-is : (c : Call ℕ) → soundDesk d ps ls ≡ true → refusals.judged (supplyOf (d .plan)) (viewOf d) 0 c ≡ refusals.accept
+      → answerOf d ps ls 0 c ≡ calls.accepted (supplyOf (d .plan)) (orderOf (d .plan)) (viewOf d) c
+  unfolding answerOf calls.refusals
+  accepted-is c s e =
+      let p = supplyOf (d .plan) in
+      let v : judges c ≡ refusals.accept = sound-row c s ∙ e in
+      answer-accepted p (orderOf (d .plan)) (rulesOf (d .plan)) (viewOf d) (record { call = c; fair = isPlan (d .plan) ps ls; room = 0 })
+      (ap (λ (u : refusals.Verdict). u .number) v)
 
-  module _ (slot block : ℕ) where
-    pub join-unsound : soundDesk d ps ls ≡ false → answers d notSound 0 ≡ joinDesk d ps ls slot block
-    unfolding joinDesk
-    join-unsound e = sym (refused-is (join slot block) notSound 0 (omega arith) (unsound-row (join slot block) e))
+  -- ---- a move
+
+  module _ (m : Move) where
+    abbrev judged : refusals.Verdict
+    judged = refusals.judged (supplyOf (d .plan)) (viewOf d) 0 (callOf m)
+
+    -- turned down by a row of the table
+    row-refused : (k i : ℕ) → 0 < k → soundDesk d ps ls ≡ true → judged ≡ refuse k i → answers d k i ≡ moveDesk d ps ls m
+    unfolding moveDesk
+    row-refused k i h s e = sym (refused-is (callOf m) k i h (sound-row (callOf m) s ∙ e))
+
+    pub move-unsound : soundDesk d ps ls ≡ false → answers d notSound 0 ≡ moveDesk d ps ls m
+    unfolding moveDesk
+    move-unsound e = sym (refused-is (callOf m) notSound 0 (omega arith) (unsound-row (callOf m) e))
 
     module _ (s : soundDesk d ps ls ≡ true) where
-      pub join-in-sweep : d .phase ≢ between → answers d wrongPhase 0 ≡ joinDesk d ps ls slot block
-      unfolding joinDesk viewOf
-      join-in-sweep h =
-          sym (refused-is (join slot block) wrongPhase 0 (omega arith) (sound-row (join slot block) s ∙ join-phase (supplyOf (d .plan)) (viewOf d) 0 slot block h))
+      pub move-in-sweep : d .phase ≢ between → answers d wrongPhase 0 ≡ moveDesk d ps ls m
+      unfolding viewOf
+      move-in-sweep h = row-refused wrongPhase 0 (omega arith) s (go (m .joins))
+        where
+          go : (t : Bool) → refusals.judged (supplyOf (d .plan)) (viewOf d) 0 (cond t (join (m .slot) (m .block)) (leave (m .slot))) ≡ refuse wrongPhase 0
+          go true = join-phase (supplyOf (d .plan)) (viewOf d) 0 (m .slot) (m .block) h
+          go false = leave-phase (supplyOf (d .plan)) (viewOf d) 0 (m .slot) h
 
-      pub join-no-slot : d .phase ≡ between → d .plan .streams ≤ slot → answers d noSuchSlot slot ≡ joinDesk d ps ls slot block
-      unfolding joinDesk viewOf supplyOf
-      join-no-slot h l =
-          sym (refused-is (join slot block) noSuchSlot slot (omega arith) (sound-row (join slot block) s ∙ join-slot (supplyOf (d .plan)) (viewOf d) 0 slot block h l))
+      module _ (h : d .phase ≡ between) where
+        pub move-no-slot : d .plan .streams ≤ m .slot → answers d noSuchSlot (m .slot) ≡ moveDesk d ps ls m
+        unfolding viewOf supplyOf
+        move-no-slot l = row-refused noSuchSlot (m .slot) (omega arith) s (go (m .joins))
+          where
+            go : (t : Bool) → refusals.judged (supplyOf (d .plan)) (viewOf d) 0
+                (cond t (join (m .slot) (m .block)) (leave (m .slot))) ≡ refuse noSuchSlot (m .slot)
+            go true = join-slot (supplyOf (d .plan)) (viewOf d) 0 (m .slot) (m .block) h l
+            go false = leave-slot (supplyOf (d .plan)) (viewOf d) 0 (m .slot) h l
 
-      pub join-taken : d .phase ≡ between → slot < d .plan .streams → getD (d .kinds) slot 0 ≢ free → answers d slotState slot ≡ joinDesk d ps ls slot block
-      unfolding joinDesk viewOf supplyOf
-      join-taken h l k =
-          sym (refused-is (join slot block) slotState slot (omega arith)
-          (sound-row (join slot block) s ∙ join-occupied (supplyOf (d .plan)) (viewOf d) 0 slot block h l (λ e. k (sym (kind-in d w slot) ∙ e))))
+  -- past 14 to 16: 17, 18 or none of them
+  module _ (s : soundDesk d ps ls ≡ true) (h : d .phase ≡ between) where
+    abbrev state : Move → Verdict
+    state m = stateVerdict (getD (d .kinds) (m .slot) 0) (d .plan .figures .blocks) m
 
-      pub join-past-end : d .phase ≡ between → slot < d .plan .streams → getD (d .kinds) slot 0 ≡ free → d .plan .figures .blocks ≤ block → answers d noSuchBlock slot ≡ joinDesk d ps ls slot block
-      unfolding joinDesk viewOf supplyOf
-      join-past-end h l k b =
+    -- the desk that it leaves
+    abbrev landed : Move → Desk
+    landed m = cond (eqb (state m .number) 0) (withSlot d (m .slot) (kindAfter m) (nextAfter m)) d
+
+    module _ (slot block : ℕ) (l : slot < d .plan .streams) where
+      abbrev joins : Move
+      joins = record { joins = true; slot = slot; block = block }
+
+      abbrev leaves : Move
+      leaves = record { joins = false; slot = slot; block = block }
+
+      join-taken : getD (d .kinds) slot 0 ≢ free → answers d slotState slot ≡ moveDesk d ps ls joins
+      unfolding viewOf supplyOf
+      join-taken k =
+          row-refused joins slotState slot (omega arith) s
+          (join-occupied (supplyOf (d .plan)) (viewOf d) 0 slot block h l (λ e. k (sym (kind-in d w slot) ∙ e)))
+
+      join-past-end : getD (d .kinds) slot 0 ≡ free → d .plan .figures .blocks ≤ block → answers d noSuchBlock slot ≡ moveDesk d ps ls joins
+      unfolding viewOf supplyOf
+      join-past-end k b =
           let f : supplyOf (d .plan) .fault block ≡ noSuchBlock = ap (λ (t : Bool). cond t 0 noSuchBlock) (le-ltb block (d .plan .figures .blocks) b) in
-          sym (refused-is (join slot block) noSuchBlock slot (omega arith)
-          (sound-row (join slot block) s ∙ join-fault (supplyOf (d .plan)) (viewOf d) 0 slot block h l (kind-in d w slot ∙ k) (λ z. omega arith) ∙ ap (λ (n : ℕ). refuse n slot) f))
+          row-refused joins noSuchBlock slot (omega arith) s
+          (join-fault (supplyOf (d .plan)) (viewOf d) 0 slot block h l (kind-in d w slot ∙ k) (λ z. omega arith) ∙ ap (λ (n : ℕ). refuse n slot) f)
 
-      pub join-done : d .phase ≡ between → slot < d .plan .streams → getD (d .kinds) slot 0 ≡ free → block < d .plan .figures .blocks
-          → answers (withSlot d slot waiting block) 0 0 ≡ joinDesk d ps ls slot block
-      unfolding joinDesk viewOf supplyOf answered answerOf calls.refusals calls.accepted joined bySlot
-      join-done h l k b =
+      join-done : getD (d .kinds) slot 0 ≡ free → block < d .plan .figures .blocks → answers (withSlot d slot waiting block) 0 0 ≡ moveDesk d ps ls joins
+      unfolding moveDesk viewOf supplyOf answered calls.accepted joined bySlot
+      join-done k b =
           let p = supplyOf (d .plan) in
           let f : p .fault block ≡ 0 = ap (λ (t : Bool). cond t 0 noSuchBlock) (lt-ltb block (d .plan .figures .blocks) b) in
-          let v : judges (join slot block) ≡ refusals.accept = sound-row (join slot block) s ∙ join-accepted p (viewOf d) 0 slot block h l (kind-in d w slot ∙ k) f in
-          sym (ap (answered d) (answer-accepted p (orderOf (d .plan)) (rulesOf (d .plan)) (viewOf d) (record { call = join slot block; fair = isPlan (d .plan) ps ls; room = 0 }) (ap (λ (u : refusals.Verdict). u .number) v))
+          sym (ap (answered d) (accepted-is (join slot block) s (join-accepted p (viewOf d) 0 slot block h l (kind-in d w slot ∙ k) f))
           ∙ λ t. record { verdict = verdict 0 0; desk = set-slots slot waiting block h t })
 
-    -- a join that is refused, and one that is not
-    pub join-refused : (joinDesk d ps ls slot block .verdict .number ≡ 0 → ⊥) → joinDesk d ps ls slot block .desk ≡ d
-    unfolding joinDesk answered
-    join-refused n = refused-desk d ps ls 0 (join slot block) w n
+      leave-vacant : getD (d .kinds) slot 0 ≡ free → answers d slotState slot ≡ moveDesk d ps ls leaves
+      unfolding viewOf supplyOf
+      leave-vacant k = row-refused leaves slotState slot (omega arith) s (leave-free (supplyOf (d .plan)) (viewOf d) 0 slot h l (kind-in d w slot ∙ k))
 
-    pub join-made : joinDesk d ps ls slot block .verdict .number ≡ 0
-        → (soundDesk d ps ls ≡ true) × (slot < d .plan .streams) × (answers (withSlot d slot waiting block) 0 0 ≡ joinDesk d ps ls slot block)
-    join-made z = go (soundDesk d ps ls) refl
-      where
-        Made : Type 0
-        Made = (soundDesk d ps ls ≡ true) × (slot < d .plan .streams) × (answers (withSlot d slot waiting block) 0 0 ≡ joinDesk d ps ls slot block)
-
-        -- no row refuses it
-        not : (k i : ℕ) → 0 < k → answers d k i ≡ joinDesk d ps ls slot block → Made
-        not k i h e = absurd (omega (arith, ap (λ (a : Answer). a .verdict .number) e))
-
-        go : (t : Bool) → soundDesk d ps ls ≡ t → Made
-        go false s = not notSound 0 (omega arith) (join-unsound s)
-        go true s = by-cases (ℕ-discrete (d .phase) between)
-            (λ h. by-cases (decLt slot (d .plan .streams))
-            (λ l. by-cases (ℕ-discrete (getD (d .kinds) slot 0) free)
-            (λ k. by-cases (decLt block (d .plan .figures .blocks)) (λ b. (s, l, join-done s h l k b)) (λ b. not noSuchBlock slot (omega arith) (join-past-end s h l k (omega arith))))
-            (λ k. not slotState slot (omega arith) (join-taken s h l k)))
-            (λ l. not noSuchSlot slot (omega arith) (join-no-slot s h (omega arith))))
-            (λ h. not wrongPhase 0 (omega arith) (join-in-sweep s h))
-
-  -- ---- leave
-
-  module _ (slot : ℕ) where
-    pub leave-unsound : soundDesk d ps ls ≡ false → answers d notSound 0 ≡ leaveDesk d ps ls slot
-    unfolding leaveDesk
-    leave-unsound e = sym (refused-is (leave slot) notSound 0 (omega arith) (unsound-row (leave slot) e))
-
-    module _ (s : soundDesk d ps ls ≡ true) where
-      pub leave-in-sweep : d .phase ≢ between → answers d wrongPhase 0 ≡ leaveDesk d ps ls slot
-      unfolding leaveDesk viewOf
-      leave-in-sweep h = sym (refused-is (leave slot) wrongPhase 0 (omega arith) (sound-row (leave slot) s ∙ leave-phase (supplyOf (d .plan)) (viewOf d) 0 slot h))
-
-      pub leave-no-slot : d .phase ≡ between → d .plan .streams ≤ slot → answers d noSuchSlot slot ≡ leaveDesk d ps ls slot
-      unfolding leaveDesk viewOf supplyOf
-      leave-no-slot h l = sym (refused-is (leave slot) noSuchSlot slot (omega arith) (sound-row (leave slot) s ∙ leave-slot (supplyOf (d .plan)) (viewOf d) 0 slot h l))
-
-      pub leave-vacant : d .phase ≡ between → slot < d .plan .streams → getD (d .kinds) slot 0 ≡ free → answers d slotState slot ≡ leaveDesk d ps ls slot
-      unfolding leaveDesk viewOf supplyOf
-      leave-vacant h l k =
-          sym (refused-is (leave slot) slotState slot (omega arith) (sound-row (leave slot) s ∙ leave-free (supplyOf (d .plan)) (viewOf d) 0 slot h l (kind-in d w slot ∙ k)))
-
-      pub leave-done : d .phase ≡ between → slot < d .plan .streams → getD (d .kinds) slot 0 ≢ free → answers (withSlot d slot free 0) 0 0 ≡ leaveDesk d ps ls slot
-      unfolding leaveDesk viewOf supplyOf answered answerOf calls.refusals calls.accepted left bySlot
-      leave-done h l k =
+      leave-done : getD (d .kinds) slot 0 ≢ free → answers (withSlot d slot free 0) 0 0 ≡ moveDesk d ps ls leaves
+      unfolding moveDesk viewOf supplyOf answered calls.accepted left bySlot
+      leave-done k =
           let p = supplyOf (d .plan) in
-          let v : judges (leave slot) ≡ refusals.accept = sound-row (leave slot) s ∙ leave-accepted p (viewOf d) 0 slot h l (λ e. k (sym (kind-in d w slot) ∙ e)) in
-          sym (ap (answered d) (answer-accepted p (orderOf (d .plan)) (rulesOf (d .plan)) (viewOf d) (record { call = leave slot; fair = isPlan (d .plan) ps ls; room = 0 }) (ap (λ (u : refusals.Verdict). u .number) v))
+          sym (ap (answered d) (accepted-is (leave slot) s (leave-accepted p (viewOf d) 0 slot h l (λ e. k (sym (kind-in d w slot) ∙ e))))
           ∙ λ t. record { verdict = verdict 0 0; desk = set-slots slot free 0 h t })
 
-    -- a leave that is refused, and one that is not
-    pub leave-refused : (leaveDesk d ps ls slot .verdict .number ≡ 0 → ⊥) → leaveDesk d ps ls slot .desk ≡ d
-    unfolding leaveDesk answered
-    leave-refused n = refused-desk d ps ls 0 (leave slot) w n
+      state-is : (t : Bool) → (let m : Move = record { joins = t; slot = slot; block = block } in
+          answers (landed m) (state m .number) (state m .place) ≡ moveDesk d ps ls m)
+      unfolding stateVerdict kindAfter nextAfter
+      state-is true =
+          by-cases (ℕ-discrete (getD (d .kinds) slot 0) free)
+          (λ k. by-cases (decLt block (d .plan .figures .blocks))
+          (λ b. rw (eq-eqb _ free k, lt-ltb block _ b) (join-done k b))
+          (λ b. let past : d .plan .figures .blocks ≤ block = omega arith in rw (eq-eqb _ free k, le-ltb block _ past) (join-past-end k past)))
+          (λ k. rw (ne-eqb _ free k) (join-taken k))
+      state-is false =
+          by-cases (ℕ-discrete (getD (d .kinds) slot 0) free)
+          (λ k. rw (eq-eqb _ free k) (leave-vacant k))
+          (λ k. rw (ne-eqb _ free k) (leave-done k))
 
-    pub leave-made : leaveDesk d ps ls slot .verdict .number ≡ 0
-        → (soundDesk d ps ls ≡ true) × (slot < d .plan .streams) × (answers (withSlot d slot free 0) 0 0 ≡ leaveDesk d ps ls slot)
-    leave-made z = go (soundDesk d ps ls) refl
+    pub move-state : (m : Move) → m .slot < d .plan .streams → answers (landed m) (state m .number) (state m .place) ≡ moveDesk d ps ls m
+    move-state m l = state-is (m .slot) (m .block) l (m .joins)
+
+  -- ---- by the answer's number
+
+  module _ (m : Move) where
+    pub move-refused : (moveDesk d ps ls m .verdict .number ≡ 0 → ⊥) → moveDesk d ps ls m .desk ≡ d
+    unfolding moveDesk answered
+    move-refused n = refused-desk d ps ls 0 (callOf m) w n
+
+    pub move-made : moveDesk d ps ls m .verdict .number ≡ 0
+        → (soundDesk d ps ls ≡ true) × (m .slot < d .plan .streams) × (answers (withSlot d (m .slot) (kindAfter m) (nextAfter m)) 0 0 ≡ moveDesk d ps ls m)
+    move-made z = go (soundDesk d ps ls) refl
       where
         Made : Type 0
-        Made = (soundDesk d ps ls ≡ true) × (slot < d .plan .streams) × (answers (withSlot d slot free 0) 0 0 ≡ leaveDesk d ps ls slot)
+        Made = (soundDesk d ps ls ≡ true) × (m .slot < d .plan .streams) × (answers (withSlot d (m .slot) (kindAfter m) (nextAfter m)) 0 0 ≡ moveDesk d ps ls m)
 
         -- no row refuses it
-        not : (k i : ℕ) → 0 < k → answers d k i ≡ leaveDesk d ps ls slot → Made
+        not : (k i : ℕ) → 0 < k → answers d k i ≡ moveDesk d ps ls m → Made
         not k i h e = absurd (omega (arith, ap (λ (a : Answer). a .verdict .number) e))
 
+        made : (s : soundDesk d ps ls ≡ true) (h : d .phase ≡ between) → m .slot < d .plan .streams → Made
+        made s h l =
+            let e = move-state s h m l in
+            let n : state s h m .number ≡ 0 = ap (λ (a : Answer). a .verdict .number) e ∙ z in
+            (s, l, rw (n, state-clear (getD (d .kinds) (m .slot) 0) (d .plan .figures .blocks) m n) at e)
+
         go : (t : Bool) → soundDesk d ps ls ≡ t → Made
-        go false s = not notSound 0 (omega arith) (leave-unsound s)
-        go true s = by-cases (ℕ-discrete (d .phase) between)
-            (λ h. by-cases (decLt slot (d .plan .streams))
-            (λ l. by-cases (ℕ-discrete (getD (d .kinds) slot 0) free) (λ k. not slotState slot (omega arith) (leave-vacant s h l k)) (λ k. (s, l, leave-done s h l k)))
-            (λ l. not noSuchSlot slot (omega arith) (leave-no-slot s h (omega arith))))
-            (λ h. not wrongPhase 0 (omega arith) (leave-in-sweep s h))
+        go false s = not notSound 0 (omega arith) (move-unsound m s)
+        go true s =
+            by-cases (ℕ-discrete (d .phase) between)
+            (λ h. by-cases (decLt (m .slot) (d .plan .streams)) (λ l. made s h l)
+            (λ l. not noSuchSlot (m .slot) (omega arith) (move-no-slot m s h (omega arith))))
+            (λ h. not wrongPhase 0 (omega arith) (move-in-sweep m s h))

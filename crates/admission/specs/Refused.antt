@@ -8,7 +8,7 @@ use Rattle.plan.specs.Answer.{isPlan}
 use Rattle.rules.specs.Scheduler.{Call}
 use Rattle.rules.specs.Calls as C
 use Rattle.rules.specs.Calls.{State}
-use Rattle.safety.specs.Lists.{refused-changes-nothing}
+use Rattle.turns.specs.Answers.{refused-changes-nothing}
 use Rattle.desk.specs.declared.Desk.{Desk}
 use Rattle.desk.specs.Desk.{supplyOf, rulesOf, orderOf, Queue, viewOf, deskOf, answerOf}
 use Rattle.desk.specs.View.{Wide, desk-of-view}
@@ -18,7 +18,8 @@ above-zero zero h = absurd (h refl)
 above-zero (suc k) h = omega arith
 
 module _ (d : Desk) (ps ls : List ℕ) (room : ℕ) (call : Call ℕ) where
-  pub refused-same : (answerOf d ps ls room call .number ≡ 0 → ⊥) → (answerOf d ps ls room call .scheduler ≡ viewOf d) × (answerOf d ps ls room call .entries ≡ [])
+  pub refused-same : (answerOf d ps ls room call .number ≡ 0 → ⊥) → (answerOf d ps ls room call .scheduler ≡ viewOf d)
+      × (answerOf d ps ls room call .entries ≡ [])
   unfolding answerOf C.turn
   refused-same n =
       let s = supplyOf (d .plan) in

@@ -1,7 +1,7 @@
 -- Entries that are written or compared one run after another.
 -- Assumes nothing.
 use Prim.Native.Nat.{ℕ, _+_, _-_, _*_, _%_, _≤_, _<_}
-use mathlib.Core.Path.{_≡_, refl, sym, ap, ap₂, _∙_}
+use mathlib.Core.Path.{_≡_, sym, ap, ap₂, _∙_}
 use mathlib.Core.Bool.{Bool, true, false, cond, _&&_, and-true, and-comm}
 use mathlib.Core.List.{List, [], _∷_, _++_}
 use native.Mathlib.Omega.{arith}
@@ -11,8 +11,8 @@ use lib.Dec.{eqb}
 use Rattle.placement.specs.Zones.{timeAt}
 use Rattle.words.specs.Words.{wordsOf, withWord, withWords}
 use Rattle.words.specs.Laws.{withWords-none, withWords-cons, withWords-append, withWords-length, withWords-entries}
-use Rattle.zones.specs.declared.Walk.{Walk}
-use Rattle.zones.specs.Walk.{sideOf, Runs}
+use Rattle.walk.specs.declared.Walk.{Walk}
+use Rattle.walk.specs.Walk.{sideOf, Runs}
 use Rattle.plan.specs.Plan.{row}
 use Rattle.plan.specs.Answer.{begins}
 use Rattle.plan.specs.Disk.{leadAt}
@@ -81,7 +81,7 @@ pub record Writes (s : List ℕ) (g : ℕ → ℕ) (a c : ℕ) (t : List ℕ) (b
   pub to : b ≤ c
   pub is : t ≡ written s g a b
   pub kept : length t ≡ length s
-  pub room : length (wordsOf t) ≡ length (wordsOf s)
+  pub entries : length (wordsOf t) ≡ length (wordsOf s)
 
 writes : {s : List ℕ} {g : ℕ → ℕ} {a c : ℕ} {t : List ℕ} {b : ℕ} → a ≤ b → b ≤ c → t ≡ written s g a b → Writes s g a c t b
 writes {s} {g} {a} {c} {t} {b} l u e = record {
@@ -89,7 +89,7 @@ writes {s} {g} {a} {c} {t} {b} l u e = record {
   to = u;
   is = e;
   kept = ap length e ∙ withWords-length s a (row g a (b - a));
-  room = ap (λ (x : List ℕ). length (wordsOf x)) e ∙ withWords-entries s a (row g a (b - a));
+  entries = ap (λ (x : List ℕ). length (wordsOf x)) e ∙ withWords-entries s a (row g a (b - a));
 }
 
 pub writes-start : (s : List ℕ) (g : ℕ → ℕ) (a c : ℕ) → a ≤ c → Writes s g a c s a
@@ -130,7 +130,8 @@ module _ {ws : List ℕ} {g : ℕ → ℕ} {a c : ℕ} {x : Bool} {b : ℕ} (w :
   }
 
   -- a run more
-  pub compares-run : {y z : Bool} {h : ℕ → ℕ} {n : ℕ} → b ≤ n → n ≤ c → y ≡ (z && x) → z ≡ has h ws b n → ((k : ℕ) → b ≤ k → k < n → h k ≡ g k) → Compares ws g a c y n
+  pub compares-run : {y z : Bool} {h : ℕ → ℕ} {n : ℕ} → b ≤ n → n ≤ c → y ≡ (z && x) → z ≡ has h ws b n → ((k : ℕ) → b ≤ k → k < n → h k ≡ g k)
+      → Compares ws g a c y n
   compares-run {h = h} {n = n} u v e p same = record {
     from = omega (arith, w .from);
     to = v;

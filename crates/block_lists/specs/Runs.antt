@@ -10,7 +10,7 @@ use Rattle.plan.specs.Answer.{begins}
 -- the list has these entries
 pub record Within (s : List ℕ) (a b : ℕ) : Type 0 where
   pub order : a ≤ b
-  pub room : b ≤ length (wordsOf s)
+  pub long : b ≤ length (wordsOf s)
 
 -- s with the values of g as its entries from a up to b
 abbrev pub written : List ℕ → (ℕ → ℕ) → ℕ → ℕ → List ℕ

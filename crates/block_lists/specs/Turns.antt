@@ -1,7 +1,7 @@
 -- The positions of a loop as the code writes them, run by run.
 use Prim.Native.Nat.{ℕ, _+_, _-_, _≤_}
 use Rattle.numbers.specs.Limits.{maxPositions}
-use Rattle.zones.specs.Walk.{sideOf}
+use Rattle.walk.specs.Walk.{sideOf}
 
 -- the position of block b of N on the N highest of P positions where, as blocks rise, those of one parity fall: of odd blocks if o is 1, of
 -- even ones if it is 0

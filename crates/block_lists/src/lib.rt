@@ -1,14 +1,14 @@
 // The two lent lists: the positions and the leads of the film's blocks, in either showing.
 use numbers::showings::LOOP;
+use positions::position_of;
 use streams::lead;
+use walk::run_from;
+use walk::set_out;
+use walk::side;
+use walk::zone_of;
 use words::entries;
 use words::put_word;
 use words::word_at;
-use zones::position_of;
-use zones::run_from;
-use zones::set_out;
-use zones::side;
-use zones::zone_of;
 ghost use mathlib.Core.Path.{_≡_};
 ghost use mathlib.Core.Bool.{_&&_};
 ghost use Prim.Native.Nat.{_≤_, _<_};
@@ -17,23 +17,30 @@ ghost use Rattle.numbers.specs.Limits.{maxPositions};
 ghost use Rattle.placement.specs.Circle.{ring};
 ghost use Rattle.placement.specs.Showing.{laying};
 ghost use Rattle.words.specs.Words.{wordsOf, withWords};
-ghost use Rattle.zones.specs.Walk.{sideOf};
+ghost use Rattle.walk.specs.Walk.{sideOf};
 ghost use Rattle.plan.specs.Plan.{showingOf, row};
 ghost use Rattle.plan.specs.Answer.{begins};
-ghost use Rattle.plan.specs.Disk.{Film, leadAt};
+ghost use Rattle.plan.specs.Disk.{OnDisk, leadAt};
 ghost use Rattle.block_lists.specs.Runs.{Within, written, has};
 ghost use Rattle.block_lists.specs.Turns.{turnOf, Turns};
 
-// Writes the positions of a run of a loop's blocks, not of block 0. As the number of a block rises, those of one parity fall: of odd blocks
-// if `odd` is 1, of even ones if it is 0.
+// The position of block b of a run of a loop's blocks, not of block 0. As the number of a block rises, those of one parity fall: of odd
+// blocks if `odd` is 1, of even ones if it is 0.
+fn turn(total: u32, blocks: u32, odd: u32, b: u32) -> u32
+    requires { ⌜ Turns total blocks b b odd ⌝ }
+    ensures { λ r. ⌜ r ≡ turnOf total blocks odd b ⌝ }
+{
+    side(b + odd, total - b, total - blocks + b - 1)
+}
+
+// Writes the positions of such a run.
 fn put_turns(list: &mut [u8], from: u32, to: u32, total: u32, blocks: u32, odd: u32)
     requires { ⌜ (Within (now list) from to) × (Turns total blocks from to odd) ⌝ }
     ensures { λ _. ⌜ now (list .exit) ≡ written (now (list .entry)) (turnOf total blocks odd) from to ⌝ }
 {
-    let below = total - blocks;
     let mut b = from;
     while b < to {
-        put_word(list, b as usize, side(b + odd, total - b, below + b - 1));
+        put_word(list, b as usize, turn(total, blocks, odd, b));
         b += 1;
     }
 }
@@ -88,8 +95,9 @@ pub fn write_leads<'a>(
     worst2: u32,
     leads: &mut [u8],
 )
-    requires { ⌜ (Film (now sizes) (now times) total blocks) × (blocks ≤ length (wordsOf (now leads))) ⌝ }
-    ensures { λ _. ⌜ now (leads .exit) ≡ withWords (now (leads .entry)) 0 (row (leadAt (now (sizes .entry)) (now (times .entry)) (laying (showingOf showing) total blocks) worst2) 0 blocks) ⌝ }
+    requires { ⌜ (OnDisk (now sizes) (now times) total blocks) × (blocks ≤ length (wordsOf (now leads))) ⌝ }
+    ensures { λ _. ⌜ now (leads .exit) ≡ withWords (now (leads .entry)) 0
+        (row (leadAt (now (sizes .entry)) (now (times .entry)) (laying (showingOf showing) total blocks) worst2) 0 blocks) ⌝ }
 {
     let mut walk = set_out(sizes);
     let mut b: u32 = 0;
@@ -119,17 +127,16 @@ pub fn both(a: bool, b: bool) -> bool
     false
 }
 
-// A list has the positions of a run of a loop's blocks, not of block 0; `odd` as above.
+// A list has the positions of such a run.
 fn same_turns(list: &[u8], from: u32, to: u32, total: u32, blocks: u32, odd: u32) -> bool
     requires { ⌜ (Within (now list) from to) × (Turns total blocks from to odd) ⌝ }
     ensures { λ r. ⌜ r ≡ has (turnOf total blocks odd) (wordsOf (now (list .entry))) from to ⌝ }
 {
-    let below = total - blocks;
     let mut same = true;
     let mut b = from;
     while b < to {
         let have = word_at(list, b as usize);
-        same = both(have == side(b + odd, total - b, below + b - 1), same);
+        same = both(have == turn(total, blocks, odd, b), same);
         b += 1;
     }
     same
@@ -193,8 +200,9 @@ pub fn same_leads<'a>(
     worst2: u32,
     leads: &[u8],
 ) -> bool
-    requires { ⌜ Film (now sizes) (now times) total blocks ⌝ }
-    ensures { λ r. ⌜ r ≡ begins (row (leadAt (now (sizes .entry)) (now (times .entry)) (laying (showingOf showing) total blocks) worst2) 0 blocks) (wordsOf (now (leads .entry))) ⌝ }
+    requires { ⌜ OnDisk (now sizes) (now times) total blocks ⌝ }
+    ensures { λ r. ⌜ r ≡ begins (row (leadAt (now (sizes .entry)) (now (times .entry)) (laying (showingOf showing) total blocks) worst2) 0 blocks)
+        (wordsOf (now (leads .entry))) ⌝ }
 {
     if entries(leads) < blocks as usize {
         return false;

@@ -7,32 +7,19 @@ use mathlib.Core.Bool.{Bool, cond, _&&_}
 use lib.ListN.{length, getD, take, drop}
 use lib.Dec.{leb, eqb}
 use Rattle.laws.specs.Runs.{allBy, sumBy}
-use Rattle.numbers.specs.Limits.{straightKind, measuredKind, maxZones, maxPositions, maxTime, timesAsFast, minBlocks, maxBlocks, maxBytes, maxRate, maxMove, tableLength, maxOverhead}
-use Rattle.numbers.specs.Refusals.{wrongZones, wrongMeasure, tooShort}
+use Rattle.numbers.specs.Limits.{straightKind, measuredKind, maxZones, maxPositions, maxTime, timesAsFast, minBlocks, maxBlocks, maxBytes, maxRate, tableLength}
+use Rattle.numbers.specs.Refusals.{wrongZones, tooShort}
 use Rattle.leb128.specs.Number.{groups}
 use Rattle.card.specs.declared.Figures.{Figures}
 use Rattle.card.specs.declared.Verdict.{Verdict}
 use Rattle.card.specs.declared.CardWritten.{CardWritten}
 use Rattle.card.specs.declared.judge.Judged.{Judged}
 use Rattle.card.specs.declared.judge.Judged.the-variants.{Total, Refused}
-use Rattle.card.specs.declared.fields.Rule.the-variants.{Kind, Zones, Positions, Blocks, Measure, Overhead}
-use Rattle.card.specs.Ranges.{first, faultOf, timeFault}
-use Rattle.card.specs.Table.{straight, hopIn, backIn, isLine}
+use Rattle.card_field.specs.declared.Rule.the-variants.{Kind, Zones, Positions, Measure}
+use Rattle.card_field.specs.Ranges.{first, faultOf, timeFault, blocksFault}
+use Rattle.card_table.specs.Table.{Straight, Measured, tableFault, tableNumbers}
 
 -- ---- legal figures: the table of ranges as plain facts (K4; document 02, T3.2 to T3.8 and T8.3)
-
--- the overheads of kind 1 come from a hop and a return in range (T3.3, T3.6)
-pub record Straight (table : List ℕ) : Type 0 where
-  pub hop : ℕ
-  pub back : ℕ
-  pub hops : (1 ≤ hop) × (hop ≤ maxMove)
-  pub backs : (1 ≤ back) × (back ≤ maxMove)
-  pub same : table ≡ straight hop back
-
--- the overheads of kind 2 are each in range, and none is below the one before (T3.2)
-pub record Measured (table : List ℕ) : Type 0 where
-  pub range : (k : ℕ) → k < tableLength → (1 ≤ getD table k 0) × (getD table k 0 ≤ maxOverhead)
-  pub rising : (k : ℕ) → suc k < tableLength → getD table k 0 ≤ getD table (suc k) 0
 
 -- P, the positions of all zones
 unfoldable pub totalPositions : Figures → ℕ
@@ -60,26 +47,10 @@ pub record Legal (f : Figures) : Type 0 where
 
 -- ---- the judge of a record: 3 to 10 in the card's order, 26 right after 7, 25 in place of hop and return
 
--- a table of kind 1: its hop, its return, then each of its entries (T3.6)
-unfoldable pub straightFault : List ℕ → ℕ
-straightFault table =
-    first (faultOf Measure maxMove (hopIn table))
-    (first (faultOf Measure maxMove (backIn table))
-    (cond (isLine tableLength 0 table (hopIn table) (backIn table)) 0 wrongMeasure))
-
--- a table of kind 2: `left` more entries from the k-th on; before is the one before (T3.7)
-unfoldable pub measuredFault : ℕ → ℕ → List ℕ → ℕ → ℕ
-measuredFault zero k table before = 0
-measuredFault (suc left) k table before = first (faultOf Overhead before (getD table k 0)) (measuredFault left (k + 1) table (getD table k 0))
-
--- the table of a record, by its kind. The first entry of kind 2 has none before it
-unfoldable pub tableFault : ℕ → List ℕ → ℕ
-tableFault kind table = cond (eqb kind straightKind) (straightFault table) (measuredFault tableLength 0 table 0)
-
 -- the film's figures: N, B, c, then the table; total is P
 unfoldable pub filmFault : Figures → ℕ → ℕ
 filmFault f total =
-    first (faultOf Blocks total (f .blocks))
+    first (blocksFault total (f .blocks))
     (first (faultOf Measure maxBytes (f .bytes))
     (first (faultOf Measure maxRate (f .rate)) (tableFault (f .kind) (f .table))))
 
@@ -116,10 +87,6 @@ unfoldable pub judgeRecord : Figures → Verdict
 judgeRecord f = record { number = recordFault f; place = 0 }
 
 -- ---- the card of figures
-
--- the overheads: hop and return of kind 1, the whole table of kind 2 (T3.1)
-unfoldable pub tableNumbers : ℕ → List ℕ → List ℕ
-tableNumbers kind table = cond (eqb kind straightKind) (hopIn table ∷ backIn table ∷ []) table
 
 -- the film's numbers
 unfoldable pub filmNumbers : Figures → List ℕ

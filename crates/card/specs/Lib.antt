@@ -1,7 +1,4 @@
 pub mod Card
-pub mod RangeLaws
-pub mod Ranges
+pub mod CardLaws
 pub mod Read
-pub mod Table
-pub mod TableFaults
-pub mod TableLaws
+pub mod ReadLaws

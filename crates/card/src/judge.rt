@@ -1,49 +1,44 @@
 // The figures of a record, judged in the card's order.
 use crate::Figures;
 use crate::Scalars;
-use crate::fields::Rule;
-use crate::fields::fault;
-use crate::fields::fault_of_time;
-use crate::table::fault_of_table;
+use card_field::Rule;
+use card_field::fault;
+use card_field::fault_of_blocks;
+use card_field::fault_of_time;
+use card_table::fault_of_table;
 use numbers::limits::MAX_BYTES;
 use numbers::limits::MAX_RATE;
 use numbers::limits::MAX_TIME;
 use numbers::limits::MAX_ZONES;
 use numbers::refusals::WRONG_ZONES;
 ghost use mathlib.Core.Path.{_≡_};
-ghost use Prim.Native.Nat.{_≤_};
+ghost use Prim.Native.Nat.{ℕ, _≤_};
 ghost use mathlib.Core.Bool.{cond};
+ghost use mathlib.Core.List.{List, []};
 ghost use lib.ListN.{length};
 ghost use Rattle.numbers.specs.Limits.{maxZones, maxTime, tableLength};
 ghost use Rattle.numbers.specs.Refusals.{wrongZones};
-ghost use Rattle.card.specs.declared.Figures.{Figures};
+ghost use Rattle.card.specs.declared.Scalars.{Scalars};
 ghost use Rattle.card.specs.Card.{filmFault, zoneFaults, faultWith, zerosFrom, recordFault};
-ghost use Rattle.card.specs.Read.{figuresFrom, withArrays, withZones, withFilm, withTable};
+ghost use Rattle.card.specs.Read.{figuresFrom};
 
 // N, B, c, then the overheads.
-fn fault_of_film(
-    total: u32,
-    blocks: u32,
-    bytes: u32,
-    rate: u32,
-    kind: u32,
-    table: &[u32; 257],
-) -> u32
-    ensures { λ r. ⌜ r ≡ filmFault (withTable (withFilm (withZones kind 0) blocks bytes rate) (now (table .entry))) total ⌝ }
+fn fault_of_film(total: u32, figures: Scalars, table: &[u32; 257]) -> u32
+    ensures { λ r. ⌜ r ≡ filmFault (figuresFrom figures [] [] (now (table .entry))) total ⌝ }
 {
-    let few = fault(Rule::Blocks, total, blocks);
+    let few = fault_of_blocks(total, figures.blocks);
     if few != 0 {
         return few;
     }
-    let small = fault(Rule::Measure, MAX_BYTES, bytes);
+    let small = fault(Rule::Measure, MAX_BYTES, figures.bytes);
     if small != 0 {
         return small;
     }
-    let slow = fault(Rule::Measure, MAX_RATE, rate);
+    let slow = fault(Rule::Measure, MAX_RATE, figures.rate);
     if slow != 0 {
         return slow;
     }
-    fault_of_table(kind, table)
+    fault_of_table(figures.kind, table)
 }
 
 // P, the positions of all zones, or the refusal's number.
@@ -55,8 +50,8 @@ pub enum Judged {
 // Each zone's positions, then its time.
 fn fault_of_zones<'a>(zones: u32, positions: &'a [u32; 64], times: &'a [u32; 64]) -> Judged
     requires { ⌜ zones ≤ maxZones ⌝ }
-    ensures { λ r. ⌜ ((f : Figures) → faultWith (withArrays f (now (positions .entry)) (now (times .entry))) r
-        ≡ zoneFaults zones 0 (withArrays f (now (positions .entry)) (now (times .entry))) 0 maxTime) ⌝ }
+    ensures { λ r. ⌜ ((x : Scalars) (os : List ℕ) → faultWith (figuresFrom x (now (positions .entry)) (now (times .entry)) os) r
+        ≡ zoneFaults zones 0 (figuresFrom x (now (positions .entry)) (now (times .entry)) os) 0 maxTime) ⌝ }
 {
     let innermost = times[0];
     let mut total: u32 = 0;
@@ -123,14 +118,7 @@ pub fn fault_of_figures<'a>(
     let judged = fault_of_zones(figures.zones, positions, times);
     match judged {
         Judged::Refused(number) => number,
-        Judged::Total(total) => fault_of_film(
-            total,
-            figures.blocks,
-            figures.bytes,
-            figures.rate,
-            figures.kind,
-            table,
-        ),
+        Judged::Total(total) => fault_of_film(total, figures, table),
     }
 }
 

@@ -1,7 +1,5 @@
-// The figures of a card: their record, the ranges, and the judge of a record.
-pub mod fields; // one figure: its form, then its range
+// The figures of a card: their record, and its judge.
 pub mod judge; // the figures of a record, in the card's order
-pub mod table; // the overheads of a record: those of hop and return, and their judge
 
 ghost use mathlib.Core.Path.{_≡_};
 ghost use Rattle.card.specs.Card.{judgeRecord};

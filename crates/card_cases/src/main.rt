@@ -9,9 +9,9 @@
 //
 // A line is printed for each: its name and the answer; a line with no colon as it is.
 use card::Figures;
-use case_text::next_letter;
+use case_text::next_case;
+use case_text::no_case;
 use case_text::print;
-use case_text::print_byte;
 use case_text::print_number;
 use case_text::print_refusal;
 use case_text::print_word;
@@ -109,24 +109,10 @@ fn run_case(text: &[u8], letter: u8, start: usize) {
 
 // Every line: its name up to the colon, then the answer.
 fn run_cases(text: &[u8]) {
-    // The letter of the case, 0 in its name and a colon after that, and where what follows it begins.
-    let mut letter: u8 = 0;
-    let mut start: usize = 0;
-    let mut at: usize = 0;
-    while at < text.len() {
-        let byte = text[at];
-        at += 1;
-        if byte == b'\n' {
-            run_case(text, letter, start);
-            letter = 0;
-        }
-        if letter == 0 {
-            print_byte(byte);
-        }
-        if letter == b':' {
-            start = at;
-        }
-        letter = next_letter(letter, byte);
+    let mut case = no_case();
+    while case.end < text.len() {
+        case = next_case(text, case);
+        run_case(text, case.letter, case.start);
     }
 }
 

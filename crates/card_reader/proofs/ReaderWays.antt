@@ -13,13 +13,14 @@ use Rattle.leb128.specs.declared.Number.the-variants as number
 use Rattle.leb128.specs.Number.{numberAt}
 use Rattle.card.specs.declared.Figures.{Figures}
 use Rattle.card.specs.declared.CardRead.{CardRead}
-use Rattle.card.specs.declared.fields.Rule.the-variants.{Zones, Positions, Measure, Overhead}
-use Rattle.card.specs.declared.fields.Field.{Field}
-use Rattle.card.specs.declared.fields.Field.the-variants.{Value, Refused}
-use Rattle.card.specs.RangeLaws.{positions-range, zones-range, measure-range}
-use Rattle.card.specs.Ranges.{faultOf, timeFault}
-use Rattle.card.specs.Read.{onFault, onNumber, fieldAt, blankZones, blankTable, thenField, refusedCard, cardEnd, movesFrom, entriesFrom, tableFrom, filmFrom, zonesFrom, withZones, withZone, withTable}
-use Rattle.card_reader.specs.Told.{zonesRead, acceptedCard}
+use Rattle.card_field.specs.declared.Rule.the-variants.{Zones, Positions, Measure}
+use Rattle.card_field.specs.declared.Field.{Field}
+use Rattle.card_field.specs.declared.Field.the-variants.{Value, Refused}
+use Rattle.card_field.specs.RangeLaws.{positions-range, zones-range, measure-range}
+use Rattle.card_field.specs.Ranges.{faultOf, timeFault}
+use Rattle.card_field.specs.Figure.{onFault, onNumber, fieldAt}
+use Rattle.card.specs.Read.{blankZones, blankTable, thenField, refusedCard, cardEnd, rowFrom, movesFrom, entriesFrom, tableFrom, zonesFrom}
+use Rattle.card_reader.specs.Told.{acceptedCard}
 
 module _ {F G : Field} (same : F ≡ G) where
   pub card-stops : (go go′ : ℕ → ℕ → CardRead) {k o : ℕ} → F ≡ Refused k o → thenField F go′ ≡ thenField G go
@@ -39,80 +40,83 @@ module _ (s : List ℕ) (at : ℕ) (f : Figures) where
   unfolding cardEnd
   end-none h = rw (le-ltb _ _ h)
 
-module _ (s : List ℕ) (at i : ℕ) (f : Figures) (total before : ℕ) where
-  pub read-done : (left : ℕ) → left ≤ 0 → filmFrom s at f total ≡ zonesFrom left s at i f total before
+-- the zones, one by one
+module _ (s : List ℕ) (at i : ℕ) (ps ts : List ℕ) (total before : ℕ) (go : List ℕ → List ℕ → ℕ → ℕ → CardRead) where
+  pub read-done : (left : ℕ) → left ≤ 0 → go ps ts total at ≡ zonesFrom left s at i ps ts total before go
   unfolding zonesFrom
   read-done zero h = refl
   read-done (suc left) h = absurd (omega arith)
 
   module _ (left : ℕ) {F : Field} (positions : F ≡ fieldAt (faultOf Positions total) s at) where
-    pub read-few : 0 < left → (go : ℕ → ℕ → CardRead) {k o : ℕ} → F ≡ Refused k o → thenField F go ≡ zonesFrom left s at i f total before
-    read-few h go e = by left h
+    pub read-few : 0 < left → (stop : ℕ → ℕ → CardRead) {k o : ℕ} → F ≡ Refused k o → thenField F stop ≡ zonesFrom left s at i ps ts total before go
+    read-few h stop e = by left h
       where
-        by : (left : ℕ) → 0 < left → thenField F go ≡ zonesFrom left s at i f total before
+        by : (left : ℕ) → 0 < left → thenField F stop ≡ zonesFrom left s at i ps ts total before go
         by zero h = absurd (omega arith)
-        by (suc left) h = unfold zonesFrom in card-stops positions _ go e
+        by (suc left) h = unfold zonesFrom in card-stops positions _ stop e
 
-    module _ {p middle : ℕ} (read : F ≡ Value p middle) {G : Field} (time : G ≡ fieldAt (timeFault (getD (f .times) 0 0) before) s middle) where
-      pub read-slow : 0 < left → (go : ℕ → ℕ → CardRead) {k o : ℕ} → G ≡ Refused k o → thenField G go ≡ zonesFrom left s at i f total before
-      read-slow h go e = by left h
+    module _ {p middle : ℕ} (read : F ≡ Value p middle) {G : Field} (time : G ≡ fieldAt (timeFault (getD ts 0 0) before) s middle) where
+      pub read-slow : 0 < left → (stop : ℕ → ℕ → CardRead) {k o : ℕ} → G ≡ Refused k o → thenField G stop ≡ zonesFrom left s at i ps ts total before go
+      read-slow h stop e = by left h
         where
-          by : (left : ℕ) → 0 < left → thenField G go ≡ zonesFrom left s at i f total before
+          by : (left : ℕ) → 0 < left → thenField G stop ≡ zonesFrom left s at i ps ts total before go
           by zero h = absurd (omega arith)
-          by (suc left) h = unfold zonesFrom in card-stops time _ go e ∙ card-goes positions _ read
+          by (suc left) h = unfold zonesFrom in card-stops time _ stop e ∙ card-goes positions _ read
 
       pub read-more : (k : ℕ) → left ≡ k + 1 → {t next : ℕ} → G ≡ Value t next
-          → zonesFrom k s next (i + 1) (withZone f i p t) (total + p) t ≡ zonesFrom left s at i f total before
+          → zonesFrom k s next (i + 1) (set ps i p) (set ts i t) (total + p) t go ≡ zonesFrom left s at i ps ts total before go
       read-more k h {t} {next} e = by left h
         where
-          by : (left : ℕ) → left ≡ k + 1 → zonesFrom k s next (i + 1) (withZone f i p t) (total + p) t ≡ zonesFrom left s at i f total before
+          by : (left : ℕ) → left ≡ k + 1 → zonesFrom k s next (i + 1) (set ps i p) (set ts i t) (total + p) t go ≡ zonesFrom left s at i ps ts total before go
           by zero h = absurd (omega arith)
           by (suc left) h =
               let q : k ≡ left = omega arith in
-              ap (λ (x : ℕ). zonesFrom x s next (i + 1) (withZone f i p t) (total + p) t) q ∙ (unfold zonesFrom in card-goes time _ e ∙ card-goes positions _ read)
+              ap (λ (x : ℕ). zonesFrom x s next (i + 1) (set ps i p) (set ts i t) (total + p) t go) q
+              ∙ (unfold zonesFrom in card-goes time _ e ∙ card-goes positions _ read)
 
--- the overheads of kind 2, entry by entry
-module _ (s : List ℕ) (at k : ℕ) (f : Figures) (before : ℕ) where
-  pub entries-done : (left : ℕ) → left ≤ 0 → cardEnd s at f ≡ entriesFrom left s at k f before
-  unfolding entriesFrom
-  entries-done zero h = refl
-  entries-done (suc left) h = absurd (omega arith)
+-- numbers in a row, one by one
+module _ {A : Type 0} (judge : A → ℕ → ℕ) (after : A → ℕ → A) (s : List ℕ) (at : ℕ) (x : A) (k : ℕ) (vs : List ℕ) (go : List ℕ → ℕ → CardRead) where
+  pub row-done : (left : ℕ) → left ≤ 0 → go vs at ≡ rowFrom judge after left s at x k vs go
+  unfolding rowFrom
+  row-done zero h = refl
+  row-done (suc left) h = absurd (omega arith)
 
-  module _ (left : ℕ) {F : Field} (entry : F ≡ fieldAt (faultOf Overhead before) s at) where
-    pub entries-stop : 0 < left → (go : ℕ → ℕ → CardRead) {j o : ℕ} → F ≡ Refused j o → thenField F go ≡ entriesFrom left s at k f before
-    entries-stop h go e = by left h
+  module _ (left : ℕ) {F : Field} (number : F ≡ fieldAt (judge x) s at) where
+    pub row-stop : 0 < left → (stop : ℕ → ℕ → CardRead) {j o : ℕ} → F ≡ Refused j o → thenField F stop ≡ rowFrom judge after left s at x k vs go
+    row-stop h stop e = by left h
       where
-        by : (left : ℕ) → 0 < left → thenField F go ≡ entriesFrom left s at k f before
+        by : (left : ℕ) → 0 < left → thenField F stop ≡ rowFrom judge after left s at x k vs go
         by zero h = absurd (omega arith)
-        by (suc left) h = unfold entriesFrom in card-stops entry _ go e
+        by (suc left) h = unfold rowFrom in card-stops number _ stop e
 
-    pub entries-more : (j : ℕ) → left ≡ j + 1 → {v next : ℕ} → F ≡ Value v next → entriesFrom j s next (k + 1) (withTable f (set (f .table) k v)) v ≡ entriesFrom left s at k f before
-    entries-more j h {v} {next} e = by left h
+    pub row-more : (j : ℕ) → left ≡ j + 1 → {v next : ℕ} → F ≡ Value v next
+        → rowFrom judge after j s next (after x v) (k + 1) (set vs k v) go ≡ rowFrom judge after left s at x k vs go
+    row-more j h {v} {next} e = by left h
       where
-        by : (left : ℕ) → left ≡ j + 1 → entriesFrom j s next (k + 1) (withTable f (set (f .table) k v)) v ≡ entriesFrom left s at k f before
+        by : (left : ℕ) → left ≡ j + 1 → rowFrom judge after j s next (after x v) (k + 1) (set vs k v) go ≡ rowFrom judge after left s at x k vs go
         by zero h = absurd (omega arith)
         by (suc left) h =
             let q : j ≡ left = omega arith in
-            ap (λ (x : ℕ). entriesFrom x s next (k + 1) (withTable f (set (f .table) k v)) v) q ∙ (unfold entriesFrom in card-goes entry _ e)
+            ap (λ (n : ℕ). rowFrom judge after n s next (after x v) (k + 1) (set vs k v) go) q ∙ (unfold rowFrom in card-goes number _ e)
+
+-- zones are read into arrays that are all zero
+pub zones-blank : (left : ℕ) (s : List ℕ) (at : ℕ) (go : List ℕ → List ℕ → ℕ → ℕ → CardRead) {ps ts : List ℕ} → ps ≡ blankZones → ts ≡ blankZones
+    → zonesFrom left s at 0 ps ts 0 maxTime go ≡ zonesFrom left s at 0 blankZones blankZones 0 maxTime go
+zones-blank left s at go p t = λ i. zonesFrom left s at 0 (p i) (t i) 0 maxTime go
 
 pub blank-long : length blankTable ≡ tableLength
 unfolding blankTable
 blank-long = refl
 
--- zones are read into arrays that are all zero
-pub zones-blank : (left : ℕ) (s : List ℕ) (at kind z : ℕ) {ps ts os : List ℕ} → ps ≡ blankZones → ts ≡ blankZones → os ≡ blankTable
-    → zonesFrom left s at 0 (zonesRead kind z ps ts os) 0 maxTime ≡ zonesFrom left s at 0 (withZones kind z) 0 maxTime
-zones-blank left s at kind z p t o = λ i. zonesFrom left s at 0 (zonesRead kind z (p i) (t i) (o i)) 0 maxTime
-
--- by the kind
-module _ (s : List ℕ) (at : ℕ) (f : Figures) where
-  pub table-moves : f .kind ≡ straightKind → movesFrom s at f ≡ tableFrom s at f
+-- the overheads, by the kind
+module _ (kind : ℕ) (s : List ℕ) (at : ℕ) (go : List ℕ → ℕ → CardRead) where
+  pub table-moves : kind ≡ straightKind → movesFrom s at go ≡ tableFrom kind s at go
   unfolding tableFrom
-  table-moves e = rw (eq-eqb (f .kind) straightKind e)
+  table-moves e = rw (eq-eqb kind straightKind e)
 
-  pub table-entries : (f .kind ≡ straightKind → ⊥) → entriesFrom tableLength s at 0 f 0 ≡ tableFrom s at f
+  pub table-entries : (kind ≡ straightKind → ⊥) → entriesFrom s at go ≡ tableFrom kind s at go
   unfolding tableFrom
-  table-entries n = rw (ne-eqb (f .kind) straightKind n)
+  table-entries n = rw (ne-eqb kind straightKind n)
 
 -- the value of a figure that is read is not refused
 pub field-judged : (judge : ℕ → ℕ) (s : List ℕ) (at : ℕ) {v next : ℕ} {F : Field} → F ≡ fieldAt judge s at → F ≡ Value v next → judge v ≡ 0
@@ -128,7 +132,8 @@ field-judged judge s at {v} {next} e h = go (numberAt s at) (sym e ∙ h)
     go (number.CutOff size) e = absurd (let z : _≡_ {A = ℕ} 0 1 = cc in omega arith)
     go (number.Malformed start) e = absurd (let z : _≡_ {A = ℕ} 0 1 = cc in omega arith)
 
-pub field-fits : (total : ℕ) (s : List ℕ) (at : ℕ) {v next : ℕ} {F : Field} → F ≡ fieldAt (faultOf Positions total) s at → F ≡ Value v next → total + v ≤ maxPositions
+pub field-fits : (total : ℕ) (s : List ℕ) (at : ℕ) {v next : ℕ} {F : Field} → F ≡ fieldAt (faultOf Positions total) s at → F ≡ Value v next
+    → total + v ≤ maxPositions
 field-fits total s at e h = positions-range total _ (field-judged (faultOf Positions total) s at e h) .1
 
 pub zones-bound : (bound : ℕ) (s : List ℕ) (at : ℕ) {v next : ℕ} {F : Field} → F ≡ fieldAt (faultOf Zones bound) s at → F ≡ Value v next → v ≤ maxZones

@@ -1,10 +1,11 @@
 // The numbers of a card, in their order; the first fault ends it.
 use crate::Told;
 use crate::table::read_table;
-use card::fields::Field;
-use card::fields::Rule;
-use card::fields::read_field;
-use card::fields::read_time;
+use card_field::Field;
+use card_field::Rule;
+use card_field::read_blocks;
+use card_field::read_field;
+use card_field::read_time;
 use numbers::limits::MAX_BYTES;
 use numbers::limits::MAX_RATE;
 use numbers::limits::MAX_TIME;
@@ -12,10 +13,9 @@ use numbers::refusals::CARD_GOES_ON;
 ghost use mathlib.Core.Path.{_≡_};
 ghost use Prim.Native.Nat.{ℕ, _≤_};
 ghost use mathlib.Core.List.{List};
-ghost use lib.ListN.{length};
-ghost use Rattle.numbers.specs.Limits.{maxZones, maxTime, tableLength};
-ghost use Rattle.card.specs.Read.{refusedCard, thenField, filmFrom, zonesFrom};
-ghost use Rattle.card_reader.specs.Told.{zonesRead, toldCard};
+ghost use Rattle.numbers.specs.Limits.{maxZones, maxTime};
+ghost use Rattle.card.specs.Read.{blankTable, refusedCard, thenField, zonesFrom, afterZones};
+ghost use Rattle.card_reader.specs.Told.{toldCard};
 
 // What a refused figure makes of the card. (A value is none; no caller hands one over.)
 pub fn refused_field(f: Field) -> Told
@@ -36,11 +36,10 @@ fn read_film(
     zones: u32,
     table: &mut [u32; 257],
 ) -> Told
-    requires { ⌜ length (now table) ≡ tableLength ⌝ }
-    ensures { λ r. ⌜ ((ps ts : List ℕ) → toldCard ps ts (now (table .exit)) r
-        ≡ filmFrom (now (card .entry)) at (zonesRead kind zones ps ts (now (table .entry))) total) ⌝ }
+    requires { ⌜ now table ≡ blankTable ⌝ }
+    ensures { λ r. ⌜ ((ps ts : List ℕ) → toldCard ps ts (now (table .exit)) r ≡ afterZones (now (card .entry)) kind zones ps ts total at) ⌝ }
 {
-    let first = read_field(card, at, Rule::Blocks, total);
+    let first = read_blocks(card, at, total);
     let Field::Value(blocks, at1) = first else {
         return refused_field(first);
     };
@@ -72,9 +71,9 @@ pub fn read_zones(
     times: &mut [u32; 64],
     table: &mut [u32; 257],
 ) -> Told
-    requires { ⌜ (zones ≤ maxZones) × (length (now table) ≡ tableLength) ⌝ }
+    requires { ⌜ (zones ≤ maxZones) × (now table ≡ blankTable) ⌝ }
     ensures { λ r. ⌜ toldCard (now (sizes .exit)) (now (times .exit)) (now (table .exit)) r
-        ≡ zonesFrom zones (now (card .entry)) start 0 (zonesRead kind zones (now (sizes .entry)) (now (times .entry)) (now (table .entry))) 0 maxTime ⌝ }
+        ≡ zonesFrom zones (now (card .entry)) start 0 (now (sizes .entry)) (now (times .entry)) 0 maxTime (afterZones (now (card .entry)) kind zones) ⌝ }
 {
     let mut at = start;
     let mut total: u32 = 0;

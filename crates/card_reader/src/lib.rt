@@ -5,9 +5,9 @@ mod table; // the overheads
 use card::CardRead;
 use card::Figures;
 use card::Verdict;
-use card::fields::Field;
-use card::fields::Rule;
-use card::fields::read_field;
+use card_field::Field;
+use card_field::Rule;
+use card_field::read_field;
 use numbers::refusals::ACCEPTED;
 ghost use mathlib.Core.Path.{_≡_};
 ghost use Rattle.card.specs.Read.{blankZones, blankTable, refusedCard, readCard};

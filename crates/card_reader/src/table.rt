@@ -1,22 +1,24 @@
 // The overheads of a card, into a lent table: the last number with the offset after it, or the refusal.
-use card::fields::Field;
-use card::fields::Rule;
-use card::fields::read_field;
-use card::table::fill_straight;
+use card_field::Field;
+use card_field::Rule;
+use card_field::read_field;
+use card_table::fill_straight;
 use numbers::limits::MAX_MOVE;
 use numbers::limits::STRAIGHT;
 use numbers::limits::TABLE_LENGTH;
 ghost use mathlib.Core.Path.{_≡_};
+ghost use Prim.Native.Nat.{ℕ};
+ghost use mathlib.Core.List.{List};
 ghost use lib.ListN.{length};
 ghost use Rattle.numbers.specs.Limits.{tableLength};
-ghost use Rattle.card.specs.declared.Figures.{Figures};
-ghost use Rattle.card.specs.Read.{withTable, movesFrom, entriesFrom, tableFrom};
+ghost use Rattle.card.specs.declared.CardRead.{CardRead};
+ghost use Rattle.card.specs.Read.{blankTable, movesFrom, entriesFrom, tableFrom};
 ghost use Rattle.card_reader.specs.Told.{tableWith};
 
 // Hop and return, and the table that they make.
 fn read_moves(card: &[u8], at: usize, table: &mut [u32; 257]) -> Field
     requires { ⌜ length (now table) ≡ tableLength ⌝ }
-    ensures { λ r. ⌜ ((f : Figures) → tableWith (now (card .entry)) f (now (table .exit)) r ≡ movesFrom (now (card .entry)) at f) ⌝ }
+    ensures { λ r. ⌜ ((go : List ℕ → ℕ → CardRead) → tableWith (now (table .exit)) r go ≡ movesFrom (now (card .entry)) at go) ⌝ }
 {
     let first = read_field(card, at, Rule::Measure, MAX_MOVE);
     let Field::Value(hop, middle) = first else {
@@ -32,8 +34,8 @@ fn read_moves(card: &[u8], at: usize, table: &mut [u32; 257]) -> Field
 
 // The table entry by entry.
 fn read_entries(card: &[u8], start: usize, table: &mut [u32; 257]) -> Field
-    ensures { λ r. ⌜ ((f : Figures) → tableWith (now (card .entry)) f (now (table .exit)) r
-        ≡ entriesFrom tableLength (now (card .entry)) start 0 (withTable f (now (table .entry))) 0) ⌝ }
+    requires { ⌜ now table ≡ blankTable ⌝ }
+    ensures { λ r. ⌜ ((go : List ℕ → ℕ → CardRead) → tableWith (now (table .exit)) r go ≡ entriesFrom (now (card .entry)) start go) ⌝ }
 {
     let mut at = start;
     let mut before: u32 = 0;
@@ -53,9 +55,8 @@ fn read_entries(card: &[u8], start: usize, table: &mut [u32; 257]) -> Field
 
 // By the kind of the card.
 pub fn read_table(card: &[u8], at: usize, kind: u32, table: &mut [u32; 257]) -> Field
-    requires { ⌜ length (now table) ≡ tableLength ⌝ }
-    ensures { λ r. ⌜ ((f : Figures) → f .kind ≡ kind
-        → tableWith (now (card .entry)) f (now (table .exit)) r ≡ tableFrom (now (card .entry)) at (withTable f (now (table .entry)))) ⌝ }
+    requires { ⌜ now table ≡ blankTable ⌝ }
+    ensures { λ r. ⌜ ((go : List ℕ → ℕ → CardRead) → tableWith (now (table .exit)) r go ≡ tableFrom kind (now (card .entry)) at go) ⌝ }
 {
     if kind == STRAIGHT {
         return read_moves(card, at, table);

@@ -10,7 +10,7 @@ use numbers::refusals::TOO_SHORT;
 ghost use mathlib.Core.Path.{_≡_};
 ghost use Rattle.card.specs.Card.{writtenCard, bufferAfter};
 
-// Writes the card of figures into a lent buffer: refusals 3 to 10, 25 and 26, then 13.
+// Writes the card of figures into a lent buffer: refusals 3 to 10, 25 and 26, then 13. The same walk counts its bytes first.
 pub fn write_card(figures: Figures, out: &mut [u8]) -> CardWritten
     ensures { λ r. ⌜ (r ≡ writtenCard figures (now (out .entry))) × (now (out .exit) ≡ bufferAfter figures (now (out .entry))) ⌝ }
 {
@@ -18,11 +18,11 @@ pub fn write_card(figures: Figures, out: &mut [u8]) -> CardWritten
     if number != 0 {
         return writing::not_written(number);
     }
-    let length = writing::card_length(figures);
+    let length = writing::put_card(figures, out, false);
     if out.len() < length {
         return writing::not_written(TOO_SHORT);
     }
-    writing::write_numbers(figures, out);
+    writing::put_card(figures, out, true);
     CardWritten {
         verdict: Verdict {
             number: ACCEPTED,

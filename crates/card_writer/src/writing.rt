@@ -1,19 +1,20 @@
-// The numbers of a card into a lent buffer.
+// The numbers of a card, put into a lent buffer or only counted.
 use card::CardWritten;
 use card::Figures;
 use card::Verdict;
-use card::table::hop_in;
+use card_table::hop_in;
 use leb128::number_length;
 use leb128::write_number;
 use numbers::limits::STRAIGHT;
 use numbers::limits::TABLE_LENGTH;
 ghost use mathlib.Core.Path.{_≡_};
-ghost use Prim.Native.Nat.{_+_, _≤_};
+ghost use Prim.Native.Nat.{_≤_};
 ghost use lib.ListN.{length};
-ghost use mathlib.Core.List.{[], _∷_};
-ghost use Rattle.laws.specs.Overwrite.{overwrite};
 ghost use Rattle.numbers.specs.Limits.{maxZones, tableLength};
-ghost use Rattle.card.specs.Card.{tableNumbers, filmNumbers, zoneNumbers, bytesOf, cardOf, notWritten};
+ghost use Rattle.leb128.specs.Number.{groups};
+ghost use Rattle.card_table.specs.Table.{tableNumbers};
+ghost use Rattle.card.specs.Card.{filmNumbers, zoneNumbers, bytesOf, cardOf, notWritten};
+ghost use Rattle.card_writer.specs.Put.{Room, Puts};
 
 // A card that is not written.
 pub fn not_written(number: u32) -> CardWritten
@@ -28,124 +29,76 @@ pub fn not_written(number: u32) -> CardWritten
     }
 }
 
-// The bytes of a whole table.
-fn entries_length(table: &[u32; 257]) -> usize
-    requires { ⌜ length (now table) ≡ tableLength ⌝ }
-    ensures { λ r. ⌜ (r ≡ length (bytesOf (now (table .entry)))) × (r ≤ 1285) ⌝ }
+// A number at an offset; answers the offset after it.
+fn put_number(out: &mut [u8], at: usize, v: u32, write: bool) -> usize
+    requires { ⌜ Room write (now out) at (groups v) ⌝ }
+    ensures { λ r. ⌜ Puts write (now (out .entry)) at (groups v) r (now (out .exit)) ⌝ }
 {
-    let mut count: usize = 0;
-    let mut k: usize = 0;
-    while k < TABLE_LENGTH as usize {
-        count += number_length(table[k]);
-        k += 1;
+    if write {
+        return write_number(out, at, v);
     }
-    count
-}
-
-// The bytes of the overheads: those of hop and return, or those of the whole table.
-fn table_length(kind: u32, table: &[u32; 257]) -> usize
-    requires { ⌜ length (now table) ≡ tableLength ⌝ }
-    ensures { λ r. ⌜ (r ≡ length (bytesOf (tableNumbers kind (now (table .entry))))) × (r ≤ 1285) ⌝ }
-{
-    if kind != STRAIGHT {
-        return entries_length(table);
-    }
-    number_length(hop_in(table)) + number_length(table[0])
-}
-
-// The bytes of the film's numbers.
-fn film_length(figures: Figures) -> usize
-    ensures { λ r. ⌜ (r ≡ length (bytesOf (filmNumbers figures))) × (r ≤ 1300) ⌝ }
-{
-    number_length(figures.blocks)
-        + number_length(figures.bytes)
-        + number_length(figures.rate)
-        + table_length(figures.kind, &figures.table)
-}
-
-// The bytes of a card.
-pub fn card_length(figures: Figures) -> usize
-    requires { ⌜ figures .zones ≤ maxZones ⌝ }
-    ensures { λ r. ⌜ r ≡ length (cardOf figures) ⌝ }
-{
-    let zones = figures.zones as usize;
-    let mut count: usize = number_length(figures.kind) + number_length(figures.zones);
-    let mut i: usize = 0;
-    while i < zones {
-        count += number_length(figures.positions[i]);
-        count += number_length(figures.times[i]);
-        i += 1;
-    }
-    count + film_length(figures)
+    at + number_length(v)
 }
 
 // A whole table from an offset on.
-fn write_entries(table: &[u32; 257], out: &mut [u8], start: usize)
-    requires { ⌜ (length (now table) ≡ tableLength) × (start + length (bytesOf (now table)) ≤ length (now out)) ⌝ }
-    ensures { λ _. ⌜ now (out .exit) ≡ overwrite (now (out .entry)) start (bytesOf (now (table .entry))) ⌝ }
+fn put_entries(table: &[u32; 257], out: &mut [u8], start: usize, write: bool) -> usize
+    requires { ⌜ (length (now table) ≡ tableLength) × Room write (now out) start (bytesOf (now table)) ⌝ }
+    ensures { λ r. ⌜ Puts write (now (out .entry)) start (bytesOf (now (table .entry))) r (now (out .exit)) ⌝ }
 {
     let mut at = start;
     let mut k: usize = 0;
     while k < TABLE_LENGTH as usize {
-        at = write_number(out, at, table[k]);
+        at = put_number(out, at, table[k], write);
         k += 1;
     }
-}
-
-// Hop and return from an offset on.
-fn write_moves(hop: u32, back: u32, out: &mut [u8], start: usize)
-    requires { ⌜ start + length (bytesOf (hop ∷ back ∷ [])) ≤ length (now out) ⌝ }
-    ensures { λ _. ⌜ now (out .exit) ≡ overwrite (now (out .entry)) start (bytesOf (hop ∷ back ∷ [])) ⌝ }
-{
-    let at = write_number(out, start, hop);
-    write_number(out, at, back);
+    at
 }
 
 // The overheads from an offset on: hop and return, or the whole table.
-fn write_table(kind: u32, table: &[u32; 257], out: &mut [u8], start: usize)
-    requires { ⌜ (length (now table) ≡ tableLength) × (start + length (bytesOf (tableNumbers kind (now table))) ≤ length (now out)) ⌝ }
-    ensures { λ _. ⌜ now (out .exit) ≡ overwrite (now (out .entry)) start (bytesOf (tableNumbers kind (now (table .entry)))) ⌝ }
+fn put_table(kind: u32, table: &[u32; 257], out: &mut [u8], start: usize, write: bool) -> usize
+    requires { ⌜ (length (now table) ≡ tableLength) × Room write (now out) start (bytesOf (tableNumbers kind (now table))) ⌝ }
+    ensures { λ r. ⌜ Puts write (now (out .entry)) start (bytesOf (tableNumbers kind (now (table .entry)))) r (now (out .exit)) ⌝ }
 {
     if kind == STRAIGHT {
-        write_moves(hop_in(table), table[0], out, start);
-        return;
+        let at = put_number(out, start, hop_in(table), write);
+        return put_number(out, at, table[0], write);
     }
-    write_entries(table, out, start);
+    put_entries(table, out, start, write)
 }
 
 // The film's numbers from an offset on.
-fn write_film(figures: Figures, out: &mut [u8], start: usize)
-    requires { ⌜ start + length (bytesOf (filmNumbers figures)) ≤ length (now out) ⌝ }
-    ensures { λ _. ⌜ now (out .exit) ≡ overwrite (now (out .entry)) start (bytesOf (filmNumbers figures)) ⌝ }
+fn put_film(figures: Figures, out: &mut [u8], start: usize, write: bool) -> usize
+    requires { ⌜ Room write (now out) start (bytesOf (filmNumbers figures)) ⌝ }
+    ensures { λ r. ⌜ Puts write (now (out .entry)) start (bytesOf (filmNumbers figures)) r (now (out .exit)) ⌝ }
 {
-    let mut at = write_number(out, start, figures.blocks);
-    at = write_number(out, at, figures.bytes);
-    at = write_number(out, at, figures.rate);
-    write_table(figures.kind, &figures.table, out, at);
+    let mut at = put_number(out, start, figures.blocks, write);
+    at = put_number(out, at, figures.bytes, write);
+    at = put_number(out, at, figures.rate, write);
+    put_table(figures.kind, &figures.table, out, at, write)
 }
 
 // The zones and the film from an offset on.
-fn write_zones(figures: Figures, out: &mut [u8], start: usize)
-    requires { ⌜ (figures .zones ≤ maxZones) × (start + length (bytesOf (zoneNumbers (figures .zones) 0 figures)) ≤ length (now out)) ⌝ }
-    ensures { λ _. ⌜ now (out .exit) ≡ overwrite (now (out .entry)) start (bytesOf (zoneNumbers (figures .zones) 0 figures)) ⌝ }
+fn put_zones(figures: Figures, out: &mut [u8], start: usize, write: bool) -> usize
+    requires { ⌜ (figures .zones ≤ maxZones) × Room write (now out) start (bytesOf (zoneNumbers (figures .zones) 0 figures)) ⌝ }
+    ensures { λ r. ⌜ Puts write (now (out .entry)) start (bytesOf (zoneNumbers (figures .zones) 0 figures)) r (now (out .exit)) ⌝ }
 {
     let zones = figures.zones as usize;
     let mut at = start;
     let mut i: usize = 0;
     while i < zones {
-        at = write_number(out, at, figures.positions[i]);
-        at = write_number(out, at, figures.times[i]);
+        at = put_number(out, at, figures.positions[i], write);
+        at = put_number(out, at, figures.times[i], write);
         i += 1;
     }
-    write_film(figures, out, at);
+    put_film(figures, out, at, write)
 }
 
-// The whole card from the front of the buffer.
-pub fn write_numbers(figures: Figures, out: &mut [u8])
-    requires { ⌜ (figures .zones ≤ maxZones) × (length (cardOf figures) ≤ length (now out)) ⌝ }
-    ensures { λ _. ⌜ now (out .exit) ≡ overwrite (now (out .entry)) 0 (cardOf figures) ⌝ }
+// The whole card, from the front of the buffer, or only its length; answers that.
+pub fn put_card(figures: Figures, out: &mut [u8], write: bool) -> usize
+    requires { ⌜ (figures .zones ≤ maxZones) × Room write (now out) 0 (cardOf figures) ⌝ }
+    ensures { λ r. ⌜ Puts write (now (out .entry)) 0 (cardOf figures) r (now (out .exit)) ⌝ }
 {
-    let first = write_number(out, 0, figures.kind);
-    let second = write_number(out, first, figures.zones);
-    write_zones(figures, out, second);
+    let first = put_number(out, 0, figures.kind, write);
+    let second = put_number(out, first, figures.zones, write);
+    put_zones(figures, out, second, write)
 }

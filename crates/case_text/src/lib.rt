@@ -129,8 +129,32 @@ pub fn read_bytes(text: &[u8], start: usize, out: &mut [u8]) -> usize
     count
 }
 
+// Does this letter stand before a record?
+pub fn is_record(letter: u8) -> bool {
+    if letter == b'R' {
+        return true;
+    }
+    letter == b'r'
+}
+
+// A case: the letter for what is done, 0 where its line has no colon or no end; where what follows the letter begins; and where its line ends.
+pub struct Case {
+    pub letter: u8,
+    pub start: usize,
+    pub end: usize,
+}
+
+// Before the first case.
+pub fn no_case() -> Case {
+    Case {
+        letter: 0,
+        start: 0,
+        end: 0,
+    }
+}
+
 // The letter of a case after one more byte of its line: 0 within the name, a colon after it, then the first byte that is no space.
-pub fn next_letter(letter: u8, byte: u8) -> u8 {
+fn next_letter(letter: u8, byte: u8) -> u8 {
     if letter == 0 {
         if byte == b':' {
             return byte;
@@ -143,6 +167,41 @@ pub fn next_letter(letter: u8, byte: u8) -> u8 {
         }
     }
     letter
+}
+
+// The case after the last one. Its name is printed up to the colon, and before it the line feed that ends the last one.
+pub fn next_case(text: &[u8], last: Case) -> Case
+    requires { ⌜ last .end < length (now text) ⌝ }
+    ensures { λ r. ⌜ last .end < r .end ⌝ }
+{
+    let mut letter: u8 = 0;
+    let mut start = last.start;
+    let mut at = last.end;
+    while at < text.len() {
+        let byte = text[at];
+        if byte == b'\n' {
+            if last.end < at {
+                return Case {
+                    letter: letter,
+                    start: start,
+                    end: at,
+                };
+            }
+        }
+        at += 1;
+        if letter == 0 {
+            print_byte(byte);
+        }
+        if letter == b':' {
+            start = at;
+        }
+        letter = next_letter(letter, byte);
+    }
+    Case {
+        letter: 0,
+        start: start,
+        end: at,
+    }
 }
 
 // A byte as a number of 64 bits.

@@ -4,7 +4,7 @@ use mathlib.Core.List.{List, [], _∷_, _++_}
 use lib.ListN.{length, take, drop, replicate}
 use Rattle.numbers.specs.Limits.{straightKind, measuredKind, tableLength}
 use Rattle.card.specs.declared.Figures.{Figures}
-use Rattle.card.specs.Table.{straight}
+use Rattle.card_table.specs.Table.{straight}
 
 -- the entries of a record's array; those past the zones are zero
 unfoldable pub entries : List ℕ → List ℕ

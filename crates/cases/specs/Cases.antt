@@ -5,10 +5,12 @@ use mathlib.Core.Path.{_≡_, refl}
 use mathlib.Core.List.{List, [], _∷_}
 use lib.ListN.{length}
 use Rattle.leb128.specs.Number.{groupsFrom, groups, continuing, joined, judged, numberIn, numberAt}
-use Rattle.card.specs.Ranges.{first, below, above, outside, thenAbove, thenBelow, faultOf, timeFault}
-use Rattle.card.specs.Read.{onFault, onNumber, fieldAt, blankZones, blankTable, blankFigures, accepted, refusedCard, thenField, cardEnd, movesFrom, entriesFrom, tableFrom, filmFrom, zonesFrom, readCard}
-use Rattle.card.specs.Table.{straightFrom, straight}
-use Rattle.card.specs.Card.{tableNumbers, filmNumbers, zoneNumbers, numbersOf, bytesOf, cardOf}
+use Rattle.card_field.specs.Ranges.{first, below, above, outside, thenAbove, thenBelow, faultOf, timeFault, blocksFault}
+use Rattle.card_field.specs.Figure.{onFault, onNumber, fieldAt}
+use Rattle.card.specs.Read.{blankZones, blankTable, blankFigures, accepted, refusedCard, thenField, cardEnd, rowFrom, movesFrom, entriesFrom}
+use Rattle.card.specs.Read.{tableFrom, filmFrom, zonesFrom, readCard}
+use Rattle.card_table.specs.Table.{straightFrom, straight, tableNumbers}
+use Rattle.card.specs.Card.{filmNumbers, zoneNumbers, numbersOf, bytesOf, cardOf}
 use Rattle.card.specs.declared.CardRead.{CardRead}
 use Rattle.card.specs.declared.Figures.{Figures}
 use Rattle.card.specs.Card.{totalPositions}
@@ -37,7 +39,15 @@ Refuses s number offset = (readCard s .verdict .number ≡ number) × (readCard 
 -- the plan of figures in a showing: streams, buffer, worst2, worstat (T2.3) and margin
 abbrev pub Plans : Showing → Figures → ℕ → ℕ → ℕ → ℕ → ℕ → Type 0
 Plans x f streams buffer worst2 worstat margin =
-    _≡_ {A = Plan} (planOf x f) (record { figures = f; streams = streams; buffer = buffer; worst2 = worst2; margin = margin; showing = wordOf x; worstat = worstat })
+    _≡_ {A = Plan} (planOf x f) (record {
+      figures = f;
+      streams = streams;
+      buffer = buffer;
+      worst2 = worst2;
+      margin = margin;
+      showing = wordOf x;
+      worstat = worstat;
+    })
 
 -- time(b) of each block
 abbrev pub timesOf : Figures → List ℕ
@@ -107,7 +117,7 @@ pub record Cases : Type 0 where
   pub desk : Story
 
 pub cases : Cases
-unfolding groupsFrom groups continuing joined judged numberIn numberAt first below above outside thenAbove thenBelow faultOf timeFault onFault onNumber fieldAt blankZones blankTable blankFigures refusedCard thenField cardEnd movesFrom entriesFrom tableFrom filmFrom zonesFrom readCard straightFrom straight tableNumbers filmNumbers zoneNumbers numbersOf bytesOf cardOf entries film late level totalPositions sumBy greatestOf greatest wordsOf zigzag worstTime round falls rank ring worstRound timeAt run span lead overhead load streams bufferOf slowest margin firstReaching earliestOf worstAt worst2Of worstAtOf streamsOf marginOf bufferSize planOf blankPlan row positionsOf leadsOf planFault refusal planned
+unfolding groupsFrom groups continuing joined judged numberIn numberAt first below above outside thenAbove thenBelow faultOf timeFault blocksFault onFault onNumber fieldAt blankZones blankTable blankFigures refusedCard thenField cardEnd rowFrom movesFrom entriesFrom tableFrom filmFrom zonesFrom readCard straightFrom straight tableNumbers filmNumbers zoneNumbers numbersOf bytesOf cardOf entries film late level totalPositions sumBy greatestOf greatest wordsOf zigzag worstTime round falls rank ring worstRound timeAt run span lead overhead load streams bufferOf slowest margin firstReaching earliestOf worstAt worst2Of worstAtOf streamsOf marginOf bufferSize planOf blankPlan row positionsOf leadsOf planFault refusal planned
 cases = record {
   number-300 = refl;
   number-22270 = refl;

@@ -8,9 +8,10 @@ use Rattle.laws.specs.Greatest.{greatestOf, greatest, firstReaching, earliestOf
 use Rattle.laws.specs.Map.{mapFrom}
 use Rattle.laws.specs.Indices.{allFrom, lowestFrom}
 use Rattle.words.specs.Words.{wordsOf, bytesOf}
-use Rattle.card.specs.Ranges.{first, below, above, outside, thenAbove, thenBelow, faultOf, timeFault}
-use Rattle.card.specs.Table.{straightFrom, straight, isLine}
-use Rattle.card.specs.Card.{totalPositions, straightFault, measuredFault, tableFault, filmFault, zoneFaults, zerosFrom, unusedZero, recordFault}
+use Rattle.card_field.specs.Ranges.{first, below, above, outside, thenAbove, thenBelow, faultOf, timeFault, blocksFault}
+use Rattle.card_field.specs.Row.{rowFault}
+use Rattle.card_table.specs.Table.{straightFrom, straight, isLine, straightFault, measuredFault, tableFault}
+use Rattle.card.specs.Card.{totalPositions, filmFault, zoneFaults, zerosFrom, unusedZero, recordFault}
 use Rattle.card.specs.declared.Figures.{Figures}
 use Rattle.placement.specs.Placement.{zigzag, worstTime}
 use Rattle.placement.specs.Showing.{one, worstAt}
@@ -94,7 +95,8 @@ pub record Story : Type 0 where
   pub second-floor : floorFor secondJoin 1 ≡ 2 * 263781500000
   -- `Slot 0 may draw 21695; 21696 is 20`
   pub drawn : endDesk (secondBegin .desk) positions leads (draws 21695) .verdict .number ≡ 0
-  pub overdrawn : (endDesk (secondBegin .desk) positions leads (draws 21696) .verdict .number ≡ 20) × (endDesk (secondBegin .desk) positions leads (draws 21696) .verdict .place ≡ 0)
+  pub overdrawn : (endDesk (secondBegin .desk) positions leads (draws 21696) .verdict .number ≡ 20)
+      × (endDesk (secondBegin .desk) positions leads (draws 21696) .verdict .place ≡ 0)
   -- `After 21695 it holds 502593, and slot 1 is granted at the next begin against 264559`
   pub second-held : getD (secondEnd .held) 0 0 ≡ 502593
   pub third-kinds : (getD (thirdBegin .desk .kinds) 0 0 ≡ 3) × (getD (thirdBegin .desk .kinds) 1 0 ≡ 2)
@@ -103,7 +105,7 @@ pub record Story : Type 0 where
   pub dear-bound : (dearBegin .fetches .count ≡ 1) × (dearBegin .bound ≡ 52270)
 
 pub story : Story
-unfolding sumBy allBy greatestOf greatest mapFrom allFrom lowestFrom wordsOf bytesOf first below above outside thenAbove thenBelow faultOf timeFault totalPositions straightFrom straight isLine straightFault measuredFault tableFault filmFault zoneFaults zerosFrom unusedZero recordFault zigzag worstTime timeAt run span lead overhead load streams bufferOf slowest margin firstReaching earliestOf worstAt showingOf worst2Of worstAtOf streamsOf marginOf bufferSize planOf row positionsOf leadsOf begins hasNumbers hasPositions hasLeads isPlan S.before S.insert S.sorted S.entriesAt S.reads S.leadOf S.leads S.lowWater S.holds S.joined S.left S.startedSlot S.started S.playersHold S.grantable S.granted S.tried S.tries S.begun S.isFetched S.entriesFrom S.entries S.timeOf S.times S.fetchCount S.bound S.sweptBy S.released S.endedSlot S.ended S.mostDrawn S.drawLimit isZero soundSlot sound drawAllowed drawHeld judged verdict bySlot refusals accepted answer slotsOf supplyOf viewOf deskOf zeros freshDesk openDesk answerOf answered joinDesk beginDesk endDesk array fetchesOf entries film positions leads joinedDesk firstBegin firstEnd secondJoin secondBegin secondEnd thirdBegin dear dearBegin floorFor
+unfolding sumBy allBy greatestOf greatest mapFrom allFrom lowestFrom wordsOf bytesOf first below above outside thenAbove thenBelow faultOf timeFault blocksFault totalPositions straightFrom straight isLine straightFault rowFault measuredFault tableFault filmFault zoneFaults zerosFrom unusedZero recordFault zigzag worstTime timeAt run span lead overhead load streams bufferOf slowest margin firstReaching earliestOf worstAt showingOf worst2Of worstAtOf streamsOf marginOf bufferSize planOf row positionsOf leadsOf begins hasNumbers hasPositions hasLeads isPlan S.before S.insert S.sorted S.entriesAt S.reads S.leadOf S.leads S.lowWater S.holds S.joined S.left S.startedSlot S.started S.playersHold S.grantable S.granted S.tried S.tries S.begun S.isFetched S.entriesFrom S.entries S.timeOf S.times S.fetchCount S.bound S.sweptBy S.released S.endedSlot S.ended S.mostDrawn S.drawLimit isZero soundSlot sound drawAllowed drawHeld judged verdict bySlot refusals accepted answer slotsOf supplyOf viewOf deskOf zeros freshDesk openDesk answerOf answered joinDesk beginDesk endDesk array fetchesOf entries film positions leads joinedDesk firstBegin firstEnd secondJoin secondBegin secondEnd thirdBegin dear dearBegin floorFor
 story = record {
   first-fetch = (refl, refl, refl, refl, refl);
   first-bound = refl;

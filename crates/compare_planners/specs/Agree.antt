@@ -15,12 +15,12 @@ use Rattle.card.specs.declared.Figures.{Figures}
 use Rattle.card.specs.declared.CardRead.{CardRead}
 use Rattle.card.specs.declared.Verdict.{Verdict}
 use Rattle.card.specs.declared.CardWritten.{CardWritten}
-use Rattle.card.specs.Ranges.{first}
-use Rattle.card.specs.Table.{straight}
-use Rattle.card.specs.TableLaws.{straight-at}
+use Rattle.card_field.specs.Ranges.{first}
+use Rattle.card_table.specs.Table.{straight}
+use Rattle.card_table.specs.TableLaws.{straight-at}
 use Rattle.card.specs.Card.{Legal, cardOf, writeFault, writtenCard, bufferAfter}
 use Rattle.card.specs.Read.{accepted, readCard}
-use Rattle.round_trip.specs.Legality.{legal-fault}
+use Rattle.legality.specs.Legality.{legal-fault}
 use Rattle.round_trip.specs.RoundTrip.{legal-read}
 use Rattle.round_trip.specs.Size.{legal-size}
 use Rattle.laws.specs.Greatest.{greatestOf-least}
@@ -71,7 +71,8 @@ pub agree : (x : Showing) (f : Figures) → Small f → unequalOn x (cardOf f) �
 unfolding unequalOf unequalOn
 agree x f small =
     rw (legal-read f (small .legal))
-    (rw (eq-eqb (planned x read eight eight .plan .worst2) (tried x read .worst2) (sym (same-answer x read (λ z. small .legal) eight eight (small .blocks) room room .1))))
+    (rw (eq-eqb (planned x read eight eight .plan .worst2) (tried x read .worst2)
+    (sym (same-answer x read (λ z. small .legal) eight eight (small .blocks) room room .1))))
   where
     read : CardRead
     read = record { verdict = accepted; figures = f }
@@ -88,7 +89,8 @@ worst-six x f small =
     omega (arith, worst-within (timeOn f) (positionOf x f) (f .blocks) x, greatestOf-least (timeOf x f) (f .blocks) 3 (λ b u. three b u))
   where
     three : (b : ℕ) → b < f .blocks → timeOf x f b ≤ 3
-    three b u = timeAt-within (f .positions) (f .times) (f .zones) (positionOf x f b) 3 (small .times) (omega (arith, position-below x f (small .legal) b u, total-zones f (small .legal)))
+    three b u = timeAt-within (f .positions) (f .times) (f .zones) (positionOf x f b) 3 (small .times)
+        (omega (arith, position-below x f (small .legal) b u, total-zones f (small .legal)))
 
 -- so a stream fits
 one-fits : (c w B : ℕ) (table : List ℕ) → c ≡ 1000 → B ≡ 1000 → table ≡ straight 1 1 → w ≤ 6 → load c w (overhead table) 1 ≤ parts * B
@@ -105,7 +107,8 @@ fed x f small z =
       streams-best (f .rate) (worst2Of x f) (overOf f) (f .bytes) (worst2Of x f) 1 (omega arith) (omega arith) (omega arith),
     )
 
-pub accepted-both : (x : Showing) (f : Figures) → Small f → (planned x (readCard (cardOf f)) eight eight .verdict .number ≡ 0) × (tried x (readCard (cardOf f)) .verdict .number ≡ 0)
+pub accepted-both : (x : Showing) (f : Figures) → Small f
+    → (planned x (readCard (cardOf f)) eight eight .verdict .number ≡ 0) × (tried x (readCard (cardOf f)) .verdict .number ≡ 0)
 accepted-both x f small =
     rw (legal-read f (small .legal))
     (number, ap (λ (v : Verdict). v .number) (same-answer x read (λ z. small .legal) eight eight (small .blocks) room room .0) ∙ number)
@@ -117,4 +120,5 @@ accepted-both x f small =
     room = eight-room f small
 
     number : planned x read eight eight .verdict .number ≡ 0
-    number = ap (λ (a : Planned). a .verdict .number) (sym (by-none x read eight eight refl (some-stream x f (length (wordsOf eight)) (length (wordsOf eight)) room room (fed x f small)) .0))
+    number = ap (λ (a : Planned). a .verdict .number)
+        (sym (by-none x read eight eight refl (some-stream x f (length (wordsOf eight)) (length (wordsOf eight)) room room (fed x f small)) .0))

@@ -106,8 +106,10 @@ module _ (s : List ℕ) (start : ℕ) (d : Digits) (read : d ≡ digitsAt s star
           absurd (omega (arith, after .1, ap length (ap digitsIn (drop-of-length-le s out) ∙ none-in)))
       go (yes l) = on (isDigit (getD s start 0)) refl
         where
-          on : (t : Bool) → isDigit (getD s start 0) ≡ t → (start < length s) × (rest : List ℕ) × (1 ≤ length rest) × (digitsIn (drop start s) ≡ getD s start 0 ∷ rest)
-          on true e = let front = ap digitsIn (drop-cons s start 0 l) ∙ digits-next _ _ e in (l, digitsIn (drop (suc start) s), omega (arith, after .1, ap length front), front)
+          on : (t : Bool) → isDigit (getD s start 0) ≡ t
+              → (start < length s) × (rest : List ℕ) × (1 ≤ length rest) × (digitsIn (drop start s) ≡ getD s start 0 ∷ rest)
+          on true e = let front = ap digitsIn (drop-cons s start 0 l) ∙ digits-next _ _ e in
+              (l, digitsIn (drop (suc start) s), omega (arith, after .1, ap length front), front)
           on false e = absurd (omega (arith, after .1, ap length (ap digitsIn (drop-cons s start 0 l) ∙ digits-end _ _ e)))
 
   pub number-inside : 1 < d .next - start → start < length s

@@ -170,7 +170,8 @@ written (suc k) v h = go (ltb v 10) refl (written k (v / 10))
         rw same at (one-more (v / 10) (v % 10) _ (w (omega arith)) (omega arith) (omega arith))
 
 -- WHAT IS WRITTEN IS READ BACK, before a byte that is no digit
-pub decimal-read : (s : List ℕ) (at v b : ℕ) (rest : List ℕ) → isDigit b ≡ false → drop at s ≡ decimal v ++ (b ∷ rest) → numberAt s at ≡ Number v (at + length (decimal v))
+pub decimal-read : (s : List ℕ) (at v b : ℕ) (rest : List ℕ) → isDigit b ≡ false → drop at s ≡ decimal v ++ (b ∷ rest)
+    → numberAt s at ≡ Number v (at + length (decimal v))
 unfolding numberAt numberOf decimal
 decimal-read s at v b rest e d =
     let w = written v v (omega arith) in
@@ -260,7 +261,8 @@ read-decimal s at v next e = go (isNumber (digitsIn (drop at s))) refl e
     some [] h = unfold isNumber in clash h refl
     some (x ∷ xs) h = omega arith
 
-    go : (t : Bool) → isNumber ds ≡ t → cond t (Number (valueFrom 0 ds) (at + length ds)) Other ≡ Number v next → (at < next) × (drop at s ≡ decimal v ++ drop next s)
+    go : (t : Bool) → isNumber ds ≡ t → cond t (Number (valueFrom 0 ds) (at + length ds)) Other ≡ Number v next
+        → (at < next) × (drop at s ≡ decimal v ++ drop next s)
     go true h e =
         let value : valueFrom 0 ds ≡ v = cc in
         let after : at + length ds ≡ next = cc in

@@ -5,6 +5,8 @@ use mathlib.Core.List.{List, [], _∷_, _++_, map}
 use mathlib.Core.Bool.{Bool, true, false, cond}
 use lib.ListN.{length, replicate}
 use lib.Dec.{ltb, eqb}
+use Rattle.numbers.specs.Limits.{maxStreams}
+use Rattle.numbers.specs.Refusals.{notSound}
 use Rattle.card.specs.declared.Verdict.{Verdict}
 use Rattle.words.specs.Words.{wordsOf, withWords}
 use Rattle.plan.specs.declared.Plan.{Plan}
@@ -74,7 +76,7 @@ deskOf p s = record {
 
 -- 256 zeros: an array made by a repeat expression
 unfoldable pub zeros : List ℕ
-zeros = replicate 256 0
+zeros = replicate maxStreams 0
 
 -- a desk of a plan, between sweeps, all slots free
 unfoldable pub freshDesk : Plan → Desk
@@ -90,7 +92,7 @@ verdict k i = record { number = k; place = i }
 -- `it opens between sweeps, from a plan and its lists; if these are not the plan of its figures, 14`
 abbrev pub openBy : Bool → Plan → Answer
 openBy true p = record { verdict = verdict 0 0; desk = freshDesk p }
-openBy false p = record { verdict = verdict 14 0; desk = blankDesk }
+openBy false p = record { verdict = verdict notSound 0; desk = blankDesk }
 
 unfoldable pub openDesk : Plan → List ℕ → List ℕ → Answer
 openDesk p ps ls = openBy (isPlan p ps ls) p
@@ -118,7 +120,7 @@ endDesk d ps ls draws = answered d (answerOf d ps ls 0 (end (wordsOf draws)))
 
 -- numbers in an array of 256, and zeros past them
 unfoldable pub array : List ℕ → List ℕ
-array xs = xs ++ replicate (256 - length xs) 0
+array xs = xs ++ replicate (maxStreams - length xs) 0
 
 unfoldable pub fetchesOf : List Entry → Fetches
 fetchesOf es = record {

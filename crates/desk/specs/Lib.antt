@@ -1,7 +1,6 @@
 pub mod Desk
 pub mod Entries
 pub mod FilmEnd
-pub mod Lent
 pub mod Promise
 pub mod Ready
 pub mod Records

@@ -6,6 +6,7 @@ use mathlib.Core.Bool.{Bool, true, false, cond}
 use native.Mathlib.Omega.{arith}
 use lib.Dec.{ltb}
 use borrow.Author.Tests.{eqb-true}
+use Rattle.numbers.specs.Refusals.{notSound, noSuchBlock}
 use Rattle.card.specs.declared.Figures.{Figures}
 use Rattle.card.specs.Card.{Legal}
 use Rattle.placement.specs.Showing.{Showing}
@@ -15,8 +16,8 @@ use Rattle.plan.specs.Plan.{worst2Of, streamsOf, slowestOf, filmOf, planOf}
 use Rattle.plan.specs.Check.{showing-back}
 use Rattle.plan.specs.Promise.{promise}
 use Rattle.rules.specs.Supply.{Lawful, Named}
-use Rattle.safety.specs.Orderly.{Orderly}
-use Rattle.safety.specs.BySlot.{bySlot-orderly}
+use Rattle.turns.specs.Orderly.{Orderly}
+use Rattle.turns.specs.BySlot.{bySlot-orderly}
 use Rattle.desk.specs.Supply.{paced-lawful}
 use Rattle.desk.specs.Desk.{ratesOf, supplyOf, orderOf}
 
@@ -30,11 +31,11 @@ supply-named p = record {
   fault-own = λ a e. other (ltb a (p .figures .blocks)) e;
 }
   where
-    within : (t : Bool) → _≡_ {A = ℕ} (cond t 0 18) 0 → t ≡ true
+    within : (t : Bool) → _≡_ {A = ℕ} (cond t 0 noSuchBlock) 0 → t ≡ true
     within true e = refl
     within false e = absurd (omega arith)
 
-    other : (t : Bool) → _≡_ {A = ℕ} (cond t 0 18) 14 → ⊥
+    other : (t : Bool) → _≡_ {A = ℕ} (cond t 0 noSuchBlock) notSound → ⊥
     other true e = omega arith
     other false e = omega arith
 

@@ -1,13 +1,10 @@
 -- Records that the calls of the desk answer.
 -- Assumes nothing.
 use Prim.Native.Nat.{ℕ}
+use mathlib.Core.Path.{_≡_}
 use mathlib.Core.List.{List, []}
 use lib.ListN.{set}
-use Rattle.card.specs.declared.Scalars.{Scalars}
-use Rattle.card.specs.Read.{figuresFrom}
 use Rattle.plan.specs.declared.Plan.{Plan}
-use Rattle.plan.specs.declared.Numbers.{Numbers}
-use Rattle.plan.specs.Plan.{planFrom}
 use Rattle.desk.specs.declared.Desk.{Desk}
 use Rattle.desk.specs.declared.Answer.{Answer}
 use Rattle.desk.specs.declared.Begun.{Begun}
@@ -17,12 +14,41 @@ use Rattle.desk.specs.Desk.{verdict, fetchesOf}
 abbrev pub recordOf : Plan → ℕ → List ℕ → List ℕ → List ℕ → Desk
 recordOf p phase ks xs hs = record { plan = p; phase = phase; kinds = ks; next = xs; held = hs }
 
--- the plan, and the desk, of single numbers and lent arrays
-abbrev pub lentPlan : Scalars → List ℕ → List ℕ → List ℕ → Numbers → Plan
-lentPlan s ps ts os m = planFrom (figuresFrom s ps ts os) m
+-- a record with B, c, n, the buffer, the table of overheads and the slots as they were read of it
+abbrev pub withRead : Desk → ℕ → ℕ → ℕ → ℕ → List ℕ → List ℕ → List ℕ → List ℕ → Desk
+withRead d bytes rate streams buffer table ks xs hs =
+    let p = d .plan in
+    let f = p .figures in
+    record {
+      plan = record {
+        figures = record {
+          kind = f .kind;
+          zones = f .zones;
+          positions = f .positions;
+          times = f .times;
+          blocks = f .blocks;
+          bytes = bytes;
+          rate = rate;
+          table = table;
+        };
+        streams = streams;
+        buffer = buffer;
+        worst2 = p .worst2;
+        margin = p .margin;
+        showing = p .showing;
+        worstat = p .worstat;
+      };
+      phase = d .phase;
+      kinds = ks;
+      next = xs;
+      held = hs;
+    }
 
-abbrev pub lentDesk : Scalars → List ℕ → List ℕ → List ℕ → Numbers → ℕ → List ℕ → List ℕ → List ℕ → Desk
-lentDesk s ps ts os m phase ks xs hs = recordOf (lentPlan s ps ts os m) phase ks xs hs
+-- that is the record
+pub read-same : (d : Desk) {b c n m : ℕ} {os ks xs hs : List ℕ} → b ≡ d .plan .figures .bytes → c ≡ d .plan .figures .rate → n ≡ d .plan .streams
+    → m ≡ d .plan .buffer
+    → os ≡ d .plan .figures .table → ks ≡ d .kinds → xs ≡ d .next → hs ≡ d .held → withRead d b c n m os ks xs hs ≡ d
+read-same d b c n m os ks xs hs = λ t. withRead d (b t) (c t) (n t) (m t) (os t) (ks t) (xs t) (hs t)
 
 -- an answer
 abbrev pub answers : Desk → ℕ → ℕ → Answer

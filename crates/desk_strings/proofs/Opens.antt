@@ -17,7 +17,8 @@ use Rattle.desk.specs.Records.{answers}
 use Rattle.admission.specs.Answers.{open-unfit, open-done}
 use Rattle.layout.specs.declared.FilmdiskAnswer.{FilmdiskAnswer}
 use Rattle.layout.specs.Answers.{verdictAnswer}
-use Rattle.layout.specs.Layout.{planIn, planSize, deskWords, deskSize}
+use Rattle.plan_layout.specs.Layout.{planIn, planSize}
+use Rattle.desk_layout.specs.Layout.{deskWords, deskSize}
 use Rattle.desk_strings.specs.Calls.{refusedBy, openedFrom, openVerdict, openAnswer, openString, stringBy}
 
 -- the same either way

@@ -1,7 +1,7 @@
 -- A begin and an end on a desk string D.
 -- Assumes nothing.
 use Prim.Native.Nat.{ℕ, _≤_}
-use mathlib.Core.Path.{_≡_, sym, ap, _∙_}
+use mathlib.Core.Path.{_≡_, refl, sym, ap, _∙_}
 use mathlib.Core.Logic.{_≢_}
 use mathlib.Core.List.{List}
 use native.Mathlib.Omega.{arith}
@@ -14,21 +14,23 @@ use Rattle.words.specs.Laws.{withWords-none}
 use Rattle.desk.specs.declared.Desk.{Desk}
 use Rattle.desk.specs.declared.Answer.{Answer}
 use Rattle.desk.specs.declared.Begun.{Begun}
-use Rattle.desk.specs.Desk.{beginDesk, fetchesOf, entriesOf, fetchListAfter, endDesk}
+use Rattle.rules.specs.Scheduler as S
+use Rattle.desk.specs.Desk.{supplyOf, slotsIn, beginDesk, fetchesOf, entriesOf, fetchListAfter, endDesk}
 use Rattle.desk.specs.Records.{recordOf, notBegun}
 use Rattle.desk.specs.View.{Wide}
-use Rattle.desk.specs.Ready.{Ready}
-use Rattle.round_trip.specs.Legality as legality
-use Rattle.ends.specs.Ends.{Drawn}
+use Rattle.desk.specs.Slots.{withSlots}
+use Rattle.legality.specs.Legality as legality
+use Rattle.ends.specs.Ends.{Ends}
 use Rattle.sweep.specs.declared.Swept.{Swept}
-use Rattle.sweep.specs.Steps.{sweptOf, begunOf, endedDesk}
+use Rattle.sweep.specs.Steps.{sweptOf, begunOf}
+use Rattle.sweep.specs.Ended.{ended-is}
 use Rattle.scheduler.specs.Count.{begin-few}
 use Rattle.scheduler.specs.Ways.{begin-refused, begin-swept, HasEnded, end-turned-down, end-accepted}
 use Rattle.layout.specs.declared.FilmdiskAnswer.{FilmdiskAnswer}
 use Rattle.layout.specs.Answers.{verdictAnswer}
-use Rattle.layout.specs.Layout.{deskWords, deskIn, deskSize, withKinds}
-use Rattle.layout.specs.Entries.{rows, rows-of}
-use Rattle.layout.specs.RoundTrip.{DeskSized}
+use Rattle.desk_layout.specs.Layout.{deskWords, deskIn, deskSize, withKinds}
+use Rattle.entry_layout.specs.Entries.{rows, rows-of}
+use Rattle.desk_layout.specs.RoundTrip.{DeskSized}
 use Rattle.card.specs.declared.Verdict.{Verdict}
 use Rattle.desk_strings.specs.Calls.{refusedBy, said, roomIn, begunAnswer, beginAnswer, beginString, fetchString, endAnswer, endString}
 use Rattle.desk_strings.specs.Inner.{FetchesFit, sweptAnswer}
@@ -71,8 +73,8 @@ module _ (ps ls D F : List ℕ) where
   unfolding beginAnswer beginString fetchString
   begin-other o r e = let c = other-call D _ _ r o e in (c .0, c .1, rw (ne-eqb (length D) deskSize o))
 
-  -- s is what was judged of the desk that was read
-  module _ (d : Desk) (s : Swept) (h : Judged (begunBy ps ls (roomIn F)) D d (s .verdict)) (e : s ≡ sweptOf (beginDesk d ps ls (roomIn F))) where
+  -- s is what was judged of the desk in D
+  module _ (s : Swept) (h : Judged (begunBy ps ls (roomIn F)) D (s .verdict)) (e : s ≡ sweptOf (beginDesk (deskIn (wordsOf D)) ps ls (roomIn F))) where
     abbrev room : ℕ
     room = roomIn F
 
@@ -83,15 +85,15 @@ module _ (ps ls D F : List ℕ) where
         → (r ≡ beginAnswer D ps ls F) × (D ≡ beginString D ps ls F) × (F ≡ fetchString D ps ls F)
     unfolding beginAnswer beginString
     begin-left n r q =
-        let m : beginDesk (said D) ps ls room .verdict .number ≢ 0 = λ z. n (sym (said-number _ D d _ h) ∙ z) in (
-          q ∙ ap verdictAnswer (judged-said _ D d _ h) ∙ refused-answer ps ls room (said D) sized m ∙ sym (right-answer D (h .right) _),
-          refused-string _ D d _ h (refused-desk ps ls room (said D) sized m),
+        let m : beginDesk (said D) ps ls room .verdict .number ≢ 0 = λ z. n (sym (said-number _ D _ h) ∙ z) in (
+          q ∙ ap verdictAnswer (judged-said _ D _ h) ∙ refused-answer ps ls room (said D) sized m ∙ sym (right-answer D (h .right) _),
+          refused-string _ D _ h (refused-desk ps ls room (said D) sized m),
           refused-list ps ls room (said D) sized m F ∙ right-list (h .right),
         )
 
     swept-said : s ≡ sweptOf (beginDesk (said D) ps ls room)
     unfolding said
-    swept-said = e ∙ ap (λ (x : Desk). sweptOf (beginDesk x ps ls room)) (h .read)
+    swept-said = e
 
     -- accepted
     pub begin-room : FetchesFit (s .fetches .count) F × (deskSize ≤ length D)
@@ -103,15 +105,16 @@ module _ (ps ls D F : List ℕ) where
     module _ (n : s .verdict .number ≡ 0) where
       begun-said : begunOf (said D) s ≡ beginDesk (said D) ps ls room
       begun-said =
-          ap (begunOf (said D)) swept-said ∙ begin-swept (said D) (wide-of (said D) sized) (slim-of (said D) sized) ps ls room (said-number _ D d _ h ∙ n)
+          ap (begunOf (said D)) swept-said ∙ begin-swept (said D) (wide-of (said D) sized) (slim-of (said D) sized) ps ls room (said-number _ D _ h ∙ n)
 
       pub begin-put : (r : FilmdiskAnswer) (t u : List ℕ)
-          → (r ≡ sweptAnswer s) × (t ≡ withWords D 0 (deskWords (withKinds (deskIn (wordsOf D)) sweeping (s .kinds)))) × (u ≡ withWords F 0 (rows 0 (s .fetches .count) (s .fetches)))
+          → (r ≡ sweptAnswer s) × (t ≡ withWords D 0 (deskWords (withKinds (deskIn (wordsOf D)) sweeping (s .kinds))))
+          × (u ≡ withWords F 0 (rows 0 (s .fetches .count) (s .fetches)))
           → (r ≡ beginAnswer D ps ls F) × (t ≡ beginString D ps ls F) × (u ≡ fetchString D ps ls F)
       unfolding beginAnswer beginString begunAnswer begunOf said sweptOf beginDesk fetchListAfter
       begin-put r t u (p, q, w) = (
         p ∙ ap begunAnswer begun-said ∙ sym (right-answer D (h .right) _),
-        written-string _ D d _ h t (q ∙ ap (λ (b : Begun). withWords D 0 (deskWords (b .desk))) begun-said),
+        written-string _ D _ h t (q ∙ ap (λ (b : Begun). withWords D 0 (deskWords (b .desk))) begun-said),
         w
             ∙ ap (λ (x : Swept). withWords F 0 (rows 0 (x .fetches .count) (x .fetches))) swept-said
             ∙ ap (withWords F 0) (rows-of (entriesOf (said D) ps ls room))
@@ -120,7 +123,7 @@ module _ (ps ls D F : List ℕ) where
 
 -- ---- end
 
-module _ (ps ls draws D : List ℕ) (d : Desk) (v : Verdict) (h : Judged (λ (x : Desk). endDesk x ps ls draws) D d v) where
+module _ (ps ls draws D : List ℕ) (v : Verdict) (h : Judged (λ (x : Desk). endDesk x ps ls draws) D v) where
   wide : Wide (said D)
   wide = wide-of (said D) (said-sized D (h .right))
 
@@ -130,26 +133,26 @@ module _ (ps ls draws D : List ℕ) (d : Desk) (v : Verdict) (h : Judged (λ (x 
   pub end-left : v .number ≢ 0 → (r : FilmdiskAnswer) → r ≡ verdictAnswer v → (r ≡ endAnswer D ps ls draws) × (D ≡ endString D ps ls draws)
   unfolding endAnswer endString
   end-left n r q = (
-    q ∙ judged-answer _ D d v h,
-    refused-string _ D d v h (ap (λ (a : Answer). a .desk) (sym (end-turned-down (said D) wide slim ps ls draws (λ z. n (sym (said-number _ D d v h) ∙ z))))),
+    q ∙ judged-answer _ D v h,
+    refused-string _ D v h (ap (λ (a : Answer). a .desk) (sym (end-turned-down (said D) wide slim ps ls draws (λ z. n (sym (said-number _ D v h) ∙ z))))),
   )
 
   -- accepted
   module _ (n : v .number ≡ 0) where
     ended : HasEnded (said D) wide slim ps ls draws
-    ended = end-accepted (said D) wide slim ps ls draws (said-number _ D d v h ∙ n)
+    ended = end-accepted (said D) wide slim ps ls draws (said-number _ D v h ∙ n)
 
-    pub end-ready : Ready d × Drawn d (wordsOf draws)
+    pub end-told : (let d = deskIn (wordsOf D) in Ends d (d .kinds) (d .next) (d .held) (wordsOf draws))
     unfolding said
-    end-ready = rw (h .read) (ended .ready, ended .drawn)
+    end-told = record { kinds = refl; next = refl; held = refl; wide = wide; ready = ended .ready; drawn = ended .drawn }
 
-    pub end-put : (r : FilmdiskAnswer) (t ks xs hs : List ℕ) → r ≡ verdictAnswer v → recordOf (d .plan) between ks xs hs ≡ endedDesk d (wordsOf draws)
+    pub end-put : (r : FilmdiskAnswer) (t ks xs hs : List ℕ) → r ≡ verdictAnswer v
+        → (let d = deskIn (wordsOf D) in recordOf (d .plan) (d .phase) ks xs hs ≡ withSlots d (S.ended (supplyOf (d .plan)) (slotsIn d) (wordsOf draws)))
         → t ≡ withWords D 0 (deskWords (recordOf (deskIn (wordsOf D) .plan) between ks xs hs)) → (r ≡ endAnswer D ps ls draws) × (t ≡ endString D ps ls draws)
     unfolding endAnswer endString said
     end-put r t ks xs hs q e w = (
-      q ∙ judged-answer _ D d v h,
-      written-string _ D d v h t
-          (w
-          ∙ ap (λ (y : Desk). withWords D 0 (deskWords (recordOf (y .plan) between ks xs hs))) (sym (h .read))
-          ∙ ap (λ (y : Desk). withWords D 0 (deskWords y)) (e ∙ ap (λ (y : Desk). endedDesk y (wordsOf draws)) (h .read) ∙ ap (λ (a : Answer). a .desk) (ended .answer))),
+      q ∙ judged-answer _ D v h,
+      written-string _ D v h t
+          (w ∙ ap (λ (y : Desk). withWords D 0 (deskWords y))
+          (ended-is (deskIn (wordsOf D)) (wordsOf draws) _ e ∙ ap (λ (a : Answer). a .desk) (ended .answer))),
     )

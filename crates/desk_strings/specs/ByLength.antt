@@ -12,8 +12,8 @@ use Rattle.words.specs.Laws.{words-length}
 use Rattle.desk.specs.declared.Desk.{Desk}
 use Rattle.desk.specs.View.{Wide}
 use Rattle.layout.specs.declared.FilmdiskAnswer.{FilmdiskAnswer}
-use Rattle.layout.specs.Layout.{deskWords, deskWordCount, deskSize}
-use Rattle.layout.specs.RoundTrip.{DeskSized, desk-sized}
+use Rattle.desk_layout.specs.Layout.{deskWords, deskWordCount, deskSize}
+use Rattle.desk_layout.specs.RoundTrip.{DeskSized, desk-sized}
 use Rattle.desk_strings.specs.Calls.{refusedBy, said, answerBy, stringBy}
 
 module _ (D : List ℕ) where

@@ -1,19 +1,23 @@
 -- What the desk's calls answer on byte strings, and what they leave in each. In a call D is the desk string, ps and ls are the lists.
-use Prim.Native.Nat.{ℕ, _/_}
+use Prim.Native.Nat.{ℕ, _*_, _/_}
 use mathlib.Core.List.{List}
-use mathlib.Core.Bool.{cond}
-use lib.ListN.{length}
-use lib.Dec.{eqb}
+use mathlib.Core.Bool.{cond, _&&_}
+use lib.ListN.{length, getD}
+use lib.Dec.{ltb, eqb}
+use Rattle.numbers.specs.Limits.{maxStreams}
 use Rattle.numbers.specs.Refusals.{tooShort, notSound}
+use Rattle.numbers.specs.Units.{micros}
 use Rattle.words.specs.Words.{wordsOf, withWords}
 use Rattle.card.specs.declared.Verdict.{Verdict}
 use Rattle.desk.specs.declared.Desk.{Desk}
 use Rattle.desk.specs.declared.Answer.{Answer}
 use Rattle.desk.specs.declared.Begun.{Begun}
 use Rattle.desk.specs.Desk.{verdict, blankDesk, openDesk, joinDesk, leaveDesk, beginDesk, fetchListAfter, endDesk}
+use Rattle.draws.specs.Draws.{kindLimit}
 use Rattle.layout.specs.declared.FilmdiskAnswer.{FilmdiskAnswer}
 use Rattle.layout.specs.Answers.{verdictAnswer}
-use Rattle.layout.specs.Layout.{planIn, planSize, deskWords, deskIn, deskSize}
+use Rattle.plan_layout.specs.Layout.{planIn, planSize}
+use Rattle.desk_layout.specs.Layout.{deskWords, deskIn, deskSize}
 
 -- a refusal with no place
 abbrev pub refusedBy : ℕ → FilmdiskAnswer
@@ -80,3 +84,12 @@ beginString D ps ls F = stringBy D (beginDesk (said D) ps ls (roomIn F) .desk)
 
 unfoldable pub fetchString : List ℕ → List ℕ → List ℕ → List ℕ → List ℕ
 fetchString D ps ls F = cond (eqb (length D) deskSize) (fetchListAfter (said D) ps ls (roomIn F) F) F
+
+-- ---- what a slot may draw in a sweep of this bound (D14): c × bound / 1,000,000 where it plays or is tail, else 0. A string of another
+-- length has no slots, and a desk has 256
+
+unfoldable pub drawLimitOf : List ℕ → ℕ → ℕ → ℕ
+drawLimitOf D slot bound =
+    cond (eqb (length D) deskSize && ltb slot maxStreams)
+    (kindLimit (said D .plan .figures .rate * bound / micros) (getD (said D .kinds) slot 0))
+    0

@@ -5,7 +5,18 @@ use lib.ListN.{length}
 use Rattle.numbers.specs.Limits.{maxStreams}
 use Rattle.words.specs.Words.{wordsOf}
 use Rattle.sweep.specs.declared.Swept.{Swept}
+use Rattle.admission.specs.declared.Move.{Move}
+use Rattle.admission.specs.Moves.{moveDesk}
 use Rattle.layout.specs.declared.FilmdiskAnswer.{FilmdiskAnswer}
+use Rattle.layout.specs.Answers.{verdictAnswer}
+use Rattle.desk_strings.specs.Calls.{said, answerBy, stringBy}
+
+-- the answer of a join or a leave on a desk string D, and the string after it
+unfoldable pub moveAnswer : List ℕ → List ℕ → List ℕ → Move → FilmdiskAnswer
+moveAnswer D ps ls m = answerBy D (verdictAnswer (moveDesk (said D) ps ls m .verdict))
+
+unfoldable pub moveString : List ℕ → List ℕ → List ℕ → Move → List ℕ
+moveString D ps ls m = stringBy D (moveDesk (said D) ps ls m .desk)
 
 -- the answer of a begin that was accepted, from what it changed
 abbrev pub sweptAnswer : Swept → FilmdiskAnswer

@@ -1,32 +1,40 @@
 // The calls of the desk on lent byte strings: what the bytes say, called, and written back. Strings lent to one call share no byte.
-use admission::judge_join;
-use admission::judge_leave;
+use admission::Move;
+use admission::join_of;
+use admission::judge_move;
+use admission::kind_after;
+use admission::leave_of;
+use admission::next_after;
 use card::Verdict;
+use desk_columns::all_held;
+use desk_columns::all_kinds;
+use desk_columns::all_next;
+use desk_columns::kind_in;
+use desk_columns::rate_in;
+use desk_layout::DESK_BYTES;
+use desk_layout::clear_desk;
+use desk_layout::put_kinds;
+use desk_layout::put_slot;
+use desk_layout::put_slots;
+use desk_layout::write_fresh;
+use draws::most_drawn;
 use ends::end_slots;
-use layout::DESK_BYTES;
+use entry_layout::write_entries;
 use layout::FilmdiskAnswer;
-use layout::PLAN_BYTES;
-use layout::clear_desk;
-use layout::put_kinds;
-use layout::put_slot;
-use layout::put_slots;
-use layout::read_desk;
-use layout::read_plan;
 use layout::verdict_answer;
-use layout::write_entries;
-use layout::write_fresh;
+use numbers::limits::MAX_STREAMS;
 use numbers::refusals::ACCEPTED;
 use numbers::refusals::NOT_SOUND;
 use numbers::refusals::TOO_SHORT;
 use numbers::slots::BETWEEN;
-use numbers::slots::FREE;
 use numbers::slots::SWEEPING;
-use numbers::slots::WAITING;
 use plan::numbers_in;
 use plan::scalars_in;
-use planner::is_plan_of;
-use scheduler::end_verdict;
+use plan_check::is_plan_of;
+use plan_layout::PLAN_BYTES;
+use plan_layout::read_plan;
 use scheduler::judge_begin;
+use scheduler::judge_end;
 use sweep::Swept;
 ghost use mathlib.Core.Path.{_≡_};
 ghost use Prim.Native.Nat.{_≤_};
@@ -35,10 +43,11 @@ ghost use Rattle.numbers.specs.Refusals.{notSound};
 ghost use Rattle.numbers.specs.Slots.{sweeping};
 ghost use Rattle.words.specs.Words.{wordsOf, withWords};
 ghost use Rattle.desk.specs.Desk.{blankDesk};
-ghost use Rattle.layout.specs.Layout.{deskWords, deskIn, deskSize, withKinds};
-ghost use Rattle.layout.specs.Entries.{rows};
-ghost use Rattle.desk_strings.specs.Calls.{refusedBy, stringBy, openAnswer, openString, joinAnswer, joinString, leaveAnswer, leaveString, beginAnswer, beginString, fetchString, endAnswer, endString};
-ghost use Rattle.desk_strings.specs.Inner.{FetchesFit, sweptAnswer};
+ghost use Rattle.desk_layout.specs.Layout.{deskWords, deskIn, deskSize, withKinds};
+ghost use Rattle.entry_layout.specs.Entries.{rows};
+ghost use Rattle.desk_strings.specs.Calls.{refusedBy, stringBy, openAnswer, openString, joinAnswer, joinString, leaveAnswer, leaveString};
+ghost use Rattle.desk_strings.specs.Calls.{beginAnswer, beginString, fetchString, endAnswer, endString, drawLimitOf};
+ghost use Rattle.desk_strings.specs.Inner.{FetchesFit, moveAnswer, moveString, sweptAnswer};
 
 // An answer that is a number alone.
 fn number_answer(number: u32) -> FilmdiskAnswer
@@ -97,6 +106,23 @@ pub fn open(plan: &[u8], positions: &[u8], leads: &[u8], desk: &mut [u8]) -> Fil
     number_answer(ACCEPTED)
 }
 
+// Makes a move: 14 to 18. A refused one writes nothing, another its slot alone.
+fn make_move(desk: &mut [u8], positions: &[u8], leads: &[u8], step: Move) -> FilmdiskAnswer
+    ensures { λ r. ⌜ (r ≡ moveAnswer (now (desk .entry)) (now (positions .entry)) (now (leads .entry)) step)
+        × (now (desk .exit) ≡ moveString (now (desk .entry)) (now (positions .entry)) (now (leads .entry)) step) ⌝ }
+{
+    if desk.len() != DESK_BYTES {
+        return number_answer(NOT_SOUND);
+    }
+    let judged = judge_move(desk, positions, leads, step);
+    if judged.number != ACCEPTED {
+        return verdict_answer(judged);
+    }
+    let slot = step.slot as usize;
+    put_slot(desk, slot, kind_after(step), next_after(step));
+    verdict_answer(judged)
+}
+
 // A free slot becomes asked: 14 to 18. A refused call writes nothing, another its slot alone.
 pub fn join(
     desk: &mut [u8],
@@ -108,15 +134,7 @@ pub fn join(
     ensures { λ r. ⌜ (r ≡ joinAnswer (now (desk .entry)) (now (positions .entry)) (now (leads .entry)) slot block)
         × (now (desk .exit) ≡ joinString (now (desk .entry)) (now (positions .entry)) (now (leads .entry)) slot block) ⌝ }
 {
-    if desk.len() != DESK_BYTES {
-        return number_answer(NOT_SOUND);
-    }
-    let judged = judge_join(read_desk(desk), positions, leads, slot, block);
-    if judged.number != ACCEPTED {
-        return verdict_answer(judged);
-    }
-    put_slot(desk, slot as usize, WAITING, block);
-    verdict_answer(judged)
+    make_move(desk, positions, leads, join_of(slot, block))
 }
 
 // An occupied slot becomes free: 14 to 17. A refused call writes nothing, another its slot alone.
@@ -124,15 +142,7 @@ pub fn leave(desk: &mut [u8], positions: &[u8], leads: &[u8], slot: u32) -> Film
     ensures { λ r. ⌜ (r ≡ leaveAnswer (now (desk .entry)) (now (positions .entry)) (now (leads .entry)) slot)
         × (now (desk .exit) ≡ leaveString (now (desk .entry)) (now (positions .entry)) (now (leads .entry)) slot) ⌝ }
 {
-    if desk.len() != DESK_BYTES {
-        return number_answer(NOT_SOUND);
-    }
-    let judged = judge_leave(read_desk(desk), positions, leads, slot);
-    if judged.number != ACCEPTED {
-        return verdict_answer(judged);
-    }
-    put_slot(desk, slot as usize, FREE, 0);
-    verdict_answer(judged)
+    make_move(desk, positions, leads, leave_of(slot))
 }
 
 // Writes what an accepted begin changes: the fetches, the phase and the kinds.
@@ -170,7 +180,7 @@ pub fn begin(desk: &mut [u8], positions: &[u8], leads: &[u8], fetches: &mut [u8]
         return number_answer(NOT_SOUND);
     }
     let room = words::entries(fetches) / 3;
-    let swept = judge_begin(read_desk(desk), positions, leads, room);
+    let swept = judge_begin(desk, positions, leads, room);
     let judged = swept.verdict;
     if judged.number != ACCEPTED {
         return verdict_answer(judged);
@@ -186,30 +196,31 @@ pub fn end(desk: &mut [u8], positions: &[u8], leads: &[u8], draws: &[u8]) -> Fil
     if desk.len() != DESK_BYTES {
         return number_answer(NOT_SOUND);
     }
-    let read = read_desk(desk);
-    let figures = scalars_in(read.plan);
-    let numbers = numbers_in(read.plan);
-    let judged = end_verdict(
-        figures,
-        &read.plan.figures.positions,
-        &read.plan.figures.times,
-        &read.plan.figures.table,
-        numbers,
-        read.phase,
-        &read.kinds,
-        &read.next,
-        &read.held,
-        positions,
-        leads,
-        draws,
-    );
+    let judged = judge_end(desk, positions, leads, draws);
     if judged.number != ACCEPTED {
         return verdict_answer(judged);
     }
-    let mut kinds = read.kinds;
-    let mut next = read.next;
-    let mut held = read.held;
-    end_slots(figures, numbers, &mut kinds, &mut next, &mut held, draws);
+    let mut kinds = all_kinds(desk);
+    let mut next = all_next(desk);
+    let mut held = all_held(desk);
+    end_slots(desk, &mut kinds, &mut next, &mut held, draws);
     put_slots(desk, BETWEEN, &kinds, &next, &held);
     verdict_answer(judged)
+}
+
+// What a slot may draw in a sweep of this bound, by the desk that its begin left: one that plays or is tail the most, others 0. A string of
+// another length has no slots, and a desk has 256.
+pub fn draw_limit(desk: &[u8], slot: u32, bound: u32) -> u64
+    ensures { λ r. ⌜ r ≡ drawLimitOf (now (desk .entry)) slot bound ⌝ }
+{
+    if desk.len() != DESK_BYTES {
+        return 0;
+    }
+    if slot >= MAX_STREAMS {
+        return 0;
+    }
+    draws::draw_limit(
+        kind_in(desk, slot as usize),
+        most_drawn(rate_in(desk), bound),
+    )
 }

@@ -23,7 +23,7 @@ ghost use Rattle.desk.specs.Desk.{Queue};
 ghost use Rattle.draws.specs.Draws.{FirstAbove, kindLimit, Sweeps, judgedDraws};
 
 // What a slot may draw: a playing or tail slot the most, others 0.
-fn draw_limit(kind: u32, most: u64) -> u64
+pub fn draw_limit(kind: u32, most: u64) -> u64
     ensures { λ r. ⌜ r ≡ kindLimit most kind ⌝ }
 {
     match kind {

@@ -25,14 +25,14 @@ use Rattle.turns.specs.Facts.{Good, good-free}
 use Rattle.rules.specs.Refusals.{drawAllowed, drawHeld}
 use Rattle.turns.specs.Slots.{fetched-full, fetched-other}
 use Rattle.turns.specs.Turns.{ended-fetched, ended-last, ended-empty, ended-other, endedTo, endedTo-none, endedTo-at, endedTo-next, endedTo-rest}
-use Rattle.safety.specs.Safety.{Drawable, drawable-of}
+use Rattle.turns.specs.Sweeps.{Drawable, drawable-of}
 use Rattle.desk.specs.declared.Desk.{Desk}
 use Rattle.desk.specs.Desk.{supplyOf, slotsIn, viewOf}
 use Rattle.desk.specs.View.{Wide}
 use Rattle.desk.specs.Ready.{Ready, ready-lawful, room-left}
 use Rattle.desk.specs.Slots.{withSlots, length-in, load-kind, load-next, load-held, store-slot, with-own}
 use Rattle.ends.specs.declared.Slot.{Slot}
-use Rattle.ends.specs.Ends.{Drawn, Film, slotIn, Fair}
+use Rattle.ends.specs.Ends.{Drawn, Continues, slotIn, Fair}
 
 -- ---- the next block
 
@@ -55,7 +55,8 @@ past-is loop N b u = sym (ne-eqb _ N (λ e. omega (arith, round-below N b u)))
 
 -- ---- one slot
 
-module _ (p : Supply ℕ) (x : Showing) (N bytes room : ℕ) (film : Film p x N bytes room) (s : Slot) (draw : ℕ) (k : filling ≤ s .kind) (l : s .kind ≤ playing) where
+module _ (p : Supply ℕ) (x : Showing) (N bytes room : ℕ) (film : Continues p x N bytes room) (s : Slot) (draw : ℕ) (k : filling ≤ s .kind)
+    (l : s .kind ≤ playing) where
   -- its buffer is too full
   pub swept-full : room < s .held → slotIn (record { kind = s .kind; next = s .next; held = s .held - draw }) ≡ endedSlot p (slotIn s) draw
   swept-full h = sym (ended-other p (slotIn s) draw (fetched-full p (slotIn s) (omega (arith, film .size, film .left))) (λ z. absurd (omega arith)))
@@ -105,7 +106,8 @@ pub ends-none : (d : Desk) → Wide d → (ds : List ℕ) → d ≡ endedUpTo d 
 unfolding endedUpTo
 ends-none d w ds = with-own d w ∙ ap (withSlots d) (sym (endedTo-none (supplyOf (d .plan)) ds (slotsIn d)))
 
-pub film-of : (d : Desk) → Ready d → Film (supplyOf (d .plan)) (showingIn (d .plan)) (d .plan .figures .blocks) (d .plan .figures .bytes) (d .plan .buffer - d .plan .figures .bytes)
+pub film-of : (d : Desk) → Ready d → Continues (supplyOf (d .plan)) (showingIn (d .plan)) (d .plan .figures .blocks) (d .plan .figures .bytes)
+    (d .plan .buffer - d .plan .figures .bytes)
 unfolding supplyOf
 film-of d r = record {
   start = refl;
@@ -135,13 +137,13 @@ module _ (d : Desk) (w : Wide d) (r : Ready d) (ds : List ℕ) (o : Drawn d ds) 
       sym (endedTo-at p ds i (slotsIn d))
       ∙ λ j. record { kind = sym (load-kind d ts e q i) j; next = sym (load-next d ts e q i) j; buffered = sym (load-held d ts e q i) j }
 
-  drawable : Drawable (supplyOf (d .plan)) (ready-lawful d r) (mostDrawn (supplyOf (d .plan)) (slotsIn d)) (at (supplyOf (d .plan)) (slotsIn d) i) (getD ds i 0)
+  drawable : Drawable (supplyOf (d .plan)) (mostDrawn (supplyOf (d .plan)) (slotsIn d)) (at (supplyOf (d .plan)) (slotsIn d) i) (getD ds i 0)
   unfolding viewOf
   drawable =
       let p = supplyOf (d .plan) in
       let m = mostDrawn p (slotsIn d) in
       let u : i < length (slotsIn d) = omega (arith, length-in d w) in
-      drawable-of p (ready-lawful d r) m ds i (at p (slotsIn d) i)
+      drawable-of p m ds i (at p (slotsIn d) i)
       (eachFrom-at _ (freeSlot p) (slotsIn d) i (each-of-allFrom (drawAllowed p m ds) 0 (slotsIn d) (o .2)) u)
       (eachFrom-at _ (freeSlot p) (slotsIn d) i (each-of-allFrom (drawHeld p ds) 0 (slotsIn d) (o .3)) u)
 
@@ -159,14 +161,25 @@ module _ (d : Desk) (w : Wide d) (r : Ready d) (ds : List ℕ) (o : Drawn d ds) 
         drawn = omega (arith, drawable .held, h);
         none = λ z. drawable .still (omega (arith, k));
         kinds = omega (arith, good .kinds, k);
-        named = λ a b. omega (arith, ltb-true (at (supplyOf (d .plan)) (slotsIn d) i .next) (d .plan .figures .blocks) (good .named (omega (arith, k)) (omega (arith, k))), n);
+        named = λ a b. omega (
+          arith,
+          ltb-true (at (supplyOf (d .plan)) (slotsIn d) i .next) (d .plan .figures .blocks)
+              (good .named (omega (arith, k)) (omega (arith, k))),
+          n,
+        );
       }
 
   -- one slot more
   pub ends-turn : (draw : ℕ) → draw ≡ getD ds i 0 → (after : Slot)
-      → ((p : Supply ℕ) → Film p (showingIn (d .plan)) (d .plan .figures .blocks) (d .plan .figures .bytes) (d .plan .buffer - d .plan .figures .bytes)
+      → ((p : Supply ℕ) → Continues p (showingIn (d .plan)) (d .plan .figures .blocks) (d .plan .figures .bytes) (d .plan .buffer - d .plan .figures .bytes)
       → slotIn after ≡ endedSlot p (slotIn (slotAt e i)) draw)
-      → record { plan = e .plan; phase = e .phase; kinds = set (e .kinds) i (after .kind); next = set (e .next) i (after .next); held = set (e .held) i (after .held) }
+      → record {
+        plan = e .plan;
+        phase = e .phase;
+        kinds = set (e .kinds) i (after .kind);
+        next = set (e .next) i (after .next);
+        held = set (e .held) i (after .held);
+      }
       ≡ endedUpTo d ds (i + 1)
   unfolding endedUpTo
   ends-turn draw g after h =

@@ -5,10 +5,7 @@ use mathlib.Core.Path.{_≡_}
 use mathlib.Core.List.{List}
 use lib.Dec.{eqb}
 use Rattle.numbers.specs.Slots.{filling, playing, draining}
-use Rattle.card.specs.declared.Scalars.{Scalars}
 use Rattle.placement.specs.Showing.{Showing, after}
-use Rattle.plan.specs.declared.Plan.{Plan}
-use Rattle.plan.specs.declared.Numbers.{Numbers}
 use Rattle.rules.specs.Supply.{Supply}
 use Rattle.rules.specs.Scheduler as S
 use Rattle.rules.specs.Scheduler.{end}
@@ -17,33 +14,23 @@ use Rattle.desk.specs.declared.Desk.{Desk}
 use Rattle.desk.specs.Desk.{supplyOf, orderOf, viewOf}
 use Rattle.desk.specs.View.{Wide}
 use Rattle.desk.specs.Ready.{Ready}
-use Rattle.desk.specs.Records.{recordOf, lentPlan, lentDesk}
 use Rattle.ends.specs.declared.Slot.{Slot}
 
 -- draws that nothing turns down
 abbrev pub Drawn : Desk → List ℕ → Type 0
 Drawn d draws = let s = supplyOf (d .plan) in Allowed s (orderOf (d .plan)) (viewOf d) (end draws)
 
--- single numbers and slots of a record that is ready, in which these draws are turned down by nothing
-pub record Ends (s : Scalars) (m : Numbers) (ks xs hs ds : List ℕ) : Type 0 where
-  pub sizes : List ℕ
-  pub times : List ℕ
-  pub table : List ℕ
-  pub phase : ℕ
-  pub wide : Wide (lentDesk s sizes times table m phase ks xs hs)
-  pub ready : Ready (lentDesk s sizes times table m phase ks xs hs)
-  pub drawn : Drawn (lentDesk s sizes times table m phase ks xs hs) ds
-
--- its plan, and the record
-module _ {s : Scalars} {m : Numbers} {ks xs hs ds : List ℕ} (e : Ends s m ks xs hs ds) where
-  abbrev pub planIn : Plan
-  planIn = lentPlan s (e .sizes) (e .times) (e .table) m
-
-  abbrev pub deskIn : Desk
-  deskIn = recordOf planIn (e .phase) ks xs hs
+-- the slots are those of a record that is ready, in which these draws are turned down by nothing
+pub record Ends (d : Desk) (ks xs hs ds : List ℕ) : Type 0 where
+  pub kinds : ks ≡ d .kinds
+  pub next : xs ≡ d .next
+  pub held : hs ≡ d .held
+  pub wide : Wide d
+  pub ready : Ready d
+  pub drawn : Drawn d ds
 
 -- what an end is told of a supply: how the film of N blocks goes on in its showing x, B, and the buffer less B
-pub record Film (p : Supply ℕ) (x : Showing) (N bytes room : ℕ) : Type 0 where
+pub record Continues (p : Supply ℕ) (x : Showing) (N bytes room : ℕ) : Type 0 where
   pub start : p .none ≡ 0
   -- `its next block rises by one`; in a loop 0 follows the last (T7.1)
   pub next : (b : ℕ) → p .next b ≡ after x N b

@@ -1,15 +1,19 @@
 // End: each slot loses its draw, and each that was fetched for gains a block.
-use card::Scalars;
+use desk_columns::blocks_in;
+use desk_columns::buffer_in;
+use desk_columns::bytes_in;
+use desk_columns::showing_in;
+use desk_columns::streams_in;
 use numbers::showings::LOOP;
 use numbers::slots::DRAINING;
 use numbers::slots::FILLING;
 use numbers::slots::FREE;
 use numbers::slots::PLAYING;
-use plan::Numbers;
 use words::word_at;
 ghost use mathlib.Core.Path.{_≡_};
 ghost use Prim.Native.Nat.{ℕ, _+_, _≤_, _<_};
 ghost use lib.Dec.{eqb};
+ghost use lib.ListN.{length};
 ghost use Rattle.words.specs.Words.{wordsOf};
 ghost use Rattle.numbers.specs.Slots.{filling, playing, draining};
 ghost use Rattle.placement.specs.Showing.{after};
@@ -19,7 +23,8 @@ ghost use Rattle.rules.specs.Scheduler.{endedSlot, ended};
 ghost use Rattle.desk.specs.Desk.{supplyOf, slotsIn};
 ghost use Rattle.desk.specs.Records.{recordOf};
 ghost use Rattle.desk.specs.Slots.{withSlots};
-ghost use Rattle.ends.specs.Ends.{Film, slotIn, Fair, Ends, planIn, deskIn};
+ghost use Rattle.desk_layout.specs.Layout.{deskIn, deskSize};
+ghost use Rattle.ends.specs.Ends.{Continues, slotIn, Fair, Ends};
 
 // A slot of the desk.
 pub struct Slot {
@@ -53,7 +58,7 @@ fn is_past(blocks: u32, next: u32) -> bool
 // A filling or playing slot after a draw. With room it was fetched for: B more, the next block, and tail where the film has ended.
 fn swept(slot: Slot, draw: u32, showing: u32, blocks: u32, bytes: u32, room: u32) -> Slot
     requires { ⌜ (Fair blocks slot draw) × (filling ≤ slot .kind) × (slot .kind ≤ playing) × (room + bytes < 4294967296) ⌝ }
-    ensures { λ r. ⌜ ((p : Supply ℕ) → Film p (showingOf showing) blocks bytes room → slotIn r ≡ endedSlot p (slotIn slot) draw) ⌝ }
+    ensures { λ r. ⌜ ((p : Supply ℕ) → Continues p (showingOf showing) blocks bytes room → slotIn r ≡ endedSlot p (slotIn slot) draw) ⌝ }
 {
     if room < slot.held {
         return Slot {
@@ -100,7 +105,7 @@ fn drained(slot: Slot, draw: u32) -> Slot
 // A slot after the sweep; free and asked slots draw nothing and stay.
 fn ended_slot(slot: Slot, draw: u32, showing: u32, blocks: u32, bytes: u32, room: u32) -> Slot
     requires { ⌜ (Fair blocks slot draw) × (room + bytes < 4294967296) ⌝ }
-    ensures { λ r. ⌜ ((p : Supply ℕ) → Film p (showingOf showing) blocks bytes room → slotIn r ≡ endedSlot p (slotIn slot) draw) ⌝ }
+    ensures { λ r. ⌜ ((p : Supply ℕ) → Continues p (showingOf showing) blocks bytes room → slotIn r ≡ endedSlot p (slotIn slot) draw) ⌝ }
 {
     let kind = slot.kind;
     match kind {
@@ -111,22 +116,24 @@ fn ended_slot(slot: Slot, draw: u32, showing: u32, blocks: u32, bytes: u32, room
     }
 }
 
-// All slots after the sweep, in place. They are those of a desk with these figures and numbers.
+// All slots after the sweep, in place: those of the desk in a lent string.
 pub fn end_slots(
-    figures: Scalars,
-    plan: Numbers,
+    desk: &[u8],
     kinds: &mut [u32; 256],
     next: &mut [u32; 256],
     held: &mut [u32; 256],
     draws: &[u8],
 )
-    requires { ⌜ Ends figures plan (now kinds) (now next) (now held) (wordsOf (now draws)) ⌝ }
-    ensures { λ _. ⌜ ((e : Ends figures plan (now (kinds .entry)) (now (next .entry)) (now (held .entry)) (wordsOf (now (draws .entry))))
-        → recordOf (planIn e) (e .phase) (now (kinds .exit)) (now (next .exit)) (now (held .exit))
-        ≡ withSlots (deskIn e) (ended (supplyOf (planIn e)) (slotsIn (deskIn e)) (wordsOf (now (draws .entry))))) ⌝ }
+    requires { ⌜ (deskSize ≤ length (now desk)) × Ends (deskIn (wordsOf (now desk))) (now kinds) (now next) (now held) (wordsOf (now draws)) ⌝ }
+    ensures { λ _. ⌜ (let d = deskIn (wordsOf (now (desk .entry))) in
+        recordOf (d .plan) (d .phase) (now (kinds .exit)) (now (next .exit)) (now (held .exit))
+        ≡ withSlots d (ended (supplyOf (d .plan)) (slotsIn d) (wordsOf (now (draws .entry))))) ⌝ }
 {
-    let room = plan.buffer - figures.bytes;
-    let count = plan.streams as usize;
+    let showing = showing_in(desk);
+    let blocks = blocks_in(desk);
+    let bytes = bytes_in(desk);
+    let room = buffer_in(desk) - bytes;
+    let count = streams_in(desk) as usize;
     let mut i: usize = 0;
     while i < count {
         let slot = Slot {
@@ -134,15 +141,7 @@ pub fn end_slots(
             next: next[i],
             held: held[i],
         };
-        let draw = word_at(draws, i);
-        let after = ended_slot(
-            slot,
-            draw,
-            plan.showing,
-            figures.blocks,
-            figures.bytes,
-            room,
-        );
+        let after = ended_slot(slot, word_at(draws, i), showing, blocks, bytes, room);
         kinds[i] = after.kind;
         next[i] = after.next;
         held[i] = after.held;

@@ -31,7 +31,8 @@ unfolding written
 written-below f zero l j d h r = absurd (omega arith)
 written-below f (suc n) l j d h r =
     by-cases (ℕ-discrete n j)
-    (λ e. subst (λ (k : ℕ). getD (set (written f n l) n (entryOf f n)) k d ≡ entryOf f k) e (getD-set-same (written f n l) n (entryOf f n) d (omega (arith, length-written f n l))))
+    (λ e. subst (λ (k : ℕ). getD (set (written f n l) n (entryOf f n)) k d ≡ entryOf f k) e
+    (getD-set-same (written f n l) n (entryOf f n) d (omega (arith, length-written f n l))))
     (λ e. getD-set-other (written f n l) n j (entryOf f n) d (λ q. e (sym q)) ∙ written-below f n l j d (omega arith) (omega arith))
 
 -- an entry from n on is as it was

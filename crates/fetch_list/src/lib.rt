@@ -4,8 +4,11 @@ use desk::Desk;
 use desk::Fetch;
 use desk::Fetches;
 ghost use mathlib.Core.Path.{_≡_};
-ghost use Prim.Native.Nat.{_≤_, _<_};
+ghost use Prim.Native.Nat.{ℕ, _≤_, _<_};
+ghost use mathlib.Core.List.{List};
 ghost use lib.ListN.{length};
+ghost use Rattle.desk.specs.declared.Desk.{Desk as DeskRecord};
+ghost use Rattle.desk.specs.declared.Fetch.{Fetch as FetchRecord};
 ghost use Rattle.desk.specs.Desk.{beginDesk};
 ghost use Rattle.fetch_list.specs.Fetches.{entryOf, written};
 ghost use Rattle.fetch_list.specs.Begin.{listAfter};
@@ -66,3 +69,9 @@ pub fn begin_list(desk: Desk, positions: &[u8], leads: &[u8], fetches: &mut [Fet
     write_fetches(fetches_of(begun), fetches);
     begun
 }
+
+// A refused begin leaves the lent list as it was.
+pub fn refused_begin_leaves_list()
+    ensures { λ _. ⌜ ((d : DeskRecord) (ps ls : List ℕ) (out : List FetchRecord) → (beginDesk d ps ls (length out) .verdict .number ≡ 0 → ⊥)
+        → listAfter d ps ls out ≡ out) ⌝ }
+{}

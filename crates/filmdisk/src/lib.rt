@@ -4,7 +4,8 @@ use layout::FilmdiskWindowAnswer;
 ghost use mathlib.Core.Path.{_≡_};
 ghost use Rattle.placement.specs.Showing.{one, loop};
 ghost use Rattle.plan_strings.specs.Calls.{planAnswer, planString, positionsString, leadsString};
-ghost use Rattle.desk_strings.specs.Calls.{openAnswer, openString, joinAnswer, joinString, leaveAnswer, leaveString, beginAnswer, beginString, fetchString, endAnswer, endString};
+ghost use Rattle.desk_strings.specs.Calls.{openAnswer, openString, joinAnswer, joinString, leaveAnswer, leaveString, beginAnswer, beginString};
+ghost use Rattle.desk_strings.specs.Calls.{fetchString, endAnswer, endString, drawLimitOf};
 ghost use Rattle.window_strings.specs.Calls.{windowCall};
 
 // Plans a card for one showing: 1 to 11, 25 and 26, then 13, then 12.
@@ -23,7 +24,7 @@ pub extern "C" fn filmdisk_plan(
     plan_strings::plan(card, plan, positions, leads)
 }
 
-// Plans a card as a loop: 1 to 11, then 13, then 12.
+// Plans a card as a loop: 1 to 11, 25 and 26, then 13, then 12.
 #[no_mangle]
 pub extern "C" fn filmdisk_plan_loop(
     card: &[u8],
@@ -121,4 +122,12 @@ pub extern "C" fn filmdisk_end(
         × (now (desk .exit) ≡ endString (now (desk .entry)) (now (positions .entry)) (now (leads .entry)) (now (draws .entry))) ⌝ }
 {
     desk_strings::end(desk, positions, leads, draws)
+}
+
+// What a slot of a desk may draw in a sweep of this bound: above it an end answers 20. 0 for any other string and any other slot.
+#[no_mangle]
+pub extern "C" fn filmdisk_draw_limit(desk: &[u8], slot: u32, bound: u32) -> u64
+    ensures { λ r. ⌜ r ≡ drawLimitOf (now (desk .entry)) slot bound ⌝ }
+{
+    desk_strings::draw_limit(desk, slot, bound)
 }

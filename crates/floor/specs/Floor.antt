@@ -1,10 +1,10 @@
 -- The leads that are gathered for the slots of a sweep, and what the floor is compared with.
 -- Assumes nothing.
-use Prim.Native.Nat.{ℕ, _+_, _*_, _≤_, _<_}
+use Prim.Native.Nat.{ℕ, _+_, _*_, _-_, _≤_, _<_}
 use mathlib.Core.Path.{_≡_, refl}
 use mathlib.Core.List.{List}
 use lib.ListN.{length, getD}
-use Rattle.numbers.specs.Limits.{maxStreams}
+use Rattle.numbers.specs.Limits.{maxTime, maxStreams}
 use Rattle.numbers.specs.Slots.{waiting, playing}
 use Rattle.numbers.specs.Units.{parts}
 use Rattle.plan.specs.declared.Plan.{Plan}
@@ -17,7 +17,7 @@ use Rattle.desk.specs.Shown.{Slots, OfNext}
 
 -- no lead of a plan is above it: twice the greatest time, less a worst time that is greater than it
 abbrev pub mostLead : ℕ
-mostLead = 3999999
+mostLead = maxTime - 1
 
 -- stands for the least that a playing slot holds where none plays: 2,000,000 times it is above every floor
 abbrev pub ample : ℕ

@@ -1,4 +1,6 @@
 // The leads of slots, and the floor of document 01 (rules: the low-water mark) that they give.
+use desk_columns::kind_in;
+use desk_columns::next_in;
 use numbers::slots::FILLING;
 use numbers::slots::PLAYING;
 use numbers::slots::WAITING;
@@ -17,6 +19,7 @@ ghost use Rattle.rules.specs.Supply.{Supply};
 ghost use Rattle.rules.specs.Arrays.{slotsOf};
 ghost use Rattle.turns.specs.Turns.{leastHeld};
 ghost use Rattle.desk.specs.Shown.{Slots};
+ghost use Rattle.desk_layout.specs.Layout.{deskIn, deskSize};
 ghost use Rattle.floor.specs.Floor.{ample, Listed, Added, Taken};
 
 // Stands for the least that a playing slot holds where none plays, in two-millionths of a byte: above every floor.
@@ -57,45 +60,33 @@ fn added_lead(kind: u32, next: u32, leads: &[u8]) -> u32
     }
 }
 
-// The leads at the next blocks of the filling and playing slots, added up. The slots from `streams` on are free.
-pub fn sum_leads<'a>(
-    kinds: &'a [u32; 256],
-    next: &'a [u32; 256],
-    streams: usize,
-    leads: &[u8],
-) -> u32
-    requires { ⌜ (streams ≤ maxStreams) × (Listed (wordsOf (now leads)) (now kinds) (now next) streams) ⌝ }
-    ensures { λ r. ⌜ Added (wordsOf (now (leads .entry))) (now (kinds .entry)) (now (next .entry)) streams r ⌝ }
+// The leads at the next blocks of the filling and playing slots of a desk, added up. The slots from `streams` on are free.
+pub fn sum_leads(desk: &[u8], streams: usize, leads: &[u8]) -> u32
+    requires { ⌜ (let d = deskIn (wordsOf (now desk)) in
+        (streams ≤ maxStreams) × (deskSize ≤ length (now desk)) × Listed (wordsOf (now leads)) (d .kinds) (d .next) streams) ⌝ }
+    ensures { λ r. ⌜ (let d = deskIn (wordsOf (now (desk .entry))) in Added (wordsOf (now (leads .entry))) (d .kinds) (d .next) streams r) ⌝ }
 {
     let mut sum: u32 = 0;
     let mut i: usize = 0;
     while i < streams {
-        sum += added_lead(kinds[i], next[i], leads);
+        sum += added_lead(kind_in(desk, i), next_in(desk, i), leads);
         i += 1;
     }
     sum
 }
 
-// The same, and the lead of the next block of each of the first `streams` slots goes into `found`; 0 for free slots and tails.
-pub fn gather_leads<'a>(
-    kinds: &'a [u32; 256],
-    next: &'a [u32; 256],
-    streams: usize,
-    leads: &[u8],
-    found: &mut [u32; 256],
-) -> u32
-    requires { ⌜ (streams ≤ maxStreams) × (Listed (wordsOf (now leads)) (now kinds) (now next) streams) × (length (now found) ≡ maxStreams) ⌝ }
-    ensures sum { λ r. ⌜ Added (wordsOf (now (leads .entry))) (now (kinds .entry)) (now (next .entry)) streams r ⌝ }
-    ensures found { λ _. ⌜ Taken (wordsOf (now (leads .entry))) (now (kinds .entry)) (now (next .entry)) streams (now (found .exit)) ⌝ }
+// The lead of the next block of each of the first `streams` slots of a desk goes into `found`; 0 for free slots and tails.
+pub fn gather_leads(desk: &[u8], streams: usize, leads: &[u8], found: &mut [u32; 256])
+    requires { ⌜ (let d = deskIn (wordsOf (now desk)) in
+        (streams ≤ maxStreams) × (deskSize ≤ length (now desk)) × Listed (wordsOf (now leads)) (d .kinds) (d .next) streams
+        × (length (now found) ≡ maxStreams)) ⌝ }
+    ensures { λ _. ⌜ (let d = deskIn (wordsOf (now (desk .entry))) in Taken (wordsOf (now (leads .entry))) (d .kinds) (d .next) streams (now (found .exit))) ⌝ }
 {
-    let mut sum: u32 = 0;
     let mut i: usize = 0;
     while i < streams {
-        sum += added_lead(kinds[i], next[i], leads);
-        found[i] = next_lead(kinds[i], next[i], leads);
+        found[i] = next_lead(kind_in(desk, i), next_in(desk, i), leads);
         i += 1;
     }
-    sum
 }
 
 // The floor in two-millionths of a byte, for leads that add up to `leads`: B plus c / 2,000,000 times the leads.

@@ -13,7 +13,7 @@ use Rattle.desk.specs.declared.Gathered.{Gathered}
 use Rattle.desk.specs.Desk.{zeros}
 use Rattle.desk.specs.Slots.{length-zeros}
 use Rattle.gather.specs.declared.Block.{Block}
-use Rattle.gather.specs.Gather.{Found, blockAt, Collected}
+use Rattle.gather.specs.Gather.{NextFound, blockAt, Collected}
 
 -- the next blocks of the first i slots are collected, in two arrays of 256
 pub record Collecting (sizes times ps ks xs : List ℕ) (n : ℕ) (g : Gathered) (i : ℕ) : Type 0 where
@@ -52,7 +52,7 @@ module _ (sizes times ps ks xs : List ℕ) (n : ℕ) where
       position = getD-set-same (g .positions) i (b .position) 0 (omega (arith, c .wide)) t;
     }
 
-    pub collecting-next : i < n → i < 256 → Found sizes times ps (getD ks i 0) (getD xs i 0) b
+    pub collecting-next : i < n → i < 256 → NextFound sizes times ps (getD ks i 0) (getD xs i 0) b
         → Collecting sizes times ps ks xs n (record { times = set (g .times) i (b .time); positions = set (g .positions) i (b .position) }) (i + 1)
     unfolding stored
     collecting-next l h f = record {
@@ -61,8 +61,8 @@ module _ (sizes times ps ks xs : List ℕ) (n : ℕ) where
       wide = length-set (g .positions) i (b .position) ∙ c .wide;
       collected = record {
         found = below-more _ i
-            (λ j u. subst (Found sizes times ps (getD ks j 0) (getD xs j 0)) (sym (other j (λ e. omega arith))) (c .collected .found j u))
-            (subst (Found sizes times ps (getD ks i 0) (getD xs i 0)) (sym (own h)) f);
+            (λ j u. subst (NextFound sizes times ps (getD ks j 0) (getD xs j 0)) (sym (other j (λ e. omega arith))) (c .collected .found j u))
+            (subst (NextFound sizes times ps (getD ks i 0) (getD xs i 0)) (sym (own h)) f);
         rest = λ j u.
             let q = other j (λ e. omega arith) in
             let z = c .collected .rest j (omega arith) in

@@ -21,7 +21,7 @@ pub record Here (sizes times ps : List ℕ) (x : ℕ) (r : Block) : Type 0 where
   pub position : r .position ≡ getD (wordsOf ps) x 0
 
 -- what is found for a slot of kind k with next block x: nothing for a free slot or a tail
-pub record Found (sizes times ps : List ℕ) (k x : ℕ) (r : Block) : Type 0 where
+pub record NextFound (sizes times ps : List ℕ) (k x : ℕ) (r : Block) : Type 0 where
   pub here : waiting ≤ k → k ≤ playing → Here sizes times ps x r
   pub other : (waiting ≤ k → k ≤ playing → ⊥) → (r .time ≡ 0) × (r .position ≡ 0)
 
@@ -35,5 +35,5 @@ blockAt g i = record { time = getD (g .times) i 0; position = getD (g .positions
 
 -- the next blocks of the first n slots, and nothing past them
 pub record Collected (sizes times ps ks xs : List ℕ) (n : ℕ) (g : Gathered) : Type 0 where
-  pub found : (i : ℕ) → i < n → Found sizes times ps (getD ks i 0) (getD xs i 0) (blockAt g i)
+  pub found : (i : ℕ) → i < n → NextFound sizes times ps (getD ks i 0) (getD xs i 0) (blockAt g i)
   pub rest : (i : ℕ) → n ≤ i → (getD (g .times) i 0 ≡ 0) × (getD (g .positions) i 0 ≡ 0)

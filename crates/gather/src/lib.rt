@@ -1,16 +1,23 @@
 // What is gathered of the list of positions and the zones for the slots of a desk.
 use desk::Gathered;
 use desk::zeros;
+use desk_columns::kind_in;
+use desk_columns::next_in;
+use desk_columns::zone_sizes;
+use desk_columns::zone_times;
 use numbers::slots::FILLING;
 use numbers::slots::PLAYING;
 use numbers::slots::WAITING;
 use words::word_at;
 use zones::time_at;
 ghost use Prim.Native.Nat.{_≤_};
+ghost use lib.ListN.{length};
+ghost use Rattle.words.specs.Words.{wordsOf};
 ghost use Rattle.numbers.specs.Limits.{maxStreams};
 ghost use Rattle.numbers.specs.Slots.{waiting, playing};
 ghost use Rattle.plan.specs.Disk.{Zoned};
-ghost use Rattle.gather.specs.Gather.{Reach, Reached, Here, Found, Collected};
+ghost use Rattle.desk_layout.specs.Layout.{deskIn, deskSize};
+ghost use Rattle.gather.specs.Gather.{Reach, Reached, Here, NextFound, Collected};
 
 // Time and position of a block.
 pub struct Block {
@@ -39,7 +46,7 @@ fn next_block<'a>(
     next: u32,
 ) -> Block
     requires { ⌜ (Zoned (now sizes)) × (waiting ≤ kind → kind ≤ playing → Reach (now sizes) (now positions) next) ⌝ }
-    ensures { λ r. ⌜ Found (now (sizes .entry)) (now (times .entry)) (now (positions .entry)) kind next r ⌝ }
+    ensures { λ r. ⌜ NextFound (now (sizes .entry)) (now (times .entry)) (now (positions .entry)) kind next r ⌝ }
 {
     match kind {
         WAITING => block_at(sizes, times, positions, next),
@@ -52,25 +59,28 @@ fn next_block<'a>(
     }
 }
 
-// Time and position of the next block of each of the first `streams` slots; zero for free slots and tails, and past these.
-pub fn gather<'a>(
-    kinds: &'a [u32; 256],
-    next: &'a [u32; 256],
-    sizes: &'a [u32; 64],
-    times: &'a [u32; 64],
-    positions: &[u8],
-    streams: usize,
-) -> Gathered
-    requires { ⌜ (streams ≤ maxStreams) × (Zoned (now sizes)) × (Reached (now sizes) (now positions) (now kinds) (now next) streams) ⌝ }
-    ensures { λ r. ⌜ Collected (now (sizes .entry)) (now (times .entry)) (now (positions .entry)) (now (kinds .entry)) (now (next .entry)) streams r ⌝ }
+// Time and position of the next block of each of the first `streams` slots of a desk; zero for free slots and tails, and past these.
+pub fn gather(desk: &[u8], positions: &[u8], streams: usize) -> Gathered
+    requires { ⌜ (let d = deskIn (wordsOf (now desk)) in (let f = d .plan .figures in (deskSize ≤ length (now desk)) × (streams ≤ maxStreams)
+        × (Zoned (f .positions)) × (Reached (f .positions) (now positions) (d .kinds) (d .next) streams))) ⌝ }
+    ensures { λ r. ⌜ (let d = deskIn (wordsOf (now (desk .entry))) in (let f = d .plan .figures in
+        Collected (f .positions) (f .times) (now (positions .entry)) (d .kinds) (d .next) streams r)) ⌝ }
 {
+    let sizes = zone_sizes(desk);
+    let times = zone_times(desk);
     let mut g = Gathered {
         times: zeros(),
         positions: zeros(),
     };
     let mut i: usize = 0;
     while i < streams {
-        let b = next_block(sizes, times, positions, kinds[i], next[i]);
+        let b = next_block(
+            &sizes,
+            &times,
+            positions,
+            kind_in(desk, i),
+            next_in(desk, i),
+        );
         g.times[i] = b.time;
         g.positions[i] = b.position;
         i += 1;

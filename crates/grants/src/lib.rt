@@ -71,7 +71,8 @@ pub fn grant_asked(
     sum: u32,
     level: u64,
 )
-    requires { ⌜ (streams ≤ maxStreams) × (length (now kinds) ≡ 256) × ((i : ℕ) → i < streams → getD (now leads) i 0 ≤ mostLead) × (bytes ≤ maxBytes) × (rate ≤ maxRate) × (sum ≤ maxStreams * mostLead) ⌝ }
+    requires { ⌜ (streams ≤ maxStreams) × (length (now kinds) ≡ 256) × ((i : ℕ) → i < streams → getD (now leads) i 0 ≤ mostLead) × (bytes ≤ maxBytes)
+        × (rate ≤ maxRate) × (sum ≤ maxStreams * mostLead) ⌝ }
     ensures { λ _. ⌜ ((p : Supply ℕ) (xs hs : List ℕ) → Slots p streams (now (kinds .entry)) xs hs
         → Asks p bytes rate sum level (now (leads .entry)) (now (kinds .entry)) xs hs
         → slotsOf p (now (kinds .exit)) xs hs ≡ tries p (slotsOf p (now (kinds .entry)) xs hs) 0 256) ⌝ }

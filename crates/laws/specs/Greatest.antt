@@ -81,7 +81,8 @@ first-is g w i (suc n) before b l u h = go (leb w (g i)) refl (λ q v. first-is 
     later q a v = by-cases (decLt a i) (λ k. before a k) (λ k. let e : a ≡ i = omega arith in rw e q)
 
     go : (t : Bool) → leb w (g i) ≡ t
-        → (g i < w → suc i ≤ b → (firstReaching g w (suc i) n < suc i + n) × (w ≤ g (firstReaching g w (suc i) n)) × ((a : ℕ) → a < firstReaching g w (suc i) n → g a < w))
+        → (g i < w → suc i ≤ b → (firstReaching g w (suc i) n < suc i + n) × (w ≤ g (firstReaching g w (suc i) n))
+        × ((a : ℕ) → a < firstReaching g w (suc i) n → g a < w))
         → (cond t i (firstReaching g w (suc i) n) < i + suc n) × (w ≤ g (cond t i (firstReaching g w (suc i) n)))
         × ((a : ℕ) → a < cond t i (firstReaching g w (suc i) n) → g a < w)
     go true e ih = (omega arith, leb-true w (g i) e, before)
@@ -194,7 +195,8 @@ unfolding greatest
 greatest-above f zero k l h = absurd (omega arith)
 greatest-above f (suc n) k l h = go (f (suc n)) refl (ℕ-discrete k (suc n)) (λ l′ h′. greatest-above f n k l′ h′) l
   where
-    go : (t : Bool) → f (suc n) ≡ t → Dec (k ≡ suc n) → (greatest f n < k → k ≤ n → f k ≡ false) → elim t as (λ _. ℕ) [ true ↦ suc n | false ↦ greatest f n ] < k → f k ≡ false
+    go : (t : Bool) → f (suc n) ≡ t → Dec (k ≡ suc n) → (greatest f n < k → k ≤ n → f k ≡ false)
+        → elim t as (λ _. ℕ) [ true ↦ suc n | false ↦ greatest f n ] < k → f k ≡ false
     go true e d ih l′ = absurd (omega arith)
     go false e (yes q) ih l′ = rw q e
     go false e (no q) ih l′ = ih l′ (omega arith)

@@ -139,7 +139,8 @@ module _ {A : Type 0} (f : ℕ → A → A) where
       let r = rest-by d (suc i) zero xs (λ j l m. subst (λ (k : ℕ). f k (getD xs j d) ≡ getD xs j d) (omega arith) (h (suc j) (omega arith) (omega arith))) in
       rw q (ap (λ t. x ∷ t) (sym (mapTo-none f (suc i) xs) ∙ r))
   rest-by d i (suc n) (x ∷ xs) h =
-      ap (λ t. f i x ∷ t) (rest-by d (suc i) n xs (λ j l m. subst (λ (k : ℕ). f k (getD xs j d) ≡ getD xs j d) (omega arith) (h (suc j) (omega arith) (omega arith))))
+      ap (λ t. f i x ∷ t) (rest-by d (suc i) n xs (λ j l m. subst (λ (k : ℕ). f k (getD xs j d) ≡ getD xs j d) (omega arith)
+      (h (suc j) (omega arith) (omega arith))))
 
   -- a loop may stop where the rest stays as it is
   pub mapTo-rest : (d : A) (n : ℕ) (xs : List A) → ((j : ℕ) → n ≤ j → j < length xs → f j (getD xs j d) ≡ getD xs j d) → mapTo f 0 n xs ≡ mapFrom f 0 xs

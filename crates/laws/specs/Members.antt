@@ -165,7 +165,8 @@ module _ {A C : Type 0} (f : A → List C) where
       go (inr u) ih = let (a, v, w) = ih u in (a, inr v, w)
 
   -- where an element tells which list it comes from
-  pub unique-each : (xs : List A) → ((a b : A) (c : C) → In a xs → In b xs → In c (f a) → In c (f b) → a ≡ b) → Unique xs → ((a : A) → In a xs → Unique (f a)) → Unique (each xs f)
+  pub unique-each : (xs : List A) → ((a b : A) (c : C) → In a xs → In b xs → In c (f a) → In c (f b) → a ≡ b) → Unique xs
+      → ((a : A) → In a xs → Unique (f a)) → Unique (each xs f)
   unfolding each
   unique-each [] k u v = tt
   unique-each (x ∷ xs) k u v =

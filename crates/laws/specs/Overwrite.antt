@@ -18,7 +18,13 @@ overwrite-none s at = let e : at + 0 ≡ at = omega arith in rw e (take-append-d
 pub overwrite-length : (s : List ℕ) (at : ℕ) (bs : List ℕ) → at + length bs ≤ length s → length (overwrite s at bs) ≡ length s
 unfolding overwrite
 overwrite-length s at bs h =
-    omega (arith, length-append (take at s) (bs ++ drop (at + length bs) s), length-append bs (drop (at + length bs) s), length-take at s, length-drop (at + length bs) s)
+    omega (
+      arith,
+      length-append (take at s) (bs ++ drop (at + length bs) s),
+      length-append bs (drop (at + length bs) s),
+      length-take at s,
+      length-drop (at + length bs) s,
+    )
 
 -- one piece after the other is both at once
 pub overwrite-more : (s : List ℕ) (at : ℕ) (a b : List ℕ) → at + length a ≤ length s

@@ -6,7 +6,8 @@ use mathlib.Core.Logic.{_⊎_, inl, inr}
 use mathlib.Core.List.{List, [], _∷_, map}
 use native.Mathlib.Omega.{arith}
 use lib.ListN.{length, getD, set, length-map, length-set}
-use Rattle.laws.specs.Members.{In, Unique, upto, each, in-at, place-of, unique-at, in-map, of-map, unique-map, upto-length, in-upto, of-upto, unique-upto, in-each, of-each, unique-each}
+use Rattle.laws.specs.Members.{In, Unique, upto, each, in-at, place-of, unique-at, in-map, of-map}
+use Rattle.laws.specs.Members.{unique-map, upto-length, in-upto, of-upto, unique-upto, in-each, of-each, unique-each}
 use Rattle.layings.specs.Layings.{others, arrangements, filmPositions, layings, OnFilm, listed, laid}
 use Rattle.layings.specs.Numbered.{others-length}
 
@@ -101,7 +102,8 @@ arranged (suc n) xs (y ∷ ys) l o = go (place-of y xs 0 (o .from y (inl refl)))
         in-each (begun n xs) i (y ∷ ys) (upto 0 (suc n)) (in-upto 0 (suc n) i (omega arith) (omega arith))
         (subst (λ (t : ℕ). In (t ∷ ys) (begun n xs i)) (sym e)
         (in-map (λ zs. getD xs i 0 ∷ zs) ys (arrangements n (others i xs))
-        (ih (others i xs) (omega (arith, others-length i xs)) (record { size = omega (arith, o .size); apart = o .apart .1; from = λ a h. left a h (in-others i xs a li (o .from a (inr h))) }))))
+        (ih (others i xs) (omega (arith, others-length i xs))
+        (record { size = omega (arith, o .size); apart = o .apart .1; from = λ a h. left a h (in-others i xs a li (o .from a (inr h))) }))))
       where
         left : (a : ℕ) → In a ys → (a ≡ getD xs i 0) ⊎ In a (others i xs) → In a (others i xs)
         left a h (inl d) = absurd (o .apart .0 (subst (λ (t : ℕ). In t ys) (d ∙ sym e) h))
@@ -124,7 +126,11 @@ ordered (suc n) xs ys l u h = go (of-each (begun n xs) ys (upto 0 (suc n)) h) (�
         step : (zs : List ℕ) × In zs (arrangements n (others i xs)) × (ys ≡ getD xs i 0 ∷ zs) → Order (suc n) xs ys
         step (zs, k, e) =
             let o = ih (others i xs) zs (omega (arith, others-length i xs)) (unique-others i xs li u) k in
-            rw e (record { size = ap suc (o .size); apart = (λ p. of-others i xs (getD xs i 0) li u (o .from (getD xs i 0) p) .1 refl, o .apart); from = λ a p. back o a p })
+            rw e (record {
+              size = ap suc (o .size);
+              apart = (λ p. of-others i xs (getD xs i 0) li u (o .from (getD xs i 0) p) .1 refl, o .apart);
+              from = λ a p. back o a p;
+            })
           where
             back : Order n (others i xs) zs → (a : ℕ) → In a (getD xs i 0 ∷ zs) → In a xs
             back o a (inl d) = subst (λ (t : ℕ). In t xs) (sym d) (in-at xs i 0 li)

@@ -36,7 +36,7 @@ factorial-rises m (suc n) h = by-cases (decLe m n)
 -- so many are the most that are tried
 pub factorial-most : (n : ℕ) → n ≤ maxTried → factorial n ≤ 40320
 unfolding factorial
-factorial-most n h = factorial-rises n 8 h
+factorial-most n h = factorial-rises n maxTried h
 
 -- one factor more, and one less
 pub factorial-next : (n : ℕ) → factorial (n + 1) ≡ (n + 1) * factorial n
@@ -77,7 +77,8 @@ arrangement-at (suc n) r xs h =
     let e : 0 + r / factorial n ≡ r / factorial n = omega arith in
     each-at (λ i. map (λ ys. getD xs i 0 ∷ ys) (arrangements n (others i xs))) (factorial n)
     (λ i. length-map (arrangements n (others i xs)) (λ ys. getD xs i 0 ∷ ys) ∙ arrangements-length n (others i xs)) 0 (suc n) r [] (factorial-pos n) h
-    ∙ rw e (map-at (λ ys. getD xs (r / factorial n) 0 ∷ ys) (arrangements n (others (r / factorial n) xs)) (r % factorial n) [] [] (omega (arith, rest-below n r, arrangements-length n (others (r / factorial n) xs)))
+    ∙ rw e (map-at (λ ys. getD xs (r / factorial n) 0 ∷ ys) (arrangements n (others (r / factorial n) xs)) (r % factorial n) [] []
+    (omega (arith, rest-below n r, arrangements-length n (others (r / factorial n) xs)))
     ∙ ap (λ ys. getD xs (r / factorial n) 0 ∷ ys) (arrangement-at n (r % factorial n) (others (r / factorial n) xs) (rest-below n r)))
 
 -- ---- the first n of a longer list

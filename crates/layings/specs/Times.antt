@@ -31,7 +31,8 @@ pair-below loop N b h = (h, round-below N b h)
 pub worst-same : (x : Showing) (τ σ l m : ℕ → ℕ) (N : ℕ) → ((b : ℕ) → b < N → τ (l b) ≡ σ (m b)) → worstOf x τ l N ≡ worstOf x σ m N
 worst-same x τ σ l m N e =
     worst-pair x τ l N
-    ∙ greatestOf-same (pairTime x τ l N) (pairTime x σ m N) (pairsOf x N) (λ b h. let u = pair-below x N b h in omega (arith, e b (u .0), e (after x N b) (u .1)))
+    ∙ greatestOf-same (pairTime x τ l N) (pairTime x σ m N) (pairsOf x N)
+    (λ b h. let u = pair-below x N b h in omega (arith, e b (u .0), e (after x N b) (u .1)))
     ∙ sym (worst-pair x σ m N)
 
 -- ---- THE SMALLEST IS THE PLANNER'S (T12.2)
@@ -84,15 +85,18 @@ orders-at x N r ts h =
 pub orders-are : (x : Showing) (τ : ℕ → ℕ) (P N : ℕ) → ordersTried x N (map τ (filmPositions P N)) ≡ worstTimes x τ P N
 unfolding worstTimes layings
 orders-are x τ P N =
-    ext-getD 0 _ _ (orders-length x N (map τ (filmPositions P N)) ∙ sym (tried ∙ arrangements-length N (filmPositions P N))) (λ r h. each r (omega (arith, orders-length x N (map τ (filmPositions P N)))))
+    ext-getD 0 _ _ (orders-length x N (map τ (filmPositions P N)) ∙ sym (tried ∙ arrangements-length N (filmPositions P N)))
+    (λ r h. each r (omega (arith, orders-length x N (map τ (filmPositions P N)))))
   where
     tried : length (map (worstIn x τ N) (arrangements N (filmPositions P N))) ≡ length (arrangements N (filmPositions P N))
     tried = length-map (arrangements N (filmPositions P N)) (worstIn x τ N)
 
-    each : (r : ℕ) → r < factorial N → getD (ordersTried x N (map τ (filmPositions P N))) r 0 ≡ getD (map (worstIn x τ N) (arrangements N (filmPositions P N))) r 0
+    each : (r : ℕ) → r < factorial N
+        → getD (ordersTried x N (map τ (filmPositions P N))) r 0 ≡ getD (map (worstIn x τ N) (arrangements N (filmPositions P N))) r 0
     each r h =
         let ys = numbered N r (filmPositions P N) in
         orders-at x N r (map τ (filmPositions P N)) h
         ∙ ap (worstIn x (λ t. t) N) (numbered-map τ N r (filmPositions P N) (omega (arith, positions-length P N)) h)
         ∙ sym (worst-same x τ (λ t. t) (laid ys) (laid (map τ ys)) N (λ b u. sym (map-at τ ys b 0 0 (omega (arith, numbered-length N r (filmPositions P N))))))
-        ∙ sym (map-at (worstIn x τ N) (arrangements N (filmPositions P N)) r [] 0 (omega (arith, arrangements-length N (filmPositions P N))) ∙ ap (worstIn x τ N) (arrangement-at N r (filmPositions P N) h))
+        ∙ sym (map-at (worstIn x τ N) (arrangements N (filmPositions P N)) r [] 0 (omega (arith, arrangements-length N (filmPositions P N)))
+        ∙ ap (worstIn x τ N) (arrangement-at N r (filmPositions P N) h))

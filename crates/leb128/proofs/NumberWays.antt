@@ -29,7 +29,9 @@ module _ (start at b v : ℕ) (low : start ≤ at) where
 
   pub judged-more : (at ≡ start → ⊥) → (b ≡ 0 → ⊥) → v < noNumber → Value v (at + 1) ≡ judged start (at - start) b v
   unfolding judged
-  judged-more n z h = let p : at + 1 ≡ start + (at - start) + 1 = omega arith in simp (lt-ltb 0 (at - start) (omega arith), ne-eqb _ _ z, lt-ltb _ _ h) (ap (Value v) p)
+  judged-more n z h =
+      let p : at + 1 ≡ start + (at - start) + 1 = omega arith in
+      simp (lt-ltb 0 (at - start) (omega arith), ne-eqb _ _ z, lt-ltb _ _ h) (ap (Value v) p)
 
   pub judged-great-first : at ≡ start → noNumber ≤ v → Malformed start ≡ judged start (at - start) b v
   unfolding judged
@@ -50,12 +52,14 @@ module _ (s : List ℕ) (start at sum w : ℕ) where
   scan-short zero p h = absurd (omega arith)
   scan-short (suc left) p h = simp (le-ltb _ _ h)
 
-  pub scan-last : (left : ℕ) → 0 < left → at < length s → getD s at 0 < 128 → scan left s start at sum w ≡ judged start (at - start) (getD s at 0) (sum + getD s at 0 * w)
+  pub scan-last : (left : ℕ) → 0 < left → at < length s → getD s at 0 < 128
+      → scan left s start at sum w ≡ judged start (at - start) (getD s at 0) (sum + getD s at 0 * w)
   unfolding scan
   scan-last zero p h b = absurd (omega arith)
   scan-last (suc left) p h b = simp (lt-ltb _ _ h, lt-ltb _ _ b)
 
-  pub scan-more : (left : ℕ) → 0 < left → at < length s → 128 ≤ getD s at 0 → scan left s start at sum w ≡ scan (left - 1) s start (at + 1) (sum + getD s at 0 % 128 * w) (w * 128)
+  pub scan-more : (left : ℕ) → 0 < left → at < length s → 128 ≤ getD s at 0
+      → scan left s start at sum w ≡ scan (left - 1) s start (at + 1) (sum + getD s at 0 % 128 * w) (w * 128)
   unfolding scan
   scan-more zero p h b = absurd (omega arith)
   scan-more (suc left) p h b =
@@ -155,7 +159,8 @@ some-group (suc k) rest = go (ltb rest 128)
     go true = omega arith
     go false = omega arith
 
-pub write-room : (out₀ : List ℕ) (start v : ℕ) (out : List ℕ) (rest at : ℕ) → Writing out₀ start v out rest at → start + length (groups v) ≤ length out₀ → at < length out
+pub write-room : (out₀ : List ℕ) (start v : ℕ) (out : List ℕ) (rest at : ℕ) → Writing out₀ start v out rest at → start + length (groups v) ≤ length out₀
+    → at < length out
 write-room out₀ start v out rest at w h = omega (arith, w .long, w .kept, some-group (start + 4 - at) rest)
 
 -- one byte more is written
@@ -175,8 +180,10 @@ write-more out₀ start v out rest at w l h =
       small = rw e (f .small);
       long = rw e (omega (arith, w .long, ap length (f .is)));
       kept = length-set out at (rest % 128 + 128) ∙ w .kept;
-      whole = rw e (put out at (rest % 128 + 128) (groupsFrom (start + 4 - at - 1) (rest / 128)) (drop (start + length (groups v)) out₀) l ∙ rw (f .is) at (w .whole));
-      later = drop-set-lt (at + 1) out at (rest % 128 + 128) (omega arith) ∙ sym (drop-drop 1 at out) ∙ ap (λ (x : List ℕ). drop 1 x) (w .later) ∙ drop-drop 1 at out₀;
+      whole = rw e (put out at (rest % 128 + 128) (groupsFrom (start + 4 - at - 1) (rest / 128)) (drop (start + length (groups v)) out₀) l
+          ∙ rw (f .is) at (w .whole));
+      later = drop-set-lt (at + 1) out at (rest % 128 + 128) (omega arith) ∙ sym (drop-drop 1 at out) ∙ ap (λ (x : List ℕ). drop 1 x) (w .later)
+          ∙ drop-drop 1 at out₀;
     }
 
 pub write-end : (out₀ : List ℕ) (start v : ℕ) (out : List ℕ) (rest at : ℕ) → Writing out₀ start v out rest at → at < length out → rest < 128
@@ -184,5 +191,6 @@ pub write-end : (out₀ : List ℕ) (start v : ℕ) (out : List ℕ) (rest at : 
 write-end out₀ start v out rest at w l h =
     let g = groups-last (start + 4 - at) rest h in
     let e : start + length (groups v) ≡ suc at = omega (arith, w .long, ap length g) in
-    let d : drop (suc at) out ≡ drop (suc at) out₀ = let q : at + 1 ≡ suc at = omega arith in rw q at (sym (drop-drop 1 at out) ∙ ap (λ (x : List ℕ). drop 1 x) (w .later) ∙ drop-drop 1 at out₀) in
+    let d : drop (suc at) out ≡ drop (suc at) out₀ = let q : at + 1 ≡ suc at = omega arith in
+    rw q at (sym (drop-drop 1 at out) ∙ ap (λ (x : List ℕ). drop 1 x) (w .later) ∙ drop-drop 1 at out₀) in
     (omega (arith, e), set-split out at rest l ∙ ap (λ (x : List ℕ). take at out ++ rest ∷ x) d ∙ (rw (g, e) at (w .whole)))

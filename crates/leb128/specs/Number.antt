@@ -12,10 +12,18 @@ use Rattle.leb128.specs.declared.Number.the-variants.{Value, CutOff, Mal
 abbrev pub Bytes : List ℕ → Type 0
 Bytes s = (i : ℕ) → getD s i 0 < 256
 
+-- a group has seven bits; a byte of 128 or more is followed by another of its number
+abbrev pub groupWeight : ℕ
+groupWeight = 128
+
+-- the most bytes of a number
+abbrev pub mostGroups : ℕ
+mostGroups = 5
+
 -- the groups of a number, with at most k before the last
 unfoldable pub groupsFrom : ℕ → ℕ → List ℕ
 groupsFrom zero v = v ∷ []
-groupsFrom (suc k) v = cond (ltb v 128) (v ∷ []) ((v % 128 + 128) ∷ groupsFrom k (v / 128))
+groupsFrom (suc k) v = cond (ltb v groupWeight) (v ∷ []) ((v % groupWeight + groupWeight) ∷ groupsFrom k (v / groupWeight))
 
 -- the bytes of a number in its shortest form; five suffice for a number of 32 bits
 unfoldable pub groups : ℕ → List ℕ
@@ -25,12 +33,12 @@ groups v = groupsFrom 4 v
 unfoldable pub continuing : ℕ → List ℕ → ℕ
 continuing zero bs = 0
 continuing (suc k) [] = 0
-continuing (suc k) (b ∷ bs) = cond (ltb b 128) 0 (suc (continuing k bs))
+continuing (suc k) (b ∷ bs) = cond (ltb b groupWeight) 0 (suc (continuing k bs))
 
 -- the number that groups make, lowest first
 unfoldable pub joined : List ℕ → ℕ
 joined [] = 0
-joined (b ∷ bs) = b % 128 + 128 * joined bs
+joined (b ∷ bs) = b % groupWeight + groupWeight * joined bs
 
 -- the value and what ends it: a last group of zero after others is not the shortest form, and 32 bits are the most
 unfoldable pub judged : ℕ → ℕ → ℕ → ℕ → Number
@@ -41,13 +49,13 @@ judged start k last v =
 -- the number whose bytes are bs and what follows, of which k continue; `size` is the length of all the bytes
 unfoldable pub numberIn : ℕ → ℕ → List ℕ → ℕ → Number
 numberIn size start bs k =
-    cond (leb 5 k) (Malformed start)
+    cond (leb mostGroups k) (Malformed start)
     (cond (leb (length bs) k) (CutOff size)
     (judged start k (getD bs k 0) (joined (take (suc k) bs))))
 
 -- the number at an offset (R24): five bytes that all continue are malformed; fewer, cut off, end too early
 unfoldable pub numberAt : List ℕ → ℕ → Number
-numberAt s start = numberIn (length s) start (drop start s) (continuing 5 (drop start s))
+numberAt s start = numberIn (length s) start (drop start s) (continuing mostGroups (drop start s))
 
 -- ---- the quick form of the code
 
@@ -56,7 +64,7 @@ unfoldable pub scan : ℕ → List ℕ → ℕ → ℕ → ℕ → ℕ → Numbe
 scan zero s start at sum w = Malformed start
 scan (suc left) s start at sum w =
     cond (ltb at (length s))
-    (cond (ltb (getD s at 0) 128)
+    (cond (ltb (getD s at 0) groupWeight)
     (judged start (at - start) (getD s at 0) (sum + getD s at 0 * w))
-    (scan left s start (at + 1) (sum + getD s at 0 % 128 * w) (w * 128)))
+    (scan left s start (at + 1) (sum + getD s at 0 % groupWeight * w) (w * groupWeight)))
     (CutOff (length s))

@@ -29,11 +29,31 @@ record Grouped (k v m : ℕ) (post : List ℕ) : Type 0 where
 
 grouped : (k v : ℕ) (post : List ℕ) → v < 128 ^ suc k → (m : ℕ) × Grouped k v m post
 unfolding groupsFrom continuing joined
-grouped zero v post h = (0, record { long = refl; few = omega arith; stop = rw (lt-ltb v 128 (omega arith)); value = omega arith; last = λ p. absurd (omega arith); alone = λ p. refl })
+grouped zero v post h = (
+  0,
+  record {
+    long = refl;
+    few = omega arith;
+    stop = rw (lt-ltb v 128 (omega arith));
+    value = omega arith;
+    last = λ p. absurd (omega arith);
+    alone = λ p. refl;
+  },
+)
 grouped (suc k) v post h = go (ltb v 128) refl (grouped k (v / 128) post (let e = pow-succ' 128 (suc k) in omega arith))
   where
     go : (t : Bool) → ltb v 128 ≡ t → (m : ℕ) × Grouped k (v / 128) m post → (m : ℕ) × Grouped (suc k) v m post
-    go true e g = (0, record { long = rw e; few = omega arith; stop = rw (e, e); value = rw e (omega (arith, ltb-true v 128 e)); last = λ p. absurd (omega arith); alone = λ p. rw e })
+    go true e g = (
+      0,
+      record {
+        long = rw e;
+        few = omega arith;
+        stop = rw (e, e);
+        value = rw e (omega (arith, ltb-true v 128 e));
+        last = λ p. absurd (omega arith);
+        alone = λ p. rw e;
+      },
+    )
     go false e (m, g) = (
       suc m,
       record {
@@ -76,7 +96,8 @@ unfolding numberAt groups
 written-read pre post v h = rw drop-append-seam (go (grouped 4 v post (omega arith)))
   where
     go : (m : ℕ) × Grouped 4 v m post
-        → numberIn (length (pre ++ (groupsFrom 4 v ++ post))) (length pre) (groupsFrom 4 v ++ post) (continuing 5 (groupsFrom 4 v ++ post)) ≡ Value v (length pre + length (groupsFrom 4 v))
+        → numberIn (length (pre ++ (groupsFrom 4 v ++ post))) (length pre) (groupsFrom 4 v ++ post) (continuing 5 (groupsFrom 4 v ++ post))
+        ≡ Value v (length pre + length (groupsFrom 4 v))
     go (m, g) =
         let long : m < length (groupsFrom 4 v ++ post) = omega (arith, length-append (groupsFrom 4 v) post, g .long) in
         rw (g .stop)
@@ -94,11 +115,13 @@ record Found (start v next : ℕ) (bs : List ℕ) (k : ℕ) : Type 0 where
 
 found : (size start v next : ℕ) (bs : List ℕ) (k : ℕ) → numberIn size start bs k ≡ Value v next → Found start v next bs k
 unfolding numberIn judged
-found size start v next bs k e = go (leb 5 k) refl (leb (length bs) k) refl (ltb 0 k && eqb (getD bs k 0) 0) refl (ltb (joined (take (suc k) bs)) noNumber) refl e
+found size start v next bs k e =
+    go (leb 5 k) refl (leb (length bs) k) refl (ltb 0 k && eqb (getD bs k 0) 0) refl (ltb (joined (take (suc k) bs)) noNumber) refl e
   where
     go : (a : Bool) → leb 5 k ≡ a → (b : Bool) → leb (length bs) k ≡ b → (c : Bool) → (ltb 0 k && eqb (getD bs k 0) 0) ≡ c
         → (d : Bool) → ltb (joined (take (suc k) bs)) noNumber ≡ d
-        → cond a (Malformed start) (cond b (CutOff size) (cond c (Malformed start) (cond d (Value (joined (take (suc k) bs)) (start + k + 1)) (Malformed start)))) ≡ Value v next
+        → cond a (Malformed start) (cond b (CutOff size) (cond c (Malformed start)
+        (cond d (Value (joined (take (suc k) bs)) (start + k + 1)) (Malformed start)))) ≡ Value v next
         → Found start v next bs k
     go true p b q c r d s e = absurd (let z : _≡_ {A = ℕ} 0 1 = cc in omega arith)
     go false p true q c r d s e = absurd (let z : _≡_ {A = ℕ} 0 1 = cc in omega arith)
@@ -139,7 +162,8 @@ joined-some zero (b ∷ bs) h = omega arith
 joined-some (suc k) (b ∷ bs) h = omega (arith, joined-some k bs h)
 
 -- the groups of the number that bytes make are those bytes
-regrouped : (n : ℕ) (bs : List ℕ) → Bytes bs → continuing (suc n) bs ≤ n → continuing (suc n) bs < length bs → (0 < continuing (suc n) bs → 0 < getD bs (continuing (suc n) bs) 0)
+regrouped : (n : ℕ) (bs : List ℕ) → Bytes bs → continuing (suc n) bs ≤ n → continuing (suc n) bs < length bs
+    → (0 < continuing (suc n) bs → 0 < getD bs (continuing (suc n) bs) 0)
     → groupsFrom n (joined (take (suc (continuing (suc n) bs)) bs)) ≡ take (suc (continuing (suc n) bs)) bs
 unfolding continuing joined groupsFrom
 regrouped n [] y h l s = absurd (omega arith)
@@ -153,7 +177,8 @@ regrouped (suc n) (b ∷ bs) y h l s = go (ltb b 128) refl h l s (regrouped n bs
     k : ℕ
     k = continuing (suc n) bs
 
-    go : (t : Bool) → ltb b 128 ≡ t → cond t 0 (suc k) ≤ suc n → cond t 0 (suc k) < suc (length bs) → (0 < cond t 0 (suc k) → 0 < getD (b ∷ bs) (cond t 0 (suc k)) 0)
+    go : (t : Bool) → ltb b 128 ≡ t → cond t 0 (suc k) ≤ suc n → cond t 0 (suc k) < suc (length bs)
+        → (0 < cond t 0 (suc k) → 0 < getD (b ∷ bs) (cond t 0 (suc k)) 0)
         → (k ≤ n → k < length bs → (0 < k → 0 < getD bs k 0) → groupsFrom n (joined (take (suc k) bs)) ≡ take (suc k) bs)
         → groupsFrom (suc n) (joined (take (suc (cond t 0 (suc k))) (b ∷ bs))) ≡ take (suc (cond t 0 (suc k))) (b ∷ bs)
     go true e h l s ih =
@@ -166,7 +191,8 @@ regrouped (suc n) (b ∷ bs) y h l s = go (ltb b 128) refl h l s (regrouped n bs
         let byte : b < 256 = y 0 in
         let low : (b % 128 + 128 * joined (take (suc k) bs)) % 128 + 128 ≡ b = omega (arith, ltb-false b 128 e) in
         let high : (b % 128 + 128 * joined (take (suc k) bs)) / 128 ≡ joined (take (suc k) bs) = omega arith in
-        rw (le-ltb (b % 128 + 128 * joined (take (suc k) bs)) 128 (omega arith), low, high) (ap (λ (r : List ℕ). b ∷ r) (ih (omega arith) (omega arith) (λ p. s (omega arith))))
+        rw (le-ltb (b % 128 + 128 * joined (take (suc k) bs)) 128 (omega arith), low, high)
+        (ap (λ (r : List ℕ). b ∷ r) (ih (omega arith) (omega arith) (λ p. s (omega arith))))
 
 -- the number v stands at an offset of s, and next is the offset after it
 pub record Stands (s : List ℕ) (start v next : ℕ) : Type 0 where
@@ -189,7 +215,8 @@ read-written s start v next y e = go (found (length s) start v next (drop start 
     go : Found start v next bs k → Stands s start v next
     go f =
         let same : groupsFrom 4 v ≡ take (suc k) bs =
-        ap (groupsFrom 4) (f .is) ∙ regrouped 4 bs (λ i. subst (λ (x : ℕ). x < 256) (sym (getD-drop start s i 0)) (y (start + i))) (omega (arith, f .five)) (f .inside) (f .short) in
+        ap (groupsFrom 4) (f .is)
+        ∙ regrouped 4 bs (λ i. subst (λ (x : ℕ). x < 256) (sym (getD-drop start s i 0)) (y (start + i))) (omega (arith, f .five)) (f .inside) (f .short) in
         let long : length (groupsFrom 4 v) ≡ suc k = ap length same ∙ length-take-le (suc k) bs (f .inside) in
         let n : start + suc k ≡ next = omega (arith, f .after) in
         record {
@@ -221,7 +248,8 @@ scan-is (suc left) s start j sum w (b ∷ bs) e =
     rw (lt-ltb _ _ l, here, again) (go (ltb b 128) refl (scan-is left s start (j + 1) (sum + b % 128 * w) (w * 128) bs (rw again at rest)))
   where
     go : (t : Bool) → ltb b 128 ≡ t
-        → scan left s start (start + (j + 1)) (sum + b % 128 * w) (w * 128) ≡ scanned left (length s) start (j + 1) (sum + b % 128 * w) (w * 128) bs (continuing left bs)
+        → scan left s start (start + (j + 1)) (sum + b % 128 * w) (w * 128)
+        ≡ scanned left (length s) start (j + 1) (sum + b % 128 * w) (w * 128) bs (continuing left bs)
         → cond t (judged start (start + j - start) b (sum + b * w)) (scan left s start (start + (j + 1)) (sum + b % 128 * w) (w * 128))
         ≡ scanned (suc left) (length s) start j sum w (b ∷ bs) (cond t 0 (suc (continuing left bs)))
     go true t ih =
@@ -240,6 +268,7 @@ pub scan-number : (s : List ℕ) (start : ℕ) → scan 5 s start start 0 1 ≡ 
 unfolding numberAt numberIn scanned
 scan-number s start =
     let here : start + 0 ≡ start = omega arith in
-    let one : 0 + 1 * joined (take (suc (continuing 5 (drop start s))) (drop start s)) ≡ joined (take (suc (continuing 5 (drop start s))) (drop start s)) = omega arith in
+    let one : 0 + 1 * joined (take (suc (continuing 5 (drop start s))) (drop start s)) ≡ joined
+    (take (suc (continuing 5 (drop start s))) (drop start s)) = omega arith in
     let at : 0 + continuing 5 (drop start s) ≡ continuing 5 (drop start s) = omega arith in
     rw (at, one) at (rw here at (scan-is 5 s start 0 0 1 (drop (start + 0) s) refl))

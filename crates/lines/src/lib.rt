@@ -1,7 +1,13 @@
-// What the programs that plan a card share: lines of text, put together by value and written in one call, the line of a refusal, and the
-// argument `loop`.
+// What the programs that plan a card share: lines of text, put together by value and written in one call, the line of a refusal, the
+// argument `loop`, and the plan that it asks for.
 use card::Verdict;
 use libc::STDOUT_FILENO;
+use plan::Planned;
+use planner::plan_card;
+use planner::plan_loop_card;
+ghost use mathlib.Core.Path.{_≡_};
+ghost use mathlib.Core.Bool.{true};
+ghost use Rattle.plan.specs.Answer.{isPlan};
 
 // A line as far as it is put together. A byte past its room is dropped; no line of the programs has more than 50.
 pub struct Line {
@@ -101,4 +107,14 @@ fn most_arguments(looped: bool) -> usize {
 // Has the program more arguments than it reads?
 pub fn has_more_arguments(looped: bool) -> bool {
     most_arguments(looped) < os::arg_count()
+}
+
+// The plan of a card, as a loop or for one showing, and its lists.
+pub fn plan_film(looped: bool, card: &[u8], positions: &mut [u8], leads: &mut [u8]) -> Planned
+    ensures { λ r. ⌜ (r .verdict .number ≡ 0 → isPlan (r .plan) (now (positions .exit)) (now (leads .exit)) ≡ true) ⌝ }
+{
+    if looped {
+        return plan_loop_card(card, positions, leads);
+    }
+    plan_card(card, positions, leads)
 }

@@ -1,30 +1,20 @@
--- An accepted card's answer is a plan with its lists, and each listed position is on the disk.
+-- Each listed position is on the disk.
 -- Assumes nothing.
-use Prim.Native.Nat.{ℕ, zero, suc, _≤_, _<_}
-use mathlib.Core.Path.{_≡_, refl, sym, ap, _∙_}
+use Prim.Native.Nat.{ℕ, _<_}
+use mathlib.Core.Path.{_≡_}
 use mathlib.Core.Bool.{true}
 use mathlib.Core.List.{List}
-use mathlib.Core.Logic.{by-cases}
 use native.Mathlib.Omega.{arith}
-use native.Mathlib.Decide.{decLt}
-use lib.ListN.{length, getD}
-use Rattle.card.specs.declared.Figures.{Figures}
-use Rattle.card.specs.declared.CardRead.{CardRead}
-use Rattle.card.specs.Read.{readCard}
-use Rattle.round_trip.specs.Legality.{Wide}
+use lib.ListN.{getD}
+use Rattle.legality.specs.Legality.{Wide}
 use Rattle.placement.specs.Zones.{total}
-use Rattle.words.specs.Words.{Bytes, wordsOf}
+use Rattle.words.specs.Words.{wordsOf}
 use Rattle.plan.specs.declared.Plan.{Plan}
-use Rattle.plan.specs.declared.Planned.{Planned}
-use Rattle.placement.specs.Showing.{Showing}
-use Rattle.plan.specs.Plan.{showingIn, streamsOf}
+use Rattle.plan.specs.Plan.{showingIn}
 use Rattle.plan.specs.Disk.{Zoned}
 use Rattle.plan.specs.Legal.{legal-zoned, position-below, total-is}
-use Rattle.plan.specs.Answer.{planFault, faultAfter, refusal, answer, planned, positionsAfter, leadsAfter, isPlan}
-use Rattle.plan.specs.Check.{checked, checked-legal, plan-passes}
-use Rattle.plan.specs.Ways.{Outcome, short-positions, short-leads, no-stream, card-legal}
-
--- ---- a plan with its lists
+use Rattle.plan.specs.Answer.{isPlan}
+use Rattle.plan.specs.Check.{checked, checked-legal}
 
 module _ (p : Plan) (ps ls : List ℕ) (w : Wide (p .figures)) (e : isPlan p ps ls ≡ true) where
   pub plan-zoned : Zoned (p .figures .positions)
@@ -34,35 +24,3 @@ module _ (p : Plan) (ps ls : List ℕ) (w : Wide (p .figures)) (e : isPlan p ps 
   position-on b u =
       let ok = checked-legal p ps ls w e in
       omega (arith, checked p ps ls e .position-at b u, position-below (showingIn p) (p .figures) ok b u, total-is (p .figures) ok)
-
--- ---- an accepted card
-
--- neither 13 nor 12: both lists are long enough, and a stream is fed
-no-fault : (x : Showing) (f : Figures) (np nl : ℕ) → planFault x f np nl ≡ 0 → (f .blocks ≤ np) × (f .blocks ≤ nl) × (0 < streamsOf x f)
-no-fault x f np nl e = by-cases (decLt np (f .blocks))
-    (λ h. absurd (omega (arith, short-positions x f np nl h)))
-    (λ h. by-cases (decLt nl (f .blocks))
-    (λ k. absurd (omega (arith, short-leads x f np nl (omega arith) k)))
-    (λ k. by-cases (decLt 0 (streamsOf x f))
-    (λ s. (omega arith, omega arith, s))
-    (λ s. absurd (omega (arith, no-stream x f np nl (omega arith) (omega arith) (omega arith))))))
-
-answer-none : (x : Showing) (j k : ℕ) (r : CardRead) → answer x j k r .verdict .number ≡ 0 → (j ≡ 0) × (k ≡ 0)
-unfolding refusal
-answer-none x zero zero r e = (refl, refl)
-answer-none x zero (suc k) r e = absurd (omega (arith, e))
-answer-none x (suc j) k r e = absurd (omega (arith, e))
-
--- the answer to an accepted card is a plan, with the lists as they are left
-answer-plan : (x : Showing) (s : List ℕ) → Bytes s → (ps ls : List ℕ) → planned x (readCard s) ps ls .verdict .number ≡ 0
-    → isPlan (planned x (readCard s) ps ls .plan) (positionsAfter x (readCard s) ps ls) (leadsAfter x (readCard s) ps ls) ≡ true
-unfolding planned positionsAfter leadsAfter
-answer-plan x s y ps ls e =
-    let r = readCard s in
-    let n = answer-none x (r .verdict .number) (faultAfter x r ps ls) r e in
-    let g = no-fault x (r .figures) (length (wordsOf ps)) (length (wordsOf ls)) (n .1) in
-    rw (n .0, n .1) (plan-passes x (r .figures) (card-legal s y r refl (n .0)) (g .2) ps ls (g .0) (g .1))
-
-pub accepted-plan : (x : Showing) (s : List ℕ) → Bytes s → (ps ls : List ℕ) (a : Planned) (qs ms : List ℕ) → Outcome x (readCard s) ps ls a qs ms
-    → a .verdict .number ≡ 0 → isPlan (a .plan) qs ms ≡ true
-accepted-plan x s y ps ls a qs ms e n = rw (e .0, e .1, e .2) (answer-plan x s y ps ls (sym (ap (λ (b : Planned). b .verdict .number) (e .0)) ∙ n))

@@ -4,15 +4,13 @@ use libc::STDIN_FILENO;
 use lines::asks_loop;
 use lines::empty;
 use lines::has_more_arguments;
+use lines::plan_film;
 use lines::print;
 use lines::print_refusal;
 use lines::put_next;
 use lines::put_number;
 use lines::put_text;
 use plan::Plan;
-use plan::Planned;
-use planner::plan_card;
-use planner::plan_loop_card;
 ghost use mathlib.Core.Path.{_≡_};
 ghost use mathlib.Core.Bool.{true};
 ghost use Prim.Native.Nat.{_<_};
@@ -54,16 +52,6 @@ fn print_blocks(plan: Plan, positions: &[u8], leads: &[u8])
         print_block(plan, positions, leads, b);
         b += 1;
     }
-}
-
-// The plan of a card, as a loop or for one showing, and its lists.
-fn plan_film(looped: bool, card: &[u8], positions: &mut [u8], leads: &mut [u8]) -> Planned
-    ensures { λ r. ⌜ (r .verdict .number ≡ 0 → isPlan (r .plan) (now (positions .exit)) (now (leads .exit)) ≡ true) ⌝ }
-{
-    if looped {
-        return plan_loop_card(card, positions, leads);
-    }
-    plan_card(card, positions, leads)
 }
 
 // The listing of a card: its plan, or the refusal.

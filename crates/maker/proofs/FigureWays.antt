@@ -2,18 +2,18 @@
 -- Assumes nothing.
 use Prim.Native.Nat.{ℕ, zero, suc, _+_, _-_, _≤_, _<_}
 use mathlib.Core.Path.{_≡_, refl, sym, ap, ap₂, _∙_}
-use mathlib.Core.List.{List, [], _∷_, _++_, map, append-assoc}
+use mathlib.Core.List.{List, [], _∷_, _++_, append-assoc}
 use native.Mathlib.Omega.{arith}
-use lib.ListN.{length, getD, set, take, drop, length-set, take-append-drop}
+use lib.ListN.{length, set, take, drop, length-set, take-append-drop}
 use lib.Seq.{take-suc-set, drop-set-lt}
-use Rattle.numbers.specs.Limits.{maxZones, maxNumber}
+use Rattle.numbers.specs.Limits.{maxZones}
 use Rattle.card.specs.declared.Figures.{Figures}
 use Rattle.card.specs.declared.Verdict.{Verdict}
 use Rattle.card.specs.Card.{recordFault, judgeRecord}
 use Rattle.card.specs.Read.{accepted, blankZones}
 use Rattle.maker.specs.declared.MakerRead.{MakerRead}
 use Rattle.maker.specs.Maker.{padded, refusedText, answered, judgedFigures}
-use Rattle.maker.specs.Kept.{backBy}
+use Rattle.maker_rows.specs.Kept.{backBy}
 
 -- ---- the judge
 
@@ -67,7 +67,9 @@ module _ (n : ℕ) (g : ℕ → ℕ) (ps : List ℕ) (left i : ℕ) (b : Buildin
   build-more h m v e = record {
     sum = omega (arith, b .sum);
     wide = length-set ps i v ∙ b .wide;
-    whole = rw (first, after) (rw (later, rest) (append-assoc (take i ps) (v ∷ []) (backBy (left - 1) g ++ drop (i + left) ps) ∙ ap (λ (x : List ℕ). take i ps ++ (x ++ drop (i + left) ps)) front) ∙ b .whole);
+    whole = rw (first, after) (rw (later, rest)
+        (append-assoc (take i ps) (v ∷ []) (backBy (left - 1) g ++ drop (i + left) ps) ∙ ap (λ (x : List ℕ). take i ps ++ (x ++ drop (i + left) ps)) front)
+        ∙ b .whole);
   }
     where
       first : i + 1 ≡ suc i

@@ -1,5 +1,3 @@
-pub mod LineWays
-pub mod RowWays
 pub mod FigureWays
 pub mod MoveWays
 pub mod NarrowWays

@@ -1,36 +1,36 @@
 -- Each way that the answer to a text can take.
 -- Assumes nothing.
-use Prim.Native.Nat.{ℕ, zero, suc, _+_, _*_, _≤_, _<_}
+use Prim.Native.Nat.{ℕ, zero, suc, _*_, _≤_, _<_}
 use mathlib.Core.Path.{_≡_, refl, sym, ap, ap₂, _∙_}
 use mathlib.Core.List.{List, [], _∷_, _++_, map}
 use mathlib.Core.Bool.{Bool, true, false, cond}
 use native.Mathlib.Omega.{arith}
 use lib.ListN.{length, getD, drop}
 use borrow.Author.Tests.{le-leb, lt-leb}
-use Rattle.numbers.specs.Limits.{straightKind, maxZones, maxBlock, maxBytes, maxRate}
+use Rattle.numbers.specs.Limits.{straightKind, maxZones, maxBytes, maxRate}
 use Rattle.numbers.specs.Units.{sectorBytes}
 use Rattle.numbers.specs.Refusals.{lineForm, wrongHeading, wrongZones}
-use Rattle.decimal.specs.declared.Decimal.{Decimal}
-use Rattle.decimal.specs.declared.Decimal.the-variants.{Number, Other}
+use Rattle.decimal.specs.declared.Decimal.the-variants.{Number}
 use Rattle.card.specs.declared.Figures.{Figures}
-use Rattle.card.specs.declared.fields.Rule.the-variants as rule
-use Rattle.card.specs.Ranges.{first, below, above, outside, faultOf}
-use Rattle.card.specs.RangeLaws.{first-none}
-use Rattle.card.specs.Table.{straight}
-use Rattle.card.specs.Card.{recordFault, tableFault, filmFault}
+use Rattle.card_field.specs.declared.Rule.the-variants as rule
+use Rattle.card_field.specs.Ranges.{first, below, above, outside, faultOf, blocksFault}
+use Rattle.card_field.specs.RangeLaws.{first-none}
+use Rattle.card_table.specs.Table.{straight, tableFault}
+use Rattle.card.specs.Card.{recordFault, filmFault}
 use Rattle.card.specs.Read.{blankZones}
 use Rattle.tracks.specs.Tracks.{positionsIn, timeIn, narrowed}
 use Rattle.maker.specs.declared.Drive.{Drive}
-use Rattle.maker.specs.declared.rows.Rows.{Rows}
-use Rattle.maker.specs.declared.MakerRead.{MakerRead}
-use Rattle.maker.specs.declared.lines.Heading.{Heading}
-use Rattle.maker.specs.declared.lines.Heading.the-variants as heading
-use Rattle.maker.specs.Lines.{space, lineFeed, wordAt, headingFits, judgedHeading, headingIn}
-use Rattle.maker.specs.Rows.{Row, cylindersOf, Listed, Zones, Refused, rowsFrom}
-use Rattle.maker.specs.Kept.{backBy, moveIn, Kept, Holds, Fitting}
-use Rattle.maker.specs.Maker.{padded, filled, positionsOf, timeOf, figuresOf, refusedText, answered, judgedFigures, onRows, headingFault, onHeading, readMaker}
-use Rattle.maker.proofs.LineWays.{HeadingFacts, heading-facts}
-use Rattle.maker.proofs.RowWays.{then-from}
+use Rattle.maker_rows.specs.declared.Rows.{Rows}
+use Rattle.maker_lines.specs.declared.Heading.{Heading}
+use Rattle.maker_lines.specs.declared.Heading.the-variants as heading
+use Rattle.maker_lines.specs.Lines.{space, lineFeed, wordAt, headingFits, judgedHeading, headingIn}
+use Rattle.maker_rows.specs.Rows.{Row, cylindersOf, Listed, Zones, Refused, rowsFrom}
+use Rattle.maker_rows.specs.Kept.{backBy, Kept, Holds}
+use Rattle.maker.specs.Fitting.{moveIn, Fitting}
+use Rattle.maker.specs.Maker.{padded, filled, positionsOf, timeOf, figuresOf, refusedText}
+use Rattle.maker.specs.Maker.{answered, judgedFigures, onRows, headingFault, onHeading, readMaker}
+use Rattle.maker_lines.proofs.LineWays.{HeadingFacts, heading-facts}
+use Rattle.maker_rows.proofs.RowWays.{then-from}
 use Rattle.maker.proofs.MoveWays.{table-same, moves-kept}
 use Rattle.maker.proofs.NarrowWays.{Narrow, accepted-film, accepted-same, judged-same}
 
@@ -41,13 +41,20 @@ judged-numbers : (turns switch heads block next : ℕ) {t w h b n : ℕ} → jud
 unfolding judgedHeading
 judged-numbers turns switch heads block next {t} {w} {h} {b} {n} e = go (headingFits turns switch heads block) refl e
   where
-    go : (x : Bool) → headingFits turns switch heads block ≡ x → cond x (heading.Numbers turns switch heads block next) (heading.Refused wrongHeading) ≡ heading.Numbers t w h b n
+    go : (x : Bool) → headingFits turns switch heads block ≡ x
+        → cond x (heading.Numbers turns switch heads block next) (heading.Refused wrongHeading) ≡ heading.Numbers t w h b n
         → (headingFits turns switch heads block ≡ true) × (turns ≡ t) × (switch ≡ w) × (heads ≡ h) × (block ≡ b) × (next ≡ n)
     go true q e = (q, cc, cc, cc, cc, cc)
     go false q e = absurd (let z : _≡_ {A = ℕ} 0 1 = cc in omega arith)
 
-facts-of : {turns switch heads block t w h b : ℕ} → HeadingFacts turns switch heads block → turns ≡ t → switch ≡ w → heads ≡ h → block ≡ b → HeadingFacts t w h b
-facts-of f p q r u = record { turns-in = omega (arith, f .turns-in); switch-in = omega (arith, f .switch-in); heads-in = omega (arith, f .heads-in); block-in = omega (arith, f .block-in) }
+facts-of : {turns switch heads block t w h b : ℕ} → HeadingFacts turns switch heads block → turns ≡ t → switch ≡ w → heads ≡ h → block ≡ b
+    → HeadingFacts t w h b
+facts-of f p q r u = record {
+  turns-in = omega (arith, f .turns-in);
+  switch-in = omega (arith, f .switch-in);
+  heads-in = omega (arith, f .heads-in);
+  block-in = omega (arith, f .block-in);
+}
 
 -- what line one was read from
 pub record HeadingWords (s : List ℕ) (turns switch heads block next : ℕ) : Type 0 where
@@ -60,7 +67,8 @@ pub record HeadingWords (s : List ℕ) (turns switch heads block next : ℕ) : T
   pub four : wordAt lineFeed s at₃ ≡ Number block next
   pub facts : HeadingFacts turns switch heads block
 
-pub heading-words : (s : List ℕ) (turns switch heads block next : ℕ) → headingIn s ≡ heading.Numbers turns switch heads block next → HeadingWords s turns switch heads block next
+pub heading-words : (s : List ℕ) (turns switch heads block next : ℕ) → headingIn s ≡ heading.Numbers turns switch heads block next
+    → HeadingWords s turns switch heads block next
 unfolding headingIn
 heading-words s turns switch heads block next e =
     let one = then-from (wordAt space s 0) _ _ bad e in
@@ -127,7 +135,8 @@ padded-narrowed : (xs : List ℕ) → map narrowed (padded xs) ≡ padded (map n
 unfolding padded narrowed
 padded-narrowed xs =
     map-append narrowed xs (drop (length xs) blankZones)
-    ∙ ap (λ (ys : List ℕ). map narrowed xs ++ ys) (map-drop narrowed (length xs) blankZones ∙ ap₂ (λ (n : ℕ) (ys : List ℕ). drop n ys) (sym (map-long narrowed xs)) blanks)
+    ∙ ap (λ (ys : List ℕ). map narrowed xs ++ ys)
+    (map-drop narrowed (length xs) blankZones ∙ ap₂ (λ (n : ℕ) (ys : List ℕ). drop n ys) (sym (map-long narrowed xs)) blanks)
   where
     blanks : map narrowed blankZones ≡ blankZones
     blanks = unfold blankZones in refl
@@ -153,14 +162,16 @@ filled-narrow z z′ ps ts ps′ ts′ block n c hop ret a b d = record {
   zones = a;
   positions = b;
   times = d;
-  film = λ total. ap (λ (k : ℕ). first (faultOf rule.Blocks total n) (first (faultOf rule.Measure maxBytes (sectorBytes * block)) (first (faultOf rule.Measure maxRate c) k))) (table-same hop ret);
+  film = λ total. ap (λ (k : ℕ). first (blocksFault total n)
+      (first (faultOf rule.Measure maxBytes (sectorBytes * block)) (first (faultOf rule.Measure maxRate c) k))) (table-same hop ret);
 }
 
 -- hop and return of a film that is not refused
-filled-moves : (z : ℕ) (ps ts : List ℕ) (block n c hop ret total : ℕ) → filmFault (filled z ps ts block n c hop ret) total ≡ 0 → (moveIn hop ≡ hop) × (moveIn ret ≡ ret)
+filled-moves : (z : ℕ) (ps ts : List ℕ) (block n c hop ret total : ℕ) → filmFault (filled z ps ts block n c hop ret) total ≡ 0
+    → (moveIn hop ≡ hop) × (moveIn ret ≡ ret)
 unfolding filled filmFault
 filled-moves z ps ts block n c hop ret total e =
-    let a = first-none (faultOf rule.Blocks total n) _ e in
+    let a = first-none (blocksFault total n) _ e in
     let b = first-none (faultOf rule.Measure maxBytes (sectorBytes * block)) _ (a .1) in
     let r = first-none (faultOf rule.Measure maxRate c) _ (b .1) in
     moves-kept hop ret (r .1)
@@ -188,7 +199,8 @@ figures-alike d r zs k m n c hop ret ps ts p t =
     let m = filled-moves (length zs) (padded (map (positionsOf d) zs)) (padded (map (timeOf d) zs)) (d .block) n c hop ret (film .0) (film .1) in
     filled-same _ _ _ _ _ _ (d .block) n c hop ret (moveIn hop) (moveIn ret) (k .count) (a .0) (a .1) (m .0) (m .1))
   where
-    same : Narrow (filled (length zs) (padded (map (positionsOf d) zs)) (padded (map (timeOf d) zs)) (d .block) n c hop ret) (filled (r .count) ps ts (d .block) n c (moveIn hop) (moveIn ret))
+    same : Narrow (filled (length zs) (padded (map (positionsOf d) zs)) (padded (map (timeOf d) zs)) (d .block) n c hop ret)
+        (filled (r .count) ps ts (d .block) n c (moveIn hop) (moveIn ret))
     same = filled-narrow _ _ _ _ _ _ (d .block) n c hop ret (k .count)
         (p ∙ kept-entries r zs k m (λ x y. positionsIn (d .heads) (d .block) x y) (positionsOf d) (λ z. refl))
         (t ∙ kept-entries r zs k m (λ x y. timeIn (d .turns) (d .switch) (d .block) y) (timeOf d) (λ z. refl))
@@ -200,11 +212,14 @@ module _ (s : List ℕ) (n c hop ret : ℕ) (H : Heading) (read : H ≡ headingI
   unfolding readMaker onHeading headingFault
   answer-heading e = ap (λ (x : ℕ). refusedText x 1) (ap headingFault e) ∙ ap (onHeading s n c hop ret) (sym e ∙ read)
 
-  module _ {turns switch heads block next : ℕ} (e : H ≡ heading.Numbers turns switch heads block next) (r : Rows) (rows : Holds r (rowsFrom (length s) s next [])) where
+  module _ {turns switch heads block next : ℕ} (e : H ≡ heading.Numbers turns switch heads block next) (r : Rows)
+      (rows : Holds r (rowsFrom (length s) s next [])) where
     -- what is left are the rows
-    answer-is : (L : Listed) → rowsFrom (length s) s next [] ≡ L → onRows (record { turns = turns; switch = switch; heads = heads; block = block }) n c hop ret L ≡ readMaker s n c hop ret
+    answer-is : (L : Listed) → rowsFrom (length s) s next [] ≡ L
+        → onRows (record { turns = turns; switch = switch; heads = heads; block = block }) n c hop ret L ≡ readMaker s n c hop ret
     unfolding readMaker onHeading
-    answer-is L q = ap (onRows (record { turns = turns; switch = switch; heads = heads; block = block }) n c hop ret) (sym q) ∙ ap (onHeading s n c hop ret) (sym e ∙ read)
+    answer-is L q = ap (onRows (record { turns = turns; switch = switch; heads = heads; block = block }) n c hop ret) (sym q)
+        ∙ ap (onHeading s n c hop ret) (sym e ∙ read)
 
     pub answer-row : (r .number ≡ 0 → ⊥) → refusedText (r .number) (r .line) ≡ readMaker s n c hop ret
     unfolding onRows
@@ -215,7 +230,8 @@ module _ (s : List ℕ) (n c hop ret : ℕ) (H : Heading) (read : H ≡ headingI
       unfolding onRows figuresOf filled
       answer-many h =
           let z = holds-zones r (rowsFrom (length s) s next []) rows good in
-          many-judged (figuresOf (record { turns = turns; switch = switch; heads = heads; block = block }) (z .0) n c hop ret) refl (omega (arith, z .2 .count)) ∙ answer-is (Zones (z .0)) (z .1)
+          many-judged (figuresOf (record { turns = turns; switch = switch; heads = heads; block = block }) (z .0) n c hop ret) refl
+          (omega (arith, z .2 .count)) ∙ answer-is (Zones (z .0)) (z .1)
 
       pub drive-fits : r .count ≤ maxZones → Fitting (record { turns = turns; switch = switch; heads = heads; block = block }) r
       drive-fits h =
@@ -237,4 +253,5 @@ module _ (s : List ℕ) (n c hop ret : ℕ) (H : Heading) (read : H ≡ headingI
       unfolding onRows
       answer-figures h ps ts p t =
           let z = holds-zones r (rowsFrom (length s) s next []) rows good in
-          figures-alike (record { turns = turns; switch = switch; heads = heads; block = block }) r (z .0) (z .2) h n c hop ret ps ts p t ∙ answer-is (Zones (z .0)) (z .1)
+          figures-alike (record { turns = turns; switch = switch; heads = heads; block = block }) r (z .0) (z .2) h n c hop ret ps ts p t
+          ∙ answer-is (Zones (z .0)) (z .1)

@@ -8,15 +8,14 @@ use native.Mathlib.Decide.{decLe}
 use lib.ListN.{length}
 use borrow.Author.Tests.{le-leb, lt-leb, lt-ltb, le-ltb}
 use Rattle.numbers.specs.Limits.{straightKind, maxMove, tableLength}
-use Rattle.card.specs.declared.fields.Rule.the-variants.{Measure}
-use Rattle.card.specs.Ranges.{first, below, above, outside, faultOf}
-use Rattle.card.specs.RangeLaws.{first-none, measure-range}
-use Rattle.card.specs.Table.{straight, isLine}
-use Rattle.card.specs.TableLaws.{straight-at, at-line}
-use Rattle.card.specs.TableFaults.{straight-back, straight-hop}
-use Rattle.card.specs.Card.{straightFault, tableFault}
+use Rattle.card_field.specs.declared.Rule.the-variants.{Measure}
+use Rattle.card_field.specs.Ranges.{first, below, above, outside, faultOf}
+use Rattle.card_field.specs.RangeLaws.{first-none, measure-range}
+use Rattle.card_table.specs.Table.{straight, isLine, straightFault, tableFault}
+use Rattle.card_table.specs.TableLaws.{straight-at, at-line}
+use Rattle.card_table.specs.TableFaults.{straight-back, straight-hop}
 use Rattle.card.specs.Read.{blankTable}
-use Rattle.maker.specs.Kept.{moveIn}
+use Rattle.maker.specs.Fitting.{moveIn}
 
 -- ---- one of both
 
@@ -56,7 +55,8 @@ moves-fault hop ret = rw (straight-hop hop ret, straight-back hop ret, line)
 
 pub table-same : (hop ret : ℕ) → tableFault straightKind (straight (moveIn hop) (moveIn ret)) ≡ tableFault straightKind (straight hop ret)
 unfolding tableFault
-table-same hop ret = moves-fault (moveIn hop) (moveIn ret) ∙ ap₂ (λ (a b : ℕ). first a (first b 0)) (move-fault hop) (move-fault ret) ∙ sym (moves-fault hop ret)
+table-same hop ret = moves-fault (moveIn hop) (moveIn ret) ∙ ap₂ (λ (a b : ℕ). first a (first b 0)) (move-fault hop) (move-fault ret)
+    ∙ sym (moves-fault hop ret)
 
 -- those of a table that is not refused stay
 pub moves-kept : (hop ret : ℕ) → tableFault straightKind (straight hop ret) ≡ 0 → (moveIn hop ≡ hop) × (moveIn ret ≡ ret)

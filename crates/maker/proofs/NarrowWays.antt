@@ -2,26 +2,25 @@
 -- Assumes nothing.
 use Prim.Native.Nat.{ℕ, zero, suc, _+_, _≤_, _<_}
 use mathlib.Core.Path.{_≡_, refl, sym, ap, ap₂, _∙_}
-use mathlib.Core.List.{List, [], _∷_, _++_, map}
+use mathlib.Core.List.{List, [], _∷_, map}
 use mathlib.Core.Bool.{Bool, true, false, cond, _&&_}
 use native.Mathlib.Omega.{arith}
 use native.Mathlib.Decide.{decLe, decLt, ℕ-discrete}
-use lib.ListN.{length, getD, drop}
+use lib.ListN.{getD, drop}
 use lib.Dec.{leb, eqb}
-use borrow.Author.Tests.{le-leb, lt-leb, eq-eqb, ne-eqb}
+use borrow.Author.Tests.{le-leb, lt-leb, ne-eqb}
 use Rattle.laws.specs.Runs.{allBy}
-use Rattle.numbers.specs.Limits.{maxNumber, maxZones, maxPositions, maxTime}
+use Rattle.numbers.specs.Limits.{maxNumber, maxPositions, maxTime}
 use Rattle.numbers.specs.Refusals.{wrongPositions, wrongTime, wrongZones}
 use Rattle.card.specs.declared.Figures.{Figures}
-use Rattle.card.specs.declared.fields.Rule.the-variants.{Kind, Positions, Zones}
-use Rattle.card.specs.Ranges.{first, below, above, outside, thenAbove, thenBelow, faultOf, timeFault}
-use Rattle.card.specs.RangeLaws.{first-none, positions-range, time-range}
+use Rattle.card_field.specs.declared.Rule.the-variants.{Kind, Positions, Zones}
+use Rattle.card_field.specs.Ranges.{first, below, above, outside, thenAbove, thenBelow, faultOf, timeFault}
+use Rattle.card_field.specs.RangeLaws.{first-none, positions-range, time-range}
 use Rattle.card.specs.Card.{filmFault, zoneFaults, zerosFrom, unusedZero, recordFault}
-use Rattle.card.specs.Read.{blankZones}
-use Rattle.round_trip.specs.Legality.{Judged, fault-judged}
+use Rattle.legality.specs.Legality.{Judged, fault-judged}
 use Rattle.tracks.specs.Tracks.{narrowed}
 use Rattle.tracks.specs.TracksLaws.{narrowed-small, narrowed-great}
-use Rattle.maker.specs.Maker.{padded, filled, refusedText, answered, judgedFigures}
+use Rattle.maker.specs.Maker.{answered, judgedFigures}
 
 -- ---- what is out of range
 
@@ -69,20 +68,30 @@ map-same (x ∷ xs) h = ap₂ (λ (y : ℕ) (ys : List ℕ). y ∷ ys) (h 0) (ma
 -- ---- the judge
 
 -- one zone: p positions and time t, the first zone's time t₀, and the same narrowed; later is what the zones after it say
-zone-same : (total before p t t₀ p′ t′ t₀′ later later′ : ℕ) → p′ ≡ narrowed p → t′ ≡ narrowed t → t₀′ ≡ narrowed t₀ → (t ≤ maxTime → t₀ ≤ maxTime) → (p ≤ maxPositions → t ≤ maxTime → later′ ≡ later)
+zone-same : (total before p t t₀ p′ t′ t₀′ later later′ : ℕ) → p′ ≡ narrowed p → t′ ≡ narrowed t → t₀′ ≡ narrowed t₀ → (t ≤ maxTime → t₀ ≤ maxTime)
+    → (p ≤ maxPositions → t ≤ maxTime → later′ ≡ later)
     → first (faultOf Positions total p′) (first (timeFault t₀′ before t′) later′) ≡ first (faultOf Positions total p) (first (timeFault t₀ before t) later)
 unfolding first
 zone-same total before p t t₀ p′ t′ t₀′ later later′ a b c inner same = by (decLe p maxPositions) (decLe t maxTime)
   where
-    by : Dec (p ≤ maxPositions) → Dec (t ≤ maxTime) → first (faultOf Positions total p′) (first (timeFault t₀′ before t′) later′) ≡ first (faultOf Positions total p) (first (timeFault t₀ before t) later)
+    by : Dec (p ≤ maxPositions) → Dec (t ≤ maxTime)
+        → first (faultOf Positions total p′) (first (timeFault t₀′ before t′) later′) ≡ first (faultOf Positions total p) (first (timeFault t₀ before t) later)
     by (no h) q =
         let great : maxPositions < p = omega arith in
-        let greater : maxPositions < p′ = elim (decLe p maxNumber) [ yes l ↦ omega (arith, a, narrowed-small p l) | no l ↦ omega (arith, a, narrowed-great p (omega arith)) ] in
+        let greater : maxPositions < p′ =
+        elim (decLe p maxNumber) [ yes l ↦ omega (arith, a, narrowed-small p l) | no l ↦ omega (arith, a, narrowed-great p (omega arith)) ] in
         rw (positions-great total p great, positions-great total p′ greater)
     by (yes h) (no q) =
         let same-place : p′ ≡ p = a ∙ narrowed-small p (omega arith) in
         let great : maxTime < t = omega arith in
-        let greater : maxTime < t′ = elim (decLe t maxNumber) [ yes l ↦ omega (arith, b, narrowed-small t l) | no l ↦ omega (arith, b, narrowed-great t (omega arith)) ] in
+        let greater : maxTime < t′ = elim (decLe t maxNumber) [
+          | yes l ↦ omega (arith, b, narrowed-small t l)
+          | no l ↦ omega (
+            arith,
+            b,
+            narrowed-great t (omega arith),
+          )
+        ] in
         rw (same-place, time-great t₀ before t great, time-great t₀′ before t′ greater)
     by (yes h) (yes q) =
         let same-place : p′ ≡ p = a ∙ narrowed-small p (omega arith) in
@@ -117,7 +126,8 @@ module _ (f g : Figures) (n : Narrow f g) where
   faults-same zero i total before h = n .film total
   faults-same (suc left) i total before h =
       zone-same total before (place i) (speed i) (speed 0) _ _ _ _ _ (place-is i) (speed-is i) (speed-is 0) (inner i h) (λ a b.
-      ap₂ (λ (x y : ℕ). zoneFaults left (i + 1) g (total + x) y) (place-is i ∙ narrowed-small (place i) (omega arith)) (speed-is i ∙ narrowed-small (speed i) (omega arith))
+      ap₂ (λ (x y : ℕ). zoneFaults left (i + 1) g (total + x) y) (place-is i ∙ narrowed-small (place i) (omega arith))
+      (speed-is i ∙ narrowed-small (speed i) (omega arith))
       ∙ faults-same left (i + 1) (total + place i) (speed i) (λ k. inner i h b))
     where
       inner : (i : ℕ) → (0 < i → speed 0 ≤ maxTime) → speed i ≤ maxTime → speed 0 ≤ maxTime
@@ -141,7 +151,8 @@ module _ (f g : Figures) (n : Narrow f g) where
       faults = ap (λ (z : ℕ). zoneFaults z 0 g 0 maxTime) (n .zones) ∙ faults-same (f .zones) 0 0 maxTime (λ h. absurd (omega arith))
 
   -- the zones of figures that are not refused
-  zones-small : (left i total before : ℕ) → zoneFaults left i f total before ≡ 0 → (k : ℕ) → i ≤ k → k < i + left → (place k ≤ maxPositions) × (speed k ≤ maxTime)
+  zones-small : (left i total before : ℕ) → zoneFaults left i f total before ≡ 0 → (k : ℕ) → i ≤ k → k < i + left
+      → (place k ≤ maxPositions) × (speed k ≤ maxTime)
   unfolding zoneFaults
   zones-small zero i total before e k l h = absurd (omega arith)
   zones-small (suc left) i total before e k l h =
@@ -169,7 +180,11 @@ module _ (f g : Figures) (n : Narrow f g) where
 
   -- FIGURES THAT ARE NOT REFUSED ARE NOT NARROWED
   pub accepted-same : recordFault f ≡ 0 → (g .positions ≡ f .positions) × (g .times ≡ f .times)
-  accepted-same e = (n .positions ∙ map-same (f .positions) (λ i. narrowed-small (place i) (each i .0)), n .times ∙ map-same (f .times) (λ i. narrowed-small (speed i) (each i .1)))
+  accepted-same e = (
+    n .positions ∙ map-same (f .positions) (λ i. narrowed-small (place i) (each i .0)),
+    n .times
+        ∙ map-same (f .times) (λ i. narrowed-small (speed i) (each i .1)),
+  )
     where
       each : (i : ℕ) → (place i ≤ maxNumber) × (speed i ≤ maxNumber)
       each i = go (decLt i (f .zones)) (fault-judged f e)

@@ -1,4 +1,2 @@
-pub mod Lines
-pub mod Rows
-pub mod Kept
 pub mod Maker
+pub mod Fitting

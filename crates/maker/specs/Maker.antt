@@ -5,16 +5,16 @@ use lib.ListN.{length, drop}
 use Rattle.numbers.specs.Limits.{straightKind}
 use Rattle.numbers.specs.Units.{sectorBytes}
 use Rattle.card.specs.declared.Figures.{Figures}
-use Rattle.card.specs.Table.{straight}
+use Rattle.card_table.specs.Table.{straight}
 use Rattle.card.specs.Card.{recordFault}
 use Rattle.card.specs.Read.{blankZones, blankFigures, accepted}
 use Rattle.tracks.specs.Tracks.{positionsIn, timeIn}
 use Rattle.maker.specs.declared.Drive.{Drive}
 use Rattle.maker.specs.declared.MakerRead.{MakerRead}
-use Rattle.maker.specs.declared.lines.Heading.{Heading}
-use Rattle.maker.specs.declared.lines.Heading.the-variants as heading
-use Rattle.maker.specs.Lines.{headingIn}
-use Rattle.maker.specs.Rows.{Row, cylindersOf, Listed, Zones, Refused, rowsFrom}
+use Rattle.maker_lines.specs.declared.Heading.{Heading}
+use Rattle.maker_lines.specs.declared.Heading.the-variants as heading
+use Rattle.maker_lines.specs.Lines.{headingIn}
+use Rattle.maker_rows.specs.Rows.{Row, cylindersOf, Listed, Zones, Refused, rowsFrom}
 
 -- ---- the figures
 
@@ -25,7 +25,8 @@ padded xs = xs ++ drop (length xs) blankZones
 -- the record of figures: z zones with their positions and times; B is 512 × sectors in a block (T1.9); N, c, hop and return come beside the
 -- text (T1.10) and make the table of a card of kind 1 (T3.3)
 unfoldable pub filled : ℕ → List ℕ → List ℕ → ℕ → ℕ → ℕ → ℕ → ℕ → Figures
-filled z positions times block n c hop ret = record { kind = straightKind; zones = z; positions = positions; times = times; blocks = n; bytes = sectorBytes * block; rate = c; table = straight hop ret }
+filled z positions times block n c hop ret =
+    record { kind = straightKind; zones = z; positions = positions; times = times; blocks = n; bytes = sectorBytes * block; rate = c; table = straight hop ret }
 
 -- a zone's positions and its time (T1.5 to T1.7)
 unfoldable pub positionsOf : Drive → Row → ℕ

@@ -1,21 +1,22 @@
 // The zones of the rows, innermost first, and the record of figures.
 use crate::Drive;
 use crate::MakerRead;
-use crate::rows::Rows;
 use card::Figures;
 use card::Verdict;
-use card::table::fill_straight;
+use card_table::fill_straight;
+use maker_rows::Rows;
 use numbers::limits::MAX_MOVE;
 use numbers::limits::STRAIGHT;
 use numbers::units::SECTOR_BYTES;
 ghost use mathlib.Core.Path.{_≡_};
 ghost use Prim.Native.Nat.{_≤_, _<_};
 ghost use lib.ListN.{getD};
-ghost use Rattle.numbers.specs.Limits.{maxZones, maxBlock};
-ghost use Rattle.card.specs.Table.{straight};
+ghost use Rattle.numbers.specs.Limits.{maxBlock};
+ghost use Rattle.card_table.specs.Table.{straight};
 ghost use Rattle.card.specs.Read.{blankFigures, blankZones, blankTable};
 ghost use Rattle.tracks.specs.Tracks.{positionsIn, timeIn, narrowed};
-ghost use Rattle.maker.specs.Kept.{backBy, moveIn, Fitting};
+ghost use Rattle.maker_rows.specs.Kept.{backBy};
+ghost use Rattle.maker.specs.Fitting.{moveIn, Fitting};
 ghost use Rattle.maker.specs.Maker.{refusedText, filled, padded, judgedFigures};
 
 // Positions and times of the zones; entries past them are zero.
@@ -39,7 +40,9 @@ fn no_table() -> [u32; 257]
 // The zones of the rows: the last row is the innermost zone.
 pub fn zones_of(drive: Drive, rows: Rows) -> Zones
     requires { ⌜ Fitting drive rows ⌝ }
-    ensures { λ r. ⌜ (r .positions ≡ padded (backBy (rows .count) (λ k. narrowed (positionsIn (drive .heads) (drive .block) (getD (rows .cylinders) k 0) (getD (rows .tracks) k 0))))) × (r .times ≡ padded (backBy (rows .count) (λ k. narrowed (timeIn (drive .turns) (drive .switch) (drive .block) (getD (rows .tracks) k 0))))) ⌝ }
+    ensures { λ r. ⌜ (r .positions ≡ padded
+        (backBy (rows .count) (λ k. narrowed (positionsIn (drive .heads) (drive .block) (getD (rows .cylinders) k 0) (getD (rows .tracks) k 0)))))
+        × (r .times ≡ padded (backBy (rows .count) (λ k. narrowed (timeIn (drive .turns) (drive .switch) (drive .block) (getD (rows .tracks) k 0))))) ⌝ }
 {
     let mut zones = Zones {
         positions: no_zones(),

@@ -1,17 +1,15 @@
 // The maker's text of a disk: its numbers, and the figures that a card with them would give.
 mod figures; // the zones of the rows, and the record
-mod lines; // line one and a row: form, then range
-mod rows; // all rows
 
 use crate::figures::answer;
 use crate::figures::figures_of;
 use crate::figures::refused_text;
 use crate::figures::zones_of;
-use crate::lines::Heading;
-use crate::lines::read_heading;
-use crate::rows::read_rows;
 use card::Figures;
 use card::Verdict;
+use maker_lines::Heading;
+use maker_lines::read_heading;
+use maker_rows::read_rows;
 use numbers::limits::MAX_ZONES;
 use numbers::refusals::WRONG_ZONES;
 ghost use mathlib.Core.Path.{_≡_};

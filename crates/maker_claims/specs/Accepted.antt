@@ -13,23 +13,23 @@ use Rattle.numbers.specs.Refusals.{lineForm, wrongHeading}
 use Rattle.card.specs.declared.Figures.{Figures}
 use Rattle.card.specs.Card.{Legal, recordFault, judgeRecord, cardOf}
 use Rattle.card.specs.Read.{accepted, blankZones, blankFigures, readCard}
-use Rattle.card.specs.RangeLaws.{fault-zones}
-use Rattle.card.specs.TableLaws.{straight-long}
-use Rattle.round_trip.specs.Legality.{Wide, fault-legal, legal-fault}
+use Rattle.card.specs.CardLaws.{fault-zones}
+use Rattle.card_table.specs.TableLaws.{straight-long}
+use Rattle.legality.specs.Legality.{Wide, fault-legal, legal-fault}
 use Rattle.round_trip.specs.RoundTrip.{legal-read}
 use Rattle.maker.specs.declared.Drive.{Drive}
 use Rattle.maker.specs.declared.MakerRead.{MakerRead}
-use Rattle.maker.specs.declared.lines.Heading.{Heading}
-use Rattle.maker.specs.declared.lines.Heading.the-variants as heading
-use Rattle.maker.specs.declared.lines.RowRead.{RowRead}
-use Rattle.maker.specs.declared.lines.RowRead.the-variants as row
-use Rattle.maker.specs.Lines.{headingFits, judgedHeading, headingIn, rowAt}
-use Rattle.maker.specs.Rows.{Row, following, Listed, Zones, Refused, onRow, rowsFrom}
+use Rattle.maker_lines.specs.declared.Heading.{Heading}
+use Rattle.maker_lines.specs.declared.Heading.the-variants as heading
+use Rattle.maker_lines.specs.declared.RowRead.{RowRead}
+use Rattle.maker_lines.specs.declared.RowRead.the-variants as row
+use Rattle.maker_lines.specs.Lines.{headingFits, judgedHeading, headingIn, rowAt}
+use Rattle.maker_rows.specs.Rows.{Row, following, Listed, Zones, Refused, onRow, rowsFrom}
 use Rattle.maker.specs.Maker.{padded, filled, positionsOf, timeOf, figuresOf, refusedText, answered, judgedFigures, onRows, onHeading, readMaker}
-use Rattle.maker.proofs.LineWays.{HeadingFacts, facts-heading}
-use Rattle.maker.proofs.RowWays.{then-each, row-number, rows-fuel}
+use Rattle.maker_lines.proofs.LineWays.{HeadingFacts, facts-heading}
+use Rattle.maker_rows.proofs.RowWays.{then-each, row-number, rows-fuel}
 use Rattle.maker.proofs.MakerWays.{heading-words}
-use Rattle.maker_claims.specs.Listing.{headingLine, rowLines, textOf, DriveInRange, FollowOn, innermostFirst, Listing}
+use Rattle.maker_claims.specs.Listing.{headingLine, rowLines, textOf, innermostFirst, Listing}
 use Rattle.maker_claims.specs.Spelling.{heading-spelled, heading-spelling, rows-spelled, rows-spelling}
 
 -- ---- a refusal has a number
@@ -83,12 +83,17 @@ map-long f (z ∷ zs) = ap suc (map-long f zs)
 
 padded-wide : (xs : List ℕ) → length xs ≤ maxZones → length (padded xs) ≡ maxZones
 unfolding padded
-padded-wide xs h = let blanks : length blankZones ≡ maxZones = unfold blankZones in refl in omega (arith, length-append xs (drop (length xs) blankZones), length-drop (length xs) blankZones)
+padded-wide xs h = let blanks : length blankZones ≡ maxZones = unfold blankZones in refl in
+    omega (arith, length-append xs (drop (length xs) blankZones), length-drop (length xs) blankZones)
 
 module _ (d : Drive) (zs : List Row) (n c hop ret : ℕ) where
   figures-wide : length zs ≤ maxZones → Wide (figuresOf d zs n c hop ret)
   unfolding figuresOf filled
-  figures-wide h = (padded-wide (map (positionsOf d) zs) (omega (arith, map-long (positionsOf d) zs)), padded-wide (map (timeOf d) zs) (omega (arith, map-long (timeOf d) zs)), straight-long hop ret)
+  figures-wide h = (
+    padded-wide (map (positionsOf d) zs) (omega (arith, map-long (positionsOf d) zs)),
+    padded-wide (map (timeOf d) zs) (omega (arith, map-long (timeOf d) zs)),
+    straight-long hop ret,
+  )
 
   figures-legal : recordFault (figuresOf d zs n c hop ret) ≡ 0 → Legal (figuresOf d zs n c hop ret)
   figures-legal e = fault-legal _ (figures-wide few) e
@@ -128,12 +133,16 @@ module _ (s : List ℕ) (n c hop ret : ℕ) where
   pub answer-ways : Accepts s n c hop ret ⊎ Refuses s n c hop ret
   answer-ways = on (headingIn s) refl
     where
-      judged : (d : Drive) (next : ℕ) (zs : List Row) → headingIn s ≡ heading.Numbers (d .turns) (d .switch) (d .heads) (d .block) next → rowsFrom (length s) s next [] ≡ Zones zs
-          → readMaker s n c hop ret ≡ judgedFigures (figuresOf d zs n c hop ret) → (k : ℕ) → recordFault (figuresOf d zs n c hop ret) ≡ k → Accepts s n c hop ret ⊎ Refuses s n c hop ret
-      judged d next zs p q e zero f = inl (record { drive = d; next = next; zs = zs; heading-read = p; rows-read = q; fault = f; answer = e ∙ (unfold judgedFigures answered in rw f) })
+      judged : (d : Drive) (next : ℕ) (zs : List Row) → headingIn s ≡ heading.Numbers (d .turns) (d .switch) (d .heads) (d .block) next
+          → rowsFrom (length s) s next [] ≡ Zones zs
+          → readMaker s n c hop ret ≡ judgedFigures (figuresOf d zs n c hop ret) → (k : ℕ) → recordFault (figuresOf d zs n c hop ret) ≡ k
+          → Accepts s n c hop ret ⊎ Refuses s n c hop ret
+      judged d next zs p q e zero f =
+          inl (record { drive = d; next = next; zs = zs; heading-read = p; rows-read = q; fault = f; answer = e ∙ (unfold judgedFigures answered in rw f) })
       judged d next zs p q e (suc k) f = inr (record { number = k; line = 0; answer = e ∙ (unfold judgedFigures answered in rw f) })
 
-      rows : (d : Drive) (next : ℕ) → headingIn s ≡ heading.Numbers (d .turns) (d .switch) (d .heads) (d .block) next → (L : Listed) → rowsFrom (length s) s next [] ≡ L
+      rows : (d : Drive) (next : ℕ) → headingIn s ≡ heading.Numbers (d .turns) (d .switch) (d .heads) (d .block) next → (L : Listed)
+          → rowsFrom (length s) s next [] ≡ L
           → readMaker s n c hop ret ≡ onRows d n c hop ret L → Accepts s n c hop ret ⊎ Refuses s n c hop ret
       rows d next p (Zones zs) q e = judged d next zs p q (e ∙ (unfold onRows in refl)) (recordFault (figuresOf d zs n c hop ret)) refl
       rows d next p (Refused k line) q e = inr (refuses k line (rows-number (length s) s next [] k line q) (e ∙ (unfold onRows in refl)))
@@ -163,7 +172,8 @@ module _ (s : List ℕ) (n c hop ret : ℕ) where
             d,
             sp .rows,
             record {
-              text = heading-spelling s (d .turns) (d .switch) (d .heads) (d .block) (a .next) (a .heading-read) ∙ ap (λ (x : List ℕ). headingLine d ++ x) (sp .text);
+              text = heading-spelling s (d .turns) (d .switch) (d .heads) (d .block) (a .next) (a .heading-read)
+                  ∙ ap (λ (x : List ℕ). headingLine d ++ x) (sp .text);
               drive = record { turns = f .turns-in; switch = f .switch-in; heads = f .heads-in; block = f .block-in };
               follow = sp .follow;
               legal = subst (λ (zs : List Row). Legal (figuresOf d zs n c hop ret)) (sym (sp .zones)) (figures-legal d (a .zs) n c hop ret (a .fault));
@@ -171,11 +181,13 @@ module _ (s : List ℕ) (n c hop ret : ℕ) where
           )
 
   -- A LISTING IS ANSWERED BY ITS FIGURES
-  pub listing-answered : (d : Drive) (rows : List Row) → Listing s n c hop ret d rows → readMaker s n c hop ret ≡ record { verdict = accepted; figures = figuresOf d (innermostFirst rows) n c hop ret }
+  pub listing-answered : (d : Drive) (rows : List Row) → Listing s n c hop ret d rows
+      → readMaker s n c hop ret ≡ record { verdict = accepted; figures = figuresOf d (innermostFirst rows) n c hop ret }
   unfolding textOf headingLine innermostFirst following readMaker onHeading onRows judgedFigures answered
   listing-answered d rows l =
       let h = heading-spelled s (d .turns) (d .switch) (d .heads) (d .block) (rowLines rows) (l .text) in
-      let f : HeadingFacts (d .turns) (d .switch) (d .heads) (d .block) = record { turns-in = l .drive .turns; switch-in = l .drive .switch; heads-in = l .drive .heads; block-in = l .drive .block } in
+      let f : HeadingFacts (d .turns) (d .switch) (d .heads) (d .block) =
+      record { turns-in = l .drive .turns; switch-in = l .drive .switch; heads-in = l .drive .heads; block-in = l .drive .block } in
       let read : headingIn s ≡ heading.Numbers (d .turns) (d .switch) (d .heads) (d .block) (h .0) = h .1 ∙ judged-fits d (h .0) f in
       let rows-read = rows-fuel s (length s) (length s - h .0) (h .0) [] (omega arith) (omega arith) ∙ rows-spelled rows s (h .0) [] (h .2) (l .follow) in
       rw (read, rows-read, legal-fault (figuresOf d (innermostFirst rows) n c hop ret) (l .legal))

@@ -2,14 +2,14 @@
 use Prim.Native.Nat.{ℕ, _+_}
 use mathlib.Core.Path.{_≡_}
 use mathlib.Core.Logic.{_⊎_}
-use mathlib.Core.List.{List, [], _∷_, _++_}
+use mathlib.Core.List.{List, [], _++_}
 use lib.ListN.{length}
 use Rattle.numbers.specs.Refusals.{lineForm, wrongHeading, wrongRow}
 use Rattle.card.specs.Card.{recordFault}
 use Rattle.maker.specs.declared.Drive.{Drive}
-use Rattle.maker.specs.Rows.{Row, following}
+use Rattle.maker_rows.specs.Rows.{Row, following}
 use Rattle.maker.specs.Maker.{figuresOf}
-use Rattle.maker_claims.specs.Listing.{headingLine, rowLine, rowLines, textOf, DriveInRange, RowInRange, FollowOn, innermostFirst}
+use Rattle.maker_claims.specs.Listing.{headingLine, rowLine, textOf, DriveInRange, RowInRange, FollowOn, innermostFirst}
 
 -- the bytes left start with no good line one: 22 where it has another form or there is none, 23 where its numbers are out of range
 abbrev pub HeadingFault : List ℕ → ℕ → Type 0

@@ -6,8 +6,8 @@ use Rattle.numbers.specs.Limits.{maxTurns, maxSwitch, maxHeads, maxBlock, maxCy
 use Rattle.decimal.specs.Decimal.{decimal}
 use Rattle.card.specs.Card.{Legal}
 use Rattle.maker.specs.declared.Drive.{Drive}
-use Rattle.maker.specs.Lines.{space, lineFeed}
-use Rattle.maker.specs.Rows.{Row}
+use Rattle.maker_lines.specs.Lines.{space, lineFeed}
+use Rattle.maker_rows.specs.Rows.{Row}
 use Rattle.maker.specs.Maker.{figuresOf}
 
 -- ---- the text (T1.2 to T1.4)

@@ -1,6 +1,6 @@
 -- A maker's text is refused by its first line at fault, or by its figures.
 -- Assumes nothing.
-use Prim.Native.Nat.{ℕ, zero, suc, _+_, _-_, _≤_, _<_}
+use Prim.Native.Nat.{ℕ, zero, suc, _+_, _<_}
 use mathlib.Core.Path.{_≡_, refl, sym, ap, ap₂, _∙_}
 use mathlib.Core.Logic.{_⊎_, inl, inr}
 use mathlib.Core.List.{List, [], _∷_, _++_, append-assoc}
@@ -16,16 +16,15 @@ use Rattle.decimal.specs.declared.Decimal.the-variants.{Number, Other}
 use Rattle.card.specs.declared.Verdict.{Verdict}
 use Rattle.card.specs.Card.{recordFault}
 use Rattle.maker.specs.declared.Drive.{Drive}
-use Rattle.maker.specs.declared.MakerRead.{MakerRead}
-use Rattle.maker.specs.declared.lines.Heading.{Heading}
-use Rattle.maker.specs.declared.lines.Heading.the-variants as heading
-use Rattle.maker.specs.declared.lines.RowRead.{RowRead}
-use Rattle.maker.specs.declared.lines.RowRead.the-variants as row
-use Rattle.maker.specs.Lines.{space, lineFeed, wordAt, thenWord, headingFits, rowFits, judgedHeading, judgedRow, headingIn, rowAt}
-use Rattle.maker.specs.Rows.{Row, following, Listed, Zones, Refused, onRow, rowsFrom}
+use Rattle.maker_lines.specs.declared.Heading.{Heading}
+use Rattle.maker_lines.specs.declared.Heading.the-variants as heading
+use Rattle.maker_lines.specs.declared.RowRead.{RowRead}
+use Rattle.maker_lines.specs.declared.RowRead.the-variants as row
+use Rattle.maker_lines.specs.Lines.{space, lineFeed, wordAt, thenWord, headingFits, rowFits, judgedHeading, judgedRow, headingIn, rowAt}
+use Rattle.maker_rows.specs.Rows.{Row, following, Listed, Zones, Refused, onRow, rowsFrom}
 use Rattle.maker.specs.Maker.{figuresOf, refusedText, answered, judgedFigures, onRows, onHeading, readMaker}
-use Rattle.maker.proofs.LineWays.{facts-row, HeadingFacts, facts-heading}
-use Rattle.maker.proofs.RowWays.{row-words}
+use Rattle.maker_lines.proofs.LineWays.{facts-row, HeadingFacts, facts-heading}
+use Rattle.maker_rows.proofs.RowWays.{row-words}
 use Rattle.maker.proofs.MakerWays.{heading-words}
 use Rattle.maker_claims.specs.Listing.{lineOf, headingLine, rowLine, rowLines, textOf, DriveInRange, FollowOn, turned, innermostFirst}
 use Rattle.maker_claims.specs.Spelling.{three-spelling, four-spelling, row-spelled, row-spelling, heading-spelled, heading-spelling, rows-spelling}
@@ -34,17 +33,20 @@ use Rattle.maker_claims.specs.Fault.{HeadingFault, RowFault, FaultAfter,
 -- ---- one line
 
 -- an answer is the other one, or came from a number
-then-ways : {A : Type 0} (G : Decimal) (other : A) (go : ℕ → ℕ → A) {x : A} → thenWord G other go ≡ x → (other ≡ x) ⊎ ((v : ℕ) × (next : ℕ) × (G ≡ Number v next) × (go v next ≡ x))
+then-ways : {A : Type 0} (G : Decimal) (other : A) (go : ℕ → ℕ → A) {x : A} → thenWord G other go ≡ x
+    → (other ≡ x) ⊎ ((v : ℕ) × (next : ℕ) × (G ≡ Number v next) × (go v next ≡ x))
 unfolding thenWord
 then-ways (Number v next) other go e = inr (v, next, refl, e)
 then-ways Other other go e = inl e
 
 -- a row that is refused for its range is out of range
-judged-out : (start from last track next k : ℕ) → judgedRow start from last track next ≡ row.Refused k → (k ≡ wrongRow) × (rowFits start from last track ≡ false)
+judged-out : (start from last track next k : ℕ) → judgedRow start from last track next ≡ row.Refused k
+    → (k ≡ wrongRow) × (rowFits start from last track ≡ false)
 unfolding judgedRow
 judged-out start from last track next k e = go (rowFits start from last track) refl e
   where
-    go : (b : Bool) → rowFits start from last track ≡ b → cond b (row.Zone last track next) (row.Refused wrongRow) ≡ row.Refused k → (k ≡ wrongRow) × (rowFits start from last track ≡ false)
+    go : (b : Bool) → rowFits start from last track ≡ b → cond b (row.Zone last track next) (row.Refused wrongRow) ≡ row.Refused k
+        → (k ≡ wrongRow) × (rowFits start from last track ≡ false)
     go true q e = absurd (let z : _≡_ {A = ℕ} 0 1 = cc in omega arith)
     go false q e = let same : wrongRow ≡ k = cc in (sym same, q)
 
@@ -61,7 +63,8 @@ row-fault start s at k e = one (then-ways (wordAt space s at) _ _ e)
     form : row.Refused lineForm ≡ row.Refused k → RowFault start (drop at s) k
     form q = let same : lineForm ≡ k = cc in inl (sym same, row-form start s at (e ∙ ap row.Refused (sym same)))
 
-    range : (from at₁ last at₂ track next : ℕ) → wordAt space s at ≡ Number from at₁ → wordAt space s at₁ ≡ Number last at₂ → wordAt lineFeed s at₂ ≡ Number track next
+    range : (from at₁ last at₂ track next : ℕ) → wordAt space s at ≡ Number from at₁ → wordAt space s at₁ ≡ Number last at₂
+        → wordAt lineFeed s at₂ ≡ Number track next
         → judgedRow start from last track next ≡ row.Refused k → RowFault start (drop at s) k
     range from at₁ last at₂ track next a b c q =
         let out = judged-out start from last track next k q in
@@ -74,28 +77,33 @@ row-fault start s at k e = one (then-ways (wordAt space s at) _ _ e)
         )
 
     three : (from at₁ last at₂ : ℕ) → wordAt space s at ≡ Number from at₁ → wordAt space s at₁ ≡ Number last at₂
-        → (row.Refused lineForm ≡ row.Refused k) ⊎ ((v : ℕ) × (next : ℕ) × (wordAt lineFeed s at₂ ≡ Number v next) × (judgedRow start from last v next ≡ row.Refused k)) → RowFault start (drop at s) k
+        → (row.Refused lineForm ≡ row.Refused k) ⊎ ((v : ℕ) × (next : ℕ) × (wordAt lineFeed s at₂ ≡ Number v next)
+        × (judgedRow start from last v next ≡ row.Refused k)) → RowFault start (drop at s) k
     three from at₁ last at₂ a b (inl q) = form q
     three from at₁ last at₂ a b (inr (track, next, c, q)) = range from at₁ last at₂ track next a b c q
 
     two : (from at₁ : ℕ) → wordAt space s at ≡ Number from at₁
         → (row.Refused lineForm ≡ row.Refused k) ⊎ ((v : ℕ) × (next : ℕ) × (wordAt space s at₁ ≡ Number v next)
-        × (thenWord (wordAt lineFeed s next) (row.Refused lineForm) (λ track after. judgedRow start from v track after) ≡ row.Refused k)) → RowFault start (drop at s) k
+        × (thenWord (wordAt lineFeed s next) (row.Refused lineForm) (λ track after. judgedRow start from v track after) ≡ row.Refused k))
+        → RowFault start (drop at s) k
     two from at₁ a (inl q) = form q
     two from at₁ a (inr (last, at₂, b, q)) = three from at₁ last at₂ a b (then-ways (wordAt lineFeed s at₂) _ _ q)
 
     one : (row.Refused lineForm ≡ row.Refused k) ⊎ ((v : ℕ) × (next : ℕ) × (wordAt space s at ≡ Number v next)
-        × (thenWord (wordAt space s next) (row.Refused lineForm) (λ last at₂. thenWord (wordAt lineFeed s at₂) (row.Refused lineForm) (λ track after. judgedRow start v last track after)) ≡ row.Refused k))
+        × (thenWord (wordAt space s next) (row.Refused lineForm)
+        (λ last at₂. thenWord (wordAt lineFeed s at₂) (row.Refused lineForm) (λ track after. judgedRow start v last track after)) ≡ row.Refused k))
         → RowFault start (drop at s) k
     one (inl q) = form q
     one (inr (from, at₁, a, q)) = two from at₁ a (then-ways (wordAt space s at₁) _ _ q)
 
 -- line one that is refused for its range is out of range
-judged-off : (turns switch heads block next k : ℕ) → judgedHeading turns switch heads block next ≡ heading.Refused k → (k ≡ wrongHeading) × (headingFits turns switch heads block ≡ false)
+judged-off : (turns switch heads block next k : ℕ) → judgedHeading turns switch heads block next ≡ heading.Refused k
+    → (k ≡ wrongHeading) × (headingFits turns switch heads block ≡ false)
 unfolding judgedHeading
 judged-off turns switch heads block next k e = go (headingFits turns switch heads block) refl e
   where
-    go : (b : Bool) → headingFits turns switch heads block ≡ b → cond b (heading.Numbers turns switch heads block next) (heading.Refused wrongHeading) ≡ heading.Refused k
+    go : (b : Bool) → headingFits turns switch heads block ≡ b
+        → cond b (heading.Numbers turns switch heads block next) (heading.Refused wrongHeading) ≡ heading.Refused k
         → (k ≡ wrongHeading) × (headingFits turns switch heads block ≡ false)
     go true q e = absurd (let z : _≡_ {A = ℕ} 0 1 = cc in omega arith)
     go false q e = let same : wrongHeading ≡ k = cc in (sym same, q)
@@ -113,7 +121,8 @@ heading-fault s k e = one (then-ways (wordAt space s 0) _ _ e)
     form : heading.Refused lineForm ≡ heading.Refused k → HeadingFault s k
     form q = let same : lineForm ≡ k = cc in inl (sym same, heading-form s (e ∙ ap heading.Refused (sym same)))
 
-    range : (turns at₁ switch at₂ heads at₃ block next : ℕ) → wordAt space s 0 ≡ Number turns at₁ → wordAt space s at₁ ≡ Number switch at₂ → wordAt space s at₂ ≡ Number heads at₃
+    range : (turns at₁ switch at₂ heads at₃ block next : ℕ) → wordAt space s 0 ≡ Number turns at₁ → wordAt space s at₁ ≡ Number switch at₂
+        → wordAt space s at₂ ≡ Number heads at₃
         → wordAt lineFeed s at₃ ≡ Number block next → judgedHeading turns switch heads block next ≡ heading.Refused k → HeadingFault s k
     range turns at₁ switch at₂ heads at₃ block next a b c d q =
         let out = judged-off turns switch heads block next k q in
@@ -122,23 +131,29 @@ heading-fault s k e = one (then-ways (wordAt space s 0) _ _ e)
           record { turns = turns; switch = switch; heads = heads; block = block },
           drop next s,
           (unfold headingLine in four-spelling s turns at₁ switch at₂ heads at₃ block next a b c d),
-          λ r. clash (facts-heading turns switch heads block (record { turns-in = r .turns; switch-in = r .switch; heads-in = r .heads; block-in = r .block })) (out .1),
+          λ r. clash (facts-heading turns switch heads block
+              (record { turns-in = r .turns; switch-in = r .switch; heads-in = r .heads; block-in = r .block })) (out .1),
         )
 
-    four : (turns at₁ switch at₂ heads at₃ : ℕ) → wordAt space s 0 ≡ Number turns at₁ → wordAt space s at₁ ≡ Number switch at₂ → wordAt space s at₂ ≡ Number heads at₃
-        → (heading.Refused lineForm ≡ heading.Refused k) ⊎ ((v : ℕ) × (next : ℕ) × (wordAt lineFeed s at₃ ≡ Number v next) × (judgedHeading turns switch heads v next ≡ heading.Refused k)) → HeadingFault s k
+    four : (turns at₁ switch at₂ heads at₃ : ℕ) → wordAt space s 0 ≡ Number turns at₁ → wordAt space s at₁ ≡ Number switch at₂
+        → wordAt space s at₂ ≡ Number heads at₃
+        → (heading.Refused lineForm ≡ heading.Refused k) ⊎ ((v : ℕ) × (next : ℕ) × (wordAt lineFeed s at₃ ≡ Number v next)
+        × (judgedHeading turns switch heads v next ≡ heading.Refused k)) → HeadingFault s k
     four turns at₁ switch at₂ heads at₃ a b c (inl q) = form q
     four turns at₁ switch at₂ heads at₃ a b c (inr (block, next, d, q)) = range turns at₁ switch at₂ heads at₃ block next a b c d q
 
     three : (turns at₁ switch at₂ : ℕ) → wordAt space s 0 ≡ Number turns at₁ → wordAt space s at₁ ≡ Number switch at₂
         → (heading.Refused lineForm ≡ heading.Refused k) ⊎ ((v : ℕ) × (next : ℕ) × (wordAt space s at₂ ≡ Number v next)
-        × (thenWord (wordAt lineFeed s next) (heading.Refused lineForm) (λ block after. judgedHeading turns switch v block after) ≡ heading.Refused k)) → HeadingFault s k
+        × (thenWord (wordAt lineFeed s next) (heading.Refused lineForm) (λ block after. judgedHeading turns switch v block after) ≡ heading.Refused k))
+        → HeadingFault s k
     three turns at₁ switch at₂ a b (inl q) = form q
     three turns at₁ switch at₂ a b (inr (heads, at₃, c, q)) = four turns at₁ switch at₂ heads at₃ a b c (then-ways (wordAt lineFeed s at₃) _ _ q)
 
     two : (turns at₁ : ℕ) → wordAt space s 0 ≡ Number turns at₁
         → (heading.Refused lineForm ≡ heading.Refused k) ⊎ ((v : ℕ) × (next : ℕ) × (wordAt space s at₁ ≡ Number v next)
-        × (thenWord (wordAt space s next) (heading.Refused lineForm) (λ heads at₃. thenWord (wordAt lineFeed s at₃) (heading.Refused lineForm) (λ block after. judgedHeading turns v heads block after)) ≡ heading.Refused k))
+        × (thenWord (wordAt space s next) (heading.Refused lineForm)
+        (λ heads at₃. thenWord (wordAt lineFeed s at₃) (heading.Refused lineForm) (λ block after. judgedHeading turns v heads block after))
+        ≡ heading.Refused k))
         → HeadingFault s k
     two turns at₁ a (inl q) = form q
     two turns at₁ a (inr (switch, at₂, b, q)) = three turns at₁ switch at₂ a b (then-ways (wordAt space s at₂) _ _ q)
@@ -161,7 +176,8 @@ record RowsFault (s : List ℕ) (at : ℕ) (zs : List Row) (k line : ℕ) : Type
   counted : line ≡ length rows + length zs + 2
   fault : rowAt (following (turned rows zs)) s stop ≡ row.Refused k
 
-fault-here : (s : List ℕ) (at : ℕ) (zs : List Row) (k line : ℕ) → at < length s → line ≡ length zs + 2 → rowAt (following zs) s at ≡ row.Refused k → RowsFault s at zs k line
+fault-here : (s : List ℕ) (at : ℕ) (zs : List Row) (k line : ℕ) → at < length s → line ≡ length zs + 2 → rowAt (following zs) s at ≡ row.Refused k
+    → RowsFault s at zs k line
 unfolding rowLines turned
 fault-here s at zs k line h l e = record { rows = []; stop = at; text = refl; inside = h; follow = tt; counted = omega arith; fault = e }
 
@@ -193,10 +209,13 @@ rows-fault (suc left) s at zs k line e = go (ltb at (length s)) refl e (λ next 
     more last track next = rowsFrom left s next (record { first = following zs; last = last; track = track } ∷ zs)
 
     on : (r : RowRead) → rowAt (following zs) s at ≡ r → at < length s → onRow (length zs + 2) r more ≡ Refused k line → Later → RowsFault s at zs k line
-    on (row.Refused j) q t e later = let same : j ≡ k = cc in let counted : length zs + 2 ≡ line = cc in fault-here s at zs k line t (sym counted) (q ∙ ap row.Refused same)
-    on (row.Zone last track next) q t e later = fault-later s at zs k line last track next q (later next (record { first = following zs; last = last; track = track }) e)
+    on (row.Refused j) q t e later = let same : j ≡ k = cc in let counted : length zs + 2 ≡ line = cc in
+        fault-here s at zs k line t (sym counted) (q ∙ ap row.Refused same)
+    on (row.Zone last track next) q t e later =
+        fault-later s at zs k line last track next q (later next (record { first = following zs; last = last; track = track }) e)
 
-    go : (t : Bool) → ltb at (length s) ≡ t → cond t (onRow (length zs + 2) (rowAt (following zs) s at) more) (Zones zs) ≡ Refused k line → Later → RowsFault s at zs k line
+    go : (t : Bool) → ltb at (length s) ≡ t → cond t (onRow (length zs + 2) (rowAt (following zs) s at) more) (Zones zs) ≡ Refused k line → Later
+        → RowsFault s at zs k line
     go true t e later = on (rowAt (following zs) s at) refl (ltb-true at (length s) t) e later
     go false t e later = absurd (let z : _≡_ {A = ℕ} 0 1 = cc in omega arith)
 
@@ -207,7 +226,8 @@ module _ (s : List ℕ) (n c hop ret k line : ℕ) where
   in-range d f = record { turns = f .turns-in; switch = f .switch-in; heads = f .heads-in; block = f .block-in }
 
   -- a row at fault, after line one and good rows
-  after-rows : (d : Drive) (next : ℕ) → headingIn s ≡ heading.Numbers (d .turns) (d .switch) (d .heads) (d .block) next → rowsFrom (length s) s next [] ≡ Refused (suc k) line → FaultAfter s (suc k) line
+  after-rows : (d : Drive) (next : ℕ) → headingIn s ≡ heading.Numbers (d .turns) (d .switch) (d .heads) (d .block) next
+      → rowsFrom (length s) s next [] ≡ Refused (suc k) line → FaultAfter s (suc k) line
   unfolding textOf headingLine innermostFirst following
   after-rows d next p q =
       let w = rows-fault (length s) s next [] (suc k) line q in
@@ -215,7 +235,8 @@ module _ (s : List ℕ) (n c hop ret k line : ℕ) where
         drive = d;
         rows = w .rows;
         left = drop (w .stop) s;
-        text = heading-spelling s (d .turns) (d .switch) (d .heads) (d .block) next p ∙ ap (λ (x : List ℕ). headingLine d ++ x) (w .text) ∙ sym (append-assoc (headingLine d) (rowLines (w .rows)) (drop (w .stop) s));
+        text = heading-spelling s (d .turns) (d .switch) (d .heads) (d .block) next p ∙ ap (λ (x : List ℕ). headingLine d ++ x) (w .text)
+            ∙ sym (append-assoc (headingLine d) (rowLines (w .rows)) (drop (w .stop) s));
         some = λ e. omega (arith, w .inside, length-drop (w .stop) s, ap length e);
         good = (in-range d (heading-words s (d .turns) (d .switch) (d .heads) (d .block) next p .facts), w .follow);
         counted = omega (arith, w .counted);
@@ -223,7 +244,8 @@ module _ (s : List ℕ) (n c hop ret k line : ℕ) where
       }
 
   -- all lines are good
-  of-figures : (d : Drive) (next : ℕ) (zs : List Row) → headingIn s ≡ heading.Numbers (d .turns) (d .switch) (d .heads) (d .block) next → rowsFrom (length s) s next [] ≡ Zones zs
+  of-figures : (d : Drive) (next : ℕ) (zs : List Row) → headingIn s ≡ heading.Numbers (d .turns) (d .switch) (d .heads) (d .block) next
+      → rowsFrom (length s) s next [] ≡ Zones zs
       → recordFault (figuresOf d zs n c hop ret) ≡ suc k → FaultOfFigures s n c hop ret (suc k)
   unfolding textOf headingLine innermostFirst following
   of-figures d next zs p q f =
@@ -241,15 +263,18 @@ module _ (s : List ℕ) (n c hop ret k line : ℕ) where
   unfolding readMaker onHeading onRows judgedFigures answered refusedText
   refused-fault e = on (headingIn s) refl e
     where
-      judged : (d : Drive) (next : ℕ) (zs : List Row) → headingIn s ≡ heading.Numbers (d .turns) (d .switch) (d .heads) (d .block) next → rowsFrom (length s) s next [] ≡ Zones zs
-          → (j : ℕ) → recordFault (figuresOf d zs n c hop ret) ≡ j → answered j (figuresOf d zs n c hop ret) .verdict ≡ record { number = suc k; place = line } → Fault s n c hop ret (suc k) line
+      judged : (d : Drive) (next : ℕ) (zs : List Row) → headingIn s ≡ heading.Numbers (d .turns) (d .switch) (d .heads) (d .block) next
+          → rowsFrom (length s) s next [] ≡ Zones zs
+          → (j : ℕ) → recordFault (figuresOf d zs n c hop ret) ≡ j → answered j (figuresOf d zs n c hop ret) .verdict ≡ record { number = suc k; place = line }
+          → Fault s n c hop ret (suc k) line
       judged d next zs p q zero f v = absurd (let z : _≡_ {A = ℕ} 0 (suc k) = ap (λ (x : Verdict). x .number) v in omega arith)
       judged d next zs p q (suc j) f v =
           let same : suc j ≡ suc k = ap (λ (x : Verdict). x .number) v in
           let none : 0 ≡ line = ap (λ (x : Verdict). x .place) v in
           inr (inr (sym none, of-figures d next zs p q (f ∙ same)))
 
-      rows : (d : Drive) (next : ℕ) → headingIn s ≡ heading.Numbers (d .turns) (d .switch) (d .heads) (d .block) next → (L : Listed) → rowsFrom (length s) s next [] ≡ L
+      rows : (d : Drive) (next : ℕ) → headingIn s ≡ heading.Numbers (d .turns) (d .switch) (d .heads) (d .block) next → (L : Listed)
+          → rowsFrom (length s) s next [] ≡ L
           → onRows d n c hop ret L .verdict ≡ record { number = suc k; place = line } → Fault s n c hop ret (suc k) line
       rows d next p (Zones zs) q v = judged d next zs p q (recordFault (figuresOf d zs n c hop ret)) refl v
       rows d next p (Refused j l) q v =

@@ -3,28 +3,24 @@
 use Prim.Native.Nat.{ℕ, zero, suc, _+_, _-_, _≤_, _<_}
 use mathlib.Core.Path.{_≡_, refl, sym, ap, ap₂, _∙_}
 use mathlib.Core.List.{List, [], _∷_, _++_, append-assoc}
-use mathlib.Core.Bool.{Bool, true, false, cond, _&&_}
+use mathlib.Core.Bool.{Bool, true, false, cond}
 use native.Mathlib.Omega.{arith}
-use native.Mathlib.Decide.{decLt}
 use lib.ListN.{length, getD, drop, length-drop, drop-of-length-le}
 use lib.Seq.{drop-cons, drop-drop, drop-append-seam, getD-drop}
-use lib.Dec.{ltb, eqb}
+use lib.Dec.{ltb}
 use borrow.Author.Tests.{ltb-true, ltb-false, lt-ltb, eq-eqb}
-use Rattle.decimal.specs.declared.Decimal.{Decimal}
-use Rattle.decimal.specs.declared.Decimal.the-variants.{Number, Other}
-use Rattle.decimal.specs.Decimal.{isDigit, decimal, numberAt}
+use Rattle.decimal.specs.declared.Decimal.the-variants.{Number}
+use Rattle.decimal.specs.Decimal.{isDigit, decimal}
 use Rattle.decimal.specs.DecimalLaws.{digit-below, decimal-read, read-decimal}
-use Rattle.maker.specs.declared.Drive.{Drive}
-use Rattle.maker.specs.declared.lines.Heading.{Heading}
-use Rattle.maker.specs.declared.lines.Heading.the-variants as heading
-use Rattle.maker.specs.declared.lines.RowRead.{RowRead}
-use Rattle.maker.specs.declared.lines.RowRead.the-variants as row
-use Rattle.maker.specs.Lines.{space, lineFeed, endedBy, wordAt, thenWord, judgedHeading, judgedRow, headingIn, rowAt}
-use Rattle.maker.specs.Rows.{Row, following, Listed, Zones, Refused, onRow, rowsFrom}
-use Rattle.maker.proofs.LineWays.{RowFacts, facts-row, HeadingFacts, facts-heading}
-use Rattle.maker.proofs.RowWays.{word-number, RowWords, row-words, rows-fuel, rows-end, rows-more, row-after}
-use Rattle.maker.proofs.MakerWays.{HeadingWords, heading-words}
-use Rattle.maker_claims.specs.Listing.{lineOf, headingLine, rowLine, rowLines, DriveInRange, RowInRange, FollowOn, turned}
+use Rattle.maker_lines.specs.declared.Heading.the-variants as heading
+use Rattle.maker_lines.specs.declared.RowRead.{RowRead}
+use Rattle.maker_lines.specs.declared.RowRead.the-variants as row
+use Rattle.maker_lines.specs.Lines.{space, lineFeed, endedBy, wordAt, thenWord, judgedHeading, judgedRow, headingIn, rowAt}
+use Rattle.maker_rows.specs.Rows.{Row, following, Listed, Zones, Refused, onRow, rowsFrom}
+use Rattle.maker_lines.proofs.LineWays.{RowFacts, facts-row}
+use Rattle.maker_rows.proofs.RowWays.{word-number, row-words, rows-end, rows-more, row-after}
+use Rattle.maker.proofs.MakerWays.{heading-words}
+use Rattle.maker_claims.specs.Listing.{lineOf, rowLine, rowLines, FollowOn, turned}
 
 -- ---- a number and the byte after it
 
@@ -49,7 +45,8 @@ pub word-spelled : (end : ℕ) → isDigit end ≡ false → (s : List ℕ) (at 
     → (next : ℕ) × (wordAt end s at ≡ Number v next) × (drop next s ≡ rest)
 unfolding wordAt endedBy
 word-spelled end none s at v rest e =
-    let past : drop (at + length (decimal v)) s ≡ end ∷ rest = sym (drop-drop (length (decimal v)) at s) ∙ ap (drop (length (decimal v))) e ∙ drop-append-seam (decimal v) (end ∷ rest) in
+    let past : drop (at + length (decimal v)) s ≡ end ∷ rest = sym (drop-drop (length (decimal v)) at s) ∙ ap (drop (length (decimal v))) e
+    ∙ drop-append-seam (decimal v) (end ∷ rest) in
     let there = byte-there s (at + length (decimal v)) end rest past in
     let read = decimal-read s at v end rest none e in (
       at + length (decimal v) + 1,
@@ -87,7 +84,8 @@ row-spelled start s at from last track rest e =
     (three .0, rw (one .1, two .1, three .1), three .2)
 
 -- three numbers that are read are written so
-pub three-spelling : (s : List ℕ) (at from at₁ last at₂ track next : ℕ) → wordAt space s at ≡ Number from at₁ → wordAt space s at₁ ≡ Number last at₂ → wordAt lineFeed s at₂ ≡ Number track next
+pub three-spelling : (s : List ℕ) (at from at₁ last at₂ track next : ℕ) → wordAt space s at ≡ Number from at₁ → wordAt space s at₁ ≡ Number last at₂
+    → wordAt lineFeed s at₂ ≡ Number track next
     → drop at s ≡ lineOf (from ∷ last ∷ track ∷ []) ++ drop next s
 three-spelling s at from at₁ last at₂ track next one two three =
     word-spelling space s at from at₁ one
@@ -98,7 +96,8 @@ three-spelling s at from at₁ last at₂ track next one two three =
     ∙ sym (line-next from last (track ∷ []) (drop next s))
 
 -- a row that is read is written so
-pub row-spelling : (start : ℕ) (s : List ℕ) (at last track next : ℕ) → rowAt start s at ≡ row.Zone last track next → drop at s ≡ lineOf (start ∷ last ∷ track ∷ []) ++ drop next s
+pub row-spelling : (start : ℕ) (s : List ℕ) (at last track next : ℕ) → rowAt start s at ≡ row.Zone last track next
+    → drop at s ≡ lineOf (start ∷ last ∷ track ∷ []) ++ drop next s
 row-spelling start s at last track next e =
     let w = row-words start s at last track next e in
     three-spelling s at start (w .at₁) last (w .at₂) track next (w .one) (w .two) (w .three)
@@ -115,7 +114,8 @@ heading-spelled s turns switch heads block rest e =
     (four .0, rw (one .1, two .1, three .1, four .1), four .2)
 
 -- four numbers that are read are written so
-pub four-spelling : (s : List ℕ) (turns at₁ switch at₂ heads at₃ block next : ℕ) → wordAt space s 0 ≡ Number turns at₁ → wordAt space s at₁ ≡ Number switch at₂ → wordAt space s at₂ ≡ Number heads at₃
+pub four-spelling : (s : List ℕ) (turns at₁ switch at₂ heads at₃ block next : ℕ) → wordAt space s 0 ≡ Number turns at₁ → wordAt space s at₁ ≡ Number switch at₂
+    → wordAt space s at₂ ≡ Number heads at₃
     → wordAt lineFeed s at₃ ≡ Number block next → s ≡ lineOf (turns ∷ switch ∷ heads ∷ block ∷ []) ++ drop next s
 four-spelling s turns at₁ switch at₂ heads at₃ block next one two three four =
     word-spelling space s 0 turns at₁ one
@@ -143,12 +143,14 @@ unfolding judgedRow
 judged-fits start from last track next f = rw (facts-row start from last track f)
 
 -- ROWS AS THEY ARE WRITTEN ARE READ
-pub rows-spelled : (rows : List Row) (s : List ℕ) (at : ℕ) (zs : List Row) → drop at s ≡ rowLines rows → FollowOn (following zs) rows → rowsFrom (length s - at) s at zs ≡ Zones (turned rows zs)
+pub rows-spelled : (rows : List Row) (s : List ℕ) (at : ℕ) (zs : List Row) → drop at s ≡ rowLines rows → FollowOn (following zs) rows
+    → rowsFrom (length s - at) s at zs ≡ Zones (turned rows zs)
 unfolding rowLines rowLine turned following
 rows-spelled [] s at zs e f = let out : length s ≤ at = omega (arith, length-drop at s, ap length e) in rows-end s at zs out (length s - at)
 rows-spelled (z ∷ rows) s at zs e (f, later) =
     let sp = row-spelled (following zs) s at (z .first) (z .last) (z .track) (rowLines rows) e in
-    let facts : RowFacts (following zs) (z .first) (z .last) (z .track) = record { follows = f .follows; rises = f .rises; near = f .near; tracks = f .tracks } in
+    let facts : RowFacts (following zs) (z .first) (z .last) (z .track) =
+    record { follows = f .follows; rises = f .rises; near = f .near; tracks = f .tracks } in
     let read = sp .1 ∙ judged-fits (following zs) (z .first) (z .last) (z .track) (sp .0) facts in
     let inside = row-inside (following zs) s at (z .last) (z .track) (sp .0) read in
     rows-more s at zs (z .last) (z .track) (sp .0) inside read
@@ -196,6 +198,7 @@ rows-spelling (suc left) s at zs zs′ h e = go (ltb at (length s)) refl e (λ n
         let far = row-after (following zs) s at last track next q in
         spelled-more s at zs zs′ last track next q (later next (record { first = following zs; last = last; track = track }) (omega arith) e)
 
-    go : (t : Bool) → ltb at (length s) ≡ t → cond t (onRow (length zs + 2) (rowAt (following zs) s at) more) (Zones zs) ≡ Zones zs′ → Later → Spelled s at zs zs′
+    go : (t : Bool) → ltb at (length s) ≡ t → cond t (onRow (length zs + 2) (rowAt (following zs) s at) more) (Zones zs) ≡ Zones zs′ → Later
+        → Spelled s at zs zs′
     go true t e later = on (rowAt (following zs) s at) refl (ltb-true at (length s) t) e later
     go false t e later = spelled-none s at zs zs′ (ltb-false at (length s) t) e

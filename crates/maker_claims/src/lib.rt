@@ -6,24 +6,28 @@ ghost use Prim.Native.Nat.{ℕ, suc};
 ghost use Rattle.card.specs.Card.{Legal, judgeRecord, cardOf};
 ghost use Rattle.card.specs.Read.{accepted, blankFigures, readCard};
 ghost use Rattle.maker.specs.declared.Drive.{Drive};
-ghost use Rattle.maker.specs.Rows.{Row};
+ghost use Rattle.maker_rows.specs.Rows.{Row};
 ghost use Rattle.maker.specs.Maker.{figuresOf, readMaker};
 ghost use Rattle.maker_claims.specs.Fault.{Fault};
 ghost use Rattle.maker_claims.specs.Listing.{innermostFirst, Listing};
 
 // A text is accepted exactly where it is the lines of numbers that are in range, follow on and give legal figures.
 pub fn maker_accepts_legal()
-    ensures { λ _. ⌜ ((s : List ℕ) (n c hop ret : ℕ) → (readMaker s n c hop ret .verdict .number ≡ 0) ↔ ((d : Drive) × (rows : List Row) × Listing s n c hop ret d rows)) ⌝ }
+    ensures { λ _. ⌜ ((s : List ℕ) (n c hop ret : ℕ)
+        → (readMaker s n c hop ret .verdict .number ≡ 0) ↔ ((d : Drive) × (rows : List Row) × Listing s n c hop ret d rows)) ⌝ }
 {}
 
 // The answer to such a text are these figures, its zones innermost first.
 pub fn maker_answers_its_figures()
-    ensures { λ _. ⌜ ((s : List ℕ) (n c hop ret : ℕ) (d : Drive) (rows : List Row) → Listing s n c hop ret d rows → readMaker s n c hop ret ≡ record { verdict = accepted; figures = figuresOf d (innermostFirst rows) n c hop ret }) ⌝ }
+    ensures { λ _. ⌜ ((s : List ℕ) (n c hop ret : ℕ) (d : Drive) (rows : List Row) → Listing s n c hop ret d rows
+        → readMaker s n c hop ret ≡ record { verdict = accepted; figures = figuresOf d (innermostFirst rows) n c hop ret }) ⌝ }
 {}
 
 // Accepted figures are legal, pass the judge of a record, and are what their card is read as.
 pub fn accepted_figures_are_a_cards()
-    ensures { λ _. ⌜ ((s : List ℕ) (n c hop ret : ℕ) → readMaker s n c hop ret .verdict .number ≡ 0 → Legal (readMaker s n c hop ret .figures) × (judgeRecord (readMaker s n c hop ret .figures) ≡ accepted) × (readCard (cardOf (readMaker s n c hop ret .figures)) ≡ record { verdict = accepted; figures = readMaker s n c hop ret .figures })) ⌝ }
+    ensures { λ _. ⌜ ((s : List ℕ) (n c hop ret : ℕ) → readMaker s n c hop ret .verdict .number ≡ 0
+        → Legal (readMaker s n c hop ret .figures) × (judgeRecord (readMaker s n c hop ret .figures) ≡ accepted)
+        × (readCard (cardOf (readMaker s n c hop ret .figures)) ≡ record { verdict = accepted; figures = readMaker s n c hop ret .figures })) ⌝ }
 {}
 
 // A refused text answers figures that are all zero.
@@ -33,5 +37,6 @@ pub fn refused_text_has_no_figures()
 
 // A text is refused by its first line at fault, or, where all its lines are good, as a record of its figures is.
 pub fn first_fault_is_named()
-    ensures { λ _. ⌜ ((s : List ℕ) (n c hop ret k line : ℕ) → readMaker s n c hop ret .verdict ≡ record { number = suc k; place = line } → Fault s n c hop ret (suc k) line) ⌝ }
+    ensures { λ _. ⌜ ((s : List ℕ) (n c hop ret k line : ℕ) → readMaker s n c hop ret .verdict ≡ record { number = suc k; place = line }
+        → Fault s n c hop ret (suc k) line) ⌝ }
 {}

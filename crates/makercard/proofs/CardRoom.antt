@@ -10,8 +10,8 @@ use lib.Dec.{leb}
 use borrow.Author.Tests.{leb-true}
 use Rattle.numbers.specs.Refusals.{tooShort}
 use Rattle.card.specs.declared.Figures.{Figures}
-use Rattle.card.specs.Ranges.{first}
-use Rattle.card.specs.RangeLaws.{first-none}
+use Rattle.card_field.specs.Ranges.{first}
+use Rattle.card_field.specs.RangeLaws.{first-none}
 use Rattle.card.specs.Card.{recordFault, cardOf, writeFault, writtenBy, writtenCard}
 
 pub written-short : (f : Figures) (out : List ℕ) → writtenCard f out .length ≤ length out

@@ -29,13 +29,22 @@ abbrev within : Scan → ℕ → Scan
 within s v = record { line = s .line; comment = s .comment; inside = true; value = v; count = s .count; values = s .values; lines = s .lines }
 
 abbrev after : Scan → ℕ → Scan
-after s v = record { line = s .line; comment = s .comment; inside = false; value = 0; count = s .count + 1; values = set (s .values) (s .count) v; lines = set (s .lines) (s .count) (s .line) }
+after s v = record {
+  line = s .line;
+  comment = s .comment;
+  inside = false;
+  value = 0;
+  count = s .count + 1;
+  values = set (s .values) (s .count) v;
+  lines = set (s .lines) (s .count) (s .line);
+}
 
 -- a digit more
 digit-step : (s : Scan) (v : ℕ) → s .comment ≡ false → s .value ≡ v / 10 → v < noNumber → stepped s (48 + v % 10) ≡ within s v
 digit-step s v o q u =
     let d : v ≡ s .value * 10 + (48 + v % 10 - 48) = omega arith in
-    sym (step-word s (48 + v % 10) (λ e. omega arith) o (λ e. omega arith) (blank-none (48 + v % 10) none) v (d ∙ grown-digit (s .value) (48 + v % 10) (omega arith) (omega arith) (omega arith)))
+    let g = grown-digit (s .value) (48 + v % 10) (omega arith) (omega arith) (omega arith) in
+    sym (step-word s (48 + v % 10) (λ e. omega arith) o (λ e. omega arith) (blank-none (48 + v % 10) none) v (d ∙ g))
   where
     none : (48 + v % 10 ≡ 9) ⊎ ((48 + v % 10 ≡ 13) ⊎ (48 + v % 10 ≡ 32)) → ⊥
     none (inl e) = omega arith
@@ -66,7 +75,12 @@ record Read (s t : Scan) (vs : List ℕ) : Type 0 where
 read-numbers : (more : ℕ → ℕ) (vs : List ℕ) (s : Scan) → s .comment ≡ false → s .inside ≡ false → s .value ≡ 0 → length (s .values) ≡ mostWords
     → s .count + length vs ≤ mostWords → Spelled more vs → Read s (scanned s (textOf more vs)) vs
 unfolding textOf scanned lineAfter Spelled
-read-numbers more [] s o n z l f p = record { out = n; count = omega arith; earlier = λ i h. refl; later = numbers-end s (mostWords - s .count) (s .count) (omega arith) }
+read-numbers more [] s o n z l f p = record {
+  out = n;
+  count = omega arith;
+  earlier = λ i h. refl;
+  later = numbers-end s (mostWords - s .count) (s .count) (omega arith);
+}
 read-numbers more (v ∷ vs) s o n z l f (u, d, p) = go (scanned s (textOf more (v ∷ vs))) whole
     (read-numbers more vs next refl refl refl (length-set (s .values) (s .count) v ∙ l) (omega arith) p)
   where
@@ -84,7 +98,8 @@ read-numbers more (v ∷ vs) s o n z l f (u, d, p) = go (scanned s (textOf more 
       count = omega (arith, r .count);
       earlier = λ i h. r .earlier i (omega arith) ∙ getD-set-other (s .values) (s .count) i v 0 (λ q. omega arith);
       later = numbers-kept (scanned next (textOf more vs)) (mostWords - s .count) (s .count) (omega arith) (omega arith) (omega (arith, r .count))
-          ∙ ap₂ (λ (x : ℕ) (xs : List ℕ). x ∷ xs) (ap capped (r .earlier (s .count) (omega arith) ∙ getD-set-same (s .values) (s .count) v 0 (omega arith)) ∙ capped-small v u) (r .later);
+          ∙ ap₂ (λ (x : ℕ) (xs : List ℕ). x ∷ xs)
+          (ap capped (r .earlier (s .count) (omega arith) ∙ getD-set-same (s .values) (s .count) v 0 (omega arith)) ∙ capped-small v u) (r .later);
     })
 
 -- A TEXT OF NUMBERS MAKES THEIR BYTES

@@ -20,12 +20,26 @@ use Rattle.leb128.specs.NumberLaws.{groups-long}
 use Rattle.card.specs.Card.{bytesOf}
 use Rattle.card.specs.Read.{readCard}
 use Rattle.card.specs.declared.CardRead.{CardRead}
+use Rattle.card_writer.specs.Put.{Room}
 use Rattle.card_writer.proofs.WriterWays.{Writes, writes-done}
 use Rattle.mkcard.specs.declared.make.Made.{Made}
 use Rattle.mkcard.specs.declared.scan.Scan.{Scan}
-use Rattle.mkcard.specs.Scan.{mostWords, mostBytes, ended, lineAfter, commented, longer, blank, stepped, scanned, numbersFrom, cardOfWords, numbersIn, lineOf, madeBy, made}
+use Rattle.mkcard.specs.Scan.{mostWords, mostBytes, maxLine, ended, lineAfter, commented, longer, blank}
+use Rattle.mkcard.specs.Scan.{stepped, scanned, numbersFrom, cardOfWords, numbersIn, lineOf, madeBy, made}
 
 -- ---- one byte
+
+-- a scan with the words of s, in a line, in a comment or not, in a word of this value or not
+abbrev scanAt : Scan → ℕ → Bool → Bool → ℕ → Scan
+scanAt s line comment inside value = record {
+  line = line;
+  comment = comment;
+  inside = inside;
+  value = value;
+  count = s .count;
+  values = s .values;
+  lines = s .lines;
+}
 
 module _ (s : Scan) where
   pub ended-none : s .inside ≡ false → s ≡ ended s
@@ -34,25 +48,33 @@ module _ (s : Scan) where
 
   module _ (e : s .inside ≡ true) where
     pub ended-full : mostWords ≤ s .count
-        → _≡_ {A = Scan} (record { line = s .line; comment = s .comment; inside = false; value = 0; count = s .count; values = s .values; lines = s .lines }) (ended s)
+        → scanAt s (s .line) (s .comment) false 0 ≡ ended s
     unfolding ended
     ended-full h = rw (e, le-ltb (s .count) mostWords h)
 
     pub ended-kept : s .count < mostWords
-        → _≡_ {A = Scan} (record { line = s .line; comment = s .comment; inside = false; value = 0; count = s .count + 1; values = set (s .values) (s .count) (s .value); lines = set (s .lines) (s .count) (s .line) }) (ended s)
+        → _≡_ {A = Scan} (record {
+          line = s .line;
+          comment = s .comment;
+          inside = false;
+          value = 0;
+          count = s .count + 1;
+          values = set (s .values) (s .count) (s .value);
+          lines = set (s .lines) (s .count) (s .line);
+        }) (ended s)
     unfolding ended
     ended-kept h = rw (e, lt-ltb (s .count) mostWords h)
 
 module _ (s : Scan) (b : ℕ) where
-  pub step-last : (t : Scan) → t ≡ ended s → b ≡ 10 → 18446744073709551615 ≤ t .line
-      → _≡_ {A = Scan} (record { line = t .line; comment = false; inside = t .inside; value = t .value; count = t .count; values = t .values; lines = t .lines }) (stepped s b)
+  pub step-last : (t : Scan) → t ≡ ended s → b ≡ 10 → maxLine ≤ t .line
+      → scanAt t (t .line) false (t .inside) (t .value) ≡ stepped s b
   unfolding stepped lineAfter
-  step-last t e h k = rw (eq-eqb b 10 h, sym e, le-ltb (t .line) 18446744073709551615 k)
+  step-last t e h k = rw (eq-eqb b 10 h, sym e, le-ltb (t .line) maxLine k)
 
-  pub step-line : (t : Scan) → t ≡ ended s → b ≡ 10 → t .line < 18446744073709551615
-      → _≡_ {A = Scan} (record { line = t .line + 1; comment = false; inside = t .inside; value = t .value; count = t .count; values = t .values; lines = t .lines }) (stepped s b)
+  pub step-line : (t : Scan) → t ≡ ended s → b ≡ 10 → t .line < maxLine
+      → scanAt t (t .line + 1) false (t .inside) (t .value) ≡ stepped s b
   unfolding stepped lineAfter
-  step-line t e h k = rw (eq-eqb b 10 h, sym e, lt-ltb (t .line) 18446744073709551615 k)
+  step-line t e h k = rw (eq-eqb b 10 h, sym e, lt-ltb (t .line) maxLine k)
 
   module _ (n : b ≡ 10 → ⊥) where
     pub step-comment : s .comment ≡ true → s ≡ stepped s b
@@ -61,7 +83,7 @@ module _ (s : Scan) (b : ℕ) where
 
     module _ (o : s .comment ≡ false) where
       pub step-hash : (t : Scan) → t ≡ ended s → b ≡ 35
-          → _≡_ {A = Scan} (record { line = t .line; comment = true; inside = t .inside; value = t .value; count = t .count; values = t .values; lines = t .lines }) (stepped s b)
+          → scanAt t (t .line) true (t .inside) (t .value) ≡ stepped s b
       unfolding stepped commented
       step-hash t e h = rw (sym e, ne-eqb b 10 n, o, eq-eqb b 35 h)
 
@@ -71,7 +93,7 @@ module _ (s : Scan) (b : ℕ) where
         step-blank e = rw (ne-eqb b 10 n, o, ne-eqb b 35 x, e)
 
         pub step-word : blank b ≡ false → (v : ℕ) → v ≡ grown (s .value) b
-            → _≡_ {A = Scan} (record { line = s .line; comment = s .comment; inside = true; value = v; count = s .count; values = s .values; lines = s .lines }) (stepped s b)
+            → scanAt s (s .line) (s .comment) true v ≡ stepped s b
         unfolding stepped longer
         step-word e v q = rw (ne-eqb b 10 n, ne-eqb b 35 x, e, q, o)
 
@@ -131,7 +153,8 @@ pub put-great : (out : List ℕ) (at v : ℕ) → at + 5 ≤ length out → noNu
 put-great out at v room h = rw (put-byte out at 128 (omega arith), groups-great v h) (overwrite-more out at (128 ∷ []) (groups 33554432) (omega arith))
 
 module _ (s : Scan) where
-  pub numbers-kept : (left i : ℕ) → i + left ≡ mostWords → i < mostWords → i < s .count → numbersFrom left i s ≡ capped (getD (s .values) i 0) ∷ numbersFrom (mostWords - (i + 1)) (i + 1) s
+  pub numbers-kept : (left i : ℕ) → i + left ≡ mostWords → i < mostWords → i < s .count
+      → numbersFrom left i s ≡ capped (getD (s .values) i 0) ∷ numbersFrom (mostWords - (i + 1)) (i + 1) s
   unfolding numbersFrom
   numbers-kept zero i e h k = absurd (omega arith)
   numbers-kept (suc left) i e h k = let q : left ≡ mostWords - (i + 1) = omega arith in rw (lt-ltb i (s .count) k, q)
@@ -162,15 +185,15 @@ module _ (s : Scan) where
   unfolding cardOfWords
   card-long = numbers-long mostWords 0
 
-  pub card-room : {n : ℕ} → mostBytes ≤ n → 0 + length (bytesOf (numbersFrom mostWords 0 s)) ≤ n
-  card-room h = omega (arith, numbers-long mostWords 0)
+  pub card-room : (out : List ℕ) → mostBytes ≤ length out → Room true out 0 (bytesOf (numbersFrom mostWords 0 s))
+  card-room out h = record { counted = omega (arith, numbers-long mostWords 0); written = λ e. omega (arith, numbers-long mostWords 0) }
 
   -- after the last word the card is written
-  pub words-done : {out x : List ℕ} {at : ℕ} (vs : List ℕ) → vs ≡ [] → Writes out 0 (numbersFrom mostWords 0 s) x at vs
+  pub words-done : {out x : List ℕ} {at : ℕ} (vs : List ℕ) → vs ≡ [] → Writes true out 0 (numbersFrom mostWords 0 s) x at vs
       → (at ≡ length (cardOfWords s)) × (x ≡ overwrite out 0 (cardOfWords s))
   unfolding cardOfWords bytesOf
   words-done (v ∷ vs) e w = absurd (let z : _≡_ {A = ℕ} 0 1 = cc in omega arith)
-  words-done [] e w = (omega (arith, w .ends), writes-done w)
+  words-done [] e w = let p = writes-done w in (omega (arith, p .end), p .string)
 
   pub line-end : (i : ℕ) → s .count ≤ i → s .line ≡ lineOf s i
   unfolding lineOf
@@ -222,7 +245,8 @@ module _ (s : Scan) (r : CardRead) (e : r ≡ readCard (cardOfWords s)) where
   made-none h l q = rw (sym e, q) (by (r .verdict .number) h)
     where
       by : (k : ℕ) → (k ≡ 0 → ⊥)
-          → _≡_ {A = Made} (record { number = k; line = lineOf s (numbersIn (take (r .verdict .place) (cardOfWords s))); length = 0 }) (madeBy s k (r .verdict .place))
+          → _≡_ {A = Made} (record { number = k; line = lineOf s (numbersIn (take (r .verdict .place) (cardOfWords s))); length = 0 })
+          (madeBy s k (r .verdict .place))
       by zero h = absurd (h refl)
       by (suc k) h = unfold madeBy in refl
 

@@ -3,10 +3,11 @@ use Prim.Native.Nat.{ℕ, zero, suc, _+_, _^_, _<_}
 use mathlib.Core.List.{List, [], _∷_, _++_}
 use mathlib.Core.Bool.{Bool, true, false, cond, _&&_, _||_}
 use lib.ListN.{length, getD, set, take, replicate}
-use lib.Dec.{leb, ltb, eqb}
+use lib.Dec.{ltb, eqb}
 use Rattle.numbers.specs.Limits.{noNumber}
 use Rattle.decimal.specs.Decimal.{digits, capped, grown}
 use Rattle.card.specs.Card.{bytesOf}
+use Rattle.leb128.specs.Number.{groupWeight}
 use Rattle.card.specs.Read.{readCard}
 use Rattle.mkcard.specs.declared.scan.Scan.{Scan}
 use Rattle.mkcard.specs.declared.make.Made.{Made}
@@ -27,13 +28,33 @@ unfoldable pub ended : Scan → Scan
 ended s =
     cond (s .inside)
     (cond (ltb (s .count) mostWords)
-    (record { line = s .line; comment = s .comment; inside = false; value = 0; count = s .count + 1; values = set (s .values) (s .count) (s .value); lines = set (s .lines) (s .count) (s .line) })
+    (record {
+      line = s .line;
+      comment = s .comment;
+      inside = false;
+      value = 0;
+      count = s .count + 1;
+      values = set (s .values) (s .count) (s .value);
+      lines = set (s .lines) (s .count) (s .line);
+    })
     (record { line = s .line; comment = s .comment; inside = false; value = 0; count = s .count; values = s .values; lines = s .lines }))
     s
 
--- a line ends, and with it a comment. Lines are counted to 2^64 - 1
+-- lines are counted to 2^64 - 1
+abbrev pub maxLine : ℕ
+maxLine = 18446744073709551615
+
+-- a line ends, and with it a comment
 unfoldable pub lineAfter : Scan → Scan
-lineAfter s = record { line = cond (ltb (s .line) 18446744073709551615) (s .line + 1) (s .line); comment = false; inside = s .inside; value = s .value; count = s .count; values = s .values; lines = s .lines }
+lineAfter s = record {
+  line = cond (ltb (s .line) maxLine) (s .line + 1) (s .line);
+  comment = false;
+  inside = s .inside;
+  value = s .value;
+  count = s .count;
+  values = s .values;
+  lines = s .lines;
+}
 
 unfoldable pub commented : Scan → Scan
 commented s = record { line = s .line; comment = true; inside = s .inside; value = s .value; count = s .count; values = s .values; lines = s .lines }
@@ -71,7 +92,7 @@ cardOfWords s = bytesOf (numbersFrom mostWords 0 s)
 -- how many numbers end in the bytes
 unfoldable pub numbersIn : List ℕ → ℕ
 numbersIn [] = 0
-numbersIn (b ∷ bs) = cond (ltb b 128) 1 0 + numbersIn bs
+numbersIn (b ∷ bs) = cond (ltb b groupWeight) 1 0 + numbersIn bs
 
 -- the line of the i-th word; past the words, where the text ends
 unfoldable pub lineOf : Scan → ℕ → ℕ

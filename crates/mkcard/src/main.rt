@@ -9,6 +9,7 @@ use crate::scan::read_text;
 use libc::STDERR_FILENO;
 use libc::STDIN_FILENO;
 use libc::STDOUT_FILENO;
+use numbers::limits::MAX_NUMBER;
 use numbers::refusals::HALF_DEAD_TIME;
 use numbers::refusals::WRONG_OVERHEAD;
 
@@ -89,7 +90,7 @@ fn main() {
     let mut s = scan::start();
     let mut piece = io::large_buffer();
     let mut turns: u32 = 0;
-    while turns < 4294967295 {
+    while turns < MAX_NUMBER {
         let count = io::read_full(STDIN_FILENO, &mut piece);
         s = read_text(s, &piece[..count]);
         if count < 65536 {

@@ -7,6 +7,9 @@ ghost use Rattle.mkcard.specs.Scan.{begun, ended, stepped, scanned};
 // left over, and words after that change no answer.
 pub const WORDS: usize = 391;
 
+// Lines are counted so far.
+const MAX_LINE: u64 = 18446744073709551615;
+
 // What has been read of a text.
 pub struct Scan {
     // The line of the next byte, from 1 on.
@@ -67,7 +70,7 @@ fn step(s: Scan, byte: u8) -> Scan
         let mut next = end_word(s);
         let line = next.line;
         next.comment = false;
-        if 18446744073709551615 <= line {
+        if MAX_LINE <= line {
             return next;
         }
         next.line = line + 1;

@@ -31,7 +31,8 @@ limit-free falls ds (suc i) n e = rw e
 -- ---- one entry rises
 
 module _ (falls : Bool) (ds : List ℕ) where
-  pub risen-here : (i : ℕ) → 0 < i → getD ds (i - 1) 0 < limitOf falls ds (i - 1) → _≡_ {A = Risen} (record { entries = set ds (i - 1) (getD ds (i - 1) 0 + 1); over = false }) (risen falls i ds)
+  pub risen-here : (i : ℕ) → 0 < i → getD ds (i - 1) 0 < limitOf falls ds (i - 1)
+      → _≡_ {A = Risen} (record { entries = set ds (i - 1) (getD ds (i - 1) 0 + 1); over = false }) (risen falls i ds)
   unfolding risen
   risen-here zero p h = absurd (omega arith)
   risen-here (suc i) p h = let e : suc i - 1 ≡ i = omega arith in rw (e, lt-ltb (getD ds i 0) (limitOf falls ds i) (rw e at h))
@@ -48,19 +49,23 @@ module _ (falls : Bool) (ds : List ℕ) where
 -- ---- the next card
 
 module _ (c : SmallCard) where
-  pub zone-more : (ps ts : List ℕ) → _≡_ {A = SmallCard} (record { zones = c .zones + 1; positions = set ps (c .zones) 1; times = set ts (c .zones) 1; blocks = 2 }) (zoneMore c ps ts)
+  pub zone-more : (ps ts : List ℕ)
+      → _≡_ {A = SmallCard} (record { zones = c .zones + 1; positions = set ps (c .zones) 1; times = set ts (c .zones) 1; blocks = 2 }) (zoneMore c ps ts)
   unfolding zoneMore
   zone-more ps ts = refl
 
-  pub zone-past : (ps ts : List ℕ) → length ps ≤ c .zones → length ts ≤ c .zones → _≡_ {A = SmallCard} (record { zones = c .zones + 1; positions = ps; times = ts; blocks = 2 }) (zoneMore c ps ts)
+  pub zone-past : (ps ts : List ℕ) → length ps ≤ c .zones → length ts ≤ c .zones
+      → _≡_ {A = SmallCard} (record { zones = c .zones + 1; positions = ps; times = ts; blocks = 2 }) (zoneMore c ps ts)
   unfolding zoneMore
-  zone-past ps ts p t = λ i. record { zones = c .zones + 1; positions = sym (set-out ps (c .zones) 1 p) i; times = sym (set-out ts (c .zones) 1 t) i; blocks = 2 }
+  zone-past ps ts p t =
+      λ i. record { zones = c .zones + 1; positions = sym (set-out ps (c .zones) 1 p) i; times = sym (set-out ts (c .zones) 1 t) i; blocks = 2 }
 
   pub positions-over : (ts : List ℕ) (r : Risen) → r .over ≡ true → zoneMore c (r .entries) ts ≡ positionsMore c ts r
   unfolding positionsMore
   positions-over ts r e = rw e
 
-  pub positions-risen : (ts : List ℕ) (r : Risen) → r .over ≡ false → _≡_ {A = SmallCard} (record { zones = c .zones; positions = r .entries; times = ts; blocks = 2 }) (positionsMore c ts r)
+  pub positions-risen : (ts : List ℕ) (r : Risen) → r .over ≡ false
+      → _≡_ {A = SmallCard} (record { zones = c .zones; positions = r .entries; times = ts; blocks = 2 }) (positionsMore c ts r)
   unfolding positionsMore
   positions-risen ts r e = rw e
 
@@ -68,11 +73,13 @@ module _ (c : SmallCard) where
   unfolding timesMore
   times-over r e = rw e
 
-  pub times-risen : (r : Risen) → r .over ≡ false → _≡_ {A = SmallCard} (record { zones = c .zones; positions = c .positions; times = r .entries; blocks = 2 }) (timesMore c r)
+  pub times-risen : (r : Risen) → r .over ≡ false
+      → _≡_ {A = SmallCard} (record { zones = c .zones; positions = c .positions; times = r .entries; blocks = 2 }) (timesMore c r)
   unfolding timesMore
   times-risen r e = rw e
 
-  pub block-more : c .blocks < mostBlocks (c .positions) → _≡_ {A = SmallCard} (record { zones = c .zones; positions = c .positions; times = c .times; blocks = c .blocks + 1 }) (nextCard c)
+  pub block-more : c .blocks < mostBlocks (c .positions)
+      → _≡_ {A = SmallCard} (record { zones = c .zones; positions = c .positions; times = c .times; blocks = c .blocks + 1 }) (nextCard c)
   unfolding nextCard
   block-more h = rw (lt-ltb (c .blocks) (mostBlocks (c .positions)) h)
 

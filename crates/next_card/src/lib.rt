@@ -1,6 +1,6 @@
 // The small cards one after the other: the first, the one after a card, and a card's figures.
 use card::Figures;
-use card::table::fill_straight;
+use card_table::fill_straight;
 use numbers::limits::MAX_TRIED;
 use numbers::limits::MIN_BLOCKS;
 use numbers::limits::STRAIGHT;
@@ -12,7 +12,7 @@ ghost use Prim.Native.Nat.{ℕ, _≤_, _<_};
 ghost use lib.ListN.{getD};
 ghost use Rattle.laws.specs.Each.{Each};
 ghost use Rattle.card.specs.Read.{blankTable};
-ghost use Rattle.card.specs.Table.{straight};
+ghost use Rattle.card_table.specs.Table.{straight};
 ghost use Rattle.small_cards.specs.Cards.{entered};
 ghost use Rattle.small_cards.specs.Next.{figuresOf, limitOf, risen, mostBlocks, zoneMore, positionsMore, timesMore, nextCard, firstCard};
 ghost use Rattle.small_cards.specs.Steps.{Stepped};

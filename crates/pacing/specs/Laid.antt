@@ -42,7 +42,8 @@ module _ (τ l : ℕ → ℕ) (N : ℕ) where
   -- twice the greatest time is at least the worst time: the margin's subtraction is exact
   pub worst-within : (x : Showing) → worstOf x τ l N ≤ 2 * slowest
   unfolding worstTime worstRound
-  worst-within one = greatestOf-least (λ b. τ (l b) + τ (l (suc b))) (N - 1) (2 * slowest) (λ b u. omega (arith, time-within b (omega arith), time-within (suc b) (omega arith)))
+  worst-within one = greatestOf-least (λ b. τ (l b) + τ (l (suc b))) (N - 1) (2 * slowest)
+      (λ b u. omega (arith, time-within b (omega arith), time-within (suc b) (omega arith)))
   worst-within loop = greatestOf-least (λ b. τ (l b) + τ (l (round N b))) N (2 * slowest)
       (λ b u. omega (arith, time-within b u, time-within (round N b) (round-below N b u)))
 

@@ -129,7 +129,8 @@ module _ (c w : ℕ) (over : ℕ → ℕ) (B : ℕ) where
       go zero m e g = let q : m ≡ maxStreams = omega arith in ap (tried c w over B) q ∙ tried-all
       go (suc d) m e g =
           let q : suc m - 1 ≡ m = omega arith in
-          sym (tried-down (suc m) (omega arith) (g (suc m) (omega arith) (omega arith)) ∙ ap (tried c w over B) q) ∙ go d (suc m) (omega arith) (λ k i u. g k (omega arith) u)
+          sym (tried-down (suc m) (omega arith) (g (suc m) (omega arith) (omega arith)) ∙ ap (tried c w over B) q)
+          ∙ go d (suc m) (omega arith) (λ k i u. g k (omega arith) u)
 
   -- no number is left
   pub tried-none : (n : ℕ) → n ≡ 0 → tried c w over B n ≡ 0

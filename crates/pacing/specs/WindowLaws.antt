@@ -27,7 +27,11 @@ module _ {A : Type 0} (film : Film A) (w m : ℕ) (ok : Paced film w m) where
       go n q e ih =
           let d : (film .isBlock a && (film .isBlock (film .next a) && row film (2 * j) (film .next (film .next a)))) ≡ true = rw q at e in
           let r = and-right (film .isBlock a) _ d in
-          rw q (omega (arith, ok .pairs a (and-left (film .isBlock a) _ d) (and-left (film .isBlock (film .next a)) _ r), ih (and-right (film .isBlock (film .next a)) _ r)))
+          rw q (omega (
+            arith,
+            ok .pairs a (and-left (film .isBlock a) _ d) (and-left (film .isBlock (film .next a)) _ r),
+            ih (and-right (film .isBlock (film .next a)) _ r),
+          ))
 
   -- AN EVEN NUMBER OF BLOCKS IN A ROW takes at most half as many times w
   pub even-row : (k : ℕ) (a : A) → k % 2 ≡ 0 → row film k a ≡ true → span film k a ≤ k / 2 * w

@@ -46,7 +46,8 @@ module _ (P N : ℕ) (τ : ℕ → ℕ) (falls : Falling P τ) (l : ℕ → ℕ)
   -- what bounds the successive pairs of any laying bounds τ s + τ f, where more blocks must be slow than can be fast
   pair-bound : (s f : ℕ) → s < f → f < P → (P - 1 - s) + (P - 1 - f) < N → 2 * (P - 1 - f) + 1 < N → τ s + τ f ≤ W
   pair-bound s f sf fp many few = by-cases (decLe (τ s + τ f) W) (λ h. h)
-      (λ h. absurd (end (row-balanced (λ b. classOf s f (l b)) N (omega arith) (λ b u. beside P N l lay s f τ falls W sf fp (omega arith) b (suc b) (under b u)))))
+      (λ h. absurd (end (row-balanced (λ b. classOf s f (l b)) N (omega arith)
+      (λ b u. beside P N l lay s f τ falls W sf fp (omega arith) b (suc b) (under b u)))))
     where
       end : Balanced (count (λ b. isSlow (classOf s f (l b))) N) (count (λ b. isFast (classOf s f (l b))) N) N → ⊥
       end (inl r) = omega (arith, fast-few P N l lay s f, slow-many P N l lay s f)
@@ -60,8 +61,13 @@ module _ (P N : ℕ) (τ : ℕ → ℕ) (falls : Falling P τ) (l : ℕ → ℕ)
       go : (x : Bool) → eqb (b % 2) 0 ≡ x → (y : Bool) → eqb (suc b % 2) 0 ≡ y
           → τ (cond x (P - N + b / 2) (P - 1 - b / 2)) + τ (cond y (P - N + suc b / 2) (P - 1 - suc b / 2)) ≤ W
       go true d true e = absurd (omega (arith, eqb-true))
-      go true d false e = pair-bound (P - N + b / 2) (P - 1 - suc b / 2) (omega (arith, eqb-true)) (omega (arith, eqb-true)) (omega (arith, eqb-true)) (omega (arith, eqb-true))
-      go false d true e = omega (arith, pair-bound (P - N + suc b / 2) (P - 1 - b / 2) (omega (arith, eqb-true)) (omega (arith, eqb-true)) (omega (arith, eqb-true)) (omega (arith, eqb-true)))
+      go true d false e = pair-bound (P - N + b / 2) (P - 1 - suc b / 2) (omega (arith, eqb-true)) (omega (arith, eqb-true)) (omega (arith, eqb-true))
+          (omega (arith, eqb-true))
+      go false d true e = omega (
+        arith,
+        pair-bound (P - N + suc b / 2) (P - 1 - b / 2) (omega (arith, eqb-true)) (omega (arith, eqb-true)) (omega (arith, eqb-true))
+            (omega (arith, eqb-true)),
+      )
       go false d false e = absurd (omega (arith, eqb-false (b % 2) 0 d, eqb-false (suc b % 2) 0 e))
 
 -- no laying has a smaller worst time (P10)

@@ -202,7 +202,8 @@ module _ (P N : ℕ) (τ : ℕ → ℕ) (slower : Falling P τ) (l : ℕ → ℕ
       rw (round-last N b (omega arith)) (pair b 0 u (omega arith) (omega arith) (omega (arith, rank-last N (rank N b) two (rw e (ranked N (N - 1)))))))
     where
       pair : (a b : ℕ) → a < N → b < N → a ≢ b → N ≤ rank N a + rank N b + 2 → τ (P - N + rank N a) + τ (P - N + rank N b) ≤ W
-      pair a b u v n h = ranks-bound np (rank N a) (rank N b) (rank-low N a _ u (ranked N a)) (rank-low N b _ v (ranked N b)) (λ e. n (rank-apart N a b _ _ u v (ranked N a) (ranked N b) e)) h
+      pair a b u v n h = ranks-bound np (rank N a) (rank N b) (rank-low N a _ u (ranked N a)) (rank-low N b _ v (ranked N b))
+          (λ e. n (rank-apart N a b _ _ u v (ranked N a) (ranked N b) e)) h
 
 -- NO LAYING HAS A SMALLER WORST TIME OVER THE CIRCLE
 pub circle-best : (P N : ℕ) → N ≤ P → 1 < N → (τ : ℕ → ℕ) → Falling P τ → (l : ℕ → ℕ) → Laying P N l → worstRound τ (ring P N) N ≤ worstRound τ l N

@@ -77,7 +77,8 @@ arc-close other fast s f m r o h = inl r
 arc-close other other s f m (inl r) o h = inl r
 arc-close other other s f m (inr r) o h = absurd (omega arith)
 
-pub circle-even : (k : ℕ → Class) (m : ℕ) → 0 < m → ((b : ℕ) → suc b < m → Beside (k b) (k (suc b))) → Beside (k (m - 1)) (k 0) → 0 < count (λ b. isSlow (k b)) m
+pub circle-even : (k : ℕ → Class) (m : ℕ) → 0 < m → ((b : ℕ) → suc b < m → Beside (k b) (k (suc b))) → Beside (k (m - 1)) (k 0)
+    → 0 < count (λ b. isSlow (k b)) m
     → Even (count (λ b. isSlow (k b)) m) (count (λ b. isFast (k b)) m) m
 circle-even k zero p o e h = absurd (omega arith)
 circle-even k (suc n) p o e h =

@@ -68,7 +68,8 @@ neighbours P τ falls W s f p q sf fp w h other other a b = tt
 module _ (P N : ℕ) (l : ℕ → ℕ) (lay : Laying P N l) (s f : ℕ) where
   -- no more fast blocks than fast positions
   pub fast-few : count (λ b. isFast (classOf s f (l b))) N ≤ P - 1 - f
-  fast-few = pigeons N l (lay .apart) (suc f) (P - 1 - f) (λ b. isFast (classOf s f (l b))) (λ b u e. is (classOf s f (l b)) (known s f (l b)) e (lay .into b u))
+  fast-few = pigeons N l (lay .apart) (suc f) (P - 1 - f) (λ b. isFast (classOf s f (l b)))
+      (λ b u e. is (classOf s f (l b)) (known s f (l b)) e (lay .into b u))
     where
       is : {p : ℕ} (x : Class) → Known s f p x → isFast x ≡ true → p < P → (suc f ≤ p) × (p < suc f + (P - 1 - f))
       is slow k e u = clash e refl
@@ -76,7 +77,8 @@ module _ (P N : ℕ) (l : ℕ → ℕ) (lay : Laying P N l) (s f : ℕ) where
       is other k e u = clash e refl
 
   unslow-few : count (λ b. not (isSlow (classOf s f (l b)))) N ≤ P - 1 - s
-  unslow-few = pigeons N l (lay .apart) (suc s) (P - 1 - s) (λ b. not (isSlow (classOf s f (l b)))) (λ b u e. is (classOf s f (l b)) (known s f (l b)) e (lay .into b u))
+  unslow-few = pigeons N l (lay .apart) (suc s) (P - 1 - s) (λ b. not (isSlow (classOf s f (l b))))
+      (λ b u e. is (classOf s f (l b)) (known s f (l b)) e (lay .into b u))
     where
       is : {p : ℕ} (x : Class) → Known s f p x → not (isSlow x) ≡ true → p < P → (suc s ≤ p) × (p < suc s + (P - 1 - s))
       is slow k e u = clash e refl

@@ -4,6 +4,7 @@ use mathlib.Core.List.{List, [], _∷_}
 use mathlib.Core.Bool.{Bool, true, false, cond, _&&_, _||_}
 use lib.ListN.{length}
 use lib.Dec.{ltb, eqb}
+use Rattle.numbers.specs.Refusals.{tooShort, noStream}
 use Rattle.card.specs.declared.Figures.{Figures}
 use Rattle.card.specs.declared.CardRead.{CardRead}
 use Rattle.card.specs.Card.{recordFault, judgeRecord}
@@ -17,7 +18,7 @@ use Rattle.plan.specs.Plan.{showingIn, streamsOf, planOf, blankPlan, pos
 
 -- after the figures are accepted: 13 where a lent list, of np or nl entries, is too short, then 12 where 'not even one stream fits'
 unfoldable pub planFault : Showing → Figures → ℕ → ℕ → ℕ
-planFault x f np nl = cond (ltb np (f .blocks) || ltb nl (f .blocks)) 13 (cond (eqb (streamsOf x f) 0) 12 0)
+planFault x f np nl = cond (ltb np (f .blocks) || ltb nl (f .blocks)) tooShort (cond (eqb (streamsOf x f) 0) noStream 0)
 
 abbrev pub faultAfter : Showing → CardRead → List ℕ → List ℕ → ℕ
 faultAfter x r ps ls = planFault x (r .figures) (length (wordsOf ps)) (length (wordsOf ls))
@@ -65,7 +66,8 @@ begins (v ∷ vs) (w ∷ ws) = eqb w v && begins vs ws
 abbrev pub sameNumbers : Plan → Plan → Bool
 sameNumbers p q =
     eqb (p .streams) (q .streams)
-    && (eqb (p .buffer) (q .buffer) && (eqb (p .worst2) (q .worst2) && (eqb (p .margin) (q .margin) && (eqb (p .showing) (q .showing) && eqb (p .worstat) (q .worstat)))))
+    && (eqb (p .buffer) (q .buffer) && (eqb (p .worst2)
+    (q .worst2) && (eqb (p .margin) (q .margin) && (eqb (p .showing) (q .showing) && eqb (p .worstat) (q .worstat)))))
 
 -- the figures are legal and feed a stream, and the record has their numbers in the showing that it names
 unfoldable pub hasNumbers : Plan → Bool

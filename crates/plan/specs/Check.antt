@@ -11,13 +11,14 @@ use borrow.Author.Tests.{ltb-true, eqb-true, lt-ltb, eq-eqb, ne-eqb}
 use Rattle.laws.specs.Bools.{and-left, and-right, and-both}
 use Rattle.numbers.specs.Showings.{loopWord}
 use Rattle.card.specs.Card.{Legal, recordFault}
-use Rattle.round_trip.specs.Legality.{Wide, fault-legal, legal-fault}
+use Rattle.legality.specs.Legality.{Wide, fault-legal, legal-fault}
 use Rattle.words.specs.Words.{Words, wordsOf, withWords}
 use Rattle.words.specs.Laws.{read-written}
 use Rattle.card.specs.declared.Figures.{Figures}
 use Rattle.placement.specs.Showing.{Showing, one, loop}
 use Rattle.plan.specs.declared.Plan.{Plan}
-use Rattle.plan.specs.Plan.{wordOf, showingOf, showingIn, positionOf, leadOf, streamsOf, bufferSize, worst2Of, worstAtOf, marginOf, planOf, row, positionsOf, leadsOf}
+use Rattle.plan.specs.Plan.{wordOf, showingOf, showingIn, positionOf, leadOf, streamsOf, bufferSize}
+use Rattle.plan.specs.Plan.{worst2Of, worstAtOf, marginOf, planOf, row, positionsOf, leadsOf}
 use Rattle.plan.specs.Answer.{begins, sameNumbers, hasNumbers, hasPositions, hasLeads, isPlan}
 use Rattle.plan.specs.Legal.{position-below, lead-small}
 use Rattle.plan.specs.Rows.{row-length, begins-at, begins-long, take-begins}
@@ -53,7 +54,8 @@ same-plan p x f d e =
     λ i. record { figures = d i; streams = s i; buffer = b i; worst2 = w i; margin = m i; showing = k i; worstat = a i }
 
 -- what the test of the numbers says of a record
-pub numbers-say : (p : Plan) → hasNumbers p ≡ true → (recordFault (p .figures) ≡ 0) × (0 < streamsOf (showingIn p) (p .figures)) × (p ≡ planOf (showingIn p) (p .figures))
+pub numbers-say : (p : Plan) → hasNumbers p ≡ true
+    → (recordFault (p .figures) ≡ 0) × (0 < streamsOf (showingIn p) (p .figures)) × (p ≡ planOf (showingIn p) (p .figures))
 unfolding hasNumbers
 numbers-say p e =
     let x = showingIn p in
@@ -127,7 +129,8 @@ written-begins : (g : ℕ → ℕ) (n : ℕ) (s : List ℕ) → Words (row g 0 n
 written-begins g n s w h = take-begins (row g 0 n) _ (read-written s 0 (row g 0 n) w (omega (arith, row-length g 0 n)))
 
 -- THE PLAN OF LEGAL FIGURES PASSES, with the lists that the planner leaves
-pub plan-passes : (x : Showing) (f : Figures) → Legal f → 0 < streamsOf x f → (ps ls : List ℕ) → f .blocks ≤ length (wordsOf ps) → f .blocks ≤ length (wordsOf ls)
+pub plan-passes : (x : Showing) (f : Figures) → Legal f → 0 < streamsOf x f → (ps ls : List ℕ) → f .blocks ≤ length (wordsOf ps)
+    → f .blocks ≤ length (wordsOf ls)
     → isPlan (planOf x f) (withWords ps 0 (positionsOf x f)) (withWords ls 0 (leadsOf x f)) ≡ true
 unfolding isPlan hasNumbers hasPositions hasLeads planOf positionsOf leadsOf
 plan-passes x f ok fed ps ls lp ll =
@@ -135,5 +138,6 @@ plan-passes x f ok fed ps ls lp ll =
     (and-both
     (and-both (eq-eqb (recordFault f) 0 (legal-fault f ok)) (and-both (lt-ltb 0 (streamsOf x f) fed) (same-numbers-self (planOf x f))))
     (and-both
-    (written-begins (positionOf x f) (f .blocks) ps (row-words (positionOf x f) 0 (f .blocks) (λ b u. omega (arith, position-below x f ok b (omega arith), ok .total))) lp)
+    (written-begins (positionOf x f) (f .blocks) ps
+    (row-words (positionOf x f) 0 (f .blocks) (λ b u. omega (arith, position-below x f ok b (omega arith), ok .total))) lp)
     (written-begins (leadOf x f) (f .blocks) ls (row-words (leadOf x f) 0 (f .blocks) (λ b u. omega (arith, lead-small x f ok b (omega arith)))) ll)))

@@ -3,12 +3,12 @@ use Prim.Native.Nat.{ℕ, _-_, _*_, _≤_, _<_}
 use mathlib.Core.Path.{_≡_}
 use mathlib.Core.List.{List}
 use lib.ListN.{length, getD}
-use Rattle.numbers.specs.Limits.{maxPositions, maxTime}
+use Rattle.numbers.specs.Limits.{maxZones, maxPositions, maxTime}
 use Rattle.placement.specs.Zones.{total, timeAt}
 
 -- the zones of a disk, whose positions are few enough in all
 pub record Zoned (ps : List ℕ) : Type 0 where
-  pub wide : length ps ≡ 64
+  pub wide : length ps ≡ maxZones
   pub small : total ps ≤ maxPositions
 
 -- the same, with no time above the greatest
@@ -17,7 +17,7 @@ pub record Disk (ps ts : List ℕ) : Type 0 where
   pub quick : (i : ℕ) → getD ts i 0 ≤ maxTime
 
 -- a film of N blocks on the disk, whose positions are P
-pub record Film (ps ts : List ℕ) (P N : ℕ) : Type 0 where
+pub record OnDisk (ps ts : List ℕ) (P N : ℕ) : Type 0 where
   pub disk : Disk ps ts
   pub whole : P ≡ total ps
   pub some : 0 < N

@@ -11,10 +11,10 @@ use borrow.Author.Tests.{ltb-true, le-ltb, eqb-true}
 use Rattle.laws.specs.Bools.{and-left, and-right}
 use Rattle.laws.specs.Greatest.{greatestOf, Earliest, earliest-unique, earliest-is}
 use Rattle.numbers.specs.Limits.{maxStreams}
-use Rattle.numbers.specs.Refusals.{noStream}
+use Rattle.numbers.specs.Refusals.{tooShort, noStream}
 use Rattle.card.specs.declared.Figures.{Figures}
 use Rattle.card.specs.Card.{Legal}
-use Rattle.card.specs.TableLaws.{table-rises}
+use Rattle.card.specs.CardLaws.{table-rises}
 use Rattle.placement.specs.Showing.{Showing, one, loop, worstAt, pairsOf, some-pairs, worst-pair}
 use Rattle.pacing.specs.Film.{row, longestRun, shown}
 use Rattle.pacing.specs.Shown.{once-in, loop-in}
@@ -34,11 +34,13 @@ module _ (N : ℕ) (time position : ℕ → ℕ) where
       omega (arith, once-out j (suc b) (omega arith) (and-right (ltb b N) _ e))
 
 -- the runs that a lead looks at are those of document 01 and document 02
-run-in : (x : Showing) (N : ℕ) (time position : ℕ → ℕ) (j b : ℕ) → Starts x N b → IsRun x N b j → (j ≤ longestRun x N b) × (row (shown x N time position) j b ≡ true)
+run-in : (x : Showing) (N : ℕ) (time position : ℕ → ℕ) (j b : ℕ) → Starts x N b → IsRun x N b j
+    → (j ≤ longestRun x N b) × (row (shown x N time position) j b ≡ true)
 run-in one N time position j b h u = (omega arith, once-in N time position j b u)
 run-in loop N time position j b h u = (u, loop-in N time position j b h)
 
-in-run : (x : Showing) (N : ℕ) (time position : ℕ → ℕ) (j b : ℕ) → Starts x N b → j ≤ longestRun x N b → row (shown x N time position) j b ≡ true → IsRun x N b j
+in-run : (x : Showing) (N : ℕ) (time position : ℕ → ℕ) (j b : ℕ) → Starts x N b → j ≤ longestRun x N b → row (shown x N time position) j b ≡ true
+    → IsRun x N b j
 in-run one N time position j b h u r = once-out N time position j b h r
 in-run loop N time position j b h u r = u
 
@@ -97,7 +99,7 @@ module _ (x : Showing) (f : Figures) where
   unfolding planFault
   none-fits np nl e n l u = too-many n (go (ltb np (f .blocks) || ltb nl (f .blocks)) (eqb (streamsOf x f) 0) refl e) u
     where
-      go : (s t : Bool) → eqb (streamsOf x f) 0 ≡ t → _≡_ {A = ℕ} (cond s 13 (cond t 12 0)) 12 → streamsOf x f < n
+      go : (s t : Bool) → eqb (streamsOf x f) 0 ≡ t → _≡_ {A = ℕ} (cond s tooShort (cond t noStream 0)) noStream → streamsOf x f < n
       go true t q e = absurd (omega arith)
       go false true q e = omega (arith, eqb-true (streamsOf x f) 0 q)
       go false false q e = absurd (omega arith)
@@ -106,7 +108,8 @@ module _ (x : Showing) (f : Figures) where
   pub one-fails : Legal f → (np nl : ℕ) → f .blocks ≤ np → f .blocks ≤ nl → TooMany x f 1 → planFault x f np nl ≡ noStream
   unfolding planFault streamsOf
   one-fails ok np nl p l h =
-      let none = streams-none (f .rate) (worst2Of x f) (overOf f) (f .bytes) (overhead-rises (f .table) (table-rises f ok)) (omega (arith, load-entry 1 (omega arith))) in
+      let none = streams-none (f .rate) (worst2Of x f) (overOf f) (f .bytes) (overhead-rises (f .table) (table-rises f ok))
+      (omega (arith, load-entry 1 (omega arith))) in
       rw (le-ltb np (f .blocks) p, le-ltb nl (f .blocks) l, none)
 
   -- ---- the worst pair

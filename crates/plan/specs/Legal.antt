@@ -84,11 +84,16 @@ module _ (x : Showing) (f : Figures) (ok : Legal f) where
   pub margin-exact : worst2Of x f ≤ 2 * timeOn f (totalPositions f - f .blocks)
   unfolding worst2Of slowest
   margin-exact =
-      omega (arith, worst-within (timeOn f) (positionOf x f) (f .blocks) x, slowest-first x (totalPositions f) (f .blocks) (ok .room) (timeOn f) (legal-falling f ok) (omega (arith, ok .blocks)))
+      omega (
+        arith,
+        worst-within (timeOn f) (positionOf x f) (f .blocks) x,
+        slowest-first x (totalPositions f) (f .blocks) (ok .room) (timeOn f) (legal-falling f ok) (omega (arith, ok .blocks)),
+      )
 
   pub margin-less : marginOf x f + 1 ≤ worst2Of x f
   unfolding worst2Of marginOf
-  margin-less = margin-small x (timeOn f) (positionOf x f) (f .blocks) (omega (arith, ok .blocks)) (λ b u. time-positive f ok (positionOf x f b) (position-below b u))
+  margin-less = margin-small x (timeOn f) (positionOf x f) (f .blocks) (omega (arith, ok .blocks))
+      (λ b u. time-positive f ok (positionOf x f b) (position-below b u))
 
   -- a lead from the time of its block alone
   pub lead-is : (b : ℕ) → b < f .blocks → leadOf x f b ≡ 2 * timeOf x f b - worst2Of x f
@@ -97,7 +102,8 @@ module _ (x : Showing) (f : Figures) (ok : Legal f) where
 
   pub time-less : (b : ℕ) → b < f .blocks → timeOf x f b < worst2Of x f
   unfolding worst2Of
-  time-less b u = time-below (timeOn f) (positionOf x f) (f .blocks) (omega (arith, ok .blocks)) (λ b u. time-positive f ok (positionOf x f b) (position-below b u)) x b u
+  time-less b u = time-below (timeOn f) (positionOf x f) (f .blocks) (omega (arith, ok .blocks))
+      (λ b u. time-positive f ok (positionOf x f b) (position-below b u)) x b u
 
   pub lead-small : (b : ℕ) → b < f .blocks → leadOf x f b ≤ maxTime - 1
   lead-small b u = omega (arith, lead-is b u, time-less b u, time-small f ok (positionOf x f b) (position-below b u))

@@ -4,6 +4,7 @@ pub mod Disk
 pub mod Greatest
 pub mod GreatestLaws
 pub mod Legal
+pub mod Lent
 pub mod Plan
 pub mod Promise
 pub mod Rows

@@ -6,8 +6,9 @@ use mathlib.Core.List.{List, [], _∷_}
 use lib.Dec.{eqb}
 use Rattle.numbers.specs.Showings.{onceWord, loopWord}
 use Rattle.card.specs.declared.Figures.{Figures}
+use Rattle.card.specs.declared.Scalars.{Scalars}
 use Rattle.card.specs.Card.{totalPositions}
-use Rattle.card.specs.Read.{blankFigures}
+use Rattle.card.specs.Read.{blankFigures, figuresFrom}
 use Rattle.placement.specs.Zones.{timeAt}
 use Rattle.placement.specs.Showing.{Showing, one, loop, laying, worstOf, worstAt}
 use Rattle.pacing.specs.Film.{Film, lead}
@@ -83,11 +84,31 @@ bufferSize x f = bufferOf (f .rate) (streamsOf x f) (marginOf x f) (f .bytes)
 
 -- the plan record (P9, T7.7, T2.2)
 unfoldable pub planOf : Showing → Figures → Plan
-planOf x f = record { figures = f; streams = streamsOf x f; buffer = bufferSize x f; worst2 = worst2Of x f; margin = marginOf x f; showing = wordOf x; worstat = worstAtOf x f }
+planOf x f = record {
+  figures = f;
+  streams = streamsOf x f;
+  buffer = bufferSize x f;
+  worst2 = worst2Of x f;
+  margin = marginOf x f;
+  showing = wordOf x;
+  worstat = worstAtOf x f;
+}
 
 -- a plan of its figures and its numbers
 abbrev pub planFrom : Figures → Numbers → Plan
-planFrom f m = record { figures = f; streams = m .streams; buffer = m .buffer; worst2 = m .worst2; margin = m .margin; showing = m .showing; worstat = m .worstat }
+planFrom f m = record {
+  figures = f;
+  streams = m .streams;
+  buffer = m .buffer;
+  worst2 = m .worst2;
+  margin = m .margin;
+  showing = m .showing;
+  worstat = m .worstat;
+}
+
+-- a plan of single numbers and lent arrays
+abbrev pub lentPlan : Scalars → List ℕ → List ℕ → List ℕ → Numbers → Plan
+lentPlan s ps ts os m = planFrom (figuresFrom s ps ts os) m
 
 -- a plan that is all zero
 unfoldable pub blankPlan : Plan

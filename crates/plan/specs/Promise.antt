@@ -10,7 +10,7 @@ use Rattle.numbers.specs.Limits.{maxTime, maxStreams}
 use Rattle.numbers.specs.Units.{parts, wholeBytes}
 use Rattle.card.specs.declared.Figures.{Figures}
 use Rattle.card.specs.Card.{Legal, totalPositions}
-use Rattle.card.specs.TableLaws.{table-rises}
+use Rattle.card.specs.CardLaws.{table-rises}
 use Rattle.placement.specs.Placement.{Laying}
 use Rattle.placement.specs.Showing.{Showing, one, loop, worstOf, laying-best, after}
 use Rattle.pacing.specs.Film.{Paced, lead, isPast}
@@ -19,7 +19,8 @@ use Rattle.pacing.specs.Shown.{shown-end}
 use Rattle.pacing.specs.Streams.{overhead-rises, load, bufferOf}
 use Rattle.pacing.specs.Laid.{margin, laid-paced, time-within, no-laying-feeds-more}
 use Rattle.plan.specs.Plan.{timeOn, positionOf, timeOf, worst2Of, overOf, streamsOf, slowestOf, marginOf, filmOf, leadOf, bufferSize}
-use Rattle.plan.specs.Legal.{legal-falling, legal-laying, position-below, time-positive, time-small, worst2-small, margin-less, lead-is, lead-small, streams-few, streams-fit, buffer-small}
+use Rattle.plan.specs.Legal.{legal-falling, legal-laying, position-below, time-positive, time-small, worst2-small}
+use Rattle.plan.specs.Legal.{margin-less, lead-is, lead-small, streams-few, streams-fit, buffer-small}
 
 -- ---- leads
 
@@ -120,7 +121,8 @@ module _ (x : Showing) (f : Figures) (ok : Legal f) (l : ℕ → ℕ) (lay : Lay
   pub best-streams : (n : ℕ) → streamsOf x f < n → n ≤ maxStreams → parts * f .bytes < load (f .rate) (worstOf x (timeOn f) l (f .blocks)) (overOf f) n
   unfolding worst2Of streamsOf
   best-streams n h u =
-      no-laying-feeds-more x (totalPositions f) (f .blocks) (ok .room) (omega (arith, ok .blocks)) (timeOn f) (legal-falling f ok) l lay (f .rate) (overOf f) (f .bytes) n h u
+      no-laying-feeds-more x (totalPositions f) (f .blocks) (ok .room) (omega (arith, ok .blocks)) (timeOn f) (legal-falling f ok) l lay (f .rate) (overOf f)
+      (f .bytes) n h u
 
 -- the plan's own laying reaches worst2
 pub own-time : (x : Showing) (f : Figures) → worstOf x (timeOn f) (positionOf x f) (f .blocks) ≡ worst2Of x f

@@ -44,7 +44,8 @@ unfolding begins row
 begins-at g b zero ws e k u = absurd (omega arith)
 begins-at g b (suc n) [] e k u = clash e refl
 begins-at g b (suc n) (w ∷ ws) e zero u = let z : b ≡ b + 0 = omega arith in eqb-true w (g b) (and-left (eqb w (g b)) _ e) ∙ ap g z
-begins-at g b (suc n) (w ∷ ws) e (suc k) u = let z : suc b + k ≡ b + suc k = omega arith in begins-at g (suc b) n ws (and-right (eqb w (g b)) _ e) k (omega arith) ∙ ap g z
+begins-at g b (suc n) (w ∷ ws) e (suc k) u = let z : suc b + k ≡ b + suc k = omega arith in
+    begins-at g (suc b) n ws (and-right (eqb w (g b)) _ e) k (omega arith) ∙ ap g z
 
 pub begins-long : (g : ℕ → ℕ) (b n : ℕ) (ws : List ℕ) → begins (row g b n) ws ≡ true → n ≤ length ws
 unfolding begins row

@@ -9,19 +9,19 @@ use lib.ListN.{length}
 use lib.Dec.{ltb}
 use borrow.Author.Tests.{lt-ltb, le-ltb, eq-eqb, ne-eqb}
 use Rattle.numbers.specs.Limits.{maxPositions}
+use Rattle.numbers.specs.Refusals.{tooShort, noStream}
 use Rattle.card.specs.declared.Figures.{Figures}
 use Rattle.card.specs.declared.CardRead.{CardRead}
 use Rattle.card.specs.declared.Verdict.{Verdict}
 use Rattle.card.specs.Card.{Legal, totalPositions, recordFault, judgeRecord}
 use Rattle.card.specs.Read.{readCard}
-use Rattle.round_trip.specs.Legality.{Wide, fault-legal}
-use Rattle.round_trip.specs.RoundTrip.{read-card}
+use Rattle.legality.specs.Legality.{Wide, fault-legal}
 use Rattle.placement.specs.Showing.{Showing, laying, worstOf, worstAt}
 use Rattle.words.specs.Words.{Bytes, wordsOf, withWords}
 use Rattle.plan.specs.declared.Plan.{Plan}
 use Rattle.plan.specs.declared.Planned.{Planned}
 use Rattle.plan.specs.Plan.{showingIn, timeOn, positionOf, worst2Of, worstAtOf, streamsOf, leadOf, planOf, row, positionsOf, leadsOf}
-use Rattle.plan.specs.Disk.{Film, leadAt}
+use Rattle.plan.specs.Disk.{OnDisk, leadAt}
 use Rattle.plan.specs.Legal.{total-is, legal-disk, lead-is}
 use Rattle.plan.specs.Answer.{planFault, faultAfter, refusal, answer, filled, planned, positionsAfter, leadsAfter, judged, sameNumbers, hasNumbers}
 use Rattle.plan.specs.Rows.{row-same}
@@ -49,25 +49,27 @@ module _ (x : Showing) (r : CardRead) (ps ls : List ℕ) where
 
   -- accepted
   pub by-none : r .verdict .number ≡ 0 → faultAfter x r ps ls ≡ 0
-      → Outcome (record { verdict = record { number = 0; place = 0 }; plan = planOf x (r .figures) }) (withWords ps 0 (positionsOf x (r .figures))) (withWords ls 0 (leadsOf x (r .figures)))
+      → Outcome (record { verdict = record { number = 0; place = 0 }; plan = planOf x (r .figures) }) (withWords ps 0 (positionsOf x (r .figures)))
+      (withWords ls 0 (leadsOf x (r .figures)))
   unfolding planned positionsAfter leadsAfter
   by-none e d = rw (e, d) (refl, refl, refl)
 
 -- the same outcome of equal figures in an equal showing
-pub outcome-same : {x y : Showing} {r s : CardRead} (ps ls : List ℕ) (a : Planned) (qs ms : List ℕ) → x ≡ y → r ≡ s → Outcome x r ps ls a qs ms → Outcome y s ps ls a qs ms
+pub outcome-same : {x y : Showing} {r s : CardRead} (ps ls : List ℕ) (a : Planned) (qs ms : List ℕ) → x ≡ y → r ≡ s → Outcome x r ps ls a qs ms
+    → Outcome y s ps ls a qs ms
 outcome-same {x} {y} {r} {s} ps ls a qs ms e d o =
     subst (λ (t : CardRead). Outcome y t ps ls a qs ms) d (subst (λ (z : Showing). Outcome z r ps ls a qs ms) e o)
 
 module _ (x : Showing) (f : Figures) (np nl : ℕ) where
-  pub short-positions : np < f .blocks → planFault x f np nl ≡ 13
+  pub short-positions : np < f .blocks → planFault x f np nl ≡ tooShort
   unfolding planFault
   short-positions h = rw (lt-ltb np (f .blocks) h)
 
-  pub short-leads : f .blocks ≤ np → nl < f .blocks → planFault x f np nl ≡ 13
+  pub short-leads : f .blocks ≤ np → nl < f .blocks → planFault x f np nl ≡ tooShort
   unfolding planFault
   short-leads l h = rw (le-ltb np (f .blocks) l, lt-ltb nl (f .blocks) h)
 
-  pub no-stream : f .blocks ≤ np → f .blocks ≤ nl → streamsOf x f ≡ 0 → planFault x f np nl ≡ 12
+  pub no-stream : f .blocks ≤ np → f .blocks ≤ nl → streamsOf x f ≡ 0 → planFault x f np nl ≡ noStream
   unfolding planFault
   no-stream l m e = rw (le-ltb np (f .blocks) l, le-ltb nl (f .blocks) m, eq-eqb (streamsOf x f) 0 e)
 
@@ -86,7 +88,7 @@ unfolding planOf
 plan-worst2 x f p e = ap (λ (q : Plan). q .worst2) e
 
 module _ (f : Figures) (ok : Legal f) (t : ℕ) (e : t ≡ totalPositions f) where
-  pub film-on : Film (f .positions) (f .times) t (f .blocks)
+  pub film-on : OnDisk (f .positions) (f .times) t (f .blocks)
   film-on = record {
     disk = legal-disk f ok;
     whole = e ∙ total-is f ok;
@@ -116,13 +118,7 @@ module _ (f : Figures) (ok : Legal f) (t : ℕ) (e : t ≡ totalPositions f) whe
       ∙ row-same (leadAt (f .positions) (f .times) (positionOf x f) (worst2Of x f)) (leadOf x f) 0 (f .blocks)
       (λ b l u. sym (lead-is x f ok b (omega arith)))
 
--- ---- figures that are read or judged
-
--- an accepted card has legal figures
-pub card-legal : (s : List ℕ) → Bytes s → (r : CardRead) → r ≡ readCard s → r .verdict .number ≡ 0 → Legal (r .figures)
-card-legal s y r e n =
-    let a = read-card s y (sym (ap (λ (x : CardRead). x .verdict .number) e) ∙ n) in
-    subst (λ (x : CardRead). Legal (x .figures)) (sym e) (fault-legal (readCard s .figures) (a .wide) (a .clear))
+-- ---- figures that are judged
 
 module _ (f : Figures) (v : Verdict) (e : v ≡ judgeRecord f) where
   pub record-fault : v .number ≡ recordFault f
@@ -148,6 +144,7 @@ module _ (p : Plan) where
   not-legal n = rw (ne-eqb (recordFault (p .figures)) 0 n)
 
   -- the plan of legal figures decides
-  pub numbers-decide : recordFault (p .figures) ≡ 0 → (ltb 0 (streamsOf (showingIn p) (p .figures)) && sameNumbers p (planOf (showingIn p) (p .figures))) ≡ hasNumbers p
+  pub numbers-decide : recordFault (p .figures) ≡ 0
+      → (ltb 0 (streamsOf (showingIn p) (p .figures)) && sameNumbers p (planOf (showingIn p) (p .figures))) ≡ hasNumbers p
   unfolding hasNumbers
   numbers-decide e = rw (eq-eqb (recordFault (p .figures)) 0 e)

@@ -7,6 +7,7 @@ use card::Verdict;
 ghost use mathlib.Core.Path.{_≡_};
 ghost use Prim.Native.Nat.{ℕ, _*_, _≤_, _<_};
 ghost use Rattle.numbers.specs.Limits.{maxStreams};
+ghost use Rattle.numbers.specs.Refusals.{noStream};
 ghost use Rattle.numbers.specs.Units.{parts};
 ghost use Rattle.card.specs.declared.Figures.{Figures};
 ghost use Rattle.card.specs.Card.{Legal, totalPositions};
@@ -142,8 +143,9 @@ pub fn lead_is_the_greatest()
 pub fn streams_are_the_most()
     ensures most { λ _. ⌜ ((x : Showing) (f : Figures) → 0 < streamsOf x f → MostStreams x f (streamsOf x f)) ⌝ }
     ensures only { λ _. ⌜ ((x : Showing) (f : Figures) (n : ℕ) → MostStreams x f n → n ≡ streamsOf x f) ⌝ }
-    ensures none { λ _. ⌜ ((x : Showing) (f : Figures) (np nl : ℕ) → planFault x f np nl ≡ 12 → (n : ℕ) → 1 ≤ n → n ≤ 256 → TooMany x f n) ⌝ }
-    ensures one { λ _. ⌜ ((x : Showing) (f : Figures) → Legal f → (np nl : ℕ) → f .blocks ≤ np → f .blocks ≤ nl → TooMany x f 1 → planFault x f np nl ≡ 12) ⌝ }
+    ensures none { λ _. ⌜ ((x : Showing) (f : Figures) (np nl : ℕ) → planFault x f np nl ≡ noStream → (n : ℕ) → 1 ≤ n → n ≤ maxStreams → TooMany x f n) ⌝ }
+    ensures one { λ _. ⌜ ((x : Showing) (f : Figures) → Legal f → (np nl : ℕ) → f .blocks ≤ np → f .blocks ≤ nl → TooMany x f 1
+        → planFault x f np nl ≡ noStream) ⌝ }
 {}
 
 // The block that a plan names is the first of a pair that takes worst2, no pair before it does, and no other block has both.

@@ -12,9 +12,10 @@
 // A line is printed for each: its name and the answer, which of a planned film is streams, buffer, worst2, margin, showing and worstat, or the
 // refusal, then a sum of each list.
 use card::Figures;
-use case_text::next_letter;
+use case_text::is_record;
+use case_text::next_case;
+use case_text::no_case;
 use case_text::print;
-use case_text::print_byte;
 use case_text::print_number;
 use case_text::print_refusal;
 use case_text::read_bytes;
@@ -83,7 +84,7 @@ fn read_plan(text: &[u8], start: usize) -> Plan {
 
 // Is this the plan of its figures, with its lists?
 fn check(plan: Plan, positions: &[u8], leads: &[u8]) {
-    if planner::is_plan(plan, positions, leads) {
+    if plan_check::is_plan(plan, positions, leads) {
         print(b" yes");
         return;
     }
@@ -110,14 +111,6 @@ fn check_altered(plan: Plan, positions: &mut [u8], leads: &mut [u8]) {
         leads[at] = lead;
         at += 1;
     }
-}
-
-// Does this letter stand before a record?
-fn is_record(letter: u8) -> bool {
-    if letter == b'R' {
-        return true;
-    }
-    letter == b'r'
 }
 
 // Plans a record, by `R` as a loop.
@@ -175,18 +168,8 @@ fn run_with(text: &[u8], letter: u8, start: usize, positions: &mut [u8], leads: 
     plan_film(text, letter, start, positions, leads);
 }
 
-// The same at the end of a case's line, with as many bytes of the lists as the case says.
-fn run_case(
-    text: &[u8],
-    byte: u8,
-    letter: u8,
-    start: usize,
-    positions: &mut [u8],
-    leads: &mut [u8],
-) {
-    if byte != b'\n' {
-        return;
-    }
+// The same with as many bytes of the lists as the case says.
+fn run_case(text: &[u8], letter: u8, start: usize, positions: &mut [u8], leads: &mut [u8]) {
     if letter == 0 {
         return;
     }
@@ -205,24 +188,10 @@ fn run_case(
 
 // Every line: its name up to the colon, then the answer.
 fn run_cases(text: &[u8], positions: &mut [u8], leads: &mut [u8]) {
-    // The letter of the case, 0 in its name and a colon after that, and where what follows it begins.
-    let mut letter: u8 = 0;
-    let mut start: usize = 0;
-    let mut at: usize = 0;
-    while at < text.len() {
-        let byte = text[at];
-        at += 1;
-        run_case(text, byte, letter, start, positions, leads);
-        if byte == b'\n' {
-            letter = 0;
-        }
-        if letter == 0 {
-            print_byte(byte);
-        }
-        if letter == b':' {
-            start = at;
-        }
-        letter = next_letter(letter, byte);
+    let mut case = no_case();
+    while case.end < text.len() {
+        case = next_case(text, case);
+        run_case(text, case.letter, case.start, positions, leads);
     }
 }
 

@@ -14,13 +14,14 @@ use Rattle.card.specs.declared.CardRead.{CardRead}
 use Rattle.card.specs.Read.{blankFigures, refusedCard, readCard}
 use Rattle.card_reader.specs.Refusals.{read-other}
 use Rattle.card_reader.specs.Told.{acceptedCard}
+use Rattle.round_trip.specs.RoundTrip.{card-legal}
 use Rattle.placement.specs.Showing.{Showing}
 use Rattle.plan.specs.declared.Plan.{Plan}
 use Rattle.plan.specs.declared.Planned.{Planned}
 use Rattle.plan.specs.Plan.{planOf, blankPlan, positionsOf, leadsOf}
 use Rattle.plan.specs.Answer.{faultAfter, refusal, answer, filled, planned, positionsAfter, leadsAfter}
 use Rattle.plan.specs.Ways as plan
-use Rattle.layout.specs.Layout.{planWords, planSize}
+use Rattle.plan_layout.specs.Layout.{planWords, planSize}
 use Rattle.layout.specs.declared.FilmdiskAnswer.{FilmdiskAnswer}
 use Rattle.layout.specs.Answers.{verdictAnswer}
 use Rattle.plan_strings.specs.Calls.{planFaultOf, plannedOf, planFilled, planAnswer, planString, positionsString, leadsString}
@@ -84,26 +85,30 @@ module _ (x : Showing) (s p ps ls : List ℕ) where
     outcome : (a : Planned) (qs ms : List ℕ) → plan.Outcome x (readCard s) ps ls a qs ms → (r : FilmdiskAnswer) → r ≡ verdictAnswer (a .verdict)
         → (q : List ℕ) → q ≡ planFilled p a → Outcome x s p ps ls r q qs ms
     unfolding planAnswer planString planned plannedOf planFaultOf positionsAfter positionsString leadsAfter leadsString
-    outcome a qs ms e r v q w = rw (eq-eqb (length p) planSize l) (v ∙ ap (λ (b : Planned). verdictAnswer (b .verdict)) (e .0), w ∙ ap (planFilled p) (e .0), e .1, e .2)
+    outcome a qs ms e r v q w = rw (eq-eqb (length p) planSize l)
+        (v ∙ ap (λ (b : Planned). verdictAnswer (b .verdict)) (e .0), w ∙ ap (planFilled p) (e .0), e .1, e .2)
 
     -- the card is refused: the plan string is all zero
     pub refused-card : Bytes s → (k at : ℕ) → refusedCard k at ≡ readCard s → (r : FilmdiskAnswer) → r ≡ verdictAnswer (record { number = k; place = at })
         → (q : List ℕ) → q ≡ withWords p 0 (planWords blankPlan) → Outcome x s p ps ls r q ps ls
     unfolding refusedCard blankFigures refusal
     refused-card y k at e r v q w =
-        let refused : k ≢ 0 = λ z. let ok = plan.card-legal s y (refusedCard k at) e z in omega (arith, ok .blocks) in
+        let refused : k ≢ 0 = λ z. let ok = card-legal s y (refusedCard k at) e z in omega (arith, ok .blocks) in
         let other : k ≢ tooShort = λ z. read-other s (sym (ap (λ (c : CardRead). c .verdict .number) e) ∙ z) in
         let o = plan.outcome-same ps ls _ ps ls refl e (plan.by-figures x (refusedCard k at) ps ls refused) in
         outcome (refusal k at) ps ls o r v q (filled-plan (refusal k at) other q w)
 
     -- it is accepted and planned
-    pub planned-card : (c : CardRead) → c ≡ readCard s → (r : FilmdiskAnswer) (q qs ms : List ℕ) → Planning x c p ps ls r q qs ms → Outcome x s p ps ls r q qs ms
+    pub planned-card : (c : CardRead) → c ≡ readCard s → (r : FilmdiskAnswer) (q qs ms : List ℕ) → Planning x c p ps ls r q qs ms
+        → Outcome x s p ps ls r q qs ms
     planned-card c e r q qs ms o = outcome (planned x c ps ls) qs ms (plan.outcome-same ps ls _ qs ms refl e (refl, o .2, o .3)) r (o .0) q (o .1)
 
 -- ---- legal figures: the planner's answer, and the later contents of the three strings
 
-module _ (x : Showing) (f : Figures) (p ps ls : List ℕ) (l : length p ≡ planSize) (n : ℕ) (made : n ≡ faultAfter x (acceptedCard f) ps ls) (r : FilmdiskAnswer) (v : r ≡ verdictAnswer (record { number = n; place = 0 }))
-    (qs ms : List ℕ) (first : qs ≡ filled 0 (faultAfter x (acceptedCard f) ps ls) ps (positionsOf x f)) (second : ms ≡ filled 0 (faultAfter x (acceptedCard f) ps ls) ls (leadsOf x f)) where
+module _ (x : Showing) (f : Figures) (p ps ls : List ℕ) (l : length p ≡ planSize) (n : ℕ) (made : n ≡ faultAfter x (acceptedCard f) ps ls) (r : FilmdiskAnswer)
+    (v : r ≡ verdictAnswer (record { number = n; place = 0 }))
+    (qs ms : List ℕ) (first : qs ≡ filled 0 (faultAfter x (acceptedCard f) ps ls) ps (positionsOf x f))
+    (second : ms ≡ filled 0 (faultAfter x (acceptedCard f) ps ls) ls (leadsOf x f)) where
   planning : (a : Planned) → a ≡ planned x (acceptedCard f) ps ls → verdictAnswer (record { number = n; place = 0 }) ≡ verdictAnswer (a .verdict)
       → (q : List ℕ) → q ≡ planFilled p a → Planning x (acceptedCard f) p ps ls r q qs ms
   unfolding positionsAfter leadsAfter

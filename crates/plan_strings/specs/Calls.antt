@@ -12,7 +12,7 @@ use Rattle.placement.specs.Showing.{Showing}
 use Rattle.plan.specs.declared.Planned.{Planned}
 use Rattle.plan.specs.Plan.{positionsOf, leadsOf}
 use Rattle.plan.specs.Answer.{faultAfter, answer, filled}
-use Rattle.layout.specs.Layout.{planWords, planSize}
+use Rattle.plan_layout.specs.Layout.{planWords, planSize}
 use Rattle.layout.specs.declared.FilmdiskAnswer.{FilmdiskAnswer}
 use Rattle.layout.specs.Answers.{verdictAnswer}
 
@@ -26,7 +26,7 @@ planFaultOf x r p ps ls = cond (eqb (length p) planSize) (faultAfter x r ps ls) 
 unfoldable pub plannedOf : Showing → CardRead → List ℕ → List ℕ → List ℕ → Planned
 plannedOf x r p ps ls = answer x (r .verdict .number) (planFaultOf x r p ps ls) r
 
--- the plan string after an answer: the plan, all zero after 1 to 12 and 26; as it was after 13, and where it has another length
+-- the plan string after an answer: the plan, all zero after 1 to 12, 25 and 26; as it was after 13, and where it has another length
 unfoldable pub planFilled : List ℕ → Planned → List ℕ
 planFilled p a = cond (eqb (length p) planSize && not (eqb (a .verdict .number) tooShort)) (withWords p 0 (planWords (a .plan))) p
 

@@ -3,15 +3,15 @@ use card::Scalars;
 use card::Verdict;
 use card_reader::Told;
 use layout::FilmdiskAnswer;
-use layout::PLAN_BYTES;
-use layout::clear_plan;
 use layout::verdict_answer;
-use layout::write_parts;
 use numbers::refusals::ACCEPTED;
 use numbers::refusals::TOO_SHORT;
 use numbers::showings::LOOP;
 use numbers::showings::ONCE;
-use planner::figures::plan_legal;
+use plan_layout::PLAN_BYTES;
+use plan_layout::clear_plan;
+use plan_layout::write_parts;
+use plan_legal::plan_legal;
 ghost use mathlib.Core.Path.{_≡_};
 ghost use Prim.Native.Nat.{_≤_};
 ghost use lib.ListN.{length};
@@ -23,13 +23,14 @@ ghost use Rattle.numbers.specs.Refusals.{tooShort};
 ghost use Rattle.placement.specs.Showing.{Showing, one, loop};
 ghost use Rattle.plan.specs.Plan.{showingOf, blankPlan};
 ghost use Rattle.plan.specs.Answer.{answer, planned, positionsAfter, leadsAfter};
-ghost use Rattle.layout.specs.Layout.{planWords, planSize};
+ghost use Rattle.plan_layout.specs.Layout.{planWords, planSize};
 ghost use Rattle.layout.specs.Answers.{verdictAnswer};
 ghost use Rattle.plan_strings.specs.Calls.{planFilled, planAnswer, planString, positionsString, leadsString};
 
 // The answer where the plan string has another length, in either showing: the card's refusal, or 13.
 fn unwritten(card: &[u8]) -> FilmdiskAnswer
-    ensures { λ r. ⌜ ((x : Showing) → (let read = readCard (now (card .entry)) in r ≡ verdictAnswer (answer x (read .verdict .number) tooShort read .verdict))) ⌝ }
+    ensures { λ r. ⌜ ((x : Showing)
+        → (let read = readCard (now (card .entry)) in r ≡ verdictAnswer (answer x (read .verdict .number) tooShort read .verdict))) ⌝ }
 {
     let read = card_reader::read_card(card);
     let verdict = read.verdict;
@@ -45,7 +46,8 @@ fn unwritten(card: &[u8]) -> FilmdiskAnswer
 // A refusal after which the plan string is all zero.
 fn refused(plan: &mut [u8], number: u32, place: usize) -> FilmdiskAnswer
     requires { ⌜ planSize ≤ length (now plan) ⌝ }
-    ensures { λ r. ⌜ (r ≡ verdictAnswer (record { number = number; place = place })) × (now (plan .exit) ≡ withWords (now (plan .entry)) 0 (planWords blankPlan)) ⌝ }
+    ensures { λ r. ⌜ (r ≡ verdictAnswer (record { number = number; place = place }))
+        × (now (plan .exit) ≡ withWords (now (plan .entry)) 0 (planWords blankPlan)) ⌝ }
 {
     clear_plan(plan);
     verdict_answer(Verdict {
@@ -66,7 +68,8 @@ fn plan_into<'a>(
     leads: &mut [u8],
 ) -> FilmdiskAnswer
     requires { ⌜ (length (now plan) ≡ planSize) × Legal (figuresFrom figures (now sizes) (now times) (now table)) ⌝ }
-    ensures { λ r. ⌜ (let x = showingOf showing in let card = acceptedCard (figuresFrom figures (now (sizes .entry)) (now (times .entry)) (now (table .entry))) in
+    ensures { λ r. ⌜ (let x = showingOf showing in
+        let card = acceptedCard (figuresFrom figures (now (sizes .entry)) (now (times .entry)) (now (table .entry))) in
         (r ≡ verdictAnswer (planned x card (now (positions .entry)) (now (leads .entry)) .verdict))
         × (now (plan .exit) ≡ planFilled (now (plan .entry)) (planned x card (now (positions .entry)) (now (leads .entry))))
         × (now (positions .exit) ≡ positionsAfter x card (now (positions .entry)) (now (leads .entry)))

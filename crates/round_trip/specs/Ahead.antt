@@ -17,9 +17,10 @@ use Rattle.leb128.specs.Number.{Bytes, groups, numberAt}
 use Rattle.leb128.specs.NumberLaws.{Stands, written-read, read-written}
 use Rattle.card.specs.declared.Figures.{Figures}
 use Rattle.card.specs.declared.CardRead.{CardRead}
-use Rattle.card.specs.declared.fields.Field.the-variants.{Value, Refused}
+use Rattle.card_field.specs.declared.Field.the-variants.{Value}
 use Rattle.card.specs.Card.{bytesOf}
-use Rattle.card.specs.Read.{onFault, onNumber, fieldAt, accepted, refusedCard, thenField, cardEnd}
+use Rattle.card_field.specs.Figure.{onFault, onNumber, fieldAt}
+use Rattle.card.specs.Read.{accepted, refusedCard, thenField, cardEnd}
 
 -- ---- what is written is read back
 
@@ -58,6 +59,10 @@ end-goes s at f a = rw (le-ltb at (length s) (omega (arith, length-drop at s, ap
 
 -- ---- what is accepted is what would be written
 
+-- the same answer is accepted too
+pub still-accepted : {q r : CardRead} → q ≡ r → q .verdict .number ≡ 0 → r .verdict .number ≡ 0
+still-accepted e n = ap (λ (x : CardRead). x .verdict .number) (sym e) ∙ n
+
 -- the figure at an offset of s: its value in its range, and its bytes
 pub record Got (judge : ℕ → ℕ) (s : List ℕ) (at : ℕ) : Type 0 where
   pub value : ℕ
@@ -87,12 +92,14 @@ module _ (judge : ℕ → ℕ) (s : List ℕ) (at : ℕ) (go : ℕ → ℕ → C
       by (number.Malformed start) n e = absurd (omega arith)
 
 -- an accepted card ends after its last figure
-pub end-got : (s : List ℕ) (at : ℕ) (f : Figures) → at ≤ length s → cardEnd s at f .verdict .number ≡ 0 → (cardEnd s at f ≡ record { verdict = accepted; figures = f }) × Ahead s at []
+pub end-got : (s : List ℕ) (at : ℕ) (f : Figures) → at ≤ length s → cardEnd s at f .verdict .number ≡ 0
+    → (cardEnd s at f ≡ record { verdict = accepted; figures = f }) × Ahead s at []
 unfolding cardEnd refusedCard bytesOf
 end-got s at f l e = by (ltb at (length s)) refl e
   where
     by : (t : Bool) → ltb at (length s) ≡ t → cond t (refusedCard cardGoesOn at) (record { verdict = accepted; figures = f }) .verdict .number ≡ 0
-        → (cond (ltb at (length s)) (refusedCard cardGoesOn at) (record { verdict = accepted; figures = f }) ≡ record { verdict = accepted; figures = f }) × Ahead s at []
+        → (cond (ltb at (length s)) (refusedCard cardGoesOn at) (record { verdict = accepted; figures = f }) ≡ record { verdict = accepted; figures = f })
+        × Ahead s at []
     by true q e = absurd (omega arith)
     by false q e = (rw q, record { inside = l; bytes = drop-of-length-le s (ltb-false at (length s) q) })
 

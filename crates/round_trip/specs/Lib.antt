@@ -1,6 +1,6 @@
 pub mod Ahead
 pub mod Entries
-pub mod Legality
 pub mod RoundTrip
+pub mod RowTrip
 pub mod Size
 pub mod TableTrip

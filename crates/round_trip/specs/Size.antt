@@ -13,13 +13,13 @@ use borrow.Author.Tests.{ltb-false}
 use Rattle.numbers.specs.Limits.{straightKind, measuredKind, maxTime, tableLength, minCard, maxCard}
 use Rattle.leb128.specs.Number.{groupsFrom, groups}
 use Rattle.card.specs.declared.Figures.{Figures}
-use Rattle.card.specs.declared.fields.Rule.the-variants.{Positions}
-use Rattle.card.specs.Ranges.{faultOf, timeFault}
-use Rattle.card.specs.Table.{hopIn, backIn}
-use Rattle.card.specs.TableFaults.{TableLegal, straight-hop, straight-back}
-use Rattle.card.specs.Card.{Legal, filmFault, zoneFaults, tableNumbers, filmNumbers, zoneNumbers, numbersOf, bytesOf, cardOf}
-use Rattle.card.specs.RangeLaws.{first-none, positions-range, time-range}
-use Rattle.round_trip.specs.Legality.{Kinded, fault-film, fault-judged, legal-fault}
+use Rattle.card_field.specs.declared.Rule.the-variants.{Positions}
+use Rattle.card_field.specs.Ranges.{faultOf, timeFault}
+use Rattle.card_table.specs.Table.{hopIn, backIn, tableNumbers}
+use Rattle.card_table.specs.TableFaults.{TableLegal, straight-hop, straight-back}
+use Rattle.card.specs.Card.{Legal, filmFault, zoneFaults, filmNumbers, zoneNumbers, numbersOf, bytesOf, cardOf}
+use Rattle.card_field.specs.RangeLaws.{first-none, positions-range, time-range}
+use Rattle.legality.specs.Legality.{Kinded, fault-film, fault-judged, legal-fault}
 
 -- a number below 128 ^ suc k takes one to suc k bytes
 groups-few : (n k v : ℕ) → v < 128 ^ suc k → (1 ≤ length (groupsFrom n v)) × (length (groupsFrom n v) ≤ suc k)
@@ -27,14 +27,17 @@ unfolding groupsFrom
 groups-few zero k v h = omega arith
 groups-few (suc n) k v h = by (ltb v 128) refl k h (λ j u. groups-few n j (v / 128) u)
   where
-    by : (t : Bool) → ltb v 128 ≡ t → (k : ℕ) → v < 128 ^ suc k → ((j : ℕ) → v / 128 < 128 ^ suc j → (1 ≤ length (groupsFrom n (v / 128))) × (length (groupsFrom n (v / 128)) ≤ suc j))
-        → (1 ≤ length (cond t (v ∷ []) ((v % 128 + 128) ∷ groupsFrom n (v / 128)))) × (length (cond t (v ∷ []) ((v % 128 + 128) ∷ groupsFrom n (v / 128))) ≤ suc k)
+    by : (t : Bool) → ltb v 128 ≡ t → (k : ℕ) → v < 128 ^ suc k
+        → ((j : ℕ) → v / 128 < 128 ^ suc j → (1 ≤ length (groupsFrom n (v / 128))) × (length (groupsFrom n (v / 128)) ≤ suc j))
+        → (1 ≤ length (cond t (v ∷ []) ((v % 128 + 128) ∷ groupsFrom n (v / 128))))
+        × (length (cond t (v ∷ []) ((v % 128 + 128) ∷ groupsFrom n (v / 128))) ≤ suc k)
     by true e k h ih = omega arith
     by false e zero h ih = absurd (omega (arith, ltb-false v 128 e))
     by false e (suc k) h ih = omega (arith, ih k (omega (arith, pow-succ' 128 (suc k))))
 
 -- the bytes of numbers vs, of which the first takes at most k more
-bytes-more : (k v : ℕ) (vs : List ℕ) → v < 128 ^ suc k → (1 + length (bytesOf vs) ≤ length (bytesOf (v ∷ vs))) × (length (bytesOf (v ∷ vs)) ≤ suc k + length (bytesOf vs))
+bytes-more : (k v : ℕ) (vs : List ℕ) → v < 128 ^ suc k
+    → (1 + length (bytesOf vs) ≤ length (bytesOf (v ∷ vs))) × (length (bytesOf (v ∷ vs)) ≤ suc k + length (bytesOf vs))
 unfolding bytesOf groups
 bytes-more k v vs h = omega (arith, groups-few 4 k v h, length-append (groupsFrom 4 v) (bytesOf vs))
 

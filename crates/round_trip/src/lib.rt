@@ -9,7 +9,7 @@ ghost use Rattle.leb128.specs.Number.{Bytes};
 ghost use Rattle.card.specs.declared.Figures.{Figures};
 ghost use Rattle.card.specs.Card.{Legal, recordFault, judgeRecord, cardOf, writtenCard, bufferAfter};
 ghost use Rattle.card.specs.Read.{accepted, blankFigures, readCard};
-ghost use Rattle.round_trip.specs.Legality.{Wide};
+ghost use Rattle.legality.specs.Legality.{Wide};
 
 // The judge accepts a record exactly where its figures are legal.
 pub fn judge_accepts_legal()
@@ -28,7 +28,9 @@ pub fn written_card_reads_back()
 
 // An accepted card is the card of the figures read, and it is what the writer writes of them: no other form of it is accepted.
 pub fn accepted_card_is_the_written_one()
-    ensures { λ _. ⌜ ((s : List ℕ) → Bytes s → readCard s .verdict .number ≡ 0 → (s ≡ cardOf (readCard s .figures)) × ((out : List ℕ) → length s ≤ length out → (writtenCard (readCard s .figures) out ≡ record { verdict = accepted; length = length s }) × (bufferAfter (readCard s .figures) out ≡ s ++ drop (length s) out))) ⌝ }
+    ensures { λ _. ⌜ ((s : List ℕ) → Bytes s → readCard s .verdict .number ≡ 0 → (s ≡ cardOf (readCard s .figures))
+        × ((out : List ℕ) → length s ≤ length out → (writtenCard (readCard s .figures) out ≡ record { verdict = accepted; length = length s })
+        × (bufferAfter (readCard s .figures) out ≡ s ++ drop (length s) out))) ⌝ }
 {}
 
 // A refused card answers figures that are all zero.

@@ -22,11 +22,12 @@ use Rattle.rules.specs.Scheduler.{before, insert, sorted, entriesAt, lowWater, 
 use Rattle.rules.specs.Scheduler.{leads, times, fetchCount, bound, sweptBy, releaseBy, released, endedSlot, ended, mostDrawn}
 use Rattle.rules.specs.Order.{Scheduler, Order}
 use Rattle.turns.specs.Facts.{Good, Sound}
-use Rattle.safety.specs.Orderly.{Kept, Orderly}
+use Rattle.turns.specs.Orderly.{Kept, Orderly}
 use Rattle.turns.specs.Slots.{fetched-kind, fetched-other}
 use Rattle.rules.specs.Ledger.{Line, blank, lineAt, openedLine, closeBy, isNamed, markedLine, drawnLine, settledLine, recorded}
 use Rattle.rules.specs.Calls.{Allowed, accepted}
-use Rattle.safety.specs.Safety.{Drawable, Drawables, drawables-of, Swept, swept-of, leads-after, leads-le, fetches-le}
+use Rattle.turns.specs.Sweeps.{Drawable, Drawables, drawables-of, fetches-le}
+use Rattle.safety.specs.Safety.{Swept, swept-of, leads-after, leads-le}
 
 -- ---- whom the entries name
 
@@ -204,7 +205,7 @@ module _ {A : Type 0} (p : Supply A) where
         go true = record { opens = refl; sums = λ z. clash z refl; quiet = λ z. clash z refl; marks = m .unmarked }
         go false = record { opens = m .opens; sums = m .sums; quiet = m .quiet; marks = m .unmarked }
 
-    swept-line : (L m : ℕ) (s : Slot A) (l : Line) (d : ℕ) → Good p L s → Agree true s l → Drawable p ok m s d
+    swept-line : (L m : ℕ) (s : Slot A) (l : Line) (d : ℕ) → Good p L s → Agree true s l → Drawable p m s d
         → SweptLine (sweptBy p (isFetched p s) s d) (drawnLine l d)
     unfolding sweptBy drawnLine
     swept-line L m s l d g r w = rw (r .marks) (go (isFetched p s) refl)
@@ -232,7 +233,12 @@ module _ {A : Type 0} (p : Supply A) where
             }
 
         go : (f : Bool) → isFetched p s ≡ f
-            → SweptLine (sweptBy p f s d) (record { isOpen = l .isOpen; fetched = l .fetched + bit f; consumed = l .consumed + cond (l .isOpen) d 0; marked = false })
+            → SweptLine (sweptBy p f s d) (record {
+              isOpen = l .isOpen;
+              fetched = l .fetched + bit f;
+              consumed = l .consumed + cond (l .isOpen) d 0;
+              marked = false;
+            })
         go true f =
             let q = fetched-kind p s f in
             let o : l .isOpen ≡ true = r .opens ∙ lt-ltb 0 (s .kind) (omega arith) in
@@ -250,7 +256,7 @@ module _ {A : Type 0} (p : Supply A) where
 
     module _ (k T L M : ℕ) (few : k ≤ p .n) (paid : 2 * T + M ≤ L + k * p .pairTime) (top : L ≤ p .n * p .margin) where
       lines-ended : (i : ℕ) (ss : List (Slot A)) (ls : List Line) (ds : List ℕ) → Each (Good p L) ss → Both (Agree true) ss ls
-          → Drawables p ok (p .c * (T + p .overhead k) / micros) ds i ss
+          → Drawables p (p .c * (T + p .overhead k) / micros) ds i ss
           → Both (Agree false) (mapFrom (λ j s. endedSlot p s (getD ds j 0)) i ss) (mapFrom (λ j l. settledLine (p .B) (drawnLine l (getD ds j 0))) i ls)
       unfolding mapFrom endedSlot
       lines-ended i [] [] ds g b w = tt
@@ -291,10 +297,11 @@ module _ {A : Type 0} (p : Supply A) where
       recorded-keeps d begin ls h a r =
           let ss = d .slots in
           let ts = o .begins (d .queue) ss .slots in
-          lines-begun 0 _ ss ts ls (λ j _. named-sorted j (entriesFrom p 0 ts)) (orderly .began (d .queue) ss (h .slots) .kept) (rw (no-sweep (d .phase) a) at r)
+          lines-begun 0 _ ss ts ls (λ j _. named-sorted j (entriesFrom p 0 ts)) (orderly .began (d .queue) ss (h .slots) .kept)
+          (rw (no-sweep (d .phase) a) at r)
       recorded-keeps d (end ds) ls h a r =
           let ss = d .slots in
           let m : ℕ = mostDrawn p ss in
-          lines-ended (fetchCount p ss) (times p ss) (leads p ss) (leads p (ended p ss ds)) (fetches-le p ok (p .n) ss (h .unused))
+          lines-ended (fetchCount p ss) (times p ss) (leads p ss) (leads p (ended p ss ds)) (fetches-le p (p .n) ss (h .unused))
           (leads-after p ok (leads p ss) ss ds (h .slots)) (leads-le p ok (leads p ss) (p .n) ss (h .slots) (h .unused)) 0 ss ls ds (h .slots)
-          (rw (eq-eqb (d .phase) sweeping (a .0)) at r) (drawables-of p ok m ds 0 ss (a .2) (a .3))
+          (rw (eq-eqb (d .phase) sweeping (a .0)) at r) (drawables-of p m ds 0 ss (a .2) (a .3))

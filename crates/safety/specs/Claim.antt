@@ -19,8 +19,8 @@ use Rattle.rules.specs.Scheduler.{Slot, Call, begin, freeSlot, at, leads}
 use Rattle.rules.specs.Order.{Scheduler, Order, bySlot, opened}
 use Rattle.rules.specs.Sound.{sound}
 use Rattle.turns.specs.Facts.{Good, good-free, replicate-free, sound-says, says-sound}
-use Rattle.safety.specs.Orderly.{Orderly}
-use Rattle.safety.specs.BySlot.{bySlot-orderly}
+use Rattle.turns.specs.Orderly.{Orderly}
+use Rattle.turns.specs.BySlot.{bySlot-orderly}
 use Rattle.rules.specs.Refusals.{verdict}
 use Rattle.rules.specs.Ledger.{Line, blank, lineAt}
 use Rattle.rules.specs.Calls.{Given, Answer, State, isAccepted, refusals, accepted, opening, answerBy, answer, turn, after}
@@ -28,8 +28,9 @@ use Rattle.safety.specs.Safety.{accepted-keeps}
 use Rattle.safety.specs.Accounts.{Agree, agree-free}
 use Rattle.rules.specs.Kinds.{kindAfter}
 use Rattle.safety.specs.KindLaws.{kinds-by-rules}
-use Rattle.safety.specs.Verdicts.{refusals-strict, accepted-was-sound, sound-never-unsound}
-use Rattle.safety.specs.Lists.{InStep, accepted-zero, after-last, answer-number, answer-accepted, verdict-zero, every-list-in-step, sweep-starts}
+use Rattle.turns.specs.Verdicts.{refusals-strict, accepted-was-sound, sound-never-unsound}
+use Rattle.turns.specs.Answers.{accepted-zero, after-last, answer-number, answer-accepted, verdict-zero}
+use Rattle.safety.specs.Lists.{InStep, every-list-in-step, sweep-starts}
 
 module _ {A Q : Type 0} (p : Supply A) (o : Order A Q) where
   -- the scheduler and the ledger after a list from the opening
@@ -116,7 +117,8 @@ module _ {A : Type 0} (p : Supply A) (ok : Lawful p) (names : Named p) where
     abbrev Ruled : (Scheduler A Q → Call A → ℕ → ℕ) → List (Given A) → Given A → List (Given A) → Type 0
     Ruled rule ys x xs =
         (i : ℕ) → i < maxStreams
-        → slotAfter p o xs i .kind ≡ cond (isAccepted (answerAfter p o ys x .number)) (rule (stateAfter p o ys .scheduler) (x .call) i) (slotAfter p o ys i .kind)
+        → slotAfter p o xs i .kind ≡ cond (isAccepted (answerAfter p o ys x .number)) (rule (stateAfter p o ys .scheduler) (x .call) i)
+        (slotAfter p o ys i .kind)
 
     -- k is the kind of slot i if the call is accepted
     answer-kind : (d : Scheduler A Q) (x : Given A) (i k : ℕ) → at p (accepted p o d (x .call) .scheduler .slots) i .kind ≡ k
@@ -168,7 +170,8 @@ module _ {A : Type 0} (p : Supply A) (ok : Lawful p) (names : Named p) where
             both-at (Agree p t) (v .scheduler .slots) (v .ledger) i (freeSlot p) blank (kept xs .agrees) (agree-free p t)
 
         slot : (i : ℕ) → Good p (leads p (stateAfter p o xs .scheduler .slots)) (slotAfter p o xs i)
-        slot i = let ss = stateAfter p o xs .scheduler .slots in each-at (Good p (leads p ss)) ss i (freeSlot p) (kept xs .sound .slots) (good-free p (leads p ss))
+        slot i = let ss = stateAfter p o xs .scheduler .slots in
+            each-at (Good p (leads p ss)) ss i (freeSlot p) (kept xs .sound .slots) (good-free p (leads p ss))
 
   -- every list is safe: document 01's order, and its rules for the kinds
   pub every-list-safe : (xs : List (Given A)) → Safe p (bySlot p) (kindAfter p) xs

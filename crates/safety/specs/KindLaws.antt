@@ -34,11 +34,13 @@ module _ {A : Type 0} (p : Supply A) where
   unfolding startedSlot
   started-asks x s = go (eqb (s .kind) filling && holds p x s) refl
     where
-      go : (t : Bool) → (eqb (s .kind) filling && holds p x s) ≡ t → (eqb (startBy p t s .kind) waiting ≡ eqb (s .kind) waiting) × (startBy p t s .next ≡ s .next)
+      go : (t : Bool) → (eqb (s .kind) filling && holds p x s) ≡ t → (eqb (startBy p t s .kind) waiting ≡ eqb (s .kind) waiting)
+          × (startBy p t s .next ≡ s .next)
       go true e = let k = eqb-true (s .kind) filling (and-left (eqb (s .kind) filling) _ e) in (rw k, refl)
       go false e = (refl, refl)
 
-  granted-same : (ss : List (Slot A)) (i L : ℕ) → L ≡ leads p (tries p (startedAll p ss) 0 i) → isGranted p ss L i ≡ grantable p (tries p (startedAll p ss) 0 i) i
+  granted-same : (ss : List (Slot A)) (i L : ℕ) → L ≡ leads p (tries p (startedAll p ss) 0 i)
+      → isGranted p ss L i ≡ grantable p (tries p (startedAll p ss) 0 i) i
   unfolding isGranted
   granted-same ss i L q =
       let x : ℕ = lowWater p (leads p ss) in

@@ -1,10 +1,7 @@
 pub mod Floors
-pub mod Strict
-pub mod Orderly
 pub mod Safety
 pub mod Accounts
-pub mod BySlot
-pub mod Verdicts
+pub mod Tails
 pub mod Lists
 pub mod KindLaws
 pub mod Claim

@@ -23,7 +23,8 @@ use Rattle.rules.specs.Scheduler.{reads, leadOf, leads, lowWater, joined, left,
 use Rattle.rules.specs.Scheduler.{sweptBy, releaseBy, released, endedSlot, ended, mostDrawn, drawLimit}
 use Rattle.rules.specs.Order.{Scheduler, Order}
 use Rattle.turns.specs.Facts.{Good, good-block, good-free, FreeFrom, Sound}
-use Rattle.safety.specs.Orderly.{Kept, kept-refl, SameWaiting, Floored, Orderly}
+use Rattle.turns.specs.Orderly.{Kept, SameWaiting, Floored, Orderly}
+use Rattle.turns.specs.Sweeps.{kept-free, fetches-le, Drawable, Drawables, drawables-of}
 use Rattle.turns.specs.Slots.{reads-kind, reading-lead, other-lead, fetched-other, fetched-kind, fetched-room, unfetched-full}
 use Rattle.rules.specs.Refusals.{drawAllowed, drawHeld}
 use Rattle.rules.specs.Calls.{Allowed, accepted}
@@ -78,10 +79,6 @@ module _ {A : Type 0} (p : Supply A) where
   kept-goods L M (s ∷ ss) [] k f g = absurd k
   kept-goods L M (s ∷ ss) (t ∷ ts) k f g = (kept-good L M s t (k .0) (f .0) (g .0), kept-goods L M ss ts (k .1) (f .1) (g .1))
 
-  pub kept-free : (m : ℕ) (ss ts : List (Slot A)) → Both Kept ss ts → FreeFrom p m ss → FreeFrom p m ts
-  kept-free m ss ts k u i l =
-      let q = both-at Kept ss ts i (freeSlot p) (freeSlot p) k (kept-refl (freeSlot p)) in omega (arith, q .occupied, u i l)
-
   module _ (ok : Lawful p) where
     -- ---- the sums of a sweep
 
@@ -101,13 +98,6 @@ module _ {A : Type 0} (p : Supply A) where
         omega (arith, other-lead p s (λ a b. omega (arith, u 0 (omega arith))), leads-le L zero ss (g .1) (λ i l. u (suc i) (omega arith)))
     leads-le L (suc m) (s ∷ ss) g u = omega (arith, lead-le L s (g .0), leads-le L m ss (g .1) (λ i l. u (suc i) (omega arith)))
 
-    pub fetches-le : (m : ℕ) (ss : List (Slot A)) → FreeFrom p m ss → fetchCount p ss ≤ m
-    unfolding fetchCount sumBy
-    fetches-le m [] u = omega arith
-    fetches-le zero (s ∷ ss) u =
-        rw (fetched-other p s (λ a b. omega (arith, u 0 (omega arith)))) (omega (arith, fetches-le zero ss (λ i l. u (suc i) (omega arith))))
-    fetches-le (suc m) (s ∷ ss) u = omega (arith, bit-le (isFetched p s), fetches-le m ss (λ i l. u (suc i) (omega arith)))
-
     released-lead : (s : Slot A) → leadOf p (released p s) ≤ leadOf p s
     unfolding released leadOf reads
     released-lead s = go (eqb (s .kind) draining && eqb (s .buffered) 0)
@@ -123,7 +113,8 @@ module _ {A : Type 0} (p : Supply A) where
     swept-lead L s d g = go (isFetched p s) refl
       where
         last : (t : Bool) → (2 ≤ s .kind) × (s .kind ≤ 3)
-            → leadOf p (record { kind = cond t draining (s .kind); next = p .next (s .next); buffered = s .buffered - d + p .B }) ≤ cond t 0 (p .lead (p .next (s .next)))
+            → leadOf p (record { kind = cond t draining (s .kind); next = p .next (s .next); buffered = s .buffered - d + p .B }) ≤ cond t 0
+            (p .lead (p .next (s .next)))
         last true k = unfold leadOf in unfold reads in omega arith
         last false k = omega (arith, reading-lead p (record { kind = s .kind; next = p .next (s .next); buffered = s .buffered - d + p .B }) (k .0) (k .1))
 
@@ -152,7 +143,8 @@ module _ {A : Type 0} (p : Supply A) where
     leads-after L ss ds g = leads-from L 0 ss ds g
 
     pub room-of : (k : ℕ) → k ≤ p .n → p .c * (k * p .pairTime + 2 * p .overhead k + 0) ≤ parts * p .B
-    room-of k kn = room-of-streams (p .c) (p .n) (p .pairTime) (p .overhead (p .n)) (p .B) k (p .overhead k) (ok .streams-fit) kn (ok .overhead-rises k (p .n) kn)
+    room-of k kn = room-of-streams (p .c) (p .n) (p .pairTime) (p .overhead (p .n)) (p .B) k (p .overhead k) (ok .streams-fit) kn
+        (ok .overhead-rises k (p .n) kn)
 
     -- a sweep over ss draws no more than its low-water mark
     pub bound-within : (ss : List (Slot A)) → FreeFrom p (p .n) ss → Each (Good p (leads p ss)) ss → 2 * (p .c * bound p ss) ≤ lowWater p (leads p ss)
@@ -160,7 +152,7 @@ module _ {A : Type 0} (p : Supply A) where
     bound-within ss u h =
         let k = fetchCount p ss in
         sweep-within (p .c) (p .pairTime) (p .B) k (p .overhead k) (times p ss) (leads p ss) (leads p (ended p ss [])) 0
-        (room-of k (fetches-le (p .n) ss u)) (leads-after (leads p ss) ss [] h)
+        (room-of k (fetches-le p (p .n) ss u)) (leads-after (leads p ss) ss [] h)
 
     -- so a playing slot holds what it may draw
     pub players-hold-draw : (ss : List (Slot A)) → FreeFrom p (p .n) ss → Each (Good p (leads p ss)) ss
@@ -169,36 +161,6 @@ module _ {A : Type 0} (p : Supply A) where
     players-hold-draw ss u h = each-map _ _ ss (λ s g e. omega (arith, bound-within ss u h, g .floored e)) h
 
     -- ---- end
-
-    -- the two tests of a draw, m being the most
-    pub record Drawable (m : ℕ) (s : Slot A) (d : ℕ) : Type 0 where
-      pub held : d ≤ s .buffered
-      pub most : d ≤ m
-      pub still : s .kind < 3 → d ≡ 0
-
-    pub drawable-of : (m : ℕ) (ds : List ℕ) (i : ℕ) (s : Slot A) → drawAllowed p m ds i s ≡ true → drawHeld p ds i s ≡ true → Drawable m s (getD ds i 0)
-    unfolding drawAllowed drawHeld drawLimit
-    drawable-of m ds i s e h =
-        let d : ℕ = getD ds i 0 in
-        let t : Bool = eqb (s .kind) playing || eqb (s .kind) draining in
-        let a = leb-true d (cond t m 0) e in
-        record {
-          held = leb-true d (s .buffered) h;
-          most = omega (arith, cond-le t m);
-          still = λ k. omega (arith, rw (ne-eqb (s .kind) playing (λ z. omega arith), ne-eqb (s .kind) draining (λ z. omega arith)) at a);
-        }
-
-    abbrev pub Drawables : ℕ → List ℕ → ℕ → List (Slot A) → Type 0
-    Drawables m ds i ss = EachFrom (λ j s. Drawable m s (getD ds j 0)) i ss
-
-    pub drawables-of : (m : ℕ) (ds : List ℕ) (i : ℕ) (ss : List (Slot A))
-        → allFrom (drawAllowed p m ds) i ss ≡ true → allFrom (drawHeld p ds) i ss ≡ true → Drawables m ds i ss
-    unfolding allFrom
-    drawables-of m ds i [] e h = tt
-    drawables-of m ds i (s ∷ ss) e h = (
-      drawable-of m ds i s (and-left (drawAllowed p m ds i s) _ e) (and-left (drawHeld p ds i s) _ h),
-      drawables-of m ds (suc i) ss (and-right (drawAllowed p m ds i s) _ e) (and-right (drawHeld p ds i s) _ h),
-    )
 
     -- a slot after its sweep, before a tail that holds 0 becomes free
     pub record Swept (L : ℕ) (s : Slot A) : Type 0 where
@@ -232,7 +194,7 @@ module _ {A : Type 0} (p : Supply A) where
       abbrev most : ℕ
       most = p .c * (T + p .overhead k) / micros
 
-      pub swept-of : (s : Slot A) (d : ℕ) → Good p L s → Drawable most s d → Swept M (sweptBy p (isFetched p s) s d)
+      pub swept-of : (s : Slot A) (d : ℕ) → Good p L s → Drawable p most s d → Swept M (sweptBy p (isFetched p s) s d)
       unfolding sweptBy lowWater
       swept-of s d g w = go (isFetched p s) refl
         where
@@ -278,7 +240,7 @@ module _ {A : Type 0} (p : Supply A) where
             );
           }
 
-      goods-ended : (i : ℕ) (ss : List (Slot A)) (ds : List ℕ) → Each (Good p L) ss → Drawables most ds i ss
+      goods-ended : (i : ℕ) (ss : List (Slot A)) (ds : List ℕ) → Each (Good p L) ss → Drawables p most ds i ss
           → Each (Good p M) (mapFrom (λ j s. endedSlot p s (getD ds j 0)) i ss)
       unfolding mapFrom endedSlot
       goods-ended i [] ds g w = tt
@@ -348,16 +310,16 @@ module _ {A : Type 0} (p : Supply A) where
           record {
             phase = omega arith;
             slots = kept-goods (leads p ss) (leads p ts) ss ts (b .kept) (b .floored) (h .slots);
-            unused = kept-free (p .n) ss ts (b .kept) (h .unused);
+            unused = kept-free p (p .n) ss ts (b .kept) (h .unused);
             queue = orderly .queue-begun (d .queue) ss (h .slots) (h .queue);
           }
       accepted-keeps d (end ds) h a =
           let ss = d .slots in
           let m : ℕ = mostDrawn p ss in
-          let w : Drawables m ds 0 ss = drawables-of m ds 0 ss (a .2) (a .3) in
+          let w : Drawables p m ds 0 ss = drawables-of p m ds 0 ss (a .2) (a .3) in
           record {
             phase = omega arith;
-            slots = goods-ended (fetchCount p ss) (times p ss) (leads p ss) (leads p (ended p ss ds)) (fetches-le (p .n) ss (h .unused))
+            slots = goods-ended (fetchCount p ss) (times p ss) (leads p ss) (leads p (ended p ss ds)) (fetches-le p (p .n) ss (h .unused))
                 (leads-after (leads p ss) ss ds (h .slots)) (leads-le (leads p ss) (p .n) ss (h .slots) (h .unused)) 0 ss ds (h .slots) w;
             unused = free-ended (p .n) 0 ss ds (h .unused);
             queue = orderly .queue-ended (d .queue) ss (ended p ss ds) (ended-waits 0 ss ds) (h .queue);

@@ -18,8 +18,8 @@ use Rattle.laws.specs.Indices.{allFrom, lowestFrom}
 use Rattle.rules.specs.Scheduler.{Call, mostDrawn, begin, end}
 use Rattle.rules.specs.Refusals as refusals
 use Rattle.rules.specs.Calls as calls
-use Rattle.safety.specs.Lists.{answer-accepted, answer-refused}
-use Rattle.safety.specs.Verdicts.{refusals-strict}
+use Rattle.turns.specs.Answers.{answer-accepted, answer-refused}
+use Rattle.turns.specs.Verdicts.{refusals-strict}
 use Rattle.turns.specs.Rows.{refuse, begin-phase, begin-short, begin-accepted, end-phase}
 use Rattle.desk.specs.declared.Desk.{Desk}
 use Rattle.desk.specs.declared.Answer.{Answer}
@@ -52,7 +52,8 @@ module _ (d : Desk) (w : Wide d) (ps ls : List ℕ) where
       let p = supplyOf (d .plan) in
       answer-refused p (orderOf (d .plan)) (rulesOf (d .plan)) (viewOf d) (record { call = c; fair = isPlan (d .plan) ps ls; room = room }) k i h e
 
-  accepted-answer : (room : ℕ) (c : Call ℕ) → judges room c .number ≡ 0 → answerOf d ps ls room c ≡ calls.accepted (supplyOf (d .plan)) (orderOf (d .plan)) (viewOf d) c
+  accepted-answer : (room : ℕ) (c : Call ℕ) → judges room c .number ≡ 0
+      → answerOf d ps ls room c ≡ calls.accepted (supplyOf (d .plan)) (orderOf (d .plan)) (viewOf d) c
   unfolding answerOf calls.refusals
   accepted-answer room c e =
       let p = supplyOf (d .plan) in
@@ -135,7 +136,8 @@ module _ (d : Desk) (w : Wide d) (ps ls : List ℕ) where
       unfolding calls.refusals
       end-drawn e =
           let p = supplyOf (d .plan) in
-          refusals-strict p (supply-named (d .plan)) (orderOf (d .plan)) .strict (viewOf d) (record { call = end (wordsOf draws); fair = isPlan (d .plan) ps ls; room = 0 }) (clear e)
+          refusals-strict p (supply-named (d .plan)) (orderOf (d .plan)) .strict (viewOf d)
+          (record { call = end (wordsOf draws); fair = isPlan (d .plan) ps ls; room = 0 }) (clear e)
 
       pub end-ended : drawn .number ≡ 0 → answers (endedDesk d (wordsOf draws)) 0 0 ≡ endDesk d ps ls draws
       unfolding endDesk answered endedDesk calls.accepted
@@ -144,7 +146,8 @@ module _ (d : Desk) (w : Wide d) (ps ls : List ℕ) where
           λ t. record { verdict = verdict (sym a t .number) (sym a t .place); desk = deskOf (d .plan) (sym a t .scheduler) }
 
       -- an accepted end names no place
-      placeless : (a b c e : Bool) (i j : ℕ) → (let v = refusals.unless a wrongPhase 0 (refusals.unless b drawCount 0 (refusals.unless c drawAboveLimit i (refusals.unless e drawAboveHeld j refusals.accept))) in
+      placeless : (a b c e : Bool) (i j : ℕ) → (let v = refusals.unless a wrongPhase 0
+          (refusals.unless b drawCount 0 (refusals.unless c drawAboveLimit i (refusals.unless e drawAboveHeld j refusals.accept))) in
           v .number ≡ 0 → v .place ≡ 0)
       placeless true true true true i j h = refl
       placeless true true true false i j h = absurd (omega arith)
@@ -160,7 +163,8 @@ module _ (d : Desk) (w : Wide d) (ps ls : List ℕ) where
           let ds = wordsOf draws in
           let allowed = refusals.drawAllowed p (mostDrawn p (v .slots)) ds in
           let held = refusals.drawHeld p ds in
-          placeless (eqb (v .phase) 1) (eqb (length ds) (p .n)) (allFrom allowed 0 (v .slots)) (allFrom held 0 (v .slots)) (lowestFrom allowed 0 (v .slots)) (lowestFrom held 0 (v .slots))
+          placeless (eqb (v .phase) 1) (eqb (length ds) (p .n)) (allFrom allowed 0 (v .slots)) (allFrom held 0 (v .slots))
+          (lowestFrom allowed 0 (v .slots)) (lowestFrom held 0 (v .slots))
 
       -- either way the judge of the draws has the verdict
       pub end-judged : drawn ≡ endDesk d ps ls draws .verdict

@@ -7,12 +7,12 @@ use mathlib.Core.List.{List}
 use native.Mathlib.Omega.{arith}
 use lib.ListN.{length}
 use Rattle.numbers.specs.Limits.{maxStreams}
-use Rattle.round_trip.specs.Legality as legality
+use Rattle.legality.specs.Legality as legality
 use Rattle.plan.specs.declared.Plan.{Plan}
 use Rattle.rules.specs.Scheduler.{Slot, begun, entries, fetchCount}
 use Rattle.rules.specs.Order.{bySlot}
 use Rattle.rules.specs.Calls.{accepted}
-use Rattle.safety.specs.Safety.{kept-free, fetches-le}
+use Rattle.turns.specs.Sweeps.{kept-free, fetches-le}
 use Rattle.turns.specs.Sorting.{entries-length}
 use Rattle.desk.specs.declared.Desk.{Desk}
 use Rattle.desk.specs.declared.Begun.{Begun}
@@ -43,7 +43,7 @@ begun-few d r =
     let ts : List (Slot ℕ) = begun s (viewOf d .slots) in
     let b = order-orderly (d .plan) .began tt (viewOf d .slots) (r .sound .slots) in
     let free = kept-free s (s .n) (viewOf d .slots) ts (b .kept) (r .sound .unused) in
-    omega (arith, one-each (d .plan) ts, fetches-le s (ready-lawful d r) (s .n) ts free, streams-are (d .plan))
+    omega (arith, one-each (d .plan) ts, fetches-le s (s .n) ts free, streams-are (d .plan))
 
 -- a begin answers at most 256 entries, and no more than there is room for
 pub begin-few : (d : Desk) → Wide d → legality.Wide (d .plan .figures) → (ps ls : List ℕ) (room : ℕ)

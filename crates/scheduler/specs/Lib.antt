@@ -1,3 +1,4 @@
 pub mod Answers
 pub mod Count
+pub mod Gathered
 pub mod Ways

@@ -9,7 +9,7 @@ use native.Mathlib.Omega.{arith}
 use native.Mathlib.Decide.{decLe, ℕ-discrete}
 use Rattle.numbers.specs.Refusals.{tooShort, notSound, wrongPhase}
 use Rattle.numbers.specs.Slots.{between, sweeping}
-use Rattle.round_trip.specs.Legality as legality
+use Rattle.legality.specs.Legality as legality
 use Rattle.words.specs.Words.{wordsOf}
 use Rattle.desk.specs.declared.Desk.{Desk}
 use Rattle.desk.specs.declared.Answer.{Answer}
@@ -23,7 +23,8 @@ use Rattle.soundness.specs.Ready.{sound-ready}
 use Rattle.ends.specs.Ends.{Drawn}
 use Rattle.sweep.specs.Steps.{begunDesk, sweptOf, begunOf, endedDesk}
 use Rattle.sweep.specs.Kept.{begun-of}
-use Rattle.scheduler.specs.Answers.{begin-unsound, begin-in-sweep, begin-no-room, begin-begun, drawn, end-unsound, end-between, end-refused, end-drawn, end-ended}
+use Rattle.scheduler.specs.Answers.{begin-unsound, begin-in-sweep, begin-no-room, begin-begun, drawn, end-unsound, end-between, end-refused}
+use Rattle.scheduler.specs.Answers.{end-drawn, end-ended}
 
 module _ (d : Desk) (w : Wide d) (z : legality.Wide (d .plan .figures)) (ps ls : List ℕ) where
   -- ---- begin
@@ -59,7 +60,8 @@ module _ (d : Desk) (w : Wide d) (z : legality.Wide (d .plan .figures)) (ps ls :
     -- by the answer's number
     pub begin-refused : beginDesk d ps ls room .verdict .number ≢ 0 → notBegun d (beginDesk d ps ls room .verdict .number) ≡ beginDesk d ps ls room
     begin-refused n =
-        ⊎-elim (λ (h : (k : ℕ) × NotBegun k). ap (notBegun d) (number-refused (h .0) (h .1)) ∙ h .1 .answer) (λ (h : HasBegun). absurd (n (number-begun h))) begin-ways
+        ⊎-elim (λ (h : (k : ℕ) × NotBegun k). ap (notBegun d) (number-refused (h .0) (h .1)) ∙ h .1 .answer)
+        (λ (h : HasBegun). absurd (n (number-begun h))) begin-ways
 
     pub begin-accepted : beginDesk d ps ls room .verdict .number ≡ 0 → HasBegun
     begin-accepted e = ⊎-elim (λ (h : (k : ℕ) × NotBegun k). absurd (omega (arith, number-refused (h .0) (h .1), h .1 .some))) (λ (h : HasBegun). h) begin-ways
@@ -86,10 +88,15 @@ module _ (d : Desk) (w : Wide d) (z : legality.Wide (d .plan .figures)) (ps ls :
     end-ways : ((k : ℕ) × (i : ℕ) × NotEnded k i) ⊎ HasEnded
     end-ways = go (soundDesk d ps ls) refl (ℕ-discrete (d .phase) sweeping) (ℕ-discrete (drawn d w ps ls draws .number) 0)
       where
-        go : (t : Bool) → soundDesk d ps ls ≡ t → Dec (d .phase ≡ sweeping) → Dec (drawn d w ps ls draws .number ≡ 0) → ((k : ℕ) × (i : ℕ) × NotEnded k i) ⊎ HasEnded
+        go : (t : Bool) → soundDesk d ps ls ≡ t → Dec (d .phase ≡ sweeping) → Dec (drawn d w ps ls draws .number ≡ 0)
+            → ((k : ℕ) × (i : ℕ) × NotEnded k i) ⊎ HasEnded
         go false s p n = inl (notSound, 0, record { some = omega arith; answer = end-unsound d w ps ls draws s })
         go true s (no p) n = inl (wrongPhase, 0, record { some = omega arith; answer = end-between d w ps ls draws s p })
-        go true s (yes p) (no n) = inl (drawn d w ps ls draws .number, drawn d w ps ls draws .place, record { some = omega arith; answer = end-refused d w ps ls draws s n })
+        go true s (yes p) (no n) = inl (
+          drawn d w ps ls draws .number,
+          drawn d w ps ls draws .place,
+          record { some = omega arith; answer = end-refused d w ps ls draws s n },
+        )
         go true s (yes p) (yes n) =
             inr (record { ready = sound-ready d ps ls z s; drawn = end-drawn d w ps ls draws s n; answer = end-ended d w ps ls draws s n })
 

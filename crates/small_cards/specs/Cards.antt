@@ -1,14 +1,14 @@
 -- Document 02, ticket 13: what a small card is, and the list of them in the stated order.
-use Prim.Native.Nat.{ℕ, zero, suc, _+_, _-_, _≤_, _<_, min}
+use Prim.Native.Nat.{ℕ, zero, suc, _-_, _≤_, _<_, min}
 use mathlib.Core.Path.{_≡_}
 use mathlib.Core.Logic.{_⊎_}
 use mathlib.Core.List.{List, [], _∷_, _++_, map}
-use lib.ListN.{length, getD, take}
+use lib.ListN.{getD, take}
 use Rattle.laws.specs.Members.{upto, each}
 use Rattle.laws.specs.Runs.{sumBy}
 use Rattle.numbers.specs.Limits.{straightKind, maxZones, minBlocks, maxTried}
 use Rattle.card.specs.declared.Figures.{Figures}
-use Rattle.card.specs.Table.{straight}
+use Rattle.card_table.specs.Table.{straight}
 use Rattle.card.specs.Card.{Legal}
 use Rattle.card.specs.Read.{blankZones}
 
@@ -21,7 +21,16 @@ entered xs = take maxZones (xs ++ blankZones)
 -- zones of given positions and times and a film of n blocks, with the measures that every small card has: B 1000, c 1000, and the
 -- overheads of hop 1 and return 1, as cards of kind 1 have them
 unfoldable pub smallFigures : ℕ → List ℕ → List ℕ → ℕ → Figures
-smallFigures z ps ts n = record { kind = straightKind; zones = z; positions = entered ps; times = entered ts; blocks = n; bytes = 1000; rate = 1000; table = straight 1 1 }
+smallFigures z ps ts n = record {
+  kind = straightKind;
+  zones = z;
+  positions = entered ps;
+  times = entered ts;
+  blocks = n;
+  bytes = 1000;
+  rate = 1000;
+  table = straight 1 1;
+}
 
 -- ---- which cards are small (T13.1)
 

@@ -1,17 +1,16 @@
 -- What is computed of the list of small cards, card by card: each but for its overheads is small, each is before the next, and there are 1511.
 -- Assumes nothing.
-use Prim.Native.Nat.{ℕ, zero, suc, _+_, _≤_}
+use Prim.Native.Nat.{ℕ, zero, suc, _+_}
 use mathlib.Core.Path.{_≡_, refl}
 use mathlib.Core.Bool.{Bool, true, _&&_}
-use mathlib.Core.List.{List, [], _∷_}
 use lib.ListN.{length, getD}
 use lib.Dec.{leb, eqb}
 use Rattle.laws.specs.Runs.{sumBy, allBy}
 use Rattle.laws.specs.Members.{upto, each}
-use Rattle.numbers.specs.Limits.{maxTime, maxBytes, maxRate}
+use Rattle.numbers.specs.Limits.{maxZones, maxTime, maxTried, maxBytes, maxRate}
 use Rattle.card.specs.declared.Figures.{Figures}
-use Rattle.card.specs.declared.fields.Rule.the-variants.{Zones, Positions, Blocks, Measure}
-use Rattle.card.specs.Ranges.{first, below, above, outside, thenAbove, thenBelow, faultOf, timeFault}
+use Rattle.card_field.specs.declared.Rule.the-variants.{Zones, Positions, Measure}
+use Rattle.card_field.specs.Ranges.{first, below, above, outside, thenAbove, thenBelow, faultOf, timeFault, blocksFault}
 use Rattle.card.specs.Card.{zerosFrom, unusedZero}
 use Rattle.card.specs.Read.{blankZones, blankFigures}
 use Rattle.small_cards.specs.Cards.{entered, smallFigures, threes, falling, films, smallCards}
@@ -24,10 +23,12 @@ how-many = refl
 
 -- no refusal from the i-th zone on, `left` more, but for the overheads
 unfoldable pub zonesPass : ℕ → ℕ → Figures → ℕ → ℕ → Bool
-zonesPass zero i f total before = eqb (faultOf Blocks total (f .blocks)) 0 && (eqb (faultOf Measure maxBytes (f .bytes)) 0 && eqb (faultOf Measure maxRate (f .rate)) 0)
+zonesPass zero i f total before =
+    eqb (blocksFault total (f .blocks)) 0 && (eqb (faultOf Measure maxBytes (f .bytes)) 0 && eqb (faultOf Measure maxRate (f .rate)) 0)
 zonesPass (suc left) i f total before =
     eqb (faultOf Positions total (getD (f .positions) i 0)) 0
-    && (eqb (timeFault (getD (f .times) 0 0) before (getD (f .times) i 0)) 0 && zonesPass left (i + 1) f (total + getD (f .positions) i 0) (getD (f .times) i 0))
+    && (eqb (timeFault (getD (f .times) 0 0) before (getD (f .times) i 0)) 0
+    && zonesPass left (i + 1) f (total + getD (f .positions) i 0) (getD (f .times) i 0))
 
 -- nor of the whole record
 unfoldable pub passes : Figures → Bool
@@ -37,13 +38,13 @@ passes f = eqb (faultOf Zones 0 (f .zones)) 0 && (unusedZero f && zonesPass (f .
 unfoldable pub hasForm : Figures → Bool
 hasForm f =
     passes f
-    && ((eqb (length (f .positions)) 64 && eqb (length (f .times)) 64)
-    && ((leb (f .zones) 3 && leb (f .blocks) 8)
+    && ((eqb (length (f .positions)) maxZones && eqb (length (f .times)) maxZones)
+    && ((leb (f .zones) 3 && leb (f .blocks) maxTried)
     && ((allBy (λ (p : ℕ). leb p 3) (f .positions) && allBy (λ (t : ℕ). leb t 3) (f .times))
     && (eqb (f .bytes) 1000 && eqb (f .rate) 1000))))
 
 pub all-have-form : allBy hasForm smallCards ≡ true
-unfolding smallCards each threes falling films upto sumBy allBy smallFigures entered blankZones first below above outside thenAbove thenBelow faultOf timeFault zerosFrom unusedZero zonesPass passes hasForm
+unfolding smallCards each threes falling films upto sumBy allBy smallFigures entered blankZones first below above outside thenAbove thenBelow faultOf timeFault blocksFault zerosFrom unusedZero zonesPass passes hasForm
 all-have-form = refl
 
 pub all-in-order : inOrder blankFigures smallCards ≡ true

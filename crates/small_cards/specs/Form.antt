@@ -1,10 +1,10 @@
 -- Each card of the list is small.
 -- Assumes nothing.
-use Prim.Native.Nat.{ℕ, zero, suc, _+_, _≤_, _<_}
+use Prim.Native.Nat.{ℕ, zero, suc, _+_}
 use mathlib.Core.Path.{_≡_, ap, _∙_}
 use mathlib.Core.Logic.{inl}
-use mathlib.Core.Bool.{Bool, true, _&&_}
-use mathlib.Core.List.{List, map}
+use mathlib.Core.Bool.{true, _&&_}
+use mathlib.Core.List.{map}
 use native.Mathlib.Omega.{arith}
 use lib.ListN.{length, getD}
 use lib.Dec.{leb, eqb}
@@ -12,16 +12,16 @@ use borrow.Author.Tests.{leb-true, eqb-true}
 use Rattle.laws.specs.Bools.{and-left, and-right}
 use Rattle.laws.specs.Members.{In, upto, each, in-all, of-each, of-map}
 use Rattle.laws.specs.Runs.{allBy, all-at}
-use Rattle.numbers.specs.Limits.{straightKind, maxTime, maxBytes, maxRate}
+use Rattle.numbers.specs.Limits.{straightKind, maxZones, maxTime, maxBytes, maxRate, maxTried}
 use Rattle.card.specs.declared.Figures.{Figures}
-use Rattle.card.specs.declared.fields.Rule.the-variants.{Zones, Positions, Blocks, Measure}
-use Rattle.card.specs.Ranges.{faultOf, timeFault}
-use Rattle.card.specs.RangeLaws.{first-clear, kind-legal}
-use Rattle.card.specs.Table.{straight}
-use Rattle.card.specs.TableLaws.{straight-long}
-use Rattle.card.specs.TableFaults.{table-fault}
-use Rattle.card.specs.Card.{Legal, tableFault, filmFault, zoneFaults, unusedZero, recordFault}
-use Rattle.round_trip.specs.Legality.{fault-legal}
+use Rattle.card_field.specs.declared.Rule.the-variants.{Zones, Positions, Measure}
+use Rattle.card_field.specs.Ranges.{faultOf, timeFault, blocksFault}
+use Rattle.card_field.specs.RangeLaws.{first-clear, kind-legal}
+use Rattle.card_table.specs.Table.{straight, tableFault}
+use Rattle.card_table.specs.TableLaws.{straight-long}
+use Rattle.card_table.specs.TableFaults.{table-fault}
+use Rattle.card.specs.Card.{filmFault, zoneFaults, unusedZero, recordFault}
+use Rattle.legality.specs.Legality.{fault-legal}
 use Rattle.small_cards.specs.Cards.{smallFigures, Small, threes, falling, films, smallCards}
 use Rattle.small_cards.specs.Computed.{zonesPass, passes, hasForm, all-have-form}
 
@@ -46,14 +46,17 @@ listed-moves f h =
 
 -- ---- all else
 
-zones-clear : (f : Figures) → tableFault (f .kind) (f .table) ≡ 0 → (left i total before : ℕ) → zonesPass left i f total before ≡ true → zoneFaults left i f total before ≡ 0
+zones-clear : (f : Figures) → tableFault (f .kind) (f .table) ≡ 0 → (left i total before : ℕ) → zonesPass left i f total before ≡ true
+    → zoneFaults left i f total before ≡ 0
 unfolding zonesPass zoneFaults filmFault
 zones-clear f t zero i total before e =
-    let n = faultOf Blocks total (f .blocks) in
+    let n = blocksFault total (f .blocks) in
     let b = faultOf Measure maxBytes (f .bytes) in
     let c = faultOf Measure maxRate (f .rate) in
     let later = and-right (eqb n 0) _ e in
-    first-clear (eqb-true n 0 (and-left (eqb n 0) _ e)) (first-clear (eqb-true b 0 (and-left (eqb b 0) _ later)) (first-clear (eqb-true c 0 (and-right (eqb b 0) _ later)) t))
+    first-clear (eqb-true n 0 (and-left (eqb n 0) _ e))
+    (first-clear (eqb-true b 0 (and-left (eqb b 0) _ later))
+    (first-clear (eqb-true c 0 (and-right (eqb b 0) _ later)) t))
 zones-clear f t (suc left) i total before e =
     let p = faultOf Positions total (getD (f .positions) i 0) in
     let s = timeFault (getD (f .times) 0 0) before (getD (f .times) i 0) in
@@ -75,21 +78,23 @@ form-small : (f : Figures) → f .kind ≡ straightKind → f .table ≡ straigh
 unfolding hasForm
 form-small f k t e =
     let e₁ = and-right (passes f) _ e in
-    let e₂ = and-right (eqb (length (f .positions)) 64 && eqb (length (f .times)) 64) _ e₁ in
-    let e₃ = and-right (leb (f .zones) 3 && leb (f .blocks) 8) _ e₂ in
+    let e₂ = and-right (eqb (length (f .positions)) maxZones && eqb (length (f .times)) maxZones) _ e₁ in
+    let e₃ = and-right (leb (f .zones) 3 && leb (f .blocks) maxTried) _ e₂ in
     let e₄ = and-right (allBy (λ (p : ℕ). leb p 3) (f .positions) && allBy (λ (t : ℕ). leb t 3) (f .times)) _ e₃ in
-    let wide = and-left (eqb (length (f .positions)) 64 && eqb (length (f .times)) 64) _ e₁ in
-    let few = and-left (leb (f .zones) 3 && leb (f .blocks) 8) _ e₂ in
+    let wide = and-left (eqb (length (f .positions)) maxZones && eqb (length (f .times)) maxZones) _ e₁ in
+    let few = and-left (leb (f .zones) 3 && leb (f .blocks) maxTried) _ e₂ in
     let low = and-left (allBy (λ (p : ℕ). leb p 3) (f .positions) && allBy (λ (t : ℕ). leb t 3) (f .times)) _ e₃ in
-    let long = eqb-true (length (f .positions)) 64 (and-left (eqb (length (f .positions)) 64) _ wide) in
-    let wide₂ = eqb-true (length (f .times)) 64 (and-right (eqb (length (f .positions)) 64) _ wide) in
+    let long = eqb-true (length (f .positions)) maxZones (and-left (eqb (length (f .positions)) maxZones) _ wide) in
+    let wide₂ = eqb-true (length (f .times)) maxZones (and-right (eqb (length (f .positions)) maxZones) _ wide) in
     let ok = fault-legal f (long, wide₂, ap length t ∙ straight-long 1 1) (passes-clear f k t (and-left (passes f) _ e)) in
+    let ps = and-left (allBy (λ (p : ℕ). leb p 3) (f .positions)) _ low in
+    let ts = and-right (allBy (λ (p : ℕ). leb p 3) (f .positions)) _ low in
     record {
       legal = ok;
       zones = omega (arith, leb-true (f .zones) 3 (and-left (leb (f .zones) 3) _ few));
-      positions = λ i h. leb-true (getD (f .positions) i 0) 3 (all-at 0 (λ (p : ℕ). leb p 3) (f .positions) i (and-left (allBy (λ (p : ℕ). leb p 3) (f .positions)) _ low) (omega (arith, ok .zones)));
-      times = λ i h. leb-true (getD (f .times) i 0) 3 (all-at 0 (λ (t : ℕ). leb t 3) (f .times) i (and-right (allBy (λ (p : ℕ). leb p 3) (f .positions)) _ low) (omega (arith, ok .zones)));
-      blocks = leb-true (f .blocks) 8 (and-right (leb (f .zones) 3) _ few);
+      positions = λ i h. leb-true (getD (f .positions) i 0) 3 (all-at 0 (λ (p : ℕ). leb p 3) (f .positions) i ps (omega (arith, ok .zones)));
+      times = λ i h. leb-true (getD (f .times) i 0) 3 (all-at 0 (λ (t : ℕ). leb t 3) (f .times) i ts (omega (arith, ok .zones)));
+      blocks = leb-true (f .blocks) maxTried (and-right (leb (f .zones) 3) _ few);
       measures = (
         k,
         eqb-true (f .bytes) 1000 (and-left (eqb (f .bytes) 1000) _ e₄),

@@ -86,7 +86,8 @@ small-listed f s =
     (in-each (λ us. each (falling z 3) (λ vs. map (smallFigures z us vs) (films us))) ps (smallFigures z ps ts (f .blocks)) (threes z)
     (in-threes z ps (size (f .positions) (ok .wide .0)) (λ i u. rw (getD-take z (f .positions) i 0 u) (ok .positions i u, s .positions i u)))
     (in-each (λ vs. map (smallFigures z ps vs) (films ps)) ts (smallFigures z ps ts (f .blocks)) (falling z 3)
-    (in-falling z 3 ts (size (f .times) (ok .wide .1)) (λ i u. rw (getD-take z (f .times) i 0 u) (ok .times i u .0)) (λ u. rw (getD-take z (f .times) 0 0 u) (s .times 0 u))
+    (in-falling z 3 ts (size (f .times) (ok .wide .1))
+    (λ i u. rw (getD-take z (f .times) i 0 u) (ok .times i u .0)) (λ u. rw (getD-take z (f .times) 0 0 u) (s .times 0 u))
     (λ i u. let v : i < z = omega arith in rw (getD-take z (f .times) (suc i) 0 u, getD-take z (f .times) i 0 v) (ok .falling i u)))
     (in-map (smallFigures z ps ts) (f .blocks) (films ps) (unfold films in in-upto minBlocks _ (f .blocks) (ok .blocks .0) (omega (arith, s .blocks, room)))))))
   where

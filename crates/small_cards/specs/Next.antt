@@ -37,7 +37,9 @@ unfoldable pub positionsMore : SmallCard → List ℕ → Risen → SmallCard
 positionsMore c ts r = cond (r .over) (zoneMore c (r .entries) ts) (record { zones = c .zones; positions = r .entries; times = ts; blocks = minBlocks })
 
 unfoldable pub timesMore : SmallCard → Risen → SmallCard
-timesMore c r = cond (r .over) (positionsMore c (r .entries) (risen false (c .zones) (c .positions))) (record { zones = c .zones; positions = c .positions; times = r .entries; blocks = minBlocks })
+timesMore c r =
+    cond (r .over) (positionsMore c (r .entries) (risen false (c .zones) (c .positions)))
+    (record { zones = c .zones; positions = c .positions; times = r .entries; blocks = minBlocks })
 
 unfoldable pub nextCard : SmallCard → SmallCard
 nextCard c =

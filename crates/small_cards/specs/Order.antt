@@ -54,7 +54,8 @@ inOrder f (g ∷ gs) = before (orderOf f) (orderOf g) && inOrder g gs
 before-all : (f : Figures) (gs : List Figures) → inOrder f gs ≡ true → (h : Figures) → In h gs → Earlier f h
 unfolding inOrder
 before-all f [] e h u = absurd u
-before-all f (g ∷ gs) e h (inl d) = subst (λ (t : Figures). Earlier f t) (sym d) (before-says (orderOf f) (orderOf g) (and-left (before (orderOf f) (orderOf g)) (inOrder g gs) e))
+before-all f (g ∷ gs) e h (inl d) =
+    subst (λ (t : Figures). Earlier f t) (sym d) (before-says (orderOf f) (orderOf g) (and-left (before (orderOf f) (orderOf g)) (inOrder g gs) e))
 before-all f (g ∷ gs) e h (inr u) =
     before-trans (orderOf f) (orderOf g) (orderOf h) (before-says (orderOf f) (orderOf g) (and-left (before (orderOf f) (orderOf g)) (inOrder g gs) e))
     (before-all g gs (and-right (before (orderOf f) (orderOf g)) (inOrder g gs) e) h u)
@@ -70,5 +71,6 @@ pub order-at : (f d : Figures) (gs : List Figures) → inOrder f gs ≡ true →
 unfolding inOrder
 order-at f d [] e i j h l = absurd (omega arith)
 order-at f d (g ∷ gs) e i zero h l = absurd (omega arith)
-order-at f d (g ∷ gs) e zero (suc j) h l = before-all g gs (and-right (before (orderOf f) (orderOf g)) (inOrder g gs) e) (getD gs j d) (in-at gs j d (omega arith))
+order-at f d (g ∷ gs) e zero (suc j) h l =
+    before-all g gs (and-right (before (orderOf f) (orderOf g)) (inOrder g gs) e) (getD gs j d) (in-at gs j d (omega arith))
 order-at f d (g ∷ gs) e (suc i) (suc j) h l = order-at g d gs (and-right (before (orderOf f) (orderOf g)) (inOrder g gs) e) i j (omega arith) (omega arith)

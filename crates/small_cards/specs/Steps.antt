@@ -86,12 +86,15 @@ step-listed i h =
 pub step-ranged : (i : ℕ) → i < length smallCards → Stepped (after i firstCard)
 step-ranged i h =
     let u : i < 1511 = omega (arith, how-many) in
-    rw (sym (first-at i u)) (says (getD (take 1511 (walk 1511 firstCard)) i firstCard) (all-at firstCard ranged (take 1511 (walk 1511 firstCard)) i all-ranged (omega (arith, first-long))))
+    rw (sym (first-at i u))
+    (says (getD (take 1511 (walk 1511 firstCard)) i firstCard)
+    (all-at firstCard ranged (take 1511 (walk 1511 firstCard)) i all-ranged (omega (arith, first-long))))
   where
     says : (c : SmallCard) → ranged c ≡ true → Stepped c
     says c e = unfold ranged in record {
       zones = leb-true (c .zones) 3 (and-left (leb (c .zones) 3) _ e);
-      positions = each-map (λ (p : ℕ). leb p 3 ≡ true) (λ (p : ℕ). p ≤ 3) (c .positions) (λ p d. leb-true p 3 d) (each-of-all (λ (p : ℕ). leb p 3) (c .positions) (and-right (leb (c .zones) 3) _ e));
+      positions = each-map (λ (p : ℕ). leb p 3 ≡ true) (λ (p : ℕ). p ≤ 3) (c .positions) (λ p d. leb-true p 3 d)
+          (each-of-all (λ (p : ℕ). leb p 3) (c .positions) (and-right (leb (c .zones) 3) _ e));
     }
 
 -- AND AFTER THE LAST THERE ARE 4 ZONES

@@ -60,3 +60,8 @@ fails-first a b e = sym (rw e)
 
 pub then-second : (a r b : Bool) → a ≡ true → r ≡ b → r ≡ (a && b)
 then-second a r b e q = rw e q
+
+-- the same of numbers that are equal
+pub tidy-same : (r : Bool) {w v N M u t k j x y h g : ℕ} → v ≡ w → M ≡ N → t ≡ u → j ≡ k → y ≡ x → g ≡ h → Tells r (Tidy v M t j y g)
+    → Tells r (Tidy w N u k x h)
+tidy-same r a b c d e f q = rw (sym a, sym b, sym c, sym d, sym e, sym f) q

@@ -6,6 +6,7 @@ use mathlib.Core.Logic.{_≢_}
 use mathlib.Core.Bool.{Bool, true, false, _&&_}
 use mathlib.Core.List.{List}
 use lib.ListN.{length, getD}
+use Rattle.numbers.specs.Limits.{maxStreams}
 use Rattle.numbers.specs.Slots.{free, waiting, playing, draining}
 use Rattle.numbers.specs.Showings.{loopWord}
 use Rattle.numbers.specs.Units.{parts}
@@ -46,13 +47,13 @@ pub record Tidy (w N buffer k x h : ℕ) : Type 0 where
   pub fits : h ≤ buffer
 
 -- the slots from n on and below m are zero
-abbrev pub RestZero : ℕ → List ℕ → List ℕ → List ℕ → ℕ → Type 0
-RestZero n ks xs hs m = (i : ℕ) → i < m → n ≤ i → (getD ks i 0 ≡ free) × (getD xs i 0 ≡ 0) × (getD hs i 0 ≡ 0)
+abbrev pub RestZero : Desk → ℕ → ℕ → Type 0
+RestZero d n m = (i : ℕ) → i < m → n ≤ i → (getD (d .kinds) i 0 ≡ free) × (getD (d .next) i 0 ≡ 0) × (getD (d .held) i 0 ≡ 0)
 
 -- the 256 slots of kinds ks, next blocks xs and held bytes hs are tidy, and `all slots from n on are zero`
 pub record SlotsTidy (w N buffer n : ℕ) (ks xs hs : List ℕ) : Type 0 where
-  pub slots : (i : ℕ) → i < 256 → Tidy w N buffer (getD ks i 0) (getD xs i 0) (getD hs i 0)
-  pub unused : (i : ℕ) → i < 256 → n ≤ i → getD ks i 0 ≡ free
+  pub slots : (i : ℕ) → i < maxStreams → Tidy w N buffer (getD ks i 0) (getD xs i 0) (getD hs i 0)
+  pub unused : (i : ℕ) → i < maxStreams → n ≤ i → getD ks i 0 ≡ free
 
 -- and so are those of a record
 abbrev pub AllTidy : Desk → Type 0

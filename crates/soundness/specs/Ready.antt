@@ -6,7 +6,8 @@ use mathlib.Core.Bool.{true}
 use mathlib.Core.List.{List}
 use native.Mathlib.Omega.{arith}
 use Rattle.laws.specs.Bools.{and-left, and-right}
-use Rattle.round_trip.specs.Legality as legality
+use Rattle.numbers.specs.Limits.{maxStreams}
+use Rattle.legality.specs.Legality as legality
 use Rattle.words.specs.Words.{wordsOf}
 use Rattle.plan.specs.declared.Plan.{Plan}
 use Rattle.plan.specs.Plan.{showingIn, streamsOf, planOf}
@@ -30,7 +31,7 @@ plan-leads p ps ls w e =
     record { long = h .long .1; here = h .lead-at; small = lead-small (showingIn p) (p .figures) (checked-legal p ps ls w e) }
 
 -- its streams are at most the slots
-pub plan-streams : (p : Plan) (ps ls : List ℕ) → legality.Wide (p .figures) → isPlan p ps ls ≡ true → p .streams ≤ 256
+pub plan-streams : (p : Plan) (ps ls : List ℕ) → legality.Wide (p .figures) → isPlan p ps ls ≡ true → p .streams ≤ maxStreams
 unfolding planOf
 plan-streams p ps ls w e =
     let s : p .streams ≡ streamsOf (showingIn p) (p .figures) = ap (λ (q : Plan). q .streams) (checked p ps ls e .plan) in

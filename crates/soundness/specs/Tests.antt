@@ -9,6 +9,7 @@ use native.Mathlib.Omega.{arith}
 use native.Mathlib.Decide.{decLe, decLt}
 use lib.ListN.{getD, List·getD-eq-default}
 use borrow.Author.Tests.{ltb-true, lt-ltb}
+use Rattle.numbers.specs.Limits.{maxStreams}
 use Rattle.numbers.specs.Slots.{waiting, playing, sweeping}
 use Rattle.numbers.specs.Units.{parts}
 use Rattle.words.specs.Words.{wordsOf}
@@ -89,11 +90,12 @@ module _ (d : Desk) (w : Wide d) where
   tidy-slots t = record {
     long = w .kinds;
     same = same-length d w;
-    unused = λ i l. kind-in d w i ∙ by-cases (decLt i 256) (λ b. t .unused i b l) (λ b. List·getD-eq-default (d .kinds) 0 {n = i} (omega (arith, w .kinds)));
+    unused = λ i l. kind-in d w i ∙ by-cases (decLt i maxStreams) (λ b. t .unused i b l)
+        (λ b. List·getD-eq-default (d .kinds) 0 {n = i} (omega (arith, w .kinds)));
   }
 
   -- its next blocks are in the list of leads ls, and what is taken from there are their leads
-  module _ (t : AllTidy d) (n : d .plan .streams ≤ 256) (ls : List ℕ) (q : LeadList (showingIn (d .plan)) (d .plan .figures) ls) where
+  module _ (t : AllTidy d) (n : d .plan .streams ≤ maxStreams) (ls : List ℕ) (q : LeadList (showingIn (d .plan)) (d .plan .figures) ls) where
     -- the next block of slot i is one of the film
     block : (i : ℕ) → i < d .plan .streams → waiting ≤ getD (d .kinds) i 0 → getD (d .kinds) i 0 ≤ playing → getD (d .next) i 0 < d .plan .figures .blocks
     block i l a b = t .slots i (omega arith) .named a b
@@ -109,7 +111,7 @@ module _ (d : Desk) (w : Wide d) where
     tidy-leads i l a b = q .here _ (block i l a b)
 
     module _ (vs : List ℕ) (k : Taken (wordsOf ls) (d .kinds) (d .next) (d .plan .streams) vs) where
-      below : (i : ℕ) → i < 256 → waiting ≤ getD (d .kinds) i 0 → i < d .plan .streams
+      below : (i : ℕ) → i < maxStreams → waiting ≤ getD (d .kinds) i 0 → i < d .plan .streams
       below i l a = by-cases (decLt i (d .plan .streams)) (λ h. h) (λ h. absurd (omega (arith, t .unused i l (omega arith))))
 
       each : OfNext (supplyOf (d .plan)) (supplyOf (d .plan) .lead) (d .kinds) (d .next) vs
@@ -137,7 +139,7 @@ module _ (d : Desk) (w : Wide d) where
   sound-players h i l k = good-at h i .floored k
 
   -- slots from n on play in no tidy record
-  all-hold : AllTidy d → {x : ℕ} → PlayersHold (d .plan .streams) (d .kinds) (d .held) x → PlayersHold 256 (d .kinds) (d .held) x
+  all-hold : AllTidy d → {x : ℕ} → PlayersHold (d .plan .streams) (d .kinds) (d .held) x → PlayersHold maxStreams (d .kinds) (d .held) x
   all-hold t h i l k = by-cases (decLt i (d .plan .streams)) (λ a. h i a k) (λ a. absurd (omega (arith, t .unused i l (omega arith))))
 
   sound-phase : IsSound → d .phase ≤ sweeping
@@ -150,8 +152,9 @@ module _ (d : Desk) (w : Wide d) where
   facts-sound e t h =
       let p = supplyOf (d .plan) in
       sound-yes p (supply-named (d .plan)) (orderOf (d .plan)) (viewOf d) e
-      (λ j l. let u : j < 256 = omega (arith, length-in d w) in
-      sound-of-good p (supply-named (d .plan)) _ _ (subst (Good p (leads p (slotsIn d))) (sym (slot-in d w j)) (tidy-good (d .plan) _ _ _ _ (t .slots j u) (all-hold t h j u))))
+      (λ j l. let u : j < maxStreams = omega (arith, length-in d w) in
+      sound-of-good p (supply-named (d .plan)) _ _ (subst (Good p (leads p (slotsIn d))) (sym (slot-in d w j))
+      (tidy-good (d .plan) _ _ _ _ (t .slots j u) (all-hold t h j u))))
       (λ j n l. kind-in d w j ∙ t .unused j (omega (arith, length-in d w)) n)
       refl
 
@@ -166,7 +169,8 @@ module _ (d : Desk) (w : Wide d) where
   pub sound-told : (r : Bool) (m L : ℕ) → L ≡ leadSum d → m ≡ parts * d .plan .figures .bytes + d .plan .figures .rate * L
       → d .phase ≤ sweeping → AllTidy d → Tells r (PlayersHold (d .plan .streams) (d .kinds) (d .held) m) → r ≡ slotsSound d
   sound-told r m L a b e t h =
-      go r (subst (λ (x : ℕ). Tells r (PlayersHold (d .plan .streams) (d .kinds) (d .held) x)) (b ∙ sym (mark-is (d .plan) L) ∙ ap (lowWater (supplyOf (d .plan))) a) h)
+      go r (subst (λ (x : ℕ). Tells r (PlayersHold (d .plan .streams) (d .kinds) (d .held) x))
+      (b ∙ sym (mark-is (d .plan) L) ∙ ap (lowWater (supplyOf (d .plan))) a) h)
     where
       go : (r : Bool) → Tells r (PlayersHold (d .plan .streams) (d .kinds) (d .held) mark) → r ≡ slotsSound d
       go true h = sym (facts-sound e t (h .yes refl))

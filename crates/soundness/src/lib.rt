@@ -1,58 +1,63 @@
-// The test of a desk's record with the lent lists.
-mod slots; // the test of the slots
+// A desk tested where it lies.
+mod slots; // the test of its slots
 
 use crate::slots::all_tidy;
 use crate::slots::players_hold;
-use card::Scalars;
+use desk_columns::bytes_in;
+use desk_columns::overheads;
+use desk_columns::phase_in;
+use desk_columns::rate_in;
+use desk_columns::streams_in;
+use desk_columns::zone_sizes;
+use desk_columns::zone_times;
 use floor::low_water;
 use floor::sum_leads;
 use numbers::slots::SWEEPING;
-use plan::Numbers;
+use plan_layout::numbers_at;
+use plan_layout::scalars_at;
 ghost use mathlib.Core.Path.{_≡_};
+ghost use Prim.Native.Nat.{_≤_};
 ghost use lib.ListN.{length};
-ghost use Rattle.numbers.specs.Limits.{maxZones, tableLength};
-ghost use Rattle.desk.specs.View.{Wide};
-ghost use Rattle.desk.specs.Records.{lentDesk};
+ghost use Rattle.words.specs.Words.{wordsOf};
+ghost use Rattle.plan.specs.Answer.{isPlan};
+ghost use Rattle.desk_layout.specs.Layout.{deskIn, deskSize};
 ghost use Rattle.soundness.specs.Facts.{soundDesk};
 
-// Is a desk, its arrays lent, sound with the lent lists? Its plan is the plan of its figures, both lists begin with its entries, and
-// phase and slots are as document 01 says. Any record and any lists may be given: an array has its length.
-pub fn is_sound<'a>(
-    figures: Scalars,
-    sizes: &'a [u32; 64],
-    times: &'a [u32; 64],
-    table: &'a [u32; 257],
-    plan: Numbers,
-    phase: u32,
-    kinds: &'a [u32; 256],
-    next: &'a [u32; 256],
-    held: &'a [u32; 256],
-    positions: &[u8],
-    leads: &[u8],
-) -> bool
-    requires { ⌜ Wide (lentDesk figures (now sizes) (now times) (now table) plan phase (now kinds) (now next) (now held))
-        × (length (now sizes) ≡ maxZones) × (length (now times) ≡ maxZones) × (length (now table) ≡ tableLength) ⌝ }
-    ensures { λ r. ⌜ r ≡ soundDesk (lentDesk figures (now (sizes .entry)) (now (times .entry)) (now (table .entry)) plan phase (now (kinds .entry)) (now (next .entry)) (now (held .entry))) (now (positions .entry)) (now (leads .entry)) ⌝ }
+// Is the plan of a desk the plan of its figures, and do both lists begin with its entries?
+fn has_plan(desk: &[u8], positions: &[u8], leads: &[u8]) -> bool
+    requires { ⌜ deskSize ≤ length (now desk) ⌝ }
+    ensures { λ r. ⌜ r ≡ isPlan (deskIn (wordsOf (now (desk .entry))) .plan) (now (positions .entry)) (now (leads .entry)) ⌝ }
 {
-    if !planner::is_plan_of(figures, sizes, times, table, plan, positions, leads) {
+    let sizes = zone_sizes(desk);
+    let times = zone_times(desk);
+    let table = overheads(desk);
+    plan_check::is_plan_of(
+        scalars_at(desk),
+        &sizes,
+        &times,
+        &table,
+        numbers_at(desk),
+        positions,
+        leads,
+    )
+}
+
+// Is the desk in a lent string sound with the lent lists?
+pub fn is_sound(desk: &[u8], positions: &[u8], leads: &[u8]) -> bool
+    requires { ⌜ deskSize ≤ length (now desk) ⌝ }
+    ensures { λ r. ⌜ r ≡ soundDesk (deskIn (wordsOf (now (desk .entry)))) (now (positions .entry)) (now (leads .entry)) ⌝ }
+{
+    if !has_plan(desk, positions, leads) {
         return false;
     }
-    if phase > SWEEPING {
+    if phase_in(desk) > SWEEPING {
         return false;
     }
-    let streams = plan.streams as usize;
-    if !all_tidy(
-        plan.showing,
-        figures.blocks,
-        plan.buffer,
-        streams,
-        kinds,
-        next,
-        held,
-    ) {
+    let streams = streams_in(desk) as usize;
+    if !all_tidy(desk, streams) {
         return false;
     }
-    let sum = sum_leads(kinds, next, streams, leads);
-    let mark = low_water(figures.bytes, figures.rate, sum);
-    players_hold(streams, kinds, held, mark)
+    let sum = sum_leads(desk, streams, leads);
+    let mark = low_water(bytes_in(desk), rate_in(desk), sum);
+    players_hold(desk, streams, mark)
 }

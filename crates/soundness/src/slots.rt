@@ -1,4 +1,10 @@
-// The test of the slots of a record.
+// The test of the slots of a desk where it lies.
+use desk_columns::blocks_in;
+use desk_columns::buffer_in;
+use desk_columns::held_in;
+use desk_columns::kind_in;
+use desk_columns::next_in;
+use desk_columns::showing_in;
 use numbers::showings::LOOP;
 use numbers::slots::DRAINING;
 use numbers::slots::FILLING;
@@ -8,10 +14,14 @@ use numbers::slots::WAITING;
 use numbers::units::PARTS;
 ghost use mathlib.Core.Path.{_≡_};
 ghost use Prim.Native.Nat.{ℕ, _*_, _≤_};
+ghost use lib.ListN.{length};
 ghost use Rattle.numbers.specs.Limits.{maxStreams};
 ghost use Rattle.numbers.specs.Slots.{playing};
 ghost use Rattle.numbers.specs.Units.{parts};
-ghost use Rattle.soundness.specs.Facts.{Tells, Tidy, RestZero, SlotsTidy, PlayersHold};
+ghost use Rattle.words.specs.Words.{wordsOf};
+ghost use Rattle.desk_layout.specs.Layout.{deskIn, deskSize};
+ghost use Rattle.soundness.specs.Facts.{Tells, Tidy, AllTidy, PlayersHold};
+ghost use Rattle.soundness.specs.Facts.{RestZero};
 
 // Is a slot sound but for the low-water mark (01: the floor)? `showing` is the plan's word, `blocks` N.
 fn is_tidy(showing: u32, blocks: u32, buffer: u32, kind: u32, next: u32, held: u32) -> bool
@@ -49,43 +59,40 @@ fn is_tidy(showing: u32, blocks: u32, buffer: u32, kind: u32, next: u32, held: u
 }
 
 // Are all slots from n on zero?
-fn rest_zero<'a>(
-    streams: usize,
-    kinds: &'a [u32; 256],
-    next: &'a [u32; 256],
-    held: &'a [u32; 256],
-) -> bool
-    requires { ⌜ streams ≤ maxStreams ⌝ }
-    ensures { λ r. ⌜ Tells r (RestZero streams (now (kinds .entry)) (now (next .entry)) (now (held .entry)) 256) ⌝ }
+fn rest_zero(desk: &[u8], streams: usize) -> bool
+    requires { ⌜ (streams ≤ maxStreams) × (deskSize ≤ length (now desk)) ⌝ }
+    ensures { λ r. ⌜ Tells r (RestZero (deskIn (wordsOf (now (desk .entry)))) streams 256) ⌝ }
 {
     let mut bits: u32 = 0;
     let mut i = streams;
     while i < 256 {
-        bits = bits | kinds[i] | next[i] | held[i];
+        bits = bits | kind_in(desk, i) | next_in(desk, i) | held_in(desk, i);
         i += 1;
     }
     bits == 0
 }
 
 // Are all slots tidy, and those from n on zero? `showing` is the plan's word, `blocks` N, `streams` n.
-pub fn all_tidy<'a>(
-    showing: u32,
-    blocks: u32,
-    buffer: u32,
-    streams: usize,
-    kinds: &'a [u32; 256],
-    next: &'a [u32; 256],
-    held: &'a [u32; 256],
-) -> bool
-    requires { ⌜ streams ≤ maxStreams ⌝ }
-    ensures { λ r. ⌜ Tells r (SlotsTidy showing blocks buffer streams (now (kinds .entry)) (now (next .entry)) (now (held .entry))) ⌝ }
+pub fn all_tidy(desk: &[u8], streams: usize) -> bool
+    requires { ⌜ (streams ≤ maxStreams) × (deskSize ≤ length (now desk)) × (streams ≡ deskIn (wordsOf (now desk)) .plan .streams) ⌝ }
+    ensures { λ r. ⌜ Tells r (AllTidy (deskIn (wordsOf (now (desk .entry))))) ⌝ }
 {
-    if !rest_zero(streams, kinds, next, held) {
+    if !rest_zero(desk, streams) {
         return false;
     }
+    let showing = showing_in(desk);
+    let blocks = blocks_in(desk);
+    let buffer = buffer_in(desk);
     let mut i: usize = 0;
     while i < streams {
-        if !is_tidy(showing, blocks, buffer, kinds[i], next[i], held[i]) {
+        if !is_tidy(
+            showing,
+            blocks,
+            buffer,
+            kind_in(desk, i),
+            next_in(desk, i),
+            held_in(desk, i),
+        ) {
             return false;
         }
         i += 1;
@@ -115,20 +122,15 @@ fn holds_least(kind: u32, held: u32, least: u64) -> bool
 
 // Does each playing slot of the first n hold at least the low-water mark (01: the floor), given in two-millionths of a byte? All are looked
 // at, so that the compiler takes several at a time.
-pub fn players_hold<'a>(
-    streams: usize,
-    kinds: &'a [u32; 256],
-    held: &'a [u32; 256],
-    mark: u64,
-) -> bool
-    requires { ⌜ streams ≤ maxStreams ⌝ }
-    ensures { λ r. ⌜ Tells r (PlayersHold streams (now (kinds .entry)) (now (held .entry)) mark) ⌝ }
+pub fn players_hold(desk: &[u8], streams: usize, mark: u64) -> bool
+    requires { ⌜ (streams ≤ maxStreams) × (deskSize ≤ length (now desk)) ⌝ }
+    ensures { λ r. ⌜ (let d = deskIn (wordsOf (now (desk .entry))) in Tells r (PlayersHold streams (d .kinds) (d .held) mark)) ⌝ }
 {
     let least = least_held(mark);
     let mut all = true;
     let mut i: usize = 0;
     while i < streams {
-        if !holds_least(kinds[i], held[i], least) {
+        if !holds_least(kind_in(desk, i), held_in(desk, i), least) {
             all = false;
         }
         i += 1;

@@ -15,7 +15,7 @@ use Rattle.laws.specs.Each.{Each, each-replicate}
 use Rattle.words.specs.Words.{Words, wordsOf, withWords}
 use Rattle.words.specs.Laws.{words-length}
 use Rattle.card.specs.Card.{Legal}
-use Rattle.round_trip.specs.Legality.{Wide}
+use Rattle.legality.specs.Legality.{Wide}
 use Rattle.plan.specs.declared.Plan.{Plan}
 use Rattle.plan.specs.Plan.{showingIn, planOf}
 use Rattle.plan.specs.Answer.{isPlan}
@@ -26,24 +26,28 @@ use Rattle.rules.specs.Order.{Scheduler}
 use Rattle.turns.specs.Facts.{Good, Sound, sound-says}
 use Rattle.turns.specs.ArrayLaws.{length-slots}
 use Rattle.rules.specs.Calls as C
-use Rattle.safety.specs.Lists.{verdict-zero, answer-accepted}
-use Rattle.safety.specs.Verdicts.{accepted-was-sound}
+use Rattle.turns.specs.Answers.{verdict-zero, answer-accepted}
+use Rattle.turns.specs.Verdicts.{accepted-was-sound}
 use Rattle.safety.specs.Safety.{accepted-length}
 use Rattle.safety.specs.Claim as K
 use Rattle.desk.specs.declared.Desk.{Desk}
-use Rattle.desk.specs.Desk.{supplyOf, rulesOf, orderOf, Queue, viewOf, deskOf, zeros, freshDesk, openBy, openDesk, answerOf, answered, joinDesk, leaveDesk, endDesk, beginDesk}
+use Rattle.desk.specs.Desk.{supplyOf, rulesOf, orderOf, Queue, viewOf, deskOf, zeros, freshDesk, openBy, openDesk, answerOf, answered, joinDesk}
+use Rattle.desk.specs.Desk.{leaveDesk, endDesk, beginDesk}
 use Rattle.desk.specs.FilmEnd.{end-says}
 use Rattle.desk.specs.Promise.{order-orderly, supply-named}
 use Rattle.trace.specs.Opening.{checked-lawful, fair-of}
 use Rattle.layout.specs.declared.FilmdiskAnswer.{FilmdiskAnswer}
 use Rattle.layout.specs.Answers.{verdictAnswer}
-use Rattle.layout.specs.Fields.{_&_}
-use Rattle.layout.specs.FieldLaws.{words-each}
-use Rattle.layout.specs.Layout.{planWords, deskWords, planIn, deskIn, planSize, deskSize}
-use Rattle.layout.specs.RoundTrip.{PlanSized, plan-sized, DeskSized, desk-fit, desk-written}
-use Rattle.layout.specs.Legal.{legal-words}
+use Rattle.fields.specs.Fields.{_&_}
+use Rattle.fields.specs.FieldLaws.{words-each}
+use Rattle.plan_layout.specs.Layout.{planWords, planIn, planSize}
+use Rattle.desk_layout.specs.Layout.{deskWords, deskIn, deskSize}
+use Rattle.plan_layout.specs.RoundTrip.{PlanSized, plan-sized}
+use Rattle.desk_layout.specs.RoundTrip.{DeskSized, desk-fit, desk-written}
+use Rattle.plan_layout.specs.Legal.{legal-words}
 use Rattle.desk_strings.specs.ByLength.{enough, said-sized, said-wide, right-answer, right-string}
-use Rattle.desk_strings.specs.Calls.{openedFrom, openAnswer, openString, said, answerBy, stringBy, joinAnswer, joinString, leaveAnswer, leaveString, endAnswer, endString, roomIn, begunAnswer, beginAnswer, beginString}
+use Rattle.desk_strings.specs.Calls.{openedFrom, openAnswer, openString, said, answerBy, stringBy, joinAnswer, joinString, leaveAnswer, leaveString}
+use Rattle.desk_strings.specs.Calls.{endAnswer, endString, roomIn, begunAnswer, beginAnswer, beginString}
 use Rattle.string_claims.specs.Kept.{open-number, open-right, open-other}
 
 -- ---- numbers of 32 bits
@@ -166,7 +170,8 @@ module _ (D ps ls : List ℕ) where
     call-back =
         let s = answerOf d ps ls room call .scheduler in
         ap said (right-string D right (deskOf p s))
-        ∙ (unfold said in desk-written D (deskOf p s) (desk-of-sized p s (said-sized D right .plan) stays-long) (sound-fits p ps ls wide fair s stays-sound) (enough D right))
+        ∙ (unfold said in desk-written D (deskOf p s) (desk-of-sized p s (said-sized D right .plan) stays-long)
+        (sound-fits p ps ls wide fair s stays-sound) (enough D right))
 
   pub join-back : (slot block : ℕ) → joinAnswer D ps ls slot block .number ≡ 0 → said (joinString D ps ls slot block) ≡ joinDesk (said D) ps ls slot block .desk
   unfolding joinAnswer joinString joinDesk answered verdictAnswer
@@ -213,7 +218,8 @@ module _ (P ps ls : List ℕ) where
       go true l e = (l, refl, refl)
       go false l e = absurd (omega arith)
 
-      wrong : _≡_ {A = ℕ} notSound 0 → (length P ≡ planSize) × (isPlan (planIn (wordsOf P)) ps ls ≡ true) × (openedFrom P ps ls .desk ≡ freshDesk (planIn (wordsOf P)))
+      wrong : _≡_ {A = ℕ} notSound 0 → (length P ≡ planSize) × (isPlan (planIn (wordsOf P)) ps ls ≡ true)
+          × (openedFrom P ps ls .desk ≡ freshDesk (planIn (wordsOf P)))
       wrong z = absurd (omega arith)
 
   -- only a desk string of the right length is opened

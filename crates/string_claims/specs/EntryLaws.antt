@@ -30,7 +30,7 @@ use Rattle.trace.specs.FetchLaws.{begin-fetched}
 use Rattle.trace.specs.SlotLaws.{kind-at, next-at}
 use Rattle.scheduler.specs.Count.{begin-few}
 use Rattle.layout.specs.declared.FilmdiskAnswer.{FilmdiskAnswer}
-use Rattle.layout.specs.Layout.{deskSize}
+use Rattle.desk_layout.specs.Layout.{deskSize}
 use Rattle.desk_strings.specs.ByLength.{said-wide, right-answer}
 use Rattle.desk_strings.specs.Calls.{said, roomIn, begunAnswer, beginAnswer, fetchString}
 use Rattle.string_claims.specs.Back.{wide, fair, stays-sound}
@@ -64,7 +64,8 @@ front-read (e ∷ es) ws = ap (λ (xs : List Entry). e ∷ xs) (front-read es ws
 read-entries : (es : List Entry) (F : List ℕ) → Each Fits es → 3 * length es ≤ length (wordsOf F)
     → entriesRead (length es) (wordsOf (withWords F 0 (entryWords es))) ≡ es
 read-entries es F f l =
-    ap (entriesRead (length es)) (words-withWords F 0 (entryWords es) (entry-words es f) (omega (arith, entry-length es)) ∙ overwrite-front (wordsOf F) (entryWords es))
+    ap (entriesRead (length es)) (words-withWords F 0 (entryWords es) (entry-words es f) (omega (arith, entry-length es))
+    ∙ overwrite-front (wordsOf F) (entryWords es))
     ∙ front-read es (drop (length (entryWords es)) (wordsOf F))
 
 -- ---- the entries of an accepted begin
@@ -96,7 +97,8 @@ module _ (D ps ls F : List ℕ) (l : length D ≡ deskSize) where
         let kind = kind-at p s i in
         let reads : (2 ≤ getD (deskOf p s .kinds) i 0) × (getD (deskOf p s .kinds) i 0 ≤ 3) = ⊎-elim (λ e. omega arith) (λ e. omega arith) (h .0) in
         let x = at (supplyOf p) (s .slots) i in
-        let good = each-at (Good (supplyOf p) (leads (supplyOf p) (s .slots))) (s .slots) i (freeSlot (supplyOf p)) (sound .slots) (good-free (supplyOf p) _) in (
+        let good = each-at (Good (supplyOf p) (leads (supplyOf p) (s .slots))) (s .slots) i (freeSlot (supplyOf p)) (sound .slots)
+        (good-free (supplyOf p) _) in (
           by-cases (decLt i (p .streams)) (λ u. u) (λ u. absurd (omega (arith, kind, sound .unused i (omega arith)))),
           omega (arith, next-at p s i, ltb-true (x .next) (p .figures .blocks) (good .named (omega arith) (omega arith))),
         )
@@ -106,7 +108,8 @@ module _ (D ps ls F : List ℕ) (l : length D ≡ deskSize) where
     streams-small =
         omega (arith, streams-few (showingIn p) (p .figures) legal, ap (λ (q : Plan). q .streams) (checked p ps ls (fair D ps ls (roomIn F) begin l z) .plan))
 
-    fetched-fits : (e : Entry) → NeedsBlock (deskOf p s) (e .slot) × (e .block ≡ getD (deskOf p s .next) (e .slot) 0) × (e .position ≡ positionOf (showingIn p) (p .figures) (e .block))
+    fetched-fits : (e : Entry) → NeedsBlock (deskOf p s) (e .slot) × (e .block ≡ getD (deskOf p s .next) (e .slot) 0)
+        × (e .position ≡ positionOf (showingIn p) (p .figures) (e .block))
         → Fits e
     fetched-fits e (h, b, q) =
         let w = fetched-within (e .slot) h in
@@ -135,4 +138,5 @@ module _ (D ps ls F : List ℕ) (l : length D ≡ deskSize) where
   unfolding beginAnswer beginDesk begunAnswer fetchesOf fetchString fetchListAfter
   begin-reads =
       let a = right-answer D l (begunAnswer (beginDesk d ps ls (roomIn F))) in
-      rw (eq-eqb (length D) deskSize l) (ap (λ (x : FilmdiskAnswer). entriesRead (x .count) (wordsOf (withWords F 0 (entryWords es)))) a ∙ entries-read ∙ sym (entries-in es))
+      rw (eq-eqb (length D) deskSize l) (ap (λ (x : FilmdiskAnswer). entriesRead (x .count) (wordsOf (withWords F 0 (entryWords es)))) a
+      ∙ entries-read ∙ sym (entries-in es))

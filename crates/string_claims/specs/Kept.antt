@@ -18,14 +18,17 @@ use Rattle.plan.specs.Answer.{isPlan}
 use Rattle.rules.specs.Scheduler.{Entry, Call, join, leave, begin, end}
 use Rattle.desk.specs.declared.Desk.{Desk}
 use Rattle.desk.specs.declared.Answer.{Answer}
-use Rattle.desk.specs.Desk.{deskOf, verdict, blankDesk, openBy, openDesk, answerOf, answered, joinDesk, leaveDesk, endDesk, beginDesk, entryWords, fetchListAfter}
+use Rattle.desk.specs.Desk.{deskOf, verdict, blankDesk, openBy, openDesk, answerOf, answered, joinDesk, leaveDesk, endDesk, beginDesk, entryWords}
+use Rattle.desk.specs.Desk.{fetchListAfter}
 use Rattle.admission.specs.Refused.{refused-same, refused-desk}
 use Rattle.layout.specs.declared.FilmdiskAnswer.{FilmdiskAnswer}
 use Rattle.layout.specs.Answers.{verdictAnswer}
-use Rattle.layout.specs.Layout.{deskWords, planIn, zeroBytes, planSize, deskSize}
-use Rattle.layout.specs.RoundTrip.{desk-kept, desk-zero}
+use Rattle.desk_layout.specs.Layout.{deskWords, deskSize}
+use Rattle.plan_layout.specs.Layout.{planIn, zeroBytes, planSize}
+use Rattle.desk_layout.specs.RoundTrip.{desk-kept, desk-zero}
 use Rattle.desk_strings.specs.ByLength.{enough, said-wide, right-answer, right-string, other-string}
-use Rattle.desk_strings.specs.Calls.{openedFrom, openVerdict, openAnswer, openString, said, answerBy, stringBy, joinAnswer, joinString, leaveAnswer, leaveString, endAnswer, endString, roomIn, begunAnswer, beginAnswer, beginString, fetchString}
+use Rattle.desk_strings.specs.Calls.{openedFrom, openVerdict, openAnswer, openString, said, answerBy, stringBy, joinAnswer, joinString, leaveAnswer}
+use Rattle.desk_strings.specs.Calls.{leaveString, endAnswer, endString, roomIn, begunAnswer, beginAnswer, beginString, fetchString}
 
 -- ---- a desk string D
 

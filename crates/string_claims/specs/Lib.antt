@@ -1,6 +1,8 @@
 pub mod Back
 pub mod EntryLaws
 pub mod Kept
+pub mod LimitLaws
+pub mod Limits
 pub mod ListLaws
 pub mod Lists
 pub mod Plans

@@ -15,20 +15,23 @@ use Rattle.rules.specs.Ledger.{openedLedger, recorded}
 use Rattle.rules.specs.Calls.{isAccepted}
 use Rattle.desk.specs.declared.Desk.{Desk}
 use Rattle.desk.specs.Desk.{deskOf, freshDesk, answerOf, answered, joinDesk, leaveDesk, endDesk, beginDesk}
-use Rattle.trace.specs.List.{Request, joins, leaves, begins, ends, Lent, moveOf, World, Answered, answerTo, called, turn, after, opened}
+use Rattle.trace.specs.List.{Request, joins, leaves, begins, ends, Lent, moveOf, roomOf, World, Answered, answerTo, called, turn, after, opened}
 use Rattle.trace.specs.Safe.{Seen, Safe, worldAfter, onRecord}
 use Rattle.trace.specs.SafeLists.{list-safe, seenAs, safe-as}
 use Rattle.trace.specs.Opening.{checked-lawful}
 use Rattle.layout.specs.declared.FilmdiskAnswer.{FilmdiskAnswer}
 use Rattle.layout.specs.Answers.{verdictAnswer}
-use Rattle.layout.specs.Layout.{planIn, deskWords, deskSize}
+use Rattle.plan_layout.specs.Layout.{planIn}
+use Rattle.desk_layout.specs.Layout.{deskWords, deskSize}
 use Rattle.desk_strings.specs.ByLength.{said-wide, right-answer, right-string}
-use Rattle.desk_strings.specs.Calls.{openAnswer, openString, openedFrom, said, answerBy, stringBy, joinAnswer, joinString, leaveAnswer, leaveString, endAnswer, endString, roomIn, begunAnswer, beginAnswer, beginString}
+use Rattle.desk_strings.specs.Calls.{openAnswer, openString, openedFrom, said, answerBy, stringBy, joinAnswer, joinString, leaveAnswer, leaveString}
+use Rattle.desk_strings.specs.Calls.{endAnswer, endString, roomIn, begunAnswer, beginAnswer, beginString}
 use Rattle.admission.specs.Refused.{refused-desk}
 use Rattle.string_claims.specs.Kept.{call-kept, open-right}
 use Rattle.string_claims.specs.Back.{call-back, opened-right, opened-plan, opened-wide, open-back}
 use Rattle.string_claims.specs.EntryLaws.{begin-reads}
-use Rattle.string_claims.specs.Lists.{StringRequest, joinSlot, leaveSlot, beginSweep, endSweep, StringCall, moveIn, answerIn, stringIn, entriesIn, Strings, stringTurn, stringsFrom, stringsAfter, onString}
+use Rattle.string_claims.specs.Lists.{StringRequest, joinSlot, leaveSlot, beginSweep, endSweep, StringCall, moveIn, roomAsked, answerIn, stringIn}
+use Rattle.string_claims.specs.Lists.{entriesIn, Strings, stringTurn, stringsFrom, stringsAfter, onString}
 
 -- ---- the same call on the record that the string says
 
@@ -46,6 +49,12 @@ move-same (joinSlot slot block) = refl
 move-same (leaveSlot slot) = refl
 move-same (beginSweep F) = refl
 move-same (endSweep draws) = refl
+
+room-same : (r : StringRequest) → roomAsked r ≡ roomOf (requestOf r)
+room-same (joinSlot slot block) = refl
+room-same (leaveSlot slot) = refl
+room-same (beginSweep F) = refl
+room-same (endSweep draws) = refl
 
 module _ (D : List ℕ) (y : Bytes D) (l : length D ≡ deskSize) where
   module _ (ps ls : List ℕ) (room : ℕ) (call : Call ℕ) where
@@ -148,10 +157,12 @@ module _ (P ps ls D : List ℕ) (y : Bytes D) (n : openAnswer P ps ls D .number 
     bound = λ xs x. bound xs x t;
     move = λ x. move-same (x .request) t;
     fair = λ x. isPlan plan (x .positions) (x .leads);
+    room = λ x. room-same (x .request) t;
   }
     where
       number : (xs : List StringCall) (x : StringCall) → onString P first .number xs x ≡ onRecord plan .number (map lentOf xs) (lentOf x)
-      number xs x = same-call _ (in-step xs .bytes) (in-step xs .long) x (x .request) .number ∙ ap (λ (d : Desk). called d (lentOf x) .number) (in-step xs .desk)
+      number xs x = same-call _ (in-step xs .bytes) (in-step xs .long) x (x .request) .number
+          ∙ ap (λ (d : Desk). called d (lentOf x) .number) (in-step xs .desk)
 
       bound : (xs : List StringCall) (x : StringCall) → onString P first .bound xs x ≡ onRecord plan .bound (map lentOf xs) (lentOf x)
       bound xs x = same-call _ (in-step xs .bytes) (in-step xs .long) x (x .request) .bound ∙ ap (λ (d : Desk). called d (lentOf x) .bound) (in-step xs .desk)
@@ -159,5 +170,8 @@ module _ (P ps ls D : List ℕ) (y : Bytes D) (n : openAnswer P ps ls D .number 
   pub strings-safe : (xs : List StringCall) → (length (stringsAfter P first xs .desk) ≡ deskSize) × Safe plan (onString P first) xs
   strings-safe xs =
       let t = opened-plan P ps ls (opened-right P ps ls D n .1) in
-      let lawful = checked-lawful plan ps ls (opened-wide P (t .0)) (t .1) in
-      (in-step xs .long, subst (λ (v : Seen StringCall). Safe plan v xs) (sym seen-same) (safe-as lentOf (onRecord plan) plan xs (list-safe plan lawful (map lentOf xs))))
+      let lawful = checked-lawful plan ps ls (opened-wide P (t .0)) (t .1) in (
+        in-step xs .long,
+        subst (λ (v : Seen StringCall). Safe plan v xs) (sym seen-same)
+            (safe-as lentOf (onRecord plan) plan xs (list-safe plan lawful (map lentOf xs))),
+      )

@@ -9,8 +9,9 @@ use Rattle.rules.specs.Ledger.{Line, openedLedger, recorded}
 use Rattle.rules.specs.Calls.{isAccepted}
 use Rattle.trace.specs.Safe.{Seen}
 use Rattle.layout.specs.declared.FilmdiskAnswer.{FilmdiskAnswer}
-use Rattle.layout.specs.Layout.{planIn}
-use Rattle.desk_strings.specs.Calls.{said, joinAnswer, joinString, leaveAnswer, leaveString, endAnswer, endString, beginAnswer, beginString, fetchString}
+use Rattle.plan_layout.specs.Layout.{planIn}
+use Rattle.desk_strings.specs.Calls.{said, joinAnswer, joinString, leaveAnswer, leaveString, endAnswer, endString, roomIn, beginAnswer, beginString}
+use Rattle.desk_strings.specs.Calls.{fetchString}
 
 -- ---- a call
 
@@ -35,6 +36,13 @@ moveIn (joinSlot slot block) = join slot block
 moveIn (leaveSlot slot) = leave slot
 moveIn (beginSweep F) = begin
 moveIn (endSweep draws) = end (wordsOf draws)
+
+-- and the room that it gives for fetch entries
+abbrev pub roomAsked : StringRequest → ℕ
+roomAsked (joinSlot slot block) = 0
+roomAsked (leaveSlot slot) = 0
+roomAsked (beginSweep F) = roomIn F
+roomAsked (endSweep draws) = 0
 
 -- whole entries of three words, position, slot and block: the first k of a list of words
 unfoldable pub entriesRead : ℕ → List ℕ → List Entry
@@ -93,4 +101,5 @@ module _ (P D : List ℕ) where
     bound = λ xs x. answerIn (stringsAfter xs .desk) x (x .request) .bound;
     move = λ x. moveIn (x .request);
     fair = λ x. isPlan (planIn (wordsOf P)) (x .positions) (x .leads);
+    room = λ x. roomAsked (x .request);
   }

@@ -10,21 +10,26 @@ use native.Mathlib.Decide.{ℕ-discrete}
 use lib.ListN.{length}
 use lib.Dec.{eqb}
 use borrow.Author.Tests.{eq-eqb, ne-eqb}
-use Rattle.numbers.specs.Refusals.{tooShort}
+use Rattle.numbers.specs.Refusals.{tooShort, wrongWindow}
 use Rattle.words.specs.Words.{Bytes, wordsOf, withWords}
 use Rattle.words.specs.Laws.{words-length, withWords-length}
 use Rattle.card.specs.declared.CardRead.{CardRead}
 use Rattle.card.specs.Read.{readCard}
 use Rattle.placement.specs.Showing.{Showing}
 use Rattle.plan.specs.declared.Plan.{Plan}
-use Rattle.plan.specs.Plan.{planOf, blankPlan, positionsOf, leadsOf}
+use Rattle.plan.specs.Plan.{showingIn, planOf, blankPlan, positionsOf, leadsOf}
 use Rattle.plan.specs.Answer.{refusal, answer, filled}
-use Rattle.plan.specs.Ways.{card-legal}
-use Rattle.layout.specs.Layout.{planWords, planIn, zeroBytes, planSize, deskSize}
-use Rattle.layout.specs.RoundTrip.{plan-written, plan-zero}
-use Rattle.layout.specs.Legal.{legal-sized, legal-words}
-use Rattle.layout.specs.Answers.{verdictAnswer}
-use Rattle.trace.specs.PlannedLaws.{accepted-told, plan-opens}
+use Rattle.round_trip.specs.RoundTrip.{card-legal}
+use Rattle.plan_layout.specs.Layout.{planWords, planIn, zeroBytes, planSize}
+use Rattle.desk_layout.specs.Layout.{deskSize}
+use Rattle.plan_layout.specs.RoundTrip.{plan-written, plan-zero}
+use Rattle.plan_layout.specs.Legal.{legal-sized, legal-words}
+use Rattle.layout.specs.Answers.{verdictAnswer, windowAnswerOf}
+use Rattle.trace.specs.PlannedLaws.{accepted-told, fault-none, plan-opens}
+use Rattle.window.specs.Window.{isOutside, windowFault, answerBy, windowAnswer}
+use Rattle.window.specs.Window as window
+use Rattle.window_claims.specs.WorstLaws.{planned-windows}
+use Rattle.window_strings.specs.Calls.{windowFrom, windowCall}
 use Rattle.desk.specs.Desk.{freshDesk}
 use Rattle.desk_strings.specs.Calls.{openedFrom, openAnswer, openString, said}
 use Rattle.string_claims.specs.Kept.{open-number}
@@ -40,6 +45,16 @@ module _ (x : Showing) (r : CardRead) (s vs : List ℕ) where
   refused-kept zero zero h = absurd (h refl)
   refused-kept zero (suc k) h = (refl, refl)
   refused-kept (suc j) k h = (refl, refl)
+
+-- ---- a window of a plan string that has its length
+
+window-number : (P ps : List ℕ) (k : ℕ) → length P ≡ planSize → windowCall P ps k .number ≡ windowFault (planIn (wordsOf P)) ps k
+unfolding windowCall windowAnswerOf windowFrom windowAnswer window.refusal
+window-number P ps k l = rw (eq-eqb (length P) planSize l) (go (windowFault (planIn (wordsOf P)) ps k))
+  where
+    go : (n : ℕ) → answerBy n (showingIn (planIn (wordsOf P))) (planIn (wordsOf P) .figures) k .verdict .number ≡ n
+    go zero = refl
+    go (suc n) = refl
 
 -- ---- the strings after the call
 
@@ -75,11 +90,12 @@ module _ (x : Showing) (s p ps ls : List ℕ) where
     unfolding planAnswer verdictAnswer planString planFilled
     written = rw (eq-eqb (length p) planSize l, ne-eqb (plannedOf x (readCard s) p ps ls .verdict .number) tooShort n)
 
-    -- after 1 to 12 and 26 it is all zero
+    -- after 1 to 12, 25 and 26 it is all zero
     pub plan-cleared : (numberOf x s p ps ls ≡ 0 → ⊥) → planString x s p ps ls ≡ zeroBytes planSize
     unfolding planAnswer verdictAnswer plannedOf
     plan-cleared h =
-        written ∙ ap (λ (q : Plan). withWords p 0 (planWords q)) (refused-kept x (readCard s) ps ps (readCard s .verdict .number) (planFaultOf x (readCard s) p ps ls) h .1) ∙ plan-zero p l
+        written ∙ ap (λ (q : Plan). withWords p 0 (planWords q))
+        (refused-kept x (readCard s) ps ps (readCard s .verdict .number) (planFaultOf x (readCard s) p ps ls) h .1) ∙ plan-zero p l
 
   right-length : planFaultOf x (readCard s) p ps ls ≡ 0 → length p ≡ planSize
   unfolding planFaultOf
@@ -120,3 +136,16 @@ module _ (x : Showing) (s p ps ls : List ℕ) where
         let ms = leadsString x s p ps ls in
         let n = open-number P qs ms D l ∙ planned-opened in
         (n, open-back P qs ms D n ∙ ap freshDesk (plan-told y h))
+
+    -- AND HAS WINDOWS: 27 alone may come
+    pub strings-windows : (k : ℕ) → windowCall (planString x s p ps ls) (positionsString x s p ps ls) k .number ≡ cond
+        (isOutside k (readCard s .figures .blocks)) wrongWindow 0
+    unfolding planAnswer verdictAnswer plannedOf positionsString planFaultOf
+    strings-windows k =
+        let r = readCard s in
+        let (j, z, q) = accepted-told x r (r .verdict .number) (planFaultOf x r p ps ls) h in
+        let l = right-length z in
+        let long : length (planString x s p ps ls) ≡ planSize = ap length (written l (λ e. omega arith)) ∙ withWords-length p 0 _ ∙ l in
+        let (lp, ll, fed) = fault-none x (r .figures) (length (wordsOf ps)) (length (wordsOf ls)) (rw (eq-eqb (length p) planSize l) at z) in
+        window-number (planString x s p ps ls) (positionsString x s p ps ls) k long
+        ∙ rw (plan-told y h, j, z) (planned-windows x (r .figures) (card-legal s y r refl j) fed ps lp k)

@@ -15,7 +15,7 @@ use Rattle.words.specs.Laws.{withWords-length, withWords-after}
 use Rattle.card.specs.declared.Figures.{Figures}
 use Rattle.card.specs.declared.CardRead.{CardRead}
 use Rattle.card.specs.Card.{recordFault, cardOf, writeFault, writtenBy, bufferBy, writtenCard, bufferAfter}
-use Rattle.card.specs.Ranges.{first}
+use Rattle.card_field.specs.Ranges.{first}
 use Rattle.card.specs.Read.{readCard}
 use Rattle.placement.specs.Showing.{Showing}
 use Rattle.plan.specs.Plan.{positionOf, leadOf, row, positionsOf, leadsOf}
@@ -23,7 +23,7 @@ use Rattle.plan.specs.Rows.{row-length}
 use Rattle.plan.specs.Answer.{faultAfter, filled, positionsAfter, leadsAfter}
 use Rattle.desk.specs.Desk.{fetchesOf, beginDesk, entriesOf, entryWords, fetchListAfter}
 use Rattle.layout.specs.Answers.{verdictAnswer}
-use Rattle.layout.specs.Layout.{deskSize}
+use Rattle.desk_layout.specs.Layout.{deskSize}
 use Rattle.plan_strings.specs.Calls.{planFaultOf, positionsString, leadsString}
 use Rattle.desk_strings.specs.Calls.{refusedBy, said, answerBy, roomIn, begunAnswer, beginAnswer, fetchString}
 use Rattle.string_claims.specs.EntryLaws.{entry-length}

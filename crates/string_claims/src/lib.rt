@@ -1,8 +1,10 @@
 // What the calls leave in their byte strings, as claims about the definitions that their contracts name.
 ghost use mathlib.Core.Path.{_≡_};
 ghost use Prim.Native.Nat.{ℕ, _*_};
+ghost use mathlib.Core.Bool.{cond};
 ghost use mathlib.Core.List.{List};
 ghost use lib.ListN.{length};
+ghost use Rattle.numbers.specs.Refusals.{tooShort, wrongWindow};
 ghost use Rattle.words.specs.Words.{Bytes, wordsOf};
 ghost use Rattle.card.specs.declared.Figures.{Figures};
 ghost use Rattle.card.specs.declared.CardRead.{CardRead};
@@ -13,33 +15,45 @@ ghost use Rattle.plan.specs.Plan.{planOf};
 ghost use Rattle.plan.specs.Answer.{positionsAfter, leadsAfter};
 ghost use Rattle.desk.specs.Desk.{freshDesk, joinDesk, leaveDesk, endDesk, beginDesk};
 ghost use Rattle.trace.specs.Safe.{Safe};
-ghost use Rattle.layout.specs.Layout.{planIn, planSize, deskSize, zeroBytes};
+ghost use Rattle.plan_layout.specs.Layout.{planIn, planSize, zeroBytes};
+ghost use Rattle.desk_layout.specs.Layout.{deskSize};
+ghost use Rattle.window.specs.Window.{isOutside};
+ghost use Rattle.window_strings.specs.Calls.{windowCall};
 ghost use Rattle.plan_strings.specs.Calls.{planAnswer, planString, positionsString, leadsString};
-ghost use Rattle.desk_strings.specs.Calls.{openAnswer, openString, said, joinAnswer, joinString, leaveAnswer, leaveString, endAnswer, endString, roomIn, beginAnswer, beginString, fetchString};
+ghost use Rattle.desk_strings.specs.Calls.{openAnswer, openString, said, joinAnswer, joinString, leaveAnswer, leaveString, endAnswer, endString};
+ghost use Rattle.desk_strings.specs.Calls.{roomIn, beginAnswer, beginString, fetchString, drawLimitOf};
+ghost use Rattle.string_claims.specs.Limits.{sweepBound, ReachesDraws, JudgedBy};
 ghost use Rattle.string_claims.specs.Lists.{StringCall, stringsAfter, onString};
 ghost use Rattle.string_claims.specs.Unfilled.{SameFrom};
 
 // A refused join, leave, begin or end leaves every string as it was: desk (D), fetch list (F). The lists are only read.
 pub fn refused_call_keeps_strings()
-    ensures joins { λ _. ⌜ ((D ps ls : List ℕ) (slot block : ℕ) → Bytes D → (joinAnswer D ps ls slot block .number ≡ 0 → ⊥) → joinString D ps ls slot block ≡ D) ⌝ }
+    ensures joins { λ _. ⌜ ((D ps ls : List ℕ) (slot block : ℕ) → Bytes D → (joinAnswer D ps ls slot block .number ≡ 0 → ⊥)
+        → joinString D ps ls slot block ≡ D) ⌝ }
     ensures leaves { λ _. ⌜ ((D ps ls : List ℕ) (slot : ℕ) → Bytes D → (leaveAnswer D ps ls slot .number ≡ 0 → ⊥) → leaveString D ps ls slot ≡ D) ⌝ }
-    ensures begins { λ _. ⌜ ((D ps ls F : List ℕ) → Bytes D → (beginAnswer D ps ls F .number ≡ 0 → ⊥) → (beginString D ps ls F ≡ D) × (fetchString D ps ls F ≡ F)) ⌝ }
+    ensures begins { λ _. ⌜ ((D ps ls F : List ℕ) → Bytes D → (beginAnswer D ps ls F .number ≡ 0 → ⊥) → (beginString D ps ls F ≡ D)
+        × (fetchString D ps ls F ≡ F)) ⌝ }
     ensures ends { λ _. ⌜ ((D ps ls draws : List ℕ) → Bytes D → (endAnswer D ps ls draws .number ≡ 0 → ⊥) → endString D ps ls draws ≡ D) ⌝ }
 {}
 
 // A refused opening leaves zeros in a desk string of the right length; one of another length is refused and never written.
 pub fn refused_opening_clears()
-    ensures cleared { λ _. ⌜ ((P ps ls D : List ℕ) → length D ≡ deskSize → (openAnswer P ps ls D .number ≡ 0 → ⊥) → openString P ps ls D ≡ zeroBytes deskSize) ⌝ }
+    ensures cleared { λ _. ⌜ ((P ps ls D : List ℕ) → length D ≡ deskSize → (openAnswer P ps ls D .number ≡ 0 → ⊥)
+        → openString P ps ls D ≡ zeroBytes deskSize) ⌝ }
     ensures other { λ _. ⌜ ((P ps ls D : List ℕ) → (length D ≡ deskSize → ⊥) → (openString P ps ls D ≡ D) × (openAnswer P ps ls D .number ≡ 0 → ⊥)) ⌝ }
 {}
 
 // After an accepted call the desk string says the desk that the call answered.
 pub fn accepted_desk_reads_back()
     ensures opens { λ _. ⌜ ((P ps ls D : List ℕ) → openAnswer P ps ls D .number ≡ 0 → said (openString P ps ls D) ≡ freshDesk (planIn (wordsOf P))) ⌝ }
-    ensures joins { λ _. ⌜ ((D ps ls : List ℕ) (slot block : ℕ) → joinAnswer D ps ls slot block .number ≡ 0 → said (joinString D ps ls slot block) ≡ joinDesk (said D) ps ls slot block .desk) ⌝ }
-    ensures leaves { λ _. ⌜ ((D ps ls : List ℕ) (slot : ℕ) → leaveAnswer D ps ls slot .number ≡ 0 → said (leaveString D ps ls slot) ≡ leaveDesk (said D) ps ls slot .desk) ⌝ }
-    ensures begins { λ _. ⌜ ((D ps ls F : List ℕ) → beginAnswer D ps ls F .number ≡ 0 → said (beginString D ps ls F) ≡ beginDesk (said D) ps ls (roomIn F) .desk) ⌝ }
-    ensures ends { λ _. ⌜ ((D ps ls draws : List ℕ) → endAnswer D ps ls draws .number ≡ 0 → said (endString D ps ls draws) ≡ endDesk (said D) ps ls draws .desk) ⌝ }
+    ensures joins { λ _. ⌜ ((D ps ls : List ℕ) (slot block : ℕ) → joinAnswer D ps ls slot block .number ≡ 0
+        → said (joinString D ps ls slot block) ≡ joinDesk (said D) ps ls slot block .desk) ⌝ }
+    ensures leaves { λ _. ⌜ ((D ps ls : List ℕ) (slot : ℕ) → leaveAnswer D ps ls slot .number ≡ 0
+        → said (leaveString D ps ls slot) ≡ leaveDesk (said D) ps ls slot .desk) ⌝ }
+    ensures begins { λ _. ⌜ ((D ps ls F : List ℕ) → beginAnswer D ps ls F .number ≡ 0
+        → said (beginString D ps ls F) ≡ beginDesk (said D) ps ls (roomIn F) .desk) ⌝ }
+    ensures ends { λ _. ⌜ ((D ps ls draws : List ℕ) → endAnswer D ps ls draws .number ≡ 0
+        → said (endString D ps ls draws) ≡ endDesk (said D) ps ls draws .desk) ⌝ }
 {}
 
 // Demand 3 for C: from an accepted opening with the plan string P, of either showing, every list of calls on one desk string, refused calls
@@ -50,14 +64,17 @@ pub fn every_list_of_strings_safe()
         → (length (stringsAfter P (openString P ps ls D) xs .desk) ≡ deskSize) × Safe (planIn (wordsOf P)) (onString P (openString P ps ls D)) xs) ⌝ }
 {}
 
-// What the plan call of either showing leaves in the plan string and the lists: accepted, the plan of the card's figures; after 1 to 12 and 26
+// What the plan call of either showing leaves in the plan string and the lists: accepted, the plan of the card's figures; after 1 to 12, 25 and 26
 // zeros; after 13, and where it has another length, what it held. A refused call leaves both lists.
 pub fn plan_call_leaves()
-    ensures accepted { λ _. ⌜ ((x : Showing) (s p ps ls : List ℕ) → Bytes s → planAnswer x s p ps ls .number ≡ 0 → planIn (wordsOf (planString x s p ps ls)) ≡ planOf x (readCard s .figures)) ⌝ }
-    ensures cleared { λ _. ⌜ ((x : Showing) (s p ps ls : List ℕ) → length p ≡ planSize → (planAnswer x s p ps ls .number ≡ 13 → ⊥) → (planAnswer x s p ps ls .number ≡ 0 → ⊥) → planString x s p ps ls ≡ zeroBytes planSize) ⌝ }
-    ensures kept { λ _. ⌜ ((x : Showing) (s p ps ls : List ℕ) → planAnswer x s p ps ls .number ≡ 13 → planString x s p ps ls ≡ p) ⌝ }
+    ensures accepted { λ _. ⌜ ((x : Showing) (s p ps ls : List ℕ) → Bytes s → planAnswer x s p ps ls .number ≡ 0
+        → planIn (wordsOf (planString x s p ps ls)) ≡ planOf x (readCard s .figures)) ⌝ }
+    ensures cleared { λ _. ⌜ ((x : Showing) (s p ps ls : List ℕ) → length p ≡ planSize → (planAnswer x s p ps ls .number ≡ tooShort → ⊥)
+        → (planAnswer x s p ps ls .number ≡ 0 → ⊥) → planString x s p ps ls ≡ zeroBytes planSize) ⌝ }
+    ensures kept { λ _. ⌜ ((x : Showing) (s p ps ls : List ℕ) → planAnswer x s p ps ls .number ≡ tooShort → planString x s p ps ls ≡ p) ⌝ }
     ensures other { λ _. ⌜ ((x : Showing) (s p ps ls : List ℕ) → (length p ≡ planSize → ⊥) → planString x s p ps ls ≡ p) ⌝ }
-    ensures lists { λ _. ⌜ ((x : Showing) (s p ps ls : List ℕ) → (planAnswer x s p ps ls .number ≡ 0 → ⊥) → (positionsString x s p ps ls ≡ ps) × (leadsString x s p ps ls ≡ ls)) ⌝ }
+    ensures lists { λ _. ⌜ ((x : Showing) (s p ps ls : List ℕ) → (planAnswer x s p ps ls .number ≡ 0 → ⊥) → (positionsString x s p ps ls ≡ ps)
+        × (leadsString x s p ps ls ≡ ls)) ⌝ }
 {}
 
 // What the plan call of either showing leaves can be opened, into any desk string of the right length: the desk is that of the card's plan, all
@@ -65,7 +82,14 @@ pub fn plan_call_leaves()
 pub fn planned_strings_open()
     ensures { λ _. ⌜ ((x : Showing) (s p ps ls : List ℕ) → Bytes s → planAnswer x s p ps ls .number ≡ 0 → (D : List ℕ) → length D ≡ deskSize
         → (openAnswer (planString x s p ps ls) (positionsString x s p ps ls) (leadsString x s p ps ls) D .number ≡ 0)
-        × (said (openString (planString x s p ps ls) (positionsString x s p ps ls) (leadsString x s p ps ls) D) ≡ freshDesk (planOf x (readCard s .figures)))) ⌝ }
+        × (said (openString (planString x s p ps ls) (positionsString x s p ps ls) (leadsString x s p ps ls) D) ≡ freshDesk
+        (planOf x (readCard s .figures)))) ⌝ }
+{}
+
+// What the plan call of either showing leaves has windows: a window of it is never 14, and each that is in range is accepted.
+pub fn planned_strings_have_windows()
+    ensures { λ _. ⌜ ((x : Showing) (s p ps ls : List ℕ) → Bytes s → planAnswer x s p ps ls .number ≡ 0 → (k : ℕ)
+        → windowCall (planString x s p ps ls) (positionsString x s p ps ls) k .number ≡ cond (isOutside k (readCard s .figures .blocks)) wrongWindow 0) ⌝ }
 {}
 
 // Bytes that an answer does not fill keep their contents, spare ones too: of both lists past N entries, of the fetch list past the counted
@@ -74,7 +98,18 @@ pub fn unfilled_entries_stay()
     ensures planner { λ _. ⌜ ((x : Showing) (r : CardRead) (ps ls : List ℕ)
         → SameFrom (4 * r .figures .blocks) ps (positionsAfter x r ps ls) × SameFrom (4 * r .figures .blocks) ls (leadsAfter x r ps ls)) ⌝ }
     ensures plans { λ _. ⌜ ((x : Showing) (s p ps ls : List ℕ)
-        → SameFrom (4 * readCard s .figures .blocks) ps (positionsString x s p ps ls) × SameFrom (4 * readCard s .figures .blocks) ls (leadsString x s p ps ls)) ⌝ }
+        → SameFrom (4 * readCard s .figures .blocks) ps (positionsString x s p ps ls)
+        × SameFrom (4 * readCard s .figures .blocks) ls (leadsString x s p ps ls)) ⌝ }
     ensures begins { λ _. ⌜ ((D ps ls F : List ℕ) → SameFrom (12 * beginAnswer D ps ls F .count) F (fetchString D ps ls F)) ⌝ }
     ensures writer { λ _. ⌜ ((f : Figures) (out : List ℕ) → SameFrom (writtenCard f out .length) out (bufferAfter f out)) ⌝ }
+{}
+
+// What an end judges its draws by is the draw limit of each slot: past 14, 15 and 19 it answers 20 exactly where some slot's draw is above it,
+// with the lowest such slot. The limit is asked for the bound of the sweep, which is what the begin that left the desk answered.
+pub fn end_judges_by_draw_limit()
+    ensures sweeps { λ _. ⌜ ((D ps ls draws : List ℕ) → ReachesDraws (endAnswer D ps ls draws .number)
+        → JudgedBy (λ i. drawLimitOf D i (sweepBound (said D))) draws (endAnswer D ps ls draws)) ⌝ }
+    ensures begun { λ _. ⌜ ((D ps ls F : List ℕ) → beginAnswer D ps ls F .number ≡ 0 → (qs ms draws : List ℕ)
+        → ReachesDraws (endAnswer (beginString D ps ls F) qs ms draws .number)
+        → JudgedBy (λ i. drawLimitOf (beginString D ps ls F) i (beginAnswer D ps ls F .bound)) draws (endAnswer (beginString D ps ls F) qs ms draws)) ⌝ }
 {}

@@ -9,10 +9,10 @@ use Rattle.laws.specs.Each.{Both, both-at, both-length}
 use Rattle.numbers.specs.Units.{parts}
 use Rattle.rules.specs.Scheduler.{Slot, freeSlot, at, leads, lowWater, started, tries, begun, entries, bound}
 use Rattle.rules.specs.Order.{bySlot}
-use Rattle.safety.specs.Orderly.{Kept, kept-refl}
+use Rattle.turns.specs.Orderly.{Kept, kept-refl}
 use Rattle.turns.specs.Facts.{FreeFrom}
-use Rattle.safety.specs.Safety.{kept-free}
-use Rattle.safety.specs.BySlot.{started-kept}
+use Rattle.turns.specs.Sweeps.{kept-free}
+use Rattle.turns.specs.BySlot.{started-kept}
 use Rattle.turns.specs.Turns.{started-leads}
 use Rattle.rules.specs.Calls.{accepted}
 use Rattle.turns.specs.Turns.{leastHeld}
@@ -100,7 +100,8 @@ module _ (d : Desk) (w : Wide d) (r : Ready d) (x : ℕ) (ks : List ℕ)
       ∙ ap (λ (n : ℕ). tries p (started p (lowWater p (leads p (slotsIn d))) (slotsIn d)) 0 n) (sym (length-in d w))
 
 -- both steps are done: d has the kinds ks
-module _ (d : Desk) (w : Wide d) (r : Ready d) (ks : List ℕ) (q : slotsOf (supplyOf (d .plan)) ks (d .next) (d .held) ≡ begun (supplyOf (d .plan)) (slotsIn d)) where
+module _ (d : Desk) (w : Wide d) (r : Ready d) (ks : List ℕ)
+    (q : slotsOf (supplyOf (d .plan)) ks (d .next) (d .held) ≡ begun (supplyOf (d .plan)) (slotsIn d)) where
   slots-begun : Slots (supplyOf (d .plan)) (d .plan .streams) ks (d .next) (d .held)
   slots-begun = slots-kept d w r ks _ q (begun-kept d r)
 

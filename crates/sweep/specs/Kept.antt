@@ -6,8 +6,8 @@ use mathlib.Core.List.{List, [], _∷_, map}
 use Rattle.laws.specs.Each.{Both, each-map}
 use Rattle.rules.specs.Scheduler.{Slot, begun}
 use Rattle.rules.specs.Order.{bySlot}
-use Rattle.safety.specs.Orderly.{Kept}
-use Rattle.safety.specs.BySlot.{begun-began}
+use Rattle.turns.specs.Orderly.{Kept}
+use Rattle.turns.specs.BySlot.{begun-began}
 use Rattle.rules.specs.Calls.{accepted}
 use Rattle.turns.specs.ArrayLaws.{nexts-of-slots, helds-of-slots}
 use Rattle.desk.specs.declared.Desk.{Desk}

@@ -16,7 +16,7 @@ use Rattle.plan.specs.Answer.{isPlan}
 use Rattle.rules.specs.Scheduler.{Slot, end, freeSlot, at, mostDrawn}
 use Rattle.rules.specs.Sound.{sound}
 use Rattle.rules.specs.Refusals.{Verdict, unless, drawAllowed, drawHeld, judged, verdict}
-use Rattle.safety.specs.Verdicts.{excess-lowest, overdrawn-lowest}
+use Rattle.turns.specs.Verdicts.{excess-lowest, overdrawn-lowest}
 use Rattle.rules.specs.Calls as C
 use Rattle.desk.specs.declared.Desk.{Desk}
 use Rattle.desk.specs.Desk.{supplyOf, orderOf, rulesOf, slotsIn, viewOf, answerOf, answered, endDesk}
@@ -35,7 +35,8 @@ module _ (d : Desk) (ps ls draws : List ℕ) where
   judgment = judged (supplyOf (d .plan)) (viewOf d) 0 (end (wordsOf draws))
 
   -- a refused end, but for 14, has their number and place
-  end-judged : (k : ℕ) → 0 < k → k ≢ notSound → endDesk d ps ls draws .verdict .number ≡ k → (judgment .number ≡ k) × (endDesk d ps ls draws .verdict .place ≡ judgment .place)
+  end-judged : (k : ℕ) → 0 < k → k ≢ notSound → endDesk d ps ls draws .verdict .number ≡ k → (judgment .number ≡ k)
+      × (endDesk d ps ls draws .verdict .place ≡ judgment .place)
   unfolding endDesk answered answerOf C.answer C.refusals C.accepted verdict
   end-judged k h n e =
       let t : Bool = isPlan (d .plan) ps ls && sound (supplyOf (d .plan)) (orderOf (d .plan)) (viewOf d) in

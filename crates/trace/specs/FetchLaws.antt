@@ -21,7 +21,7 @@ use Rattle.rules.specs.Order.{Scheduler}
 use Rattle.turns.specs.Sorting.{before-says, rising-at, sorted-keeps, entries-rise, entryOf}
 use Rattle.rules.specs.InOrder.{sameEntry, occurrences}
 use Rattle.rules.specs.Calls as C
-use Rattle.safety.specs.Lists.{verdict-zero, answer-accepted}
+use Rattle.turns.specs.Answers.{verdict-zero, answer-accepted}
 use Rattle.desk.specs.declared.Desk.{Desk}
 use Rattle.desk.specs.Desk.{supplyOf, orderOf, rulesOf, Queue, viewOf, deskOf, answerOf, beginDesk}
 use Rattle.desk.specs.Entries.{entriesIn, entries-in}
@@ -79,10 +79,12 @@ module _ {A : Type 0} (p : Supply A) (alone : (a : A) → p .others a ≡ []) wh
       → occurrences e (entriesFrom p i (s ∷ ss)) ≡ cond (isFetched p s) (bit (sameEntry e (entryOf p i s))) 0 + occurrences e (entriesFrom p (suc i) ss)
   unfolding entriesFrom entriesAt
   occurs-from i s ss e =
-      ap (λ (qs : List ℕ). occurrences e (cond (isFetched p s) (entriesAt i (p .number (s .next)) (p .position (s .next) ∷ qs)) [] ++ entriesFrom p (suc i) ss)) (alone (s .next))
+      ap (λ (qs : List ℕ). occurrences e (cond (isFetched p s) (entriesAt i (p .number (s .next)) (p .position (s .next) ∷ qs)) [] ++ entriesFrom p
+      (suc i) ss)) (alone (s .next))
       ∙ go (isFetched p s)
     where
-      go : (t : Bool) → occurrences e (cond t (entryOf p i s ∷ []) [] ++ entriesFrom p (suc i) ss) ≡ cond t (bit (sameEntry e (entryOf p i s))) 0 + occurrences e (entriesFrom p (suc i) ss)
+      go : (t : Bool) → occurrences e (cond t (entryOf p i s ∷ []) [] ++ entriesFrom p (suc i) ss) ≡ cond t
+          (bit (sameEntry e (entryOf p i s))) 0 + occurrences e (entriesFrom p (suc i) ss)
       go true = unfold occurrences sumBy in refl
       go false = omega arith
 
@@ -92,7 +94,8 @@ module _ {A : Type 0} (p : Supply A) (alone : (a : A) → p .others a ≡ []) wh
   from-below i [] e l = refl
   from-below i (s ∷ ss) e l = occurs-from i s ss e ∙ go (isFetched p s) (sameEntry e (entryOf p i s)) refl (from-below (suc i) ss e (omega arith))
     where
-      go : (t u : Bool) → sameEntry e (entryOf p i s) ≡ u → occurrences e (entriesFrom p (suc i) ss) ≡ 0 → cond t (bit u) 0 + occurrences e (entriesFrom p (suc i) ss) ≡ 0
+      go : (t u : Bool) → sameEntry e (entryOf p i s) ≡ u → occurrences e (entriesFrom p (suc i) ss) ≡ 0
+          → cond t (bit u) 0 + occurrences e (entriesFrom p (suc i) ss) ≡ 0
       go true true q r = absurd (omega (arith, ap (λ (f : Entry). f .slot) (same-true e (entryOf p i s) q)))
       go true false q r = omega arith
       go false u q r = omega arith
@@ -103,7 +106,8 @@ module _ {A : Type 0} (p : Supply A) (alone : (a : A) → p .others a ≡ []) wh
   from-once i [] e = omega arith
   from-once i (s ∷ ss) e = rw (occurs-from i s ss e) (go (isFetched p s) (sameEntry e (entryOf p i s)) refl (from-once (suc i) ss e))
     where
-      go : (t u : Bool) → sameEntry e (entryOf p i s) ≡ u → occurrences e (entriesFrom p (suc i) ss) ≤ 1 → cond t (bit u) 0 + occurrences e (entriesFrom p (suc i) ss) ≤ 1
+      go : (t u : Bool) → sameEntry e (entryOf p i s) ≡ u → occurrences e (entriesFrom p (suc i) ss) ≤ 1
+          → cond t (bit u) 0 + occurrences e (entriesFrom p (suc i) ss) ≤ 1
       go true true q r = omega (arith, from-below (suc i) ss e (omega (arith, ap (λ (f : Entry). f .slot) (same-true e (entryOf p i s) q))))
       go true false q r = omega arith
       go false u q r = omega arith
@@ -220,7 +224,8 @@ module _ (q : Plan) (s : Scheduler ℕ Queue) where
   slots-fetched = record {
     each = λ i h. let (k, l, e) = each-entry (supplyOf q) (λ a. refl) (s .slots) i (needs-fetched i h) in (k, l, ap (λ (x : Entry). x .slot) e);
     only = λ k l. let (i, f, e) = only-entry (supplyOf q) (λ a. refl) (s .slots) k l in
-        subst (λ (x : Entry). NeedsBlock (deskOf q s) (x .slot) × (x .block ≡ getD (deskOf q s .next) (x .slot) 0) × (x .position ≡ positionOf (showingIn q) (q .figures) (x .block)))
+        subst (λ (x : Entry). NeedsBlock (deskOf q s) (x .slot) × (x .block ≡ getD (deskOf q s .next) (x .slot) 0)
+        × (x .position ≡ positionOf (showingIn q) (q .figures) (x .block)))
         (sym e) (fetched-needs i f, sym (next-at q s i), refl);
     order = entry-order (supplyOf q) (λ a. refl) (s .slots);
   }
@@ -238,4 +243,5 @@ module _ (d : Desk) (ps ls : List ℕ) (room : ℕ) (n : beginDesk d ps ls room 
   unfolding beginDesk
   begin-fetched =
       let a = answerOf d ps ls room begin in
-      subst (λ (es : List Entry). Fetched (deskOf (d .plan) (a .scheduler)) es) (sym (entries-in (a .entries) ∙ begin-entries)) (slots-fetched (d .plan) (a .scheduler))
+      subst (λ (es : List Entry). Fetched (deskOf (d .plan) (a .scheduler)) es) (sym (entries-in (a .entries) ∙ begin-entries))
+      (slots-fetched (d .plan) (a .scheduler))

@@ -33,6 +33,13 @@ moveOf (leaves slot) = leave slot
 moveOf (begins room) = begin
 moveOf (ends draws) = end (wordsOf draws)
 
+-- the room that it gives for fetch entries
+abbrev pub roomOf : Request → ℕ
+roomOf (joins slot block) = 0
+roomOf (leaves slot) = 0
+roomOf (begins room) = room
+roomOf (ends draws) = 0
+
 -- ---- what a call answers
 
 pub record Answered : Type 0 where

@@ -5,7 +5,7 @@ use mathlib.Core.Path.{_≡_, refl, sym, ap, _∙_, subst}
 use mathlib.Core.Bool.{Bool, true, false}
 use mathlib.Core.List.{List}
 use native.Mathlib.Omega.{arith}
-use Rattle.round_trip.specs.Legality.{Wide}
+use Rattle.legality.specs.Legality.{Wide}
 use Rattle.plan.specs.declared.Plan.{Plan}
 use Rattle.plan.specs.Plan.{showingIn}
 use Rattle.plan.specs.Answer.{isPlan}
@@ -17,7 +17,7 @@ use Rattle.rules.specs.Refusals.{Verdict, verdict}
 use Rattle.turns.specs.Rows.{row-unfair}
 use Rattle.rules.specs.Calls.{Given}
 use Rattle.rules.specs.Calls as C
-use Rattle.safety.specs.Lists.{verdict-zero}
+use Rattle.turns.specs.Answers.{verdict-zero}
 use Rattle.safety.specs.Claim as K
 use Rattle.desk.specs.declared.Desk.{Desk}
 use Rattle.desk.specs.Desk.{supplyOf, rulesOf, orderOf, Queue, viewOf, openBy, openDesk, freshDesk}
@@ -61,4 +61,5 @@ accepted-sound d x w e =
     let n = sym (r .0) ∙ e in
     let f = fair-of (d .plan) (viewOf d) g (verdict-zero p (orderOf (d .plan)) (rulesOf (d .plan)) (viewOf d) g n) in
     ap (sound p (orderOf (d .plan))) (r .1)
-    ∙ K.accepted-stays-sound p (checked-lawful (d .plan) (x .positions) (x .leads) w f) (supply-named (d .plan)) (orderOf (d .plan)) (order-orderly (d .plan)) (viewOf d) g n
+    ∙ K.accepted-stays-sound p (checked-lawful (d .plan) (x .positions) (x .leads) w f) (supply-named (d .plan)) (orderOf (d .plan))
+    (order-orderly (d .plan)) (viewOf d) g n

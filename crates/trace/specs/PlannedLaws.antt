@@ -14,24 +14,39 @@ use Rattle.card.specs.declared.Figures.{Figures}
 use Rattle.card.specs.declared.CardRead.{CardRead}
 use Rattle.card.specs.Card.{Legal, judgeRecord}
 use Rattle.card.specs.Read.{readCard}
-use Rattle.round_trip.specs.Legality.{Wide, fault-legal}
+use Rattle.legality.specs.Legality.{Wide, fault-legal}
 use Rattle.placement.specs.Showing.{Showing}
 use Rattle.plan.specs.Plan.{streamsOf, planOf, positionsOf, leadsOf}
-use Rattle.plan.specs.Answer.{planFault, faultAfter, refusal, answer, planned, positionsAfter, leadsAfter, judged}
+use Rattle.plan.specs.Answer.{planFault, faultAfter, refusal, answer, filled, planned, positionsAfter, leadsAfter, judged}
 use Rattle.plan.specs.Check.{plan-passes}
-use Rattle.plan.specs.Ways.{card-legal}
+use Rattle.round_trip.specs.RoundTrip.{card-legal}
 use Rattle.desk.specs.Desk.{openDesk}
 use Rattle.trace.specs.Answers.{Opens}
 
 -- the planner's answer, by its two numbers: accepted, it has the plan of the figures
-pub accepted-told : (x : Showing) (r : CardRead) (j k : ℕ) → answer x j k r .verdict .number ≡ 0 → (j ≡ 0) × (k ≡ 0) × (answer x j k r .plan ≡ planOf x (r .figures))
+pub accepted-told : (x : Showing) (r : CardRead) (j k : ℕ) → answer x j k r .verdict .number ≡ 0 → (j ≡ 0) × (k ≡ 0)
+    × (answer x j k r .plan ≡ planOf x (r .figures))
 unfolding refusal
 accepted-told x r zero zero h = (refl, refl, refl)
 accepted-told x r zero (suc k) h = absurd (omega arith)
 accepted-told x r (suc j) k h = absurd (omega arith)
 
+-- refused, it leaves a list
+list-kept : (x : Showing) (r : CardRead) (s vs : List ℕ) (j k : ℕ) → (answer x j k r .verdict .number ≡ 0 → ⊥) → filled j k s vs ≡ s
+list-kept x r s vs zero zero h = absurd (h refl)
+list-kept x r s vs zero (suc k) h = refl
+list-kept x r s vs (suc j) k h = refl
+
+pub lists-kept : (x : Showing) (r : CardRead) (ps ls : List ℕ) → (planned x r ps ls .verdict .number ≡ 0 → ⊥) → (positionsAfter x r ps ls ≡ ps)
+    × (leadsAfter x r ps ls ≡ ls)
+unfolding planned positionsAfter leadsAfter
+lists-kept x r ps ls h =
+    let j = r .verdict .number in
+    let k = faultAfter x r ps ls in
+    (list-kept x r ps (positionsOf x (r .figures)) j k h, list-kept x r ls (leadsOf x (r .figures)) j k h)
+
 -- neither 13 nor 12
-fault-none : (x : Showing) (f : Figures) (np nl : ℕ) → planFault x f np nl ≡ 0 → (f .blocks ≤ np) × (f .blocks ≤ nl) × (0 < streamsOf x f)
+pub fault-none : (x : Showing) (f : Figures) (np nl : ℕ) → planFault x f np nl ≡ 0 → (f .blocks ≤ np) × (f .blocks ≤ nl) × (0 < streamsOf x f)
 unfolding planFault
 fault-none x f np nl e = go (ltb np (f .blocks)) refl (ltb nl (f .blocks)) refl (eqb (streamsOf x f) 0) refl e
   where

@@ -3,7 +3,7 @@ use Prim.Native.Nat.{ℕ, _+_, _*_, _/_, _≤_, _<_}
 use mathlib.Core.Path.{_≡_}
 use mathlib.Core.Logic.{_↔_, _≢_}
 use mathlib.Core.Bool.{Bool, true, cond}
-use mathlib.Core.List.{List, [], _∷_, _++_}
+use mathlib.Core.List.{List, [], _∷_, _++_, map}
 use lib.ListN.{getD}
 use Rattle.numbers.specs.Limits.{maxStreams}
 use Rattle.numbers.specs.Refusals.{notSound}
@@ -16,10 +16,11 @@ use Rattle.rules.specs.Scheduler.{Call, begin}
 use Rattle.rules.specs.Sound.{sound}
 use Rattle.rules.specs.Kinds.{kindAfter}
 use Rattle.rules.specs.Ledger.{Line, lineAt}
-use Rattle.rules.specs.Calls.{isAccepted}
+use Rattle.rules.specs.Calls.{Given, isAccepted}
+use Rattle.rules.specs.Calls as C
 use Rattle.desk.specs.declared.Desk.{Desk}
-use Rattle.desk.specs.Desk.{supplyOf, orderOf, viewOf, freshDesk}
-use Rattle.trace.specs.List.{Lent, moveOf, called, World, after, opened}
+use Rattle.desk.specs.Desk.{supplyOf, orderOf, rulesOf, viewOf, deskOf, freshDesk}
+use Rattle.trace.specs.List.{Lent, moveOf, roomOf, called, World, after, opened}
 
 -- B1: a list of calls of type X as their caller sees it
 pub record Seen (X : Type 0) : Type 0 where
@@ -29,9 +30,10 @@ pub record Seen (X : Type 0) : Type 0 where
   -- the number and the bound that one more call is answered
   pub number : List X → X → ℕ
   pub bound : List X → X → ℕ
-  -- a call's move, and whether the lists that are lent to it are the plan's
+  -- a call's move, whether the lists that are lent to it are the plan's, and its room for fetch entries
   pub move : X → Call ℕ
   pub fair : X → Bool
+  pub room : X → ℕ
 
 -- from the opening of a plan, the calls on its record
 module _ (p : Plan) where
@@ -46,6 +48,7 @@ module _ (p : Plan) where
     bound = λ xs x. called (worldAfter xs .desk) x .bound;
     move = λ x. moveOf (x .request);
     fair = λ x. isPlan p (x .positions) (x .leads);
+    room = λ x. roomOf (x .request);
   }
 
 module _ {X : Type 0} (p : Plan) (v : Seen X) where
@@ -58,8 +61,14 @@ module _ {X : Type 0} (p : Plan) (v : Seen X) where
   abbrev pub lineOf : List X → ℕ → Line
   lineOf xs i = lineAt (v .book xs) i
 
+  -- a call as the rules are given it
+  abbrev pub givenIn : X → Given ℕ
+  givenIn x = record { call = v .move x; fair = v .fair x; room = v .room x }
+
   -- AFTER EVERY LIST from an opening of p, a plan of either showing (T7.9), for each of the 256 slots
   pub record Safe (xs : List X) : Type 0 where
+    -- 2.1: the desk is that of the rules' scheduler after the same list
+    pub by-rules : v .desk xs ≡ deskOf p (C.after (supplyOf p) (orderOf p) (rulesOf p) (C.opening (supplyOf p) (orderOf p)) (map givenIn xs) .scheduler)
     -- B3: a slot is occupied exactly where its line is open
     pub occupied-open : (i : ℕ) → i < maxStreams → ((waiting ≤ kindAt xs i) × (kindAt xs i ≤ draining)) ↔ (lineOf xs i .isOpen ≡ true)
     -- B4: all that was fetched for an open line was drawn or is held

@@ -6,29 +6,46 @@ use mathlib.Core.Bool.{cond}
 use mathlib.Core.List.{List, [], _∷_, map, map-append}
 use native.Mathlib.Omega.{arith}
 use lib.ListN.{getD}
+use Rattle.words.specs.Words.{withWords}
 use Rattle.plan.specs.declared.Plan.{Plan}
 use Rattle.plan.specs.Answer.{isPlan}
 use Rattle.rules.specs.Supply.{Lawful}
 use Rattle.rules.specs.Order.{Scheduler, bySlot}
 use Rattle.rules.specs.Order as A
-use Rattle.rules.specs.Scheduler.{leads}
+use Rattle.rules.specs.Scheduler.{Entry, begin, leads}
 use Rattle.rules.specs.Sound.{sound}
 use Rattle.turns.specs.Facts.{Good, sound-says}
 use Rattle.turns.specs.Turns.{sound-at}
+use Rattle.turns.specs.Answers.{refused-changes-nothing}
 use Rattle.rules.specs.Kinds.{kindAfter}
 use Rattle.rules.specs.Ledger.{lineAt, recorded}
 use Rattle.rules.specs.Calls as C
 use Rattle.rules.specs.Calls.{Given, isAccepted}
 use Rattle.safety.specs.Claim as K
 use Rattle.desk.specs.declared.Desk.{Desk}
-use Rattle.desk.specs.Desk.{supplyOf, rulesOf, orderOf, Queue, viewOf, deskOf, answerOf, answered, joinDesk, leaveDesk, beginDesk, endDesk, zeros, freshDesk}
+use Rattle.desk.specs.Desk.{supplyOf, rulesOf, orderOf, Queue, viewOf, deskOf, answerOf, answered, joinDesk, leaveDesk, beginDesk, endDesk, entryWords}
+use Rattle.desk.specs.Desk.{fetchListAfter, zeros, freshDesk}
 use Rattle.desk.specs.Entries.{entries-in}
-use Rattle.desk.specs.View.{view-of-desk}
+use Rattle.desk.specs.View.{Wide, desk-of-view, view-of-desk}
 use Rattle.desk.specs.FilmEnd.{end-says}
 use Rattle.desk.specs.Promise.{supply-named}
-use Rattle.trace.specs.List.{Request, joins, leaves, begins, ends, Lent, moveOf, answerTo, called, World, turn, after, opened}
-use Rattle.trace.specs.Safe.{Seen, worldAfter, onRecord, Safe}
+use Rattle.trace.specs.List.{Request, joins, leaves, begins, ends, Lent, moveOf, roomOf, answerTo, called, World, turn, after, opened}
+use Rattle.trace.specs.Safe.{Seen, worldAfter, onRecord, givenIn, Safe}
 use Rattle.trace.specs.SlotLaws.{kind-at, held-at}
+
+-- ---- a list taken twice over, and as it is
+
+map-twice : {A B C : Type 0} (f : B → C) (g : A → B) (xs : List A) → map f (map g xs) ≡ map (λ x. f (g x)) xs
+map-twice f g [] = refl
+map-twice f g (x ∷ xs) = ap (λ r. f (g x) ∷ r) (map-twice f g xs)
+
+map-own : {A : Type 0} (xs : List A) → map (λ x. x) xs ≡ xs
+map-own [] = refl
+map-own (x ∷ xs) = ap (λ r. x ∷ r) (map-own xs)
+
+-- the desk of the rules' scheduler after a list
+abbrev deskAfter : Plan → List (Given ℕ) → Desk
+deskAfter p gs = deskOf p (C.after (supplyOf p) (orderOf p) (rulesOf p) (C.opening (supplyOf p) (orderOf p)) gs .scheduler)
 
 -- ---- calls of another type, seen as these
 
@@ -41,10 +58,12 @@ module _ {X Y : Type 0} (g : X → Y) (v : Seen Y) where
     bound = λ xs x. v .bound (map g xs) (g x);
     move = λ x. v .move (g x);
     fair = λ x. v .fair (g x);
+    room = λ x. v .room (g x);
   }
 
   pub safe-as : (p : Plan) (xs : List X) → Safe p v (map g xs) → Safe p seenAs xs
   safe-as p xs s = record {
+    by-rules = s .by-rules ∙ ap (deskAfter p) (map-twice (givenIn p v) g xs);
     occupied-open = s .occupied-open;
     accounted = s .accounted;
     fits = s .fits;
@@ -59,12 +78,6 @@ module _ {X Y : Type 0} (g : X → Y) (v : Seen Y) where
 -- ---- a call as the rules are given it
 
 module _ (p : Plan) where
-  abbrev roomOf : Request → ℕ
-  roomOf (joins slot block) = 0
-  roomOf (leaves slot) = 0
-  roomOf (begins room) = room
-  roomOf (ends draws) = 0
-
   abbrev asGiven : Lent → Request → Given ℕ
   asGiven x r = record { call = moveOf r; fair = isPlan p (x .positions) (x .leads); room = roomOf r }
 
@@ -112,6 +125,27 @@ pub called-ruled : (d : Desk) (x : Lent)
     × (viewOf (called d x .desk) ≡ C.answer (supplyOf (d .plan)) (orderOf (d .plan)) (rulesOf (d .plan)) (viewOf d) (givenOf (d .plan) x) .scheduler)
 called-ruled d x = let r = own-rules d x (x .request) in (r .number, ap viewOf (r .desk) ∙ view-of-desk (d .plan) _)
 
+-- a refused call leaves the desk that it was given, and answers no entries
+pub refused-leaves : (d : Desk) (x : Lent) → Wide d → (called d x .number ≡ 0 → ⊥) → (called d x .desk ≡ d) × (called d x .entries ≡ [])
+unfolding C.turn
+refused-leaves d x w n =
+    let r = own-rules d x (x .request) in
+    let h : ruled (d .plan) (viewOf d) (givenOf (d .plan) x) .number ≡ 0 → ⊥ = λ z. n (r .number ∙ z) in
+    let q =
+    refused-changes-nothing (supplyOf (d .plan)) (orderOf (d .plan)) (rulesOf (d .plan)) (record { scheduler = viewOf d; ledger = [] })
+    (givenOf (d .plan) x) (omega arith) in
+    (r .desk ∙ ap (λ (v : C.State ℕ Queue). deskOf (d .plan) (v .scheduler)) (q .0) ∙ desk-of-view d w, r .entries ∙ q .1)
+
+-- and a begin the byte string that is lent for its fetches
+pub fetches-kept : (d : Desk) (ps ls : List ℕ) (room : ℕ) (F : List ℕ) → (beginDesk d ps ls room .verdict .number ≡ 0 → ⊥) → fetchListAfter d ps ls room F ≡ F
+unfolding fetchListAfter entryWords withWords beginDesk answerOf
+fetches-kept d ps ls room F n =
+    let g : Given ℕ = record { call = begin; fair = isPlan (d .plan) ps ls; room = room } in
+    let h : ruled (d .plan) (viewOf d) g .number ≡ 0 → ⊥ = n in
+    let q = refused-changes-nothing (supplyOf (d .plan)) (orderOf (d .plan)) (rulesOf (d .plan)) (record { scheduler = viewOf d; ledger = [] }) g
+    (omega arith) in
+    ap (λ (es : List Entry). withWords F 0 (entryWords es)) (q .1)
+
 -- ---- the same list for the rules
 
 module _ (p : Plan) where
@@ -127,11 +161,13 @@ module _ (p : Plan) where
     bound = λ gs g. K.answerAfter (supplyOf p) (orderOf p) gs g .bound;
     move = λ g. g .call;
     fair = λ g. g .fair;
+    room = λ g. g .room;
   }
 
   -- the record of a scheduler is answered as the scheduler
   on-desk : (s : Scheduler ℕ Queue) (x : Lent) → RuledBy p s (deskOf p s) x (x .request)
-  on-desk s x = subst (λ (w : Scheduler ℕ Queue). RuledBy p w (deskOf p s) x (x .request)) (view-of-desk p s) (unfold deskOf in own-rules (deskOf p s) x (x .request))
+  on-desk s x = subst (λ (w : Scheduler ℕ Queue). RuledBy p w (deskOf p s) x (x .request)) (view-of-desk p s)
+      (unfold deskOf in own-rules (deskOf p s) x (x .request))
 
   -- the desk and the book are the rules' scheduler and ledger
   record Same (v : World) (u : State) : Type 0 where
@@ -168,6 +204,7 @@ module _ (p : Plan) where
     bound = λ xs x. called-same (worldAfter p xs .desk) _ x (same xs .desk) .bound t;
     move = λ x. moveOf (x .request);
     fair = λ x. isPlan p (x .positions) (x .leads);
+    room = λ x. roomOf (x .request);
   }
 
   -- ---- every list is safe
@@ -179,6 +216,7 @@ module _ (p : Plan) where
         let s = K.every-list-safe (supplyOf p) ok (supply-named p) gs in
         let d = K.stateAfter (supplyOf p) (orderOf p) gs .scheduler in
         record {
+          by-rules = ap (deskAfter p) (sym (map-own gs));
           occupied-open = λ i u. (λ k. s .occupied-open i .0 (omega (arith, kind-at p d i)), λ e. omega (arith, kind-at p d i, s .occupied-open i .1 e));
           accounted = λ i u e. ap (λ (h : ℕ). h + lineAt (onRules .book gs) i .consumed) (held-at p d i) ∙ s .accounted i e;
           fits = λ i u. omega (arith, held-at p d i, s .fits i);
@@ -200,7 +238,8 @@ module _ (p : Plan) where
 
         -- the desk before the last call is the scheduler's too
         before : (ys : List (Given ℕ)) (x : Given ℕ) (i : ℕ)
-            → cond (isAccepted (onRules .number ys x)) (kindAfter (supplyOf p) (K.stateAfter (supplyOf p) (orderOf p) ys .scheduler) (x .call) i) (K.slotAfter (supplyOf p) (orderOf p) ys i .kind)
+            → cond (isAccepted (onRules .number ys x)) (kindAfter (supplyOf p) (K.stateAfter (supplyOf p) (orderOf p) ys .scheduler) (x .call) i)
+            (K.slotAfter (supplyOf p) (orderOf p) ys i .kind)
             ≡ cond (isAccepted (onRules .number ys x)) (kindAfter (supplyOf p) (viewOf (onRules .desk ys)) (x .call) i) (getD (onRules .desk ys .kinds) i 0)
         before ys x i =
             let d = K.stateAfter (supplyOf p) (orderOf p) ys .scheduler in

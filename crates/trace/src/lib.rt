@@ -3,18 +3,27 @@
 ghost use mathlib.Core.Path.{_≡_};
 ghost use Prim.Native.Nat.{ℕ};
 ghost use mathlib.Core.Bool.{true};
-ghost use mathlib.Core.List.{List};
+ghost use mathlib.Core.List.{List, []};
 ghost use lib.ListN.{getD};
+ghost use Rattle.numbers.specs.Refusals.{drawAboveLimit, drawAboveHeld};
 ghost use Rattle.words.specs.Words.{Bytes};
 ghost use Rattle.card.specs.declared.Figures.{Figures};
+ghost use Rattle.card.specs.declared.CardRead.{CardRead};
 ghost use Rattle.card.specs.Read.{readCard};
-ghost use Rattle.round_trip.specs.Legality.{Wide};
+ghost use Rattle.legality.specs.Legality.{Wide};
 ghost use Rattle.placement.specs.Showing.{Showing};
+ghost use Rattle.pacing.specs.Film.{Film, Paced};
 ghost use Rattle.plan.specs.declared.Plan.{Plan};
 ghost use Rattle.plan.specs.Answer.{planned, positionsAfter, leadsAfter, judged};
+ghost use Rattle.rules.specs.Supply.{Lawful, Named};
+ghost use Rattle.rules.specs.Order.{bySlot};
+ghost use Rattle.rules.specs.Kinds.{kindAfter};
+ghost use Rattle.rules.specs.Calls.{Given};
 ghost use Rattle.rules.specs.Sound.{sound};
+ghost use Rattle.safety.specs.Claim.{Safe as RuledSafe};
+ghost use Rattle.desk.specs.Supply.{Rates, supplied, Rated};
 ghost use Rattle.desk.specs.declared.Desk.{Desk};
-ghost use Rattle.desk.specs.Desk.{supplyOf, orderOf, viewOf, freshDesk, openDesk, beginDesk, endDesk};
+ghost use Rattle.desk.specs.Desk.{supplyOf, orderOf, viewOf, freshDesk, openDesk, beginDesk, endDesk, fetchListAfter};
 ghost use Rattle.desk.specs.Entries.{entriesIn};
 ghost use Rattle.desk.specs.View.{Wide as WideDesk};
 ghost use Rattle.trace.specs.Answers.{Opens, Fetched, drawAt, mayDraw, LowestAbove};
@@ -26,6 +35,15 @@ ghost use Rattle.trace.specs.Safe.{Safe, onRecord};
 pub fn every_list_safe()
     ensures { λ _. ⌜ ((p : Plan) (positions leads : List ℕ) → Wide (p .figures) → openDesk p positions leads .verdict .number ≡ 0
         → (openDesk p positions leads .desk ≡ freshDesk p) × ((xs : List Lent) → Safe p (onRecord p) xs)) ⌝ }
+{}
+
+// The facts on floors are of any film whose successive pairs stay within a worst time, with rates within the formulas of streams, margin and
+// buffer: what the desk is told of it keeps the planner's promise, and every list of calls under the rules is safe. A film shown once and one
+// that goes round are two of them.
+pub fn paced_film_is_safe()
+    ensures lawful { λ _. ⌜ ((film : Film ℕ) (w m : ℕ) (r : Rates) → Paced film w m → Rated film w r m → Lawful (supplied film w r)) ⌝ }
+    ensures safe { λ _. ⌜ ((film : Film ℕ) (w m : ℕ) (r : Rates) → Paced film w m → Rated film w r m → Named (supplied film w r) → (gs : List (Given ℕ))
+        → RuledSafe (supplied film w r) (bySlot (supplied film w r)) (kindAfter (supplied film w r)) gs) ⌝ }
 {}
 
 // An accepted call on any record, not only on one that a list reached, leaves a sound record.
@@ -50,8 +68,18 @@ pub fn fetches_are_whole()
 
 // A refused draw is named by its slot, the lowest such: 20 above what the slot may draw, 21 above what it holds.
 pub fn refused_draw_is_the_lowest()
-    ensures limit { λ _. ⌜ ((d : Desk) (positions leads draws : List ℕ) → WideDesk d → endDesk d positions leads draws .verdict .number ≡ 20
+    ensures limit { λ _. ⌜ ((d : Desk) (positions leads draws : List ℕ) → WideDesk d → endDesk d positions leads draws .verdict .number ≡ drawAboveLimit
         → LowestAbove (mayDraw d) (drawAt draws) (endDesk d positions leads draws .verdict .place)) ⌝ }
-    ensures held { λ _. ⌜ ((d : Desk) (positions leads draws : List ℕ) → WideDesk d → endDesk d positions leads draws .verdict .number ≡ 21
+    ensures held { λ _. ⌜ ((d : Desk) (positions leads draws : List ℕ) → WideDesk d → endDesk d positions leads draws .verdict .number ≡ drawAboveHeld
         → LowestAbove (λ i. getD (d .held) i 0) (drawAt draws) (endDesk d positions leads draws .verdict .place)) ⌝ }
+{}
+
+// A refused call leaves all that it was given. A join, leave, begin or end answers the very desk, and no entries; a begin leaves the byte
+// string that is lent for its fetches (a list of entries: crate fetch_list); a planner call leaves both lists, in either showing.
+pub fn refused_call_leaves_all()
+    ensures desk { λ _. ⌜ ((d : Desk) (x : Lent) → WideDesk d → (called d x .number ≡ 0 → ⊥) → (called d x .desk ≡ d) × (called d x .entries ≡ [])) ⌝ }
+    ensures fetches { λ _. ⌜ ((d : Desk) (ps ls : List ℕ) (room : ℕ) (F : List ℕ) → (beginDesk d ps ls room .verdict .number ≡ 0 → ⊥)
+        → fetchListAfter d ps ls room F ≡ F) ⌝ }
+    ensures planner { λ _. ⌜ ((x : Showing) (r : CardRead) (ps ls : List ℕ) → (planned x r ps ls .verdict .number ≡ 0 → ⊥)
+        → (positionsAfter x r ps ls ≡ ps) × (leadsAfter x r ps ls ≡ ls)) ⌝ }
 {}

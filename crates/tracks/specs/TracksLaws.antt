@@ -40,7 +40,8 @@ pub record TimeFits (turns switch block track : ℕ) : Type 0 where
   pub reading : roundedUp (block * minute) (turns * track) ≤ maxBlock * minute
   pub switching : switch * roundedUp (block - 1) track ≤ maxSwitch * maxBlock
 
-pub time-fits : (turns switch block track : ℕ) → 0 < turns → turns ≤ maxTurns → switch ≤ maxSwitch → block ≤ maxBlock → 0 < track → track ≤ maxTrack → TimeFits turns switch block track
+pub time-fits : (turns switch block track : ℕ) → 0 < turns → turns ≤ maxTurns → switch ≤ maxSwitch → block ≤ maxBlock → 0 < track → track ≤ maxTrack
+    → TimeFits turns switch block track
 time-fits turns switch block track a b c d e f =
     let turned : 0 < turns * track = mul-pos a e in
     let sectors : block * minute ≤ maxBlock * minute = mul-le-mul-right minute d in

@@ -7,6 +7,7 @@ use native.Mathlib.Omega.{arith}
 use lib.ListN.{length, take}
 use borrow.Author.Tests.{lt-ltb, le-ltb, eq-eqb, ne-eqb}
 use Rattle.numbers.specs.Limits.{maxTried}
+use Rattle.numbers.specs.Refusals.{noStream}
 use Rattle.words.specs.Words.{wordsOf}
 use Rattle.card.specs.declared.Figures.{Figures}
 use Rattle.card.specs.declared.CardRead.{CardRead}
@@ -41,14 +42,16 @@ module _ (x : Showing) (r : CardRead) where
     fed v = streams (r .figures .rate) v (overOf (r .figures)) (r .figures .bytes)
 
     -- 12
-    pub by-streams : fed w ≡ 0 → notTried 12 0 ≡ tried x r
+    pub by-streams : fed w ≡ 0 → notTried noStream 0 ≡ tried x r
     unfolding tried triedFault
     by-streams z = rw (e, le-ltb maxTried (r .figures .blocks) few, eq-eqb (fed (leastOf x (r .figures))) 0 (rw least at z))
 
     -- accepted
-    pub by-none : (n : ℕ) → n ≡ countOf x (r .figures) → (fed w ≡ 0 → ⊥) → _≡_ {A = Tried} (record { verdict = record { number = 0; place = 0 }; worst2 = w; count = n }) (tried x r)
+    pub by-none : (n : ℕ) → n ≡ countOf x (r .figures) → (fed w ≡ 0 → ⊥)
+        → _≡_ {A = Tried} (record { verdict = record { number = 0; place = 0 }; worst2 = w; count = n }) (tried x r)
     unfolding tried triedFault
-    by-none n d z = rw (e, le-ltb maxTried (r .figures .blocks) few, ne-eqb (fed (leastOf x (r .figures))) 0 (rw least at z)) (λ i. record { verdict = record { number = 0; place = 0 }; worst2 = least i; count = d i })
+    by-none n d z = rw (e, le-ltb maxTried (r .figures .blocks) few, ne-eqb (fed (leastOf x (r .figures))) 0 (rw least at z))
+        (λ i. record { verdict = record { number = 0; place = 0 }; worst2 = least i; count = d i })
 
 -- what the search finds, from the times of the film's positions
 pub found-is : (x : Showing) (f : Figures) (times : List ℕ) (w n : ℕ) → take (f .blocks) times ≡ map (timeOn f) (filmPositions (totalPositions f) (f .blocks))
@@ -80,6 +83,8 @@ same-answer x r legal ps ls few p l = go (r .verdict .number) (λ e. legal e)
     by (suc j) ok = (unfold notTried in unfold refusal in refl, unfold notTried in unfold refusal in unfold blankPlan in refl)
 
     go : (k : ℕ) → (k ≡ 0 → Legal f)
-        → (triedBy x k (triedFault x f) r .verdict ≡ answer x k (faultAfter x r ps ls) r .verdict) × (triedBy x k (triedFault x f) r .worst2 ≡ answer x k (faultAfter x r ps ls) r .plan .worst2)
-    go zero ok = rw (fault-same x f (length (wordsOf ps)) (length (wordsOf ls)) (ok refl) few p l) (by (planFault x f (length (wordsOf ps)) (length (wordsOf ls))) (ok refl))
+        → (triedBy x k (triedFault x f) r .verdict ≡ answer x k (faultAfter x r ps ls) r .verdict)
+        × (triedBy x k (triedFault x f) r .worst2 ≡ answer x k (faultAfter x r ps ls) r .plan .worst2)
+    go zero ok = rw (fault-same x f (length (wordsOf ps)) (length (wordsOf ls)) (ok refl) few p l)
+        (by (planFault x f (length (wordsOf ps)) (length (wordsOf ls))) (ok refl))
     go (suc k) ok = (unfold notTried in unfold refusal in refl, unfold notTried in unfold refusal in unfold blankPlan in refl)

@@ -20,7 +20,7 @@ ghost use Rattle.leb128.specs.Number.{Bytes};
 ghost use Rattle.card.specs.declared.Figures.{Figures};
 ghost use Rattle.card.specs.Card.{Legal};
 ghost use Rattle.card.specs.Read.{readCard};
-ghost use Rattle.round_trip.specs.Legality.{Wide};
+ghost use Rattle.legality.specs.Legality.{Wide};
 ghost use Rattle.placement.specs.Showing.{Showing, one, loop};
 ghost use Rattle.plan.specs.Plan.{showingOf};
 ghost use Rattle.plan.specs.Answer.{judged};

@@ -7,8 +7,9 @@
 //
 // A line is printed for each: its name, the refusal if there is one, worst2, and how many layings have it.
 use card::Figures;
-use case_text::next_letter;
-use case_text::print_byte;
+use case_text::is_record;
+use case_text::next_case;
+use case_text::no_case;
 use case_text::print_number;
 use case_text::print_refusal;
 use case_text::read_bytes;
@@ -52,19 +53,8 @@ fn run_card(text: &[u8], letter: u8, start: usize) {
     print_answer(try_bytes(letter, &card[..n]));
 }
 
-// Does this letter stand before a record?
-fn is_record(letter: u8) -> bool {
-    if letter == b'R' {
-        return true;
-    }
-    letter == b'r'
-}
-
-// At the end of a case's line: tries what stands from `start` on.
-fn run_case(text: &[u8], byte: u8, letter: u8, start: usize) {
-    if byte != b'\n' {
-        return;
-    }
+// Tries what stands from `start` on.
+fn run_case(text: &[u8], letter: u8, start: usize) {
     if letter == 0 {
         return;
     }
@@ -77,24 +67,10 @@ fn run_case(text: &[u8], byte: u8, letter: u8, start: usize) {
 
 // Every line: its name up to the colon, then the answer.
 fn run_cases(text: &[u8]) {
-    // The letter of the case, 0 in its name and a colon after that, and where what follows it begins.
-    let mut letter: u8 = 0;
-    let mut start: usize = 0;
-    let mut at: usize = 0;
-    while at < text.len() {
-        let byte = text[at];
-        at += 1;
-        run_case(text, byte, letter, start);
-        if byte == b'\n' {
-            letter = 0;
-        }
-        if letter == 0 {
-            print_byte(byte);
-        }
-        if letter == b':' {
-            start = at;
-        }
-        letter = next_letter(letter, byte);
+    let mut case = no_case();
+    while case.end < text.len() {
+        case = next_case(text, case);
+        run_case(text, case.letter, case.start);
     }
 }
 

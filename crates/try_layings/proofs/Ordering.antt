@@ -53,7 +53,8 @@ swapped-order row i n rest h =
     rw (add-one i, swapped-take row i q h, swapped-drop row i q h, getD-drop i row q 0)
     (append-assoc (take i row) (getD row (i + q) 0 ∷ []) (numbered n (rest % factorial n) (others q (drop i row))))
 
-module _ (count number : ℕ) (times row : List ℕ) (rest size next : ℕ) (few : count ≤ maxTried) (more : next < count) (o : Ordering count number times row rest size next) where
+module _ (count number : ℕ) (times row : List ℕ) (rest size next : ℕ) (few : count ≤ maxTried) (more : next < count)
+    (o : Ordering count number times row rest size next) where
   -- what is left to choose from
   left : count - next ≡ suc (count - (next + 1))
   left = omega arith
@@ -69,7 +70,8 @@ module _ (count number : ℕ) (times row : List ℕ) (rest size next : ℕ) (few
   pub pick : rest / (size / (count - next)) < count - next
   pick = rw size-is (rw left (pick-below (count - (next + 1)) rest (rw left at (o .below))))
 
-  pub ordering-next : Ordering count number times (swapped row next (next + rest / (size / (count - next)))) (rest % (size / (count - next))) (size / (count - next)) (next + 1)
+  pub ordering-next : Ordering count number times (swapped row next (next + rest / (size / (count - next)))) (rest % (size / (count - next)))
+      (size / (count - next)) (next + 1)
   ordering-next =
       let n = count - (next + 1) in
       let there = next + rest / factorial n in
@@ -80,7 +82,8 @@ module _ (count number : ℕ) (times row : List ℕ) (rest size next : ℕ) (few
         sized = refl;
         below = rest-below n rest;
         order = swapped-order row next n rest long ∙ rw left at (o .order);
-        small = each-set Small (set row there (getD row next 0)) next (getD row there 0) (each-set Small row there (getD row next 0) (o .small) (at next)) (at there);
+        small = each-set Small (set row there (getD row next 0)) next (getD row there 0) (each-set Small row there (getD row next 0) (o .small) (at next))
+            (at there);
       })
     where
       Small : ℕ → Type 0
@@ -113,5 +116,6 @@ tried-at x N r times row h e =
     ∙ ap (worstIn x (λ t. t) N) (e ∙ numbered-take N r times h)
     ∙ sym (orders-at x N r (take N times) h)
 
-pub best-next : (ws : List ℕ) (r w least count : ℕ) → r < length ws → w ≡ getD ws r 0 → Best (take r ws ++ (w ∷ [])) least count → Best (take (r + 1) ws) least count
+pub best-next : (ws : List ℕ) (r w least count : ℕ) → r < length ws → w ≡ getD ws r 0 → Best (take r ws ++ (w ∷ [])) least count
+    → Best (take (r + 1) ws) least count
 best-next ws r w least count h e b = rw (add-one r, take-suc ws r 0 h, ← e) b

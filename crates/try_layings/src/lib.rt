@@ -18,19 +18,19 @@ ghost use Rattle.layings.specs.Layings.{smallest, howMany};
 ghost use Rattle.layings.specs.Smallest.{Best};
 ghost use Rattle.layings.specs.Times.{ordersTried};
 
-// The smallest worst time met so far, and how many orders have it; before the first it is the greatest number.
-pub struct Found {
+// A search so far: the smallest worst time, before the first order the greatest number, and how many orders have it.
+pub struct Search {
     pub least: u32,
     pub count: u32,
 }
 
 // One more order, of this worst time.
-fn met(found: Found, time: u32) -> Found
+fn met(found: Search, time: u32) -> Search
     requires { ⌜ (time < maxNumber) × (found .count < maxNumber) ⌝ }
     ensures { λ r. ⌜ ((ws : List ℕ) → Best ws (found .least) (found .count) → Best (ws ++ (time ∷ [])) (r .least) (r .count)) ⌝ }
 {
     if time < found.least {
-        return Found {
+        return Search {
             least: time,
             count: 1,
         };
@@ -38,20 +38,20 @@ fn met(found: Found, time: u32) -> Found
     if found.least < time {
         return found;
     }
-    Found {
+    Search {
         least: found.least,
         count: found.count + 1,
     }
 }
 
 // Tries every order of the first `blocks` times, as a film of so many blocks in a showing.
-pub fn try_layings(times: [u32; 8], blocks: u32, showing: u32) -> Found
+pub fn try_layings(times: [u32; 8], blocks: u32, showing: u32) -> Search
     requires { ⌜ (1 < blocks) × (blocks ≤ maxTried) × Each (λ (t : ℕ). t ≤ maxTime) times ⌝ }
     ensures least { λ r. ⌜ r .least ≡ smallest (ordersTried (showingOf showing) blocks (take blocks times)) ⌝ }
     ensures count { λ r. ⌜ r .count ≡ howMany (r .least) (ordersTried (showingOf showing) blocks (take blocks times)) ⌝ }
 {
     let total = factorial(blocks);
-    let mut found = Found {
+    let mut found = Search {
         least: MAX_NUMBER,
         count: 0,
     };

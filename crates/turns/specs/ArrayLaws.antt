@@ -28,7 +28,8 @@ module _ {A : Type 0} (p : Supply A) where
     pub helds : length hs ≡ length ks
 
   -- a load
-  pub slot-at : (ks : List ℕ) (xs : List A) (hs : List ℕ) → SameLength ks xs hs → (i : ℕ) → at p (slotsOf p ks xs hs) i ≡ slotOf p (getD ks i 0) (getD xs i (p .none)) (getD hs i 0)
+  pub slot-at : (ks : List ℕ) (xs : List A) (hs : List ℕ) → SameLength ks xs hs → (i : ℕ)
+      → at p (slotsOf p ks xs hs) i ≡ slotOf p (getD ks i 0) (getD xs i (p .none)) (getD hs i 0)
   unfolding slotsOf
   slot-at [] [] [] e i = refl
   slot-at [] [] (h ∷ hs) e i = absurd (omega (arith, e .helds))

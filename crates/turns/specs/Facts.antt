@@ -120,7 +120,8 @@ module _ {A : Type 0} (p : Supply A) where
         and-both (le-leb k draining (g .kinds))
         (and-both (implies-of (eqb k free) (isZero p s) (λ e. let z = g .zeros (eqb-true k free e) in of-zero s (eqb-true k free e) (z .0) (z .1)))
         (and-both (implies-of (eqb k waiting) (eqb h 0) (λ e. eq-eqb h 0 (g .empty (eqb-true k waiting e))))
-        (and-both (implies-of (leb waiting k && leb k playing) (p .isBlock (s .next)) (λ e. let t = and-says (leb waiting k) _ e in g .named (leb-true waiting k (t .0)) (leb-true k playing (t .1))))
+        (and-both (implies-of (leb waiting k && leb k playing) (p .isBlock (s .next))
+        (λ e. let t = and-says (leb waiting k) _ e in g .named (leb-true waiting k (t .0)) (leb-true k playing (t .1))))
         (and-both (implies-of (eqb k draining) (p .isEnd (s .next)) (λ e. g .past (eqb-true k draining e)))
         (and-both (implies-of (eqb k draining) (leb 1 h) (λ e. le-leb 1 h (g .some (eqb-true k draining e))))
         (and-both (le-leb h (p .buffer) (g .fits))
@@ -128,7 +129,8 @@ module _ {A : Type 0} (p : Supply A) where
 
     free-of-zero : (m : ℕ) (ss : List (Slot A)) → allBy (isZero p) (drop m ss) ≡ true → FreeFrom m ss
     free-of-zero m ss e i l =
-        let z = each-at (λ s. s .kind ≡ free) (drop m ss) (i - m) (freeSlot p) (each-map _ _ (drop m ss) (λ s u. zero-says s u .0) (each-of-all (isZero p) (drop m ss) e)) refl in
+        let z = each-at (λ s. s .kind ≡ free) (drop m ss) (i - m) (freeSlot p)
+        (each-map _ _ (drop m ss) (λ s u. zero-says s u .0) (each-of-all (isZero p) (drop m ss) e)) refl in
         let q : getD (drop m ss) (i - m) (freeSlot p) ≡ at p ss i = getD-drop m ss (i - m) (freeSlot p) ∙ ap (λ (k : ℕ). at p ss k) (omega arith) in
         sym (ap (λ (s : Slot A). s .kind) q) ∙ z
 

@@ -4,3 +4,9 @@ pub mod Rows
 pub mod ArrayLaws
 pub mod Turns
 pub mod Sorting
+pub mod Orderly
+pub mod BySlot
+pub mod Strict
+pub mod Answers
+pub mod Sweeps
+pub mod Verdicts

@@ -80,7 +80,8 @@ module _ {A : Type 0} (p : Supply A) where
   least-none top ss = refl
 
   least-turn : (top : ℕ) (ss : List (Slot A)) (i : ℕ) → i < length ss
-      → leastHeld top (take (suc i) ss) ≡ cond (eqb (at p ss i .kind) playing) (min (leastHeld top (take i ss)) (at p ss i .buffered)) (leastHeld top (take i ss))
+      → leastHeld top (take (suc i) ss) ≡ cond (eqb (at p ss i .kind) playing) (min (leastHeld top (take i ss)) (at p ss i .buffered))
+      (leastHeld top (take i ss))
   unfolding leastHeld
   least-turn top [] i l = absurd (omega arith)
   least-turn top (s ∷ ss) zero l = go (eqb (s .kind) playing)
@@ -91,7 +92,8 @@ module _ {A : Type 0} (p : Supply A) where
   least-turn top (s ∷ ss) (suc i) l =
       rw (least-turn top ss i (omega arith)) (go (eqb (s .kind) playing) (eqb (at p ss i .kind) playing) (leastHeld top (take i ss)) (at p ss i .buffered))
     where
-      go : (t x : Bool) (r h : ℕ) → cond t (min (s .buffered) (cond x (min r h) r)) (cond x (min r h) r) ≡ cond x (min (cond t (min (s .buffered) r) r) h) (cond t (min (s .buffered) r) r)
+      go : (t x : Bool) (r h : ℕ) → cond t (min (s .buffered) (cond x (min r h) r)) (cond x (min r h) r) ≡ cond x
+          (min (cond t (min (s .buffered) r) r) h) (cond t (min (s .buffered) r) r)
       go true true r h = omega arith
       go true false r h = refl
       go false true r h = refl
@@ -118,7 +120,11 @@ module _ {A : Type 0} (p : Supply A) where
       both : (a b : ℕ) → (leb x (parts * a) && leb x (parts * b)) ≡ leb x (parts * min a b)
       both a b =
           bool-ext (leb x (parts * a) && leb x (parts * b)) (leb x (parts * min a b))
-          (λ e. le-leb x (parts * min a b) (omega (arith, leb-true x (parts * a) (and-left (leb x (parts * a)) _ e), leb-true x (parts * b) (and-right (leb x (parts * a)) _ e))))
+          (λ e. le-leb x (parts * min a b) (omega (
+            arith,
+            leb-true x (parts * a) (and-left (leb x (parts * a)) _ e),
+            leb-true x (parts * b) (and-right (leb x (parts * a)) _ e),
+          )))
           (λ e. let l = leb-true x (parts * min a b) e in and-both (le-leb x (parts * a) (omega arith)) (le-leb x (parts * b) (omega arith)))
 
       go : (t : Bool) (r : ℕ) → (implies t (leb x (parts * s .buffered)) && leb x (parts * r)) ≡ leb x (parts * cond t (min (s .buffered) r) r)
@@ -266,7 +272,8 @@ module _ {A : Type 0} (p : Supply A) where
   tries-outside : (ss : List (Slot A)) (i k j : ℕ) → (i ≤ j → i + k ≤ j) → at p (tries p ss i k) j ≡ at p ss j
   unfolding tries
   tries-outside ss i zero j h = refl
-  tries-outside ss i (suc k) j h = tries-outside (tried p ss i) (suc i) k j (λ l. omega (arith, h (omega arith))) ∙ tried-at ss i j (λ e. omega (arith, h (omega arith)))
+  tries-outside ss i (suc k) j h = tries-outside (tried p ss i) (suc i) k j (λ l. omega (arith, h (omega arith)))
+      ∙ tried-at ss i j (λ e. omega (arith, h (omega arith)))
 
   -- the slots from i on are as they were
   pub tries-past : (ss : List (Slot A)) (i j : ℕ) → i ≤ j → at p (tries p ss 0 i) j ≡ at p ss j
@@ -353,7 +360,8 @@ module _ {A : Type 0} (p : Supply A) where
   unfolding granted
   tries-granted ss i L q k h = (
     turn ∙ ap (λ (s : Slot A). set ts i (fillingSlot p s)) same,
-    ap (λ (m : ℕ). m + p .lead (at p ss i .next)) q ∙ ap (λ (s : Slot A). leads p ts + p .lead (s .next)) (sym same) ∙ sym (granted-leads ts i asks) ∙ ap (leads p) (sym turn),
+    ap (λ (m : ℕ). m + p .lead (at p ss i .next)) q ∙ ap (λ (s : Slot A). leads p ts + p .lead (s .next)) (sym same) ∙ sym (granted-leads ts i asks)
+        ∙ ap (leads p) (sym turn),
   )
     where
       ts : List (Slot A)
@@ -413,7 +421,8 @@ module _ {A : Type 0} (p : Supply A) where
 
   -- a free slot with no draw stays as it is
   pub ended-free : (s : Slot A) → s .kind ≡ free → endedSlot p s 0 ≡ s
-  ended-free s k = ended-other s 0 (fetched-other p s (λ a b. omega arith)) (λ z. absurd (omega arith)) ∙ λ i. record { kind = s .kind; next = s .next; buffered = whole i }
+  ended-free s k = ended-other s 0 (fetched-other p s (λ a b. omega arith)) (λ z. absurd (omega arith))
+      ∙ λ i. record { kind = s .kind; next = s .next; buffered = whole i }
     where
       whole : s .buffered - 0 ≡ s .buffered
       whole = omega arith
@@ -474,7 +483,8 @@ module _ {A : Type 0} (p : Supply A) where
 
     pub draw-excess : (i : ℕ) → i < length ss → ((j : ℕ) → j < i → getD ds j 0 ≤ drawLimit p m (at p ss j)) → drawLimit p m (at p ss i) < getD ds i 0
         → (allFrom (drawAllowed p m ds) 0 ss ≡ false) × (lowestFrom (drawAllowed p m ds) 0 ss ≡ i)
-    draw-excess i l h e = first-failed (drawAllowed p m ds) (freeSlot p) ss i l (λ j u. allowed-yes m ds j (at p ss j) (h j u)) (allowed-no m ds i (at p ss i) e)
+    draw-excess i l h e = first-failed (drawAllowed p m ds) (freeSlot p) ss i l (λ j u. allowed-yes m ds j (at p ss j) (h j u))
+        (allowed-no m ds i (at p ss i) e)
 
     pub draws-held : ((j : ℕ) → j < length ds → getD ds j 0 ≤ at p ss j .buffered) → allFrom (drawHeld p ds) 0 ss ≡ true
     draws-held h =
@@ -499,7 +509,8 @@ module _ {A : Type 0} (p : Supply A) where
           (record {
             phase = h;
             slots = each-by (Good p L) ss (freeSlot p) (λ j l. good-of-sound p names L (at p ss j) (g j l));
-            unused = λ j l. by-cases (decLt j (length ss)) (u j l) (λ z. ap (λ (s : Slot A). s .kind) (List·getD-eq-default ss (freeSlot p) {n = j} (omega arith)));
+            unused = λ j l. by-cases (decLt j (length ss)) (u j l)
+                (λ z. ap (λ (s : Slot A). s .kind) (List·getD-eq-default ss (freeSlot p) {n = j} (omega arith)));
             queue = q;
           })
 

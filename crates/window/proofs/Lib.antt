@@ -1,2 +1,1 @@
-mod Slide
 mod Ways

@@ -13,7 +13,7 @@ use Rattle.numbers.specs.Limits.{maxWindow}
 use Rattle.numbers.specs.Refusals.{notSound, wrongWindow}
 use Rattle.card.specs.declared.Figures.{Figures}
 use Rattle.card.specs.Card.{Legal, totalPositions}
-use Rattle.round_trip.specs.Legality.{Wide}
+use Rattle.legality.specs.Legality.{Wide}
 use Rattle.placement.specs.Showing.{Showing, laying}
 use Rattle.pacing.specs.Window.{placesOf, windowTime, worstWindow, windowAt}
 use Rattle.plan.specs.declared.Plan.{Plan}
@@ -21,9 +21,9 @@ use Rattle.plan.specs.Plan.{showingIn, timeOn, positionOf}
 use Rattle.plan.specs.Answer.{hasNumbers}
 use Rattle.plan.specs.Check.{numbered}
 use Rattle.window.specs.declared.Window.{Window}
-use Rattle.window.specs.Rows.{rowTime}
+use Rattle.worst_row.specs.Rows.{rowTime}
 use Rattle.window.specs.Window.{worstWindowOf, windowAtOf, isLaid, isOutside, windowFault, refusal, answerBy, windowAnswer}
-use Rattle.window.proofs.Slide.{row-window}
+use Rattle.worst_row.proofs.RowLaws.{row-window}
 
 -- the worst row over a showing's n places is the worst window; P is the disk's positions
 pub worst-is : (x : Showing) (f : Figures) (k P n at w : ℕ) → P ≡ totalPositions f → n ≡ placesOf x (f .blocks) k
@@ -48,7 +48,8 @@ module _ (p : Plan) (ps : List ℕ) (k n : ℕ) (e : n ≡ windowFault p ps k) w
       go (suc m) d s = rw (sym d) refl
 
   -- accepted
-  pub answered : (t b bytes : ℕ) → n ≡ 0 → (t ≡ worstWindowOf (showingIn p) (p .figures) k) × (b ≡ windowAtOf (showingIn p) (p .figures) k) → bytes ≡ k * p .figures .bytes
+  pub answered : (t b bytes : ℕ) → n ≡ 0 → (t ≡ worstWindowOf (showingIn p) (p .figures) k) × (b ≡ windowAtOf (showingIn p) (p .figures) k)
+      → bytes ≡ k * p .figures .bytes
       → _≡_ {A = Window} (record { verdict = record { number = n; place = 0 }; time = t; first = b; bytes = bytes }) (windowAnswer p ps k)
   unfolding windowAnswer
   answered t b bytes z w q =
@@ -60,7 +61,7 @@ pub record Accepted (p : Plan) (ps : List ℕ) (k : ℕ) : Type 0 where
   pub laid : isLaid p ps ≡ true
   pub some : 0 < k
   pub most : k ≤ maxWindow
-  pub room : k ≤ p .figures .blocks
+  pub within : k ≤ p .figures .blocks
 
 pub accepted : (p : Plan) (ps : List ℕ) (k : ℕ) → windowFault p ps k ≡ 0 → Accepted p ps k
 unfolding windowFault isOutside
@@ -73,7 +74,7 @@ accepted p ps k e = go (isLaid p ps) refl (eqb k 0) refl (ltb maxWindow k) refl 
     go true l false a true b u c q = absurd (omega arith)
     go true l false a false b true c q = absurd (omega arith)
     go true l false a false b false c q =
-        record { laid = l; some = omega (arith, eqb-false k 0 a); most = ltb-false maxWindow k b; room = ltb-false (p .figures .blocks) k c }
+        record { laid = l; some = omega (arith, eqb-false k 0 a); most = ltb-false maxWindow k b; within = ltb-false (p .figures .blocks) k c }
 
 -- what is laid has legal figures
 pub laid-legal : (p : Plan) (ps : List ℕ) → Wide (p .figures) → isLaid p ps ≡ true → Legal (p .figures)

@@ -1,4 +1,1 @@
-pub mod Rows
 pub mod Window
-pub mod Worst
-pub mod WorstLaws

@@ -10,7 +10,7 @@ use Rattle.window.specs.declared.Window.{Window}
 use Rattle.window.specs.Window.{refusal, windowAnswer}
 use Rattle.layout.specs.declared.FilmdiskWindowAnswer.{FilmdiskWindowAnswer}
 use Rattle.layout.specs.Answers.{windowAnswerOf}
-use Rattle.layout.specs.Layout.{planIn, planSize}
+use Rattle.plan_layout.specs.Layout.{planIn, planSize}
 
 -- the window of the plan that the string P says; `of another length is 14 where it is read`
 unfoldable pub windowFrom : List ℕ → List ℕ → ℕ → Window

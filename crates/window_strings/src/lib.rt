@@ -1,9 +1,9 @@
 // The window call on lent byte strings.
 use layout::FilmdiskWindowAnswer;
-use layout::PLAN_BYTES;
-use layout::read_plan;
 use layout::window_answer;
 use numbers::refusals::NOT_SOUND;
+use plan_layout::PLAN_BYTES;
+use plan_layout::read_plan;
 use window::Window;
 use window::refused;
 ghost use mathlib.Core.Path.{_≡_};

@@ -4,6 +4,7 @@ use libc::STDIN_FILENO;
 use lines::asks_loop;
 use lines::empty;
 use lines::has_more_arguments;
+use lines::plan_film;
 use lines::print;
 use lines::print_refusal;
 use lines::put_next;
@@ -12,9 +13,6 @@ use lines::put_text;
 use numbers::limits::MAX_WINDOW;
 use numbers::units::MICROS;
 use plan::Plan;
-use plan::Planned;
-use planner::plan_card;
-use planner::plan_loop_card;
 use window::worst_window;
 ghost use mathlib.Core.Path.{_≡_};
 ghost use Prim.Native.Nat.{_*_, _/_, _<_, min};
@@ -64,14 +62,6 @@ fn print_windows(plan: Plan, positions: &[u8]) {
     }
 }
 
-// The plan of a card, as a loop or for one showing, and its lists.
-fn plan_film(looped: bool, card: &[u8], positions: &mut [u8], leads: &mut [u8]) -> Planned {
-    if looped {
-        return plan_loop_card(card, positions, leads);
-    }
-    plan_card(card, positions, leads)
-}
-
 // The windows of a card, or the refusal.
 fn list(looped: bool, card: &[u8]) {
     let mut positions = io::large_buffer();
@@ -85,7 +75,7 @@ fn list(looped: bool, card: &[u8]) {
     print_windows(planned.plan, &positions);
 }
 
-// Every refusal of a card is decided within its first 512 bytes, so what is read is enough of any input.
+// Every refusal of a card is decided within its first 1,490 bytes, so what is read is enough of any input.
 fn main() {
     let looped = asks_loop();
     if has_more_arguments(looped) {

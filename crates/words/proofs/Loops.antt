@@ -20,7 +20,8 @@ module _ (ws : List ℕ) (start : ℕ) (out₀ : List ℕ) where
   pub read-start : Reading ws start out₀ out₀ 0
   read-start = record { long = refl; within = omega arith; filled = refl }
 
-  pub read-more : (out : List ℕ) (i v : ℕ) → start + length out₀ ≤ length ws → Reading ws start out₀ out i → i < length out → v ≡ getD ws (start + i) 0 → Reading ws start out₀ (set out i v) (i + 1)
+  pub read-more : (out : List ℕ) (i v : ℕ) → start + length out₀ ≤ length ws → Reading ws start out₀ out i → i < length out
+      → v ≡ getD ws (start + i) 0 → Reading ws start out₀ (set out i v) (i + 1)
   read-more out i v fits r h e =
       let there : i < length (drop start ws) = omega (arith, length-drop start ws, r .long) in
       let here : v ≡ getD (drop start ws) i 0 = e ∙ sym (getD-drop start ws i 0) in
@@ -60,6 +61,7 @@ module _ (s : List ℕ) (start : ℕ) (vs : List ℕ) where
   write-end t i w h = w .written ∙ ap (withWords s start) (take-all i vs h)
 
 -- a turn that writes zero
-pub clear-more : (s : List ℕ) (start n : ℕ) (t u : List ℕ) (i : ℕ) → Writing s start (zeroWords n) t i → i < n → u ≡ withWord t (start + i) 0 → Writing s start (zeroWords n) u (i + 1)
+pub clear-more : (s : List ℕ) (start n : ℕ) (t u : List ℕ) (i : ℕ) → Writing s start (zeroWords n) t i → i < n → u ≡ withWord t (start + i) 0
+    → Writing s start (zeroWords n) u (i + 1)
 clear-more s start n t u i w h e =
     write-more s start (zeroWords n) t u i w (omega (arith, zeroWords-length n)) (e ∙ ap (withWord t (start + i)) (sym (zeroWords-at n i)))

@@ -253,7 +253,8 @@ pub written-read : (s : List ℕ) (start n : ℕ) → Bytes s → withWords s st
 written-read s start zero y = withWords-none s start
 written-read s start (suc n) y = by-cases (decLt start (length (wordsOf s))) (inside (written-read s (start + 1) n y)) outside
   where
-    inside : withWords s (start + 1) (take n (drop (start + 1) (wordsOf s))) ≡ s → start < length (wordsOf s) → withWords s start (take (suc n) (drop start (wordsOf s))) ≡ s
+    inside : withWords s (start + 1) (take n (drop (start + 1) (wordsOf s))) ≡ s → start < length (wordsOf s)
+        → withWords s start (take (suc n) (drop start (wordsOf s))) ≡ s
     inside ih h = rw (drop-cons (wordsOf s) start 0 h, withWords-cons, withWord-same s start y h, ← add-one start) ih
 
     outside : (start < length (wordsOf s) → ⊥) → withWords s start (take (suc n) (drop start (wordsOf s))) ≡ s

@@ -11,7 +11,7 @@ use Rattle.laws.specs.Runs.{sumBy}
 use Rattle.placement.specs.Zones.{total, timeAt, total-turn, total-take, timeAt-zone}
 use Rattle.plan.specs.Disk.{Zoned}
 use Rattle.zones.specs.declared.Zone.{Zone}
-use Rattle.zones.specs.Walk.{ZoneOf, Holds}
+use Rattle.zones.specs.Cursor.{ZoneOf, Holds}
 
 pub total-none : (ps : List ℕ) → total (take 0 ps) ≡ 0
 unfolding total sumBy
@@ -31,10 +31,11 @@ module _ (ps : List ℕ) where
 
   module _ (ok : Zoned ps) where
     -- the zone i, between the positions before it and those up to its end
-    pub zone-of : (i first end : ℕ) → i < length ps → first ≡ total (take i ps) → end ≡ first + getD ps i 0 → ZoneOf ps (record { index = i; first = first; end = end })
+    pub zone-of : (i first end : ℕ) → i < length ps → first ≡ total (take i ps) → end ≡ first + getD ps i 0
+        → ZoneOf ps (record { index = i; first = first; end = end })
     zone-of i first end h f e =
         let turn : total (take (suc i) ps) ≡ total (take i ps) + getD ps i 0 = total-turn ps i h in
-        record { room = omega (arith, ok .wide); first = f; end = omega arith; rises = omega arith; on = omega (arith, total-take ps (suc i)) }
+        record { number = omega (arith, ok .wide); first = f; end = omega arith; rises = omega arith; on = omega (arith, total-take ps (suc i)) }
 
     pub innermost-zone : ZoneOf ps (record { index = 0; first = 0; end = getD ps 0 0 })
     innermost-zone = zone-of 0 0 (getD ps 0 0) (omega (arith, ok .wide)) (sym (total-none ps)) (omega arith)
@@ -60,7 +61,7 @@ module _ (ps : List ℕ) where
           go (suc k) e =
               let d : z .index - 1 ≡ k = omega arith in
               let b : z .first ≡ total (take (suc k) ps) = i .first ∙ ap (λ (n : ℕ). total (take n ps)) e in
-              let room : k < length ps = omega (arith, i .room, ok .wide) in
+              let room : k < length ps = omega (arith, i .number, ok .wide) in
               let turn : total (take (suc k) ps) ≡ total (take k ps) + getD ps k 0 = total-turn ps k room in
               rw d (omega arith, omega arith, zone-of k (z .first - getD ps k 0) (z .first) room (omega arith) (omega arith))
 

@@ -1,3 +1,1 @@
-mod Cursors
-mod Layings
-pub mod Runs
+pub mod Cursors

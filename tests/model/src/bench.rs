@@ -80,7 +80,7 @@ pub fn two_alike(block_bytes: u32) -> Figures {
     figures_of(&[(2, 20_000)], 2, block_bytes, 500_000)
 }
 
-/// The Barracuda 9 drive.
+/// The Barracuda 9 drive, with the hop of two switch times of paper 001: for comparing with that paper only, as it is below a full turn.
 pub fn barracuda(blocks: u32) -> Figures {
     let zones = [
         (598, 135_594),

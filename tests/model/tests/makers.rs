@@ -265,7 +265,7 @@ fn numbers_beside_the_text() {
 #[test]
 fn what_the_program_writes() {
     let words = |words: [&str; 4]| words.map(str::to_string).to_vec();
-    let right = words(["3600", "524288", "8280", "10090"]);
+    let right = words(["3600", "524288", "8380", "10090"]);
     let bench = bench_listing();
     let text = bench.words().text();
     let card = card_bytes(&figures_of_text(&text, bench.beside).unwrap());

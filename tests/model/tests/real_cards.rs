@@ -44,7 +44,7 @@ fn read_time(bytes: u32, megabits: u64) -> u32 {
     (bytes as u64 * 8_000_000).div_ceil(megabits << 20) as u32
 }
 
-/// A disk with one position in each zone of these rates, with blocks of so many bytes.
+/// A disk with one position in each zone of these rates, with blocks of so many bytes. Its hop is for comparing with paper 001 only.
 fn disk(bytes: u32, positions: u32, rates: &[u64]) -> Figures {
     let zones: Vec<(u32, u32)> =
         rates.iter().map(|&rate| (positions, read_time(bytes, rate))).collect();

@@ -19,7 +19,8 @@ answer-with-requires c κs = search needs
 returns : tie.Need-returns
 returns c =
     let e = c .before .before in
-    c .answer-with .ensures ∙ ap (λ (d : Desk). answers d 14 0) (c .before .blank-desk .ensures) ∙ open-unfit _ _ _ (sym (e .before .is-plan .ensures) ∙ not-true _ (e .if1 .taken))
+    c .answer-with .ensures ∙ ap (λ (d : Desk). answers d 14 0) (c .before .blank-desk .ensures)
+    ∙ open-unfit _ _ _ (sym (e .before .is-plan .ensures) ∙ not-true _ (e .if1 .taken))
 
 fresh-desk-requires : tie.Need-fresh-desk-requires
 fresh-desk-requires c κs = search needs
@@ -30,7 +31,8 @@ answer-with-requires-2 c κs = search needs
 returns-2 : tie.Need-returns-2
 returns-2 c =
     let e = c .before .before in
-    c .answer-with2 .ensures ∙ ap (λ (d : Desk). answers d 0 0) (c .before .fresh-desk .ensures) ∙ open-done _ _ _ (sym (e .before .is-plan .ensures) ∙ not-false _ (e .if1 .left))
+    c .answer-with2 .ensures ∙ ap (λ (d : Desk). answers d 0 0) (c .before .fresh-desk .ensures)
+    ∙ open-done _ _ _ (sym (e .before .is-plan .ensures) ∙ not-false _ (e .if1 .left))
 
 pub open-spec : {M : Type 1} → statement M
 open-spec =

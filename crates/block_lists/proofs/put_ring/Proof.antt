@@ -10,18 +10,19 @@ use Rattle.block_lists.proofs.put_ring.Tie as tie
 put-turns-requires : tie.Need-put-turns-requires
 put-turns-requires c κs = let put = c .before .before .before in
     let p = put .before .before .before .pre in
-    let w = first-written (p .0) (p .1) (put .put-word .ensures) in
-    (record { order = omega arith; room = omega (arith, w .room) }, record { some = omega arith; within = omega arith; room = p .1; small = p .2; parity = omega arith })
+    let w = first-written (p .0) (p .1) (put .put-word .ensures) in (
+      record { order = omega arith; long = omega (arith, w .entries) },
+      record { some = omega arith; within = omega arith; room = p .1; small = p .2; parity = omega arith },
+    )
 
 put-turns-requires-2 : tie.Need-put-turns-requires-2
 put-turns-requires-2 c κs = let early = c .before .before .before in
     let put = early .before .before .before .before in
     let p = put .before .before .before .pre in
-    let w = early-written (p .0) (p .1) (first-written (p .0) (p .1) (put .put-word .ensures)) (early .put-turns .ensures) in
-    (record { order = omega arith; room = omega (arith, w .room) }, record { some = omega arith; within = omega arith; room = p .1; small = p .2; parity = omega arith })
-
-same-length : tie.Need-same-length
-same-length c = search needs
+    let w = early-written (p .0) (p .1) (first-written (p .0) (p .1) (put .put-word .ensures)) (early .put-turns .ensures) in (
+      record { order = omega arith; long = omega (arith, w .entries) },
+      record { some = omega arith; within = omega arith; room = p .1; small = p .2; parity = omega arith },
+    )
 
 returns : tie.Need-returns
 returns c = let late = c .before .before in
@@ -30,7 +31,8 @@ returns c = let late = c .before .before in
     let s = put .before .before .before in
     let p = s .pre in
     writes-end
-    (late-written (p .0) (p .1) (early-written (p .0) (p .1) (first-written (p .0) (p .1) (put .put-word .ensures)) (early .put-turns .ensures)) (late .put-turns2 .ensures))
+    (late-written (p .0) (p .1) (early-written (p .0) (p .1) (first-written (p .0) (p .1) (put .put-word .ensures)) (early .put-turns .ensures))
+    (late .put-turns2 .ensures))
     (omega arith)
     ∙ written-all (s .args .list .now) (ring (s .args .total) (s .args .blocks)) (s .args .blocks)
 
@@ -43,5 +45,5 @@ put-ring-spec =
     (λ c κs. omega arith)
     put-turns-requires
     put-turns-requires-2
-    same-length
+    (λ c. search needs)
     returns)

@@ -1,6 +1,6 @@
 use Prim.Native.Nat.{_-_}
 use native.Mathlib.Omega.{arith}
-use Rattle.zones.specs.Walk.{sideOf}
+use Rattle.walk.specs.Walk.{sideOf}
 use Rattle.block_lists.proofs.Runs.{Writes, writes-start, writes-one, writes-end}
 use borrow.Author.Needs.{needs}
 use Rattle.block_lists.proofs.put_run.Statement.{statement}

@@ -7,20 +7,23 @@ use Rattle.block_lists.proofs.put_turns.Statement.{statement}
 use Rattle.block_lists.proofs.put_turns.Tie as tie
 
 abbrev Inv-loop : tie.InvT-loop
-Inv-loop list₀ from to total blocks odd below b₀ list b = Writes list₀ (turnOf total blocks odd) from to list b
+Inv-loop list₀ from to total blocks odd b₀ list b = Writes list₀ (turnOf total blocks odd) from to list b
 
 abbrev μ-loop : tie.MeasureT-loop
-μ-loop list₀ from to total blocks odd below b₀ list b = to - b
+μ-loop list₀ from to total blocks odd b₀ list b = to - b
 
 loop-holds : tie.Need-loop-holds Inv-loop μ-loop
 loop-holds c = let a = c .before .args in writes-start (a .list .now) (turnOf (a .total) (a .blocks) (a .odd)) (a .from) (a .to) (c .before .pre .0 .order)
+
+turn-requires : tie.Need-turn-requires Inv-loop μ-loop
+turn-requires c κs = let l = c .before .before in let p = l .before .before .pre .1 in let w = l .loop .inv in omega arith
 
 put-word-requires : tie.Need-put-word-requires Inv-loop μ-loop
 put-word-requires c κs = let w = c .before .before .before .loop .inv in omega arith
 
 loop-again : tie.Need-loop-again Inv-loop μ-loop
 loop-again c = let l = c .before .before .before .before .before .before in
-    writes-one (l .loop .inv) (omega arith) (c .before .before .put-word .ensures) (c .before .before .before .side .ensures)
+    writes-one (l .loop .inv) (omega arith) (c .before .before .put-word .ensures) (c .before .before .before .turn .ensures)
 
 same-length : tie.Need-same-length Inv-loop μ-loop
 same-length c = c .before .loop .inv .kept
@@ -29,22 +32,5 @@ returns : tie.Need-returns Inv-loop μ-loop
 returns c = writes-end (c .before .loop .inv) (omega arith)
 
 pub put-turns-spec : {M : Type 1} → statement M
-put-turns-spec =
-    tie.close
-    (tie.spec
-    Inv-loop
-    μ-loop
-    (λ c. omega arith)
-    loop-holds
-    (λ c. omega arith)
-    (λ c. omega arith)
-    (λ c. omega arith)
-    (λ c. omega arith)
-    (λ c. omega arith)
-    (λ c κs. search needs)
-    put-word-requires
-    (λ c. omega arith)
-    (λ c. omega arith)
-    loop-again
-    same-length
-    returns)
+put-turns-spec = tie.close (tie.spec Inv-loop μ-loop loop-holds (λ c. omega arith) turn-requires put-word-requires (λ c. omega arith)
+    (λ c. omega arith) loop-again same-length returns)

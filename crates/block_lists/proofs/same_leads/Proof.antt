@@ -4,9 +4,9 @@ use mathlib.Core.Bool.{Bool}
 use mathlib.Core.List.{List}
 use native.Mathlib.Omega.{arith}
 use Rattle.words.specs.Words.{wordsOf}
-use Rattle.zones.specs.declared.Walk.{Walk}
-use Rattle.zones.specs.Walk.{Cursors}
-use Rattle.zones.specs.Meets.{meets}
+use Rattle.walk.specs.declared.Walk.{Walk}
+use Rattle.walk.specs.Walk.{Cursors}
+use Rattle.walk.specs.Meets.{meets}
 use Rattle.placement.specs.Showing.{laying}
 use Rattle.plan.specs.Plan.{showingOf}
 use Rattle.plan.specs.Disk.{leadAt}
@@ -17,23 +17,30 @@ use Rattle.block_lists.proofs.same_leads.Statement.{statement}
 use Rattle.block_lists.proofs.same_leads.Tie as tie
 
 -- x says that the leads before block b are the film's
-record Walked (ps ts : List ℕ) (l : ℕ → ℕ) (N w : ℕ) (ls : List ℕ) (walk : Walk) (x : Bool) (b : ℕ) : Type 0 where
+record LeadsCompared (ps ts : List ℕ) (l : ℕ → ℕ) (N w : ℕ) (ls : List ℕ) (walk : Walk) (x : Bool) (b : ℕ) : Type 0 where
   cursors : Cursors ps walk
   leads : Compares (wordsOf ls) (leadAt ps ts l w) 0 N x b
 
 abbrev Inv-loop : tie.InvT-loop
-Inv-loop sizes times showing total blocks worst2 leads walk₀ same₀ b₀ walk same b = Walked sizes times (laying (showingOf showing) total blocks) blocks worst2 leads walk same b
+Inv-loop sizes times showing total blocks worst2 leads walk₀ same₀ b₀ walk same b =
+    LeadsCompared sizes times (laying (showingOf showing) total blocks) blocks worst2 leads walk same b
 
 abbrev μ-loop : tie.MeasureT-loop
 μ-loop sizes times showing total blocks worst2 leads walk₀ same₀ b₀ walk same b = blocks - b
 
 returns : tie.Need-returns Inv-loop μ-loop
 returns c = let a = c .before .before .before .args in
-    sym (begins-short (leadAt (a .sizes .now) (a .times .now) (laying (showingOf (a .showing)) (a .total) (a .blocks)) (a .worst2)) 0 (a .blocks) (wordsOf (a .leads .now)) (omega arith))
+    sym (begins-short (leadAt (a .sizes .now) (a .times .now) (laying (showingOf (a .showing)) (a .total) (a .blocks)) (a .worst2)) 0 (a .blocks)
+    (wordsOf (a .leads .now)) (omega arith))
 
 loop-holds : tie.Need-loop-holds Inv-loop μ-loop
 loop-holds c = let a = c .before .before .before .before .args in
-    record { cursors = c .set-out .ensures; leads = compares-start (wordsOf (a .leads .now)) (leadAt (a .sizes .now) (a .times .now) (laying (showingOf (a .showing)) (a .total) (a .blocks)) (a .worst2)) 0 (a .blocks) (omega arith) }
+    record {
+      cursors = c .set-out .ensures;
+      leads =
+          compares-start (wordsOf (a .leads .now)) (leadAt (a .sizes .now) (a .times .now) (laying (showingOf (a .showing)) (a .total) (a .blocks)) (a .worst2))
+          0 (a .blocks) (omega arith);
+    }
 
 zone-of-requires : tie.Need-zone-of-requires Inv-loop μ-loop
 zone-of-requires c κs = let l = c .before in meets (l .before .before .before .before .before .pre) (l .loop .inv .cursors .low) (omega arith)
@@ -42,7 +49,8 @@ zone-of-requires-2 : tie.Need-zone-of-requires-2 Inv-loop μ-loop
 zone-of-requires-2 c κs = let l = c .before .before in meets (l .before .before .before .before .before .pre) (l .loop .inv .cursors .high) (omega arith)
 
 run-from-requires : tie.Need-run-from-requires Inv-loop μ-loop
-run-from-requires c κs = let l = c .before .before .before in (l .before .before .before .before .before .pre, omega arith, c .before .zone-of .ensures, c .zone-of2 .ensures)
+run-from-requires c κs = let l = c .before .before .before in
+    (l .before .before .before .before .before .pre, omega arith, c .before .zone-of .ensures, c .zone-of2 .ensures)
 
 loop-again : tie.Need-loop-again Inv-loop μ-loop
 loop-again c = let run = c .before in
@@ -58,7 +66,9 @@ loop-again c = let run = c .before in
 returns-2 : tie.Need-returns-2 Inv-loop μ-loop
 returns-2 c = let l = c .before in
     let a = l .before .before .before .before .before .args in
-    compares-end (l .loop .inv .leads) (omega arith) ∙ has-all (leadAt (a .sizes .now) (a .times .now) (laying (showingOf (a .showing)) (a .total) (a .blocks)) (a .worst2)) (wordsOf (a .leads .now)) (a .blocks)
+    compares-end (l .loop .inv .leads) (omega arith)
+    ∙ has-all (leadAt (a .sizes .now) (a .times .now) (laying (showingOf (a .showing)) (a .total) (a .blocks)) (a .worst2)) (wordsOf (a .leads .now))
+    (a .blocks)
 
 pub same-leads-spec : {M : Type 1} → statement M
 same-leads-spec =

@@ -28,7 +28,8 @@ returns-2 : tie.Need-returns-2 Inv-loop μ-loop
 returns-2 c = rw (shows-loop _ (c .before .if2 .taken)) (c .same-ring .ensures)
 
 loop-holds : tie.Need-loop-holds Inv-loop μ-loop
-loop-holds c = let a = c .before .before .before .before .args in compares-start (wordsOf (a .positions .now)) (laying (showingOf (a .showing)) (a .total) (a .blocks)) 0 (a .blocks) (omega arith)
+loop-holds c = let a = c .before .before .before .before .args in
+    compares-start (wordsOf (a .positions .now)) (laying (showingOf (a .showing)) (a .total) (a .blocks)) 0 (a .blocks) (omega arith)
 
 loop-again : tie.Need-loop-again Inv-loop μ-loop
 loop-again c = let l = c .before .before .before .before in

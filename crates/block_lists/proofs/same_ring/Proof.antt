@@ -11,11 +11,11 @@ use Rattle.block_lists.proofs.same_ring.Tie as tie
 
 same-turns-requires : tie.Need-same-turns-requires
 same-turns-requires c κs = let p = c .before .before .before .pre in
-    (record { order = omega arith; room = omega arith }, record { some = omega arith; within = omega arith; room = p .1; small = p .2; parity = omega arith })
+    (record { order = omega arith; long = omega arith }, record { some = omega arith; within = omega arith; room = p .1; small = p .2; parity = omega arith })
 
 same-turns-requires-2 : tie.Need-same-turns-requires-2
 same-turns-requires-2 c κs = let p = c .before .before .before .before .before .pre in
-    (record { order = omega arith; room = omega arith }, record { some = omega arith; within = omega arith; room = p .1; small = p .2; parity = omega arith })
+    (record { order = omega arith; long = omega arith }, record { some = omega arith; within = omega arith; room = p .1; small = p .2; parity = omega arith })
 
 returns : tie.Need-returns
 returns c = let late = c .before in

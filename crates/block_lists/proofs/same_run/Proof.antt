@@ -1,7 +1,7 @@
 use Prim.Native.Nat.{_-_}
 use native.Mathlib.Omega.{arith}
 use Rattle.words.specs.Words.{wordsOf}
-use Rattle.zones.specs.Walk.{sideOf}
+use Rattle.walk.specs.Walk.{sideOf}
 use Rattle.block_lists.proofs.Runs.{Compares, compares-start, compares-one, compares-end}
 use borrow.Author.Needs.{needs}
 use Rattle.block_lists.proofs.same_run.Statement.{statement}
@@ -20,7 +20,7 @@ loop-again : tie.Need-loop-again Inv-loop μ-loop
 loop-again c = let l = c .before .before .before .before in
     let s = l .before .before in
     let a = s .args in
-    compares-one (l .loop .inv) (omega arith) (s .pre .room) (c .both .ensures) (c .before .before .word-at .ensures) (c .before .side .ensures)
+    compares-one (l .loop .inv) (omega arith) (s .pre .long) (c .both .ensures) (c .before .before .word-at .ensures) (c .before .side .ensures)
 
 returns : tie.Need-returns Inv-loop μ-loop
 returns c = let l = c .before in

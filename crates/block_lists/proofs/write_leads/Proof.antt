@@ -2,9 +2,9 @@ use Prim.Native.Nat.{ℕ, _-_}
 use mathlib.Core.Path.{_∙_}
 use mathlib.Core.List.{List}
 use native.Mathlib.Omega.{arith}
-use Rattle.zones.specs.declared.Walk.{Walk}
-use Rattle.zones.specs.Walk.{Cursors}
-use Rattle.zones.specs.Meets.{meets}
+use Rattle.walk.specs.declared.Walk.{Walk}
+use Rattle.walk.specs.Walk.{Cursors}
+use Rattle.walk.specs.Meets.{meets}
 use Rattle.placement.specs.Showing.{laying}
 use Rattle.plan.specs.Plan.{showingOf}
 use Rattle.plan.specs.Disk.{leadAt}
@@ -13,19 +13,25 @@ use borrow.Author.Needs.{needs}
 use Rattle.block_lists.proofs.write_leads.Statement.{statement}
 use Rattle.block_lists.proofs.write_leads.Tie as tie
 
-record Walked (ps ts : List ℕ) (l : ℕ → ℕ) (N w : ℕ) (s ls : List ℕ) (walk : Walk) (b : ℕ) : Type 0 where
+record LeadsWritten (ps ts : List ℕ) (l : ℕ → ℕ) (N w : ℕ) (s ls : List ℕ) (walk : Walk) (b : ℕ) : Type 0 where
   cursors : Cursors ps walk
   leads : Writes s (leadAt ps ts l w) 0 N ls b
 
 abbrev Inv-loop : tie.InvT-loop
-Inv-loop sizes times showing total blocks worst2 leads₀ walk₀ b₀ leads walk b = Walked sizes times (laying (showingOf showing) total blocks) blocks worst2 leads₀ leads walk b
+Inv-loop sizes times showing total blocks worst2 leads₀ walk₀ b₀ leads walk b =
+    LeadsWritten sizes times (laying (showingOf showing) total blocks) blocks worst2 leads₀ leads walk b
 
 abbrev μ-loop : tie.MeasureT-loop
 μ-loop sizes times showing total blocks worst2 leads₀ walk₀ b₀ leads walk b = blocks - b
 
 loop-holds : tie.Need-loop-holds Inv-loop μ-loop
 loop-holds c = let a = c .before .before .args in
-    record { cursors = c .set-out .ensures; leads = writes-start (a .leads .now) (leadAt (a .sizes .now) (a .times .now) (laying (showingOf (a .showing)) (a .total) (a .blocks)) (a .worst2)) 0 (a .blocks) (omega arith) }
+    record {
+      cursors = c .set-out .ensures;
+      leads =
+          writes-start (a .leads .now) (leadAt (a .sizes .now) (a .times .now) (laying (showingOf (a .showing)) (a .total) (a .blocks)) (a .worst2))
+          0 (a .blocks) (omega arith);
+    }
 
 zone-of-requires : tie.Need-zone-of-requires Inv-loop μ-loop
 zone-of-requires c κs = let l = c .before in meets (l .before .before .before .pre .0) (l .loop .inv .cursors .low) (omega arith)
@@ -34,12 +40,13 @@ zone-of-requires-2 : tie.Need-zone-of-requires-2 Inv-loop μ-loop
 zone-of-requires-2 c κs = let l = c .before .before in meets (l .before .before .before .pre .0) (l .loop .inv .cursors .high) (omega arith)
 
 run-from-requires : tie.Need-run-from-requires Inv-loop μ-loop
-run-from-requires c κs = let l = c .before .before .before in (l .before .before .before .pre .0, omega arith, c .before .zone-of .ensures, c .zone-of2 .ensures)
+run-from-requires c κs = let l = c .before .before .before in
+    (l .before .before .before .pre .0, omega arith, c .before .zone-of .ensures, c .zone-of2 .ensures)
 
 put-run-requires : tie.Need-put-run-requires Inv-loop μ-loop
 put-run-requires c κs = let r = c .before .before .before .run-from .ensures in
     let l = c .before .before .before .before .before .before .before in
-    record { order = omega (arith, r .ahead); room = omega (arith, r .within, l .loop .inv .leads .room, l .before .before .before .pre .1) }
+    record { order = omega (arith, r .ahead); long = omega (arith, r .within, l .loop .inv .leads .entries, l .before .before .before .pre .1) }
 
 loop-again : tie.Need-loop-again Inv-loop μ-loop
 loop-again c = let put = c .before .before in

@@ -16,7 +16,8 @@ abbrev μ-loop : tie.MeasureT-loop
 μ-loop showing total blocks positions₀ b₀ positions b = blocks - b
 
 loop-holds : tie.Need-loop-holds Inv-loop μ-loop
-loop-holds c = let a = c .before .before .args in writes-start (a .positions .now) (laying (showingOf (a .showing)) (a .total) (a .blocks)) 0 (a .blocks) (omega arith)
+loop-holds c = let a = c .before .before .args in
+    writes-start (a .positions .now) (laying (showingOf (a .showing)) (a .total) (a .blocks)) 0 (a .blocks) (omega arith)
 
 put-word-requires : tie.Need-put-word-requires Inv-loop μ-loop
 put-word-requires c κs = let w = c .before .before .before .loop .inv in omega arith
@@ -27,9 +28,6 @@ loop-again c = let l = c .before .before .before .before .before .before in
 
 put-ring-requires : tie.Need-put-ring-requires Inv-loop μ-loop
 put-ring-requires c κs = c .before .before .before .pre
-
-same-length : tie.Need-same-length Inv-loop μ-loop
-same-length c = search needs
 
 returns : tie.Need-returns Inv-loop μ-loop
 returns c = rw (shows-loop _ (c .before .before .before .before .if1 .taken)) (c .before .before .put-ring .ensures)
@@ -50,7 +48,7 @@ write-positions-spec =
     Inv-loop
     μ-loop
     put-ring-requires
-    same-length
+    (λ c. search needs)
     returns
     loop-holds
     (λ c. omega arith)

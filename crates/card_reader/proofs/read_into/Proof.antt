@@ -1,6 +1,5 @@
-use mathlib.Core.Path.{ap, _∙_}
-use lib.ListN.{length}
-use Rattle.card_reader.proofs.ReaderWays.{card-stops, card-goes, zones-bound, zones-blank, blank-long}
+use mathlib.Core.Path.{_∙_}
+use Rattle.card_reader.proofs.ReaderWays.{card-stops, card-goes, zones-bound, zones-blank}
 use Rattle.card.specs.Read.{readCard}
 use borrow.Author.Needs.{needs}
 use Rattle.card_reader.proofs.read_into.Statement.{statement}
@@ -36,14 +35,17 @@ refused-field-requires-2 c κs = search needs
 
 returns-2 : tie.Need-returns-2
 unfolding readCard
-returns-2 c = c .refused-field2 .ensures _ _ _ ∙ card-stops (c .before .before .before .read-field2 .ensures) _ _ (c .before .enum-told2 .given .1) ∙ card-goes (c .before .before .before .before .before .before .before .read-field .ensures) _ (c .before .before .before .before .before .first .given .1)
+returns-2 c =
+    c .refused-field2 .ensures _ _ _
+    ∙ card-stops (c .before .before .before .read-field2 .ensures) _ _ (c .before .enum-told2 .given .1)
+    ∙ card-goes (c .before .before .before .before .before .before .before .read-field .ensures) _ (c .before .before .before .before .before .first .given .1)
 
 read-zones-requires : tie.Need-read-zones-requires
 read-zones-requires c κs =
     let zones = c .before .before .before in
     let kind = zones .before .before .before .before in
     let start = kind .before .before .before .before .before in
-    (zones-bound _ _ _ (zones .before .before .before .read-field2 .ensures) (zones .before .second .given .1), ap length (start .pre .2) ∙ blank-long)
+    (zones-bound _ _ _ (zones .before .before .before .read-field2 .ensures) (zones .before .second .given .1), start .pre .2)
 
 returns-3 : tie.Need-returns-3
 unfolding readCard
@@ -52,7 +54,7 @@ returns-3 c =
     let kind = zones .before .before .before .before in
     let start = kind .before .before .before .before .before in
     c .read-zones .ensures
-    ∙ zones-blank _ _ _ _ _ (start .pre .0) (start .pre .1) (start .pre .2)
+    ∙ zones-blank _ _ _ _ (start .pre .0) (start .pre .1)
     ∙ card-goes (zones .before .before .before .read-field2 .ensures) _ (zones .before .second .given .1)
     ∙ card-goes (kind .before .before .before .read-field .ensures) _ (kind .before .first .given .1)
 

@@ -1,9 +1,16 @@
-use mathlib.Core.Path.{_≡_, sym, _∙_}
+use Prim.Native.Nat.{ℕ, _≤_}
+use mathlib.Core.Path.{_≡_, sym, ap, _∙_}
+use mathlib.Core.Bool.{false, true≢false}
+use mathlib.Core.List.{List}
 use native.Mathlib.Omega.{arith}
-use Rattle.card_writer.proofs.WriterWays.{write-faulty, write-short, write-fits}
-use Rattle.card.specs.RangeLaws.{fault-zones}
-use Rattle.card.specs.Card.{recordFault}
+use lib.ListN.{length}
 use borrow.Author.Needs.{needs}
+use Rattle.laws.specs.Overwrite.{overwrite}
+use Rattle.numbers.specs.Limits.{maxZones, tableLength}
+use Rattle.card.specs.CardLaws.{fault-zones}
+use Rattle.card.specs.Card.{cardOf, recordFault}
+use Rattle.card_writer.specs.Put.{Puts}
+use Rattle.card_writer.proofs.WriterWays.{card-counted, write-faulty, write-short, write-fits}
 use Rattle.card_writer.proofs.write_card.Statement.{statement}
 use Rattle.card_writer.proofs.write_card.Tie as tie
 
@@ -18,38 +25,66 @@ returns c =
     let w = write-faulty _ _ (c .before .before .fault-of-record .ensures) (c .before .if1 .taken) in
     (c .not-written .ensures ∙ w .0, w .1)
 
--- past the first test the figures are legal
-legal : (c : tie.Else1) → recordFault (c .before .before .before .args .figures) ≡ 0
+-- past the first test the figures are legal, and their card is counted
+abbrev start : tie.Else1 → tie.Start
+start c = c .before .before .before
+
+legal : (c : tie.Else1) → recordFault (start c .args .figures) ≡ 0
 legal c = sym (c .before .fault-of-record .ensures) ∙ c .if1 .left
 
-card-length-requires : tie.Need-card-length-requires
-card-length-requires c κs = fault-zones _ (legal c)
+few : (c : tie.Else1) → start c .args .figures .zones ≤ maxZones
+few c = fault-zones _ (legal c)
+
+long : (c : tie.Start) → length (c .args .figures .table) ≡ tableLength
+long c = search needs
+
+put-card-requires : tie.Need-put-card-requires
+put-card-requires c κs =
+    let e = c .before in
+    (few e, record { counted = card-counted _ (long (start e)) (few e); written = λ t. absurd (true≢false (sym t)) })
 
 not-written-requires-2 : tie.Need-not-written-requires-2
 not-written-requires-2 c κs = search needs
 
-returns-2 : tie.Need-returns-2
-returns-2 c =
-    let judged = c .before .before .before in
-    let a = judged .before .before .before .args in
-    let w = write-short (a .figures) (a .out .now) (legal judged) (let n = c .before .before .card-length .ensures in let t = c .before .if2 .taken in omega arith) in
-    (c .not-written2 .ensures ∙ w .0, w .1)
-
-write-numbers-requires : tie.Need-write-numbers-requires
-write-numbers-requires c κs =
-    (fault-zones _ (legal (c .before .before .before)), (let n = c .before .before .card-length .ensures in let t = c .before .if2 .left in omega arith))
-
 same-length : tie.Need-same-length
 same-length c = search needs
 
+-- the length is the card's, and the buffer is as it was
+counted : (c : tie.After-put-card)
+    → (let a = start (c .before .before) .args in Puts false (a .out .now) 0 (cardOf (a .figures)) (c .put-card .result) (c .put-card .last .1 .0))
+counted c = c .put-card .ensures
+
+returns-2 : tie.Need-returns-2
+returns-2 c =
+    let p = c .before .before .before .before in
+    let e = p .before .before in
+    let a = start e .args in
+    let w = write-short (a .figures) (a .out .now) (legal e) (omega (arith, counted p .end, c .before .if2 .taken)) in
+    (c .not-written2 .ensures ∙ w .0, counted p .string ∙ w .1)
+
+put-card-requires-2 : tie.Need-put-card-requires-2
+put-card-requires-2 c κs =
+    let sized = c .before in
+    let p = sized .before .before .before in
+    let e = p .before .before in
+    let n = counted p in
+    (few e, record { counted = card-counted _ (long (start e)) (few e); written = λ t. omega (arith, n .end, ap length (n .string), sized .if2 .left) })
+
+same-length-2 : tie.Need-same-length-2
+same-length-2 c = search needs
+
 returns-3 : tie.Need-returns-3
 returns-3 c =
-    let sized = c .before .before .before .before in
-    let judged = sized .before .before in
-    let n = sized .before .card-length .ensures in
-    let a = judged .before .before .before .args in
-    let w = write-fits (a .figures) (a .out .now) (legal judged) (let t = sized .if2 .left in omega arith) in
-    ((λ t. record { verdict = record { number = 0; place = 0 }; length = n t }) ∙ w .0, c .before .before .write-numbers .ensures ∙ w .1)
+    let q = c .before .before in
+    let sized = q .before .before in
+    let p = sized .before .before .before in
+    let e = p .before .before in
+    let a = start e .args in
+    let n : p .put-card .result ≡ length (cardOf (a .figures)) = omega (arith, counted p .end) in
+    let w = write-fits (a .figures) (a .out .now) (legal e) (omega (arith, n, sized .if2 .left)) in (
+      (λ t. record { verdict = record { number = 0; place = 0 }; length = n t }) ∙ w .0,
+      q .put-card2 .ensures .string ∙ ap (λ (x : List ℕ). overwrite x 0 (cardOf (a .figures))) (counted p .string) ∙ w .1,
+    )
 
 pub write-card-spec : {M : Type 1} → statement M
 write-card-spec =
@@ -58,9 +93,10 @@ write-card-spec =
     fault-of-record-requires
     not-written-requires
     returns
-    card-length-requires
+    put-card-requires
     not-written-requires-2
-    returns-2
-    write-numbers-requires
     same-length
+    returns-2
+    put-card-requires-2
+    same-length-2
     returns-3)

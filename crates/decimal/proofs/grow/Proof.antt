@@ -11,9 +11,6 @@ use Rattle.decimal.proofs.grow.Tie as tie
 digit : (c : tie.Else1) → isDigit (c .before .before .args .byte) ≡ true
 digit c = sym (c .before .is-digit .ensures) ∙ not-false _ (c .if1 .left)
 
-is-digit-requires : tie.Need-is-digit-requires
-is-digit-requires c κs = search needs
-
 returns : tie.Need-returns
 returns c = grown-other _ _ (sym (c .before .is-digit .ensures) ∙ not-true _ (c .if1 .taken))
 
@@ -23,17 +20,8 @@ returns-2 c =
     let d = digit-range (a .byte) (digit (c .before)) in
     grown-great (a .value) (a .byte) (d .0) (d .1) (omega arith)
 
-add-next : tie.Need-add-next
-add-next c = search needs
-
 sub-next : tie.Need-sub-next
 sub-next c = digit-range _ (digit (c .before)) .0
-
-cast-next : tie.Need-cast-next
-cast-next c = search needs
-
-add-next-2 : tie.Need-add-next-2
-add-next-2 c = search needs
 
 returns-3 : tie.Need-returns-3
 returns-3 c =
@@ -52,12 +40,12 @@ pub grow-spec : {M : Type 1} → statement M
 grow-spec =
     tie.close
     (tie.spec
-    is-digit-requires
+    (λ c κs. search needs)
     returns
     returns-2
-    add-next
+    (λ c. search needs)
     sub-next
-    cast-next
-    add-next-2
+    (λ c. search needs)
+    (λ c. search needs)
     returns-3
     returns-4)

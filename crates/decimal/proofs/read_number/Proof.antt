@@ -5,9 +5,6 @@ use Rattle.decimal.proofs.DigitWays.{after, number-none, number-one, nu
 use Rattle.decimal.proofs.read_number.Statement.{statement}
 use Rattle.decimal.proofs.read_number.Tie as tie
 
-read-digits-requires : tie.Need-read-digits-requires
-read-digits-requires c κs = search needs
-
 sub-count : tie.Need-sub-count
 sub-count c = after _ _ _ (c .before .read-digits .ensures) .0
 
@@ -34,7 +31,7 @@ pub read-number-spec : {M : Type 1} → statement M
 read-number-spec =
     tie.close
     (tie.spec
-    read-digits-requires
+    (λ c κs. search needs)
     sub-count
     returns
     returns-2

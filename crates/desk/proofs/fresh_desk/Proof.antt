@@ -14,7 +14,13 @@ zeros-requires-3 c κs = search needs
 
 returns : tie.Need-returns
 unfolding freshDesk
-returns c = λ t. record { plan = c .before .before .before .args .plan; phase = 0; kinds = c .before .before .zeros .ensures t; next = c .before .zeros2 .ensures t; held = c .zeros3 .ensures t }
+returns c = λ t. record {
+  plan = c .before .before .before .args .plan;
+  phase = 0;
+  kinds = c .before .before .zeros .ensures t;
+  next = c .before .zeros2 .ensures t;
+  held = c .zeros3 .ensures t;
+}
 
 pub fresh-desk-spec : {M : Type 1} → statement M
 fresh-desk-spec = tie.close (tie.spec zeros-requires zeros-requires-2 zeros-requires-3 returns)

@@ -1,143 +1,88 @@
-use mathlib.Core.Path.{ap, _∙_}
 use native.Mathlib.Omega.{arith}
+use borrow.Author.Needs.{needs}
 use Rattle.words.specs.Words.{wordsOf}
-use Rattle.round_trip.specs.Legality as legality
 use Rattle.desk.specs.declared.Desk.{Desk}
 use Rattle.desk.specs.Desk.{endDesk}
-use Rattle.desk.specs.View.{Wide}
+use Rattle.desk_layout.specs.Layout.{deskIn}
 use Rattle.ends.specs.Ends.{Ends}
-use Rattle.desk.specs.Lent.{lent-desk}
-use Rattle.sweep.specs.Ended.{ends-own, ended-own}
 use Rattle.desk_strings.specs.Calls.{endAnswer, endString}
 use Rattle.desk_strings.proofs.Judged.{other-call, Judged}
-use Rattle.desk_strings.proofs.Sweeps.{end-left, end-ready, end-put}
-use borrow.Author.Needs.{needs}
+use Rattle.desk_strings.proofs.Sweeps.{end-left, end-told, end-put}
 use Rattle.desk_strings.proofs.end.Statement.{statement}
 use Rattle.desk_strings.proofs.end.Tie as tie
 
 -- ---- the places, each from a later one
 
-abbrev read : tie.After-numbers-in → tie.After-read-desk
-read c = c .before .before .before .before
-
 -- the string has the right length
-abbrev right : tie.After-numbers-in → tie.Else1
-right c = read c .before .before
+abbrev right : tie.After-judge-end → tie.Else1
+right c = c .before .before
 
-abbrev start : tie.After-numbers-in → tie.Start
+abbrev start : tie.After-judge-end → tie.Start
 start c = right c .before .before .before .before .before
 
-abbrev numbers : tie.After-end-verdict → tie.After-numbers-in
-numbers c = let sizes = c .before .before .before .before .before in sizes .before .before .before
-
-abbrev accepted : tie.After-held2 → tie.Else2
+abbrev accepted : tie.After-all-held → tie.Else2
 accepted c = c .before .before .before .before .before .before
+
+abbrev read : tie.After-held → tie.After-all-held
+read c = c .before .before .before .before
 
 -- ---- what is known there
 
-wide : (c : tie.After-read-desk) → Wide (c .read-desk .result)
-wide c = record { kinds = search needs; next = search needs; held = search needs }
-
-slim : (c : tie.After-read-desk) → legality.Wide (c .read-desk .result .plan .figures)
-slim c = (search needs, search needs, search needs)
-
-judged : (c : tie.After-end-verdict) → (let n = numbers c in
-    let a = start n .args in
-    Judged (λ (d : Desk). endDesk d (a .positions .now) (a .leads .now) (a .draws .now)) (a .desk .now) (read n .read-desk .result) (c .end-verdict .result))
-judged c =
-    let n = numbers c in
-    let a = start n .args in
-    record {
-      right = right n .if1 .left;
-      read = read n .read-desk .ensures;
-      verdict =
-          c .end-verdict .ensures
-          ∙ ap (λ (d : Desk). endDesk d (a .positions .now) (a .leads .now) (a .draws .now) .verdict)
-          (lent-desk _ _ (read n .read-desk .result) (n .before .before .scalars-in .ensures) (n .numbers-in .ensures));
-      bytes = right n .before .before .before .before .slice-known .given;
-    }
+judged : (c : tie.After-judge-end) → (let a = start c .args in
+    Judged (λ (d : Desk). endDesk d (a .positions .now) (a .leads .now) (a .draws .now)) (a .desk .now) (c .judge-end .result))
+judged c = record { right = right c .if1 .left; verdict = c .judge-end .ensures; bytes = right c .before .before .before .before .slice-known .given }
 
 -- what the slots' end is told
-abbrev told : (c : tie.Else2) → (let n = numbers (c .before .before) in
-    let d = read n .read-desk .result in
-    Ends (n .before .before .scalars-in .result) (n .numbers-in .result) (d .kinds) (d .next) (d .held) (wordsOf (start n .args .draws .now)))
+told : (c : tie.After-all-held) → (let a = start (accepted c .before .before) .args in
+    let n = c .before .before in
+    Ends (deskIn (wordsOf (a .desk .now))) (n .before .before .all-kinds .result) (n .all-next .result) (c .all-held .result) (wordsOf (a .draws .now)))
 told c =
-    let n = numbers (c .before .before) in
-    let r = end-ready _ _ _ _ _ _ (judged (c .before .before)) (c .if2 .left) in
-    ends-own (read n .read-desk .result) _ _ (n .before .before .scalars-in .ensures) (n .numbers-in .ensures) _ (wide (read n)) (r .0) (r .1)
+    let e = accepted c in
+    let n = c .before .before in
+    let t = end-told _ _ _ _ _ (judged (e .before .before)) (e .if2 .left) in
+    record {
+      kinds = n .before .before .all-kinds .ensures;
+      next = n .all-next .ensures;
+      held = c .all-held .ensures;
+      wide = t .wide;
+      ready = t .ready;
+      drawn = t .drawn;
+    }
 
 -- ---- the needs
-
-number-answer-requires : tie.Need-number-answer-requires
-number-answer-requires c κs = search needs
 
 returns : tie.Need-returns
 unfolding endAnswer endString
 returns c = other-call _ _ _ _ (c .before .if1 .taken) (c .number-answer .ensures)
 
-read-desk-requires : tie.Need-read-desk-requires
-read-desk-requires c κs = search needs
-
-scalars-in-requires : tie.Need-scalars-in-requires
-scalars-in-requires c κs = search needs
-
-numbers-in-requires : tie.Need-numbers-in-requires
-numbers-in-requires c κs = search needs
-
-end-verdict-requires : tie.Need-end-verdict-requires
-end-verdict-requires c κs =
-    let r = read (c .before .before .before .before .before .before .before) in
-    let w = wide r in
-    let z = slim r in
-    (record { kinds = w .kinds; next = w .next; held = w .held }, z .0, z .1, z .2)
-
-verdict-answer-requires : tie.Need-verdict-answer-requires
-verdict-answer-requires c κs = search needs
-
-same-length : tie.Need-same-length
-same-length c = search needs
-
 returns-2 : tie.Need-returns-2
-returns-2 c = end-left _ _ _ _ _ _ (judged (c .before .before .before)) (c .before .if2 .taken) _ (c .verdict-answer .ensures)
+returns-2 c = end-left _ _ _ _ _ (judged (c .before .before .before)) (c .before .if2 .taken) _ (c .verdict-answer .ensures)
 
 end-slots-requires : tie.Need-end-slots-requires
-end-slots-requires c κs = told (accepted c)
-
-put-slots-requires : tie.Need-put-slots-requires
-put-slots-requires c κs =
-    let e = accepted (c .before .before .before .before .before) in
-    omega (arith, right (numbers (e .before .before)) .if1 .left)
-
-verdict-answer-requires-2 : tie.Need-verdict-answer-requires-2
-verdict-answer-requires-2 c κs = search needs
-
-same-length-2 : tie.Need-same-length-2
-same-length-2 c = search needs
+end-slots-requires c κs = let h = read c in (omega (arith, right (accepted h .before .before) .if1 .left), told h)
 
 returns-3 : tie.Need-returns-3
 returns-3 c =
     let p = c .before .before .before in
     let s = p .before .before .before .before .before in
-    let e = accepted (s .before) in
-    let n = numbers (e .before .before) in
-    let x = ended-own (read n .read-desk .result) _ _ (n .before .before .scalars-in .ensures) (n .numbers-in .ensures) _ _ _ _ (s .end-slots .ensures (told e)) in
-    end-put _ _ _ _ _ _ (judged (e .before .before)) (e .if2 .left) _ _ _ _ _ (c .verdict-answer2 .ensures) x (p .put-slots .ensures)
+    let e = accepted (read (s .before)) in
+    end-put _ _ _ _ _ (judged (e .before .before)) (e .if2 .left) _ _ _ _ _ (c .verdict-answer2 .ensures) (s .end-slots .ensures) (p .put-slots .ensures)
 
 pub end-spec : {M : Type 1} → statement M
 end-spec =
     tie.close
     (tie.spec
-    number-answer-requires
+    (λ c κs. search needs)
     returns
-    read-desk-requires
-    scalars-in-requires
-    numbers-in-requires
-    end-verdict-requires
-    verdict-answer-requires
-    same-length
+    (λ c κs. search needs)
+    (λ c κs. search needs)
+    (λ c. search needs)
     returns-2
+    (λ c κs. search needs)
+    (λ c κs. search needs)
+    (λ c κs. search needs)
     end-slots-requires
-    put-slots-requires
-    verdict-answer-requires-2
-    same-length-2
+    (λ c κs. search needs)
+    (λ c κs. search needs)
+    (λ c. search needs)
     returns-3)

@@ -2,12 +2,13 @@ use mathlib.Core.Path.{_≡_, sym, _∙_}
 use borrow.Author.Needs.{needs}
 use borrow.Author.Tests.{not-true, not-false}
 use Rattle.words.specs.Words.{wordsOf}
-use Rattle.round_trip.specs.Legality as legality
+use Rattle.legality.specs.Legality as legality
 use Rattle.plan.specs.declared.Plan.{Plan}
 use Rattle.desk.specs.Desk.{freshDesk}
-use Rattle.desk.specs.Records.{answers, lentPlan}
-use Rattle.desk.specs.Lent.{lent-plan}
-use Rattle.layout.specs.Layout.{planIn}
+use Rattle.plan.specs.Plan.{lentPlan}
+use Rattle.desk.specs.Records.{answers}
+use Rattle.plan.specs.Lent.{lent-plan}
+use Rattle.plan_layout.specs.Layout.{planIn}
 use Rattle.desk_strings.specs.Calls.{openedFrom}
 use Rattle.desk_strings.proofs.Opens.{opened-other, opened-unfit, opened-fit, open-refused, open-unwritten, open-written}
 use Rattle.desk_strings.proofs.open.Statement.{statement}

@@ -15,7 +15,11 @@ same-length : tie.Need-same-length
 same-length c = search needs
 
 returns : tie.Need-returns
-returns c = let k = c .before .before .before in (c .number-answer .ensures, k .clear-desk .ensures ∙ sym (right-string _ (k .before .before .if1 .taken) blankDesk))
+returns c = let k = c .before .before .before in (
+  c .number-answer .ensures,
+  k .clear-desk .ensures
+      ∙ sym (right-string _ (k .before .before .if1 .taken) blankDesk),
+)
 
 number-answer-requires-2 : tie.Need-number-answer-requires-2
 number-answer-requires-2 c κs = search needs

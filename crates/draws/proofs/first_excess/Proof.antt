@@ -48,7 +48,8 @@ loop-less c = omega arith
 
 loop-again : tie.Need-loop-again Inv-loop μ-loop
 loop-again c = let t = c .before .before .before .before in
-    within-next _ _ _ (t .before .loop .i) (t .before .loop .inv) (t .loop-test .taken) (omega (arith, c .before .before .draw-limit .ensures, c .before .word-at .ensures))
+    within-next _ _ _ (t .before .loop .i) (t .before .loop .inv) (t .loop-test .taken)
+    (omega (arith, c .before .before .draw-limit .ensures, c .before .word-at .ensures))
 
 returns-2 : tie.Need-returns-2 Inv-loop μ-loop
 returns-2 c = let l = c .before .loop in first-none _ _ _ (l .i) (l .inv) (c .loop-test .left)

@@ -1,122 +1,148 @@
 use native.Mathlib.Omega.{arith}
-use Prim.Native.Nat.{ℕ, _-_, _≤_, _<_}
-use mathlib.Core.Path.{_≡_, refl, ap, _∙_}
+use Prim.Native.Nat.{ℕ, _+_, _-_, _≤_, _<_}
+use mathlib.Core.Path.{_≡_, sym, ap, ap₂, _∙_}
 use mathlib.Core.List.{List}
 use borrow.Author.Needs.{needs}
 use lib.ListN.{length}
 use Rattle.words.specs.Words.{wordsOf}
-use Rattle.card.specs.declared.Scalars.{Scalars}
-use Rattle.plan.specs.declared.Numbers.{Numbers}
+use Rattle.plan.specs.Plan.{showingOf, showingIn}
+use Rattle.rules.specs.Supply.{Supply}
+use Rattle.rules.specs.Scheduler as S
+use Rattle.desk.specs.declared.Desk.{Desk}
 use Rattle.desk.specs.Ready.{streams-are, buffer-has, buffer-most}
 use Rattle.desk.specs.Records.{recordOf}
-use Rattle.ends.specs.Ends.{Ends, planIn, deskIn}
+use Rattle.desk_layout.specs.Layout.{deskIn}
+use Rattle.ends.specs.declared.Slot.{Slot}
+use Rattle.ends.specs.Ends.{Ends, Continues, Fair}
 use Rattle.ends.proofs.Ending.{endedUpTo, ends-none, drawn-count, fair-now, ends-turn, ends-all}
 use Rattle.ends.proofs.end_slots.Statement.{statement}
 use Rattle.ends.proofs.end_slots.Tie as tie
 
 -- the first i slots are done
-record Ending (s : Scalars) (m : Numbers) (ks₀ xs₀ hs₀ draws : List ℕ) (count : ℕ) (ks xs hs : List ℕ) (i : ℕ) : Type 0 where
-  counts : count ≡ m .streams
+record Ending (d : Desk) (draws : List ℕ) (count : ℕ) (ks xs hs : List ℕ) (i : ℕ) : Type 0 where
+  counts : count ≡ d .plan .streams
   few : i ≤ count
-  ended : (e : Ends s m ks₀ xs₀ hs₀ draws) → recordOf (planIn e) (e .phase) ks xs hs ≡ endedUpTo (deskIn e) draws i
+  ended : recordOf (d .plan) (d .phase) ks xs hs ≡ endedUpTo d draws i
 
 abbrev Inv-loop : tie.InvT-loop
-Inv-loop figures plan kinds₀ next₀ held₀ draws room count i₀ kinds next held i = Ending figures plan kinds₀ next₀ held₀ (wordsOf draws) count kinds next held i
+Inv-loop desk kinds₀ next₀ held₀ draws showing blocks bytes room count i₀ kinds next held i = Ending (deskIn (wordsOf desk))
+    (wordsOf draws) count kinds next held i
 
 abbrev μ-loop : tie.MeasureT-loop
-μ-loop figures plan kinds₀ next₀ held₀ draws room count i₀ kinds next held i = count - i
+μ-loop desk kinds₀ next₀ held₀ draws showing blocks bytes room count i₀ kinds next held i = count - i
 
-abbrev start : tie.At-loop Inv-loop μ-loop → tie.Start Inv-loop μ-loop
+-- ---- the places, each from a later one
+
+abbrev sized : tie.At-loop Inv-loop μ-loop → tie.After-bytes-in Inv-loop μ-loop
+sized c = c .before .before .before
+
+abbrev start : tie.After-bytes-in Inv-loop μ-loop → tie.Start Inv-loop μ-loop
 start c = c .before .before .before .before .before
 
 abbrev turn : tie.After-word-at Inv-loop μ-loop → tie.In-loop Inv-loop μ-loop
 turn c = c .before .before .before .before
 
+-- ---- what is known there
+
+abbrev given : tie.Start Inv-loop μ-loop → Desk
+given s = deskIn (wordsOf (s .args .desk .now))
+
+-- the numbers read are those of the desk
+record Read (d : Desk) (w N b r : ℕ) : Type 0 where
+  showing : w ≡ d .plan .showing
+  blocks : N ≡ d .plan .figures .blocks
+  bytes : b ≡ d .plan .figures .bytes
+  room : r ≡ d .plan .buffer - d .plan .figures .bytes
+
+numbers : (c : tie.At-loop Inv-loop μ-loop) → (let b = sized c in
+    Read (given (start b)) (b .before .before .showing-in .result) (b .before .blocks-in .result) (b .bytes-in .result)
+    (c .before .before .buffer-in .result - b .bytes-in .result))
+numbers c = let b = sized c in record {
+  showing = b .before .before .showing-in .ensures;
+  blocks = b .before .blocks-in .ensures;
+  bytes = b .bytes-in .ensures;
+  room = ap₂ (λ (m n : ℕ). m - n) (c .before .before .buffer-in .ensures) (b .bytes-in .ensures);
+}
+
+-- what is asked for and what is told of a slot, of the numbers read
+fair-read : (d : Desk) {w N b r : ℕ} → Read d w N b r → (s : Slot) {x y : ℕ} → x ≡ y → Fair (d .plan .figures .blocks) s y → Fair N s x
+fair-read d q s e f = rw (q .blocks, e) f
+
+told-read : (d : Desk) {w N b r : ℕ} → Read d w N b r → (X : Supply ℕ → Type 0) → ((p : Supply ℕ) → Continues p (showingOf w) N b r → X p)
+    → (p : Supply ℕ) → Continues p (showingIn (d .plan)) (d .plan .figures .blocks) (d .plan .figures .bytes) (d .plan .buffer - d .plan .figures .bytes) → X p
+told-read d q X f = rw (sym (q .showing), sym (q .blocks), sym (q .room), sym (q .bytes)) f
+
 -- n slots, and as many draws
-inside : (c : tie.In-loop Inv-loop μ-loop) → (c .before .loop .i < 256) × (c .before .loop .i < length (wordsOf (start (c .before) .args .draws .now)))
+inside : (c : tie.In-loop Inv-loop μ-loop) → (c .before .loop .i < 256) × (c .before .loop .i < length (wordsOf (start (sized (c .before)) .args .draws .now)))
 inside c =
-    let e = start (c .before) .pre in
-    omega (arith, streams-are (deskIn e) (e .ready), drawn-count (deskIn e) (wordsOf (start (c .before) .args .draws .now)) (e .drawn), c .loop-test .taken, c .before .loop .inv .counts)
+    let s = start (sized (c .before)) in
+    let e = s .pre .1 in
+    omega (
+      arith,
+      streams-are (given s) (e .ready),
+      drawn-count (given s) (wordsOf (s .args .draws .now)) (e .drawn),
+      c .loop-test .taken,
+      c .before .loop .inv .counts,
+    )
+
+-- ---- the needs
 
 sub-room : tie.Need-sub-room Inv-loop μ-loop
-sub-room c = let e = c .before .before .before .pre in omega (arith, buffer-has (planIn e) (e .ready .planned))
-
-cast-count : tie.Need-cast-count Inv-loop μ-loop
-cast-count c = search needs
+sub-room c = let b = c .before in
+    let s = start b in
+    omega (arith, buffer-has (given s .plan) (s .pre .1 .ready .planned), c .buffer-in .ensures, b .bytes-in .ensures)
 
 loop-holds : tie.Need-loop-holds Inv-loop μ-loop
-loop-holds c = record { counts = refl; few = omega arith; ended = λ e. ends-none (deskIn e) (e .wide) _ }
-
-mul-t14 : tie.Need-mul-t14 Inv-loop μ-loop
-mul-t14 c = omega (arith, inside c)
-
-element-copy-out-t17 : tie.Need-element-copy-out-t17 Inv-loop μ-loop
-element-copy-out-t17 c = inside c .0
-
-mul-t18 : tie.Need-mul-t18 Inv-loop μ-loop
-mul-t18 c = omega (arith, inside (c .before))
-
-element-copy-out-t21 : tie.Need-element-copy-out-t21 Inv-loop μ-loop
-element-copy-out-t21 c = inside (c .before) .0
-
-mul-t22 : tie.Need-mul-t22 Inv-loop μ-loop
-mul-t22 c = omega (arith, inside (c .before .before))
-
-element-copy-out-t25 : tie.Need-element-copy-out-t25 Inv-loop μ-loop
-element-copy-out-t25 c = inside (c .before .before) .0
-
-word-at-requires : tie.Need-word-at-requires Inv-loop μ-loop
-word-at-requires c κs = inside (c .before .before .before) .1
+loop-holds c =
+    let s = start (c .before .before) in
+    let e = s .pre .1 in
+    let d = given s in
+    record {
+      counts = c .streams-in .ensures;
+      few = omega arith;
+      ended = (λ t. recordOf (d .plan) (d .phase) (e .kinds t) (e .next t) (e .held t)) ∙ ends-none d (e .wide) _;
+    }
 
 ended-slot-requires : tie.Need-ended-slot-requires Inv-loop μ-loop
 ended-slot-requires c κs =
     let t = turn c in
     let l = t .before .loop in
-    let e = start (t .before) .pre in
-    let f = fair-now (deskIn e) (e .wide) (e .ready) _ (e .drawn) (l .i) (inside t .0) _ (l .inv .ended e) in
-    (rw (c .word-at .ensures) f, omega (arith, buffer-has (planIn e) (e .ready .planned), buffer-most (planIn e) (e .ready .legal) (e .ready .planned)))
-
-mul-kinds : tie.Need-mul-kinds Inv-loop μ-loop
-mul-kinds c = omega (arith, inside (turn (c .before)))
-
-element-write-kinds : tie.Need-element-write-kinds Inv-loop μ-loop
-element-write-kinds c = inside (turn (c .before)) .0
-
-mul-next : tie.Need-mul-next Inv-loop μ-loop
-mul-next c = omega (arith, inside (turn (c .before)))
-
-element-write-next : tie.Need-element-write-next Inv-loop μ-loop
-element-write-next c = inside (turn (c .before)) .0
-
-mul-held : tie.Need-mul-held Inv-loop μ-loop
-mul-held c = omega (arith, inside (turn (c .before)))
-
-element-write-held : tie.Need-element-write-held Inv-loop μ-loop
-element-write-held c = inside (turn (c .before)) .0
-
-add-i : tie.Need-add-i Inv-loop μ-loop
-add-i c = omega (arith, inside (turn (c .before)))
-
-loop-less : tie.Need-loop-less Inv-loop μ-loop
-loop-less c = omega arith
+    let s = start (sized (t .before)) in
+    let e = s .pre .1 in
+    let d = given s in
+    let q = numbers (t .before) in
+    let f = fair-now d (e .wide) (e .ready) _ (e .drawn) (l .i) (inside t .0) _ (l .inv .ended) in (
+      fair-read d q _ (c .word-at .ensures) f,
+      omega (
+        arith,
+        buffer-has (d .plan) (e .ready .planned),
+        buffer-most (d .plan) (e .ready .legal) (e .ready .planned),
+        q .room,
+        q .bytes,
+      ),
+    )
 
 loop-again : tie.Need-loop-again Inv-loop μ-loop
 loop-again c =
     let w = c .before in
     let t = turn w in
     let l = t .before .loop in
+    let s = start (sized (t .before)) in
+    let e = s .pre .1 in
     record {
       counts = l .inv .counts;
       few = omega (arith, t .loop-test .taken);
-      ended = λ e. ends-turn (deskIn e) (e .wide) (e .ready) _ (e .drawn) (l .i) (inside t .0) _ (l .inv .ended e)
-          (w .word-at .result) (w .word-at .ensures) (c .ended-slot .result) (c .ended-slot .ensures);
+      ended = ends-turn (given s) (e .wide) (e .ready) _ (e .drawn) (l .i) (inside t .0) _ (l .inv .ended)
+          (w .word-at .result) (w .word-at .ensures) (c .ended-slot .result) (told-read (given s) (numbers (t .before)) _ (c .ended-slot .ensures));
     }
 
 returns : tie.Need-returns Inv-loop μ-loop
 returns c =
     let l = c .before .loop in
-    let n : l .i ≡ start (c .before) .args .plan .streams = omega (arith, c .loop-test .left, l .inv .few, l .inv .counts) in
-    λ e. ends-all (deskIn e) (e .ready) _ (e .drawn) _ (l .inv .ended e ∙ ap (endedUpTo (deskIn e) _) n)
+    let s = start (sized (c .before)) in
+    let e = s .pre .1 in
+    let n : l .i ≡ given s .plan .streams = omega (arith, c .loop-test .left, l .inv .few, l .inv .counts) in
+    ends-all (given s) (e .ready) _ (e .drawn) _ (l .inv .ended ∙ ap (endedUpTo (given s) _) n)
 
 pub end-slots-spec : {M : Type 1} → statement M
 end-slots-spec =
@@ -124,24 +150,29 @@ end-slots-spec =
     (tie.spec
     Inv-loop
     μ-loop
+    (λ c κs. omega arith)
+    (λ c κs. omega arith)
+    (λ c κs. omega arith)
+    (λ c κs. omega arith)
     sub-room
-    cast-count
+    (λ c κs. omega arith)
+    (λ c. search needs)
     loop-holds
-    mul-t14
-    element-copy-out-t17
-    mul-t18
-    element-copy-out-t21
-    mul-t22
-    element-copy-out-t25
-    word-at-requires
+    (λ c. omega (arith, inside c))
+    (λ c. inside c .0)
+    (λ c. omega (arith, inside (c .before)))
+    (λ c. inside (c .before) .0)
+    (λ c. omega (arith, inside (c .before .before)))
+    (λ c. inside (c .before .before) .0)
+    (λ c κs. inside (c .before .before .before) .1)
     ended-slot-requires
-    mul-kinds
-    element-write-kinds
-    mul-next
-    element-write-next
-    mul-held
-    element-write-held
-    add-i
-    loop-less
+    (λ c. omega (arith, inside (turn (c .before))))
+    (λ c. inside (turn (c .before)) .0)
+    (λ c. omega (arith, inside (turn (c .before))))
+    (λ c. inside (turn (c .before)) .0)
+    (λ c. omega (arith, inside (turn (c .before))))
+    (λ c. inside (turn (c .before)) .0)
+    (λ c. omega (arith, inside (turn (c .before))))
+    (λ c. omega arith)
     loop-again
     returns)

@@ -23,7 +23,8 @@ returns-3 : tie.Need-returns-3
 returns-3 c = λ p f. c .drained .ensures p (f .start)
 
 returns-4 : tie.Need-returns-4
-returns-4 c = λ p f. let a = c .before in still p (a .args .slot) (a .args .draw) (omega (arith, a .pre .0 .kinds)) (a .pre .0 .none (omega (arith, a .pre .0 .kinds)))
+returns-4 c = λ p f. let a = c .before in still p (a .args .slot) (a .args .draw) (omega (arith, a .pre .0 .kinds))
+    (a .pre .0 .none (omega (arith, a .pre .0 .kinds)))
 
 pub ended-slot-spec : {M : Type 1} → statement M
 ended-slot-spec =

@@ -31,13 +31,15 @@ is-past-requires c κs = search needs
 returns-2 : tie.Need-returns-2
 returns-2 c = λ p f. let n = c .before .before .before in
     let a = start n in
-    swept-last p _ _ _ _ f (a .args .slot) (a .args .draw) (a .pre .1) (a .pre .2) (omega arith) (a .pre .0 .named (a .pre .1) (a .pre .2)) (n .next-block .result) (n .next-block .ensures)
+    swept-last p _ _ _ _ f (a .args .slot) (a .args .draw) (a .pre .1) (a .pre .2) (omega arith) (a .pre .0 .named (a .pre .1) (a .pre .2))
+    (n .next-block .result) (n .next-block .ensures)
     (sym (c .before .is-past .ensures) ∙ c .if2 .taken)
 
 returns-3 : tie.Need-returns-3
 returns-3 c = λ p f. let n = c .before .before .before in
     let a = start n in
-    swept-on p _ _ _ _ f (a .args .slot) (a .args .draw) (a .pre .1) (a .pre .2) (omega arith) (a .pre .0 .named (a .pre .1) (a .pre .2)) (n .next-block .result) (n .next-block .ensures)
+    swept-on p _ _ _ _ f (a .args .slot) (a .args .draw) (a .pre .1) (a .pre .2) (omega arith) (a .pre .0 .named (a .pre .1) (a .pre .2))
+    (n .next-block .result) (n .next-block .ensures)
     (sym (c .before .is-past .ensures) ∙ c .if2 .left)
 
 pub swept-spec : {M : Type 1} → statement M

@@ -1,7 +1,7 @@
 use mathlib.Core.Path.{ap}
 use native.Mathlib.Omega.{arith}
 use borrow.Author.Needs.{needs}
-use Rattle.round_trip.specs.Legality as legality
+use Rattle.legality.specs.Legality as legality
 use Rattle.desk.specs.declared.Begun.{Begun}
 use Rattle.desk.specs.View.{Wide}
 use Rattle.scheduler.specs.Count.{begin-few}

@@ -27,9 +27,11 @@ use contract.Monad.{Fun, fact}
 use contract.Running.{givenOf, tables, tablesOf}
 use sound.Loop.{loop-rule}
 use sound.WpLaws.{fmOf, WpFn-mono}
-use types.Kit.{Given, Item, ‵, raw, some, later, _⊛_, ⋆, anyQ, atRet, _$_, _∵_, !, qed, by, move, keep, drop, use1, split, join, pick, rewrite, fsplit, fjoin, suffices, frame, await, done, feqI}
+use types.Kit.{Given, Item, ‵, raw, some, later, _⊛_, ⋆, anyQ, atRet, _$_, _∵_, !, qed, by, move, keep, drop, use1, split, join, pick, rewrite, fsplit}
+use types.Kit.{fjoin, suffices, frame, await, done, feqI}
 use types.Part.{whole, sub, look-in}
-use types.Run.{look, store, store-raw, init, forget, stop, hop, fld, from, load, lit, unit-lit, of-opd, bin, and-then, no-more, assigns, assigns-last, land, stays, leaves-loop, returns, enter, alloc1, alloc0, params1, pass1, pass0, free1, free0, exec}
+use types.Run.{look, store, store-raw, init, forget, stop, hop, fld, from, load, lit, unit-lit, of-opd, bin, and-then, no-more, assigns, assigns-last}
+use types.Run.{land, stays, leaves-loop, returns, enter, alloc1, alloc0, params1, pass1, pass0, free1, free0, exec}
 use denote.RattleType.{RattleType, owns}
 use denote.Shadow.{pureI}
 use denote.Laws.{Is, shows}
@@ -119,7 +121,8 @@ Counter 𝓤 H A mem run = tripleOf 𝓤 H A counter.signature (counter.spec �
 abbrev Callee : {M : Type 1} (𝓤 : URA M) (H : Heap 𝓤) (A : Atoms 𝓤) (mem : Memory → SProp 𝓤) (run : Routine → Fun 𝓤) → Contract 𝓤
 Callee 𝓤 H A mem run = tripleOf 𝓤 H A callee.signature (callee.spec 𝓤 H A mem run)
 
-module _ {M : Type 1} (𝓤 : URA M) (H : Heap 𝓤) (A : Atoms 𝓤) (W : Given 𝓤 H A) (at-mem : Memory → SProp 𝓤) (run : Routine → Fun 𝓤) (κ : Lft) (q : Share) (b o : ℕ) (γ : GName) (fs : Fetches) (mo : Val) (ys : List Fetch) where
+module _ {M : Type 1} (𝓤 : URA M) (H : Heap 𝓤) (A : Atoms 𝓤) (W : Given 𝓤 H A) (at-mem : Memory → SProp 𝓤) (run : Routine → Fun 𝓤) (κ : Lft)
+    (q : Share) (b o : ℕ) (γ : GName) (fs : Fetches) (mo : Val) (ys : List Fetch) where
   abbrev ref : List Fetch → RefT (List Fetch)
   ref l = record { ptr = (b, o); name = γ; now = l }
 
@@ -152,9 +155,11 @@ module _ {M : Type 1} (𝓤 : URA M) (H : Heap 𝓤) (A : Atoms 𝓤) (W : Given
       → ent 𝓤 (⋆ 𝓤 H A (‵ (fobs γ (codedHoleys R .code (heres R zs))) ∷ ‵ (fbor κ (Held R (length zs) b o γ)) ∷ ‵ (flft κ q) ∷ [])) (Post vunit)
   exits gn go =
       qed W (‵ (fobs γ (codedHoleys R .code (heres R zs))) ∷ ‵ (fbor κ (Held R (length zs) b o γ)) ∷ ‵ (flft κ q) ∷ []) ∵
-      suffices ! _ (ends-at 𝓤 H A this.ended stayed (this.clauses 𝓤 H A at-mem run) W (((κ, tt), (q, tt), tt, x, at), tt) vunit tt (tt, (zs, tt)) (tt, (length-written fs n ys, tt))) $ says ! refl $
+      suffices ! _ (ends-at 𝓤 H A this.ended stayed (this.clauses 𝓤 H A at-mem run) W (((κ, tt), (q, tt), tt, x, at), tt) vunit tt (tt, (zs, tt))
+      (tt, (length-written fs n ys, tt))) $ says ! refl $
       nothing ! $ move ! (3 ∷ 0 ∷ []) $ join ! $ frame ! $
-      fjoin ! $ pureI ! (at-slice R (ref zs) (s ∷ [])) (tt, (tt, tt)) (ap (λ (m : ℕ). sliceVal (b, o) m ∷ []) (sym (length-written fs n ys)), subst (Room R) (sym (length-written fs n ys)) gn) $ fjoin ! $
+      fjoin ! $ pureI ! (at-slice R (ref zs) (s ∷ [])) (tt, (tt, tt))
+      (ap (λ (m : ℕ). sliceVal (b, o) m ∷ []) (sym (length-written fs n ys)), subst (Room R) (sym (length-written fs n ys)) gn) $ fjoin ! $
       nothing ! $ move ! (1 ∷ 0 ∷ []) $ fjoin ! $
       owned ! RO (Is RO) (LL.makes O.the-type O′.the-plain 𝓤 H A) fs _ go $ fjoin ! $ frame ! $
       feqI ! (List Val) (vunit ∷ []) (vunit ∷ []) refl $ done !
@@ -184,7 +189,8 @@ module _ {M : Type 1} (𝓤 : URA M) (H : Heap 𝓤) (A : Atoms 𝓤) (W : Given
   word-is : (w : Val) (r : ℕ) → Is usize r (w ∷ []) → r ≡ n → w ≡ vint w64 n
   word-is w r is e = ap (first w) (is .0) ∙ ap (vint w64) e
 
-  module _ (𝓣 : Tables 𝓤 H) (known : Triple 𝓤 (𝓣 .C #fetch-list·entry) (Callee 𝓤 H A at-mem run)) (gn : Room R (length ys)) (go : Is RO fs (mo ∷ [])) (inside : n ≤ length ys) (few : n ≤ 256) (l₀ l₁ l₂ l₃ l₄ l₅ l₆ l₇ l₈ : ℕ) where
+  module _ (𝓣 : Tables 𝓤 H) (known : Triple 𝓤 (𝓣 .C #fetch-list·entry) (Callee 𝓤 H A at-mem run)) (gn : Room R (length ys)) (go : Is RO fs (mo ∷ []))
+      (inside : n ≤ length ys) (few : n ≤ 256) (l₀ l₁ l₂ l₃ l₄ l₅ l₆ l₇ l₈ : ℕ) where
     abbrev C : Calls 𝓤 H
     C = 𝓣 .C
 
@@ -198,11 +204,13 @@ module _ {M : Type 1} (𝓤 : URA M) (H : Heap 𝓤) (A : Atoms 𝓤) (W : Given
     abbrev Frame : List (Item 𝓤)
     Frame = ‵ (fat fullShare τ₁ l₁ 0 mo) ∷ ‵ (fat fullShare slice l₂ 0 s) ∷ ‵ (fat fullShare word l₃ 0 (vint w64 n)) ∷ ‵ (froom tyUnit l₀ 0)
         ∷ ‵ (fobor κ q (Held R (length ys) b o γ)) ∷ ‵ (fobs γ (codedHoleys R .code (heres R ys))) ∷ ‵ (fauth γ (codedHoleys R .code (heres R ys)))
-        ∷ ‵ (fdies tyUnit l₀) ∷ ‵ (fdies τ₁ l₁) ∷ ‵ (fdies slice l₂) ∷ ‵ (fdies word l₃) ∷ ‵ (fdies word l₄) ∷ ‵ (fdies tyBool l₅) ∷ ‵ (fdies τ₆ l₆) ∷ ‵ (fdies word l₇) ∷ ‵ (fdies tyPtr l₈) ∷ []
+        ∷ ‵ (fdies tyUnit l₀) ∷ ‵ (fdies τ₁ l₁) ∷ ‵ (fdies slice l₂) ∷ ‵ (fdies word l₃) ∷ ‵ (fdies word l₄) ∷ ‵ (fdies tyBool l₅) ∷ ‵
+        (fdies τ₆ l₆) ∷ ‵ (fdies word l₇) ∷ ‵ (fdies tyPtr l₈) ∷ []
 
     -- i entries are written
     abbrev At : ℕ → List (Item 𝓤)
-    At i = ‵ (row R fullShare (written fs i ys) b o) ∷ ‵ (fat fullShare word l₄ 0 (vint w64 i)) ∷ ‵ (froom tyBool l₅ 0) ∷ ‵ (froom τ₆ l₆ 0) ∷ ‵ (froom word l₇ 0) ∷ ‵ (froom tyPtr l₈ 0) ∷ Frame
+    At i = ‵ (row R fullShare (written fs i ys) b o) ∷ ‵ (fat fullShare word l₄ 0 (vint w64 i)) ∷ ‵ (froom tyBool l₅ 0) ∷ ‵ (froom τ₆ l₆ 0) ∷ ‵
+        (froom word l₇ 0) ∷ ‵ (froom tyPtr l₈ 0) ∷ Frame
 
     -- the invariant, where t entries are left
     abbrev Inv : ℕ → SProp 𝓤
@@ -230,20 +238,26 @@ module _ {M : Type 1} (𝓤 : URA M) (H : Heap 𝓤) (A : Atoms 𝓤) (W : Given
         stays ! (load ! (from ! (stop !)) (look ! 2 refl)) $
         owned ! RO (Is RO) (LL.makes O.the-type O′.the-plain 𝓤 H A) fs _ go $
         use1 W (raw (Callee 𝓤 H A at-mem run .pre (to-callee i))) (goes-in i in-array) $
-        calls-at ! (fmOf 𝓤 H (W .laws) 𝓣) (Callee 𝓤 H A at-mem run) known (to-callee i) (and-then ! (load ! (from ! (stop !)) (look ! 7 refl)) (and-then ! (load ! (from ! (stop !)) (look ! 2 refl)) (no-more !))) (λ w.
-        use1 W (later (some (λ (r : Fetch). (‵ ftrue ⊛ ‵ (R .own r (w ∷ []))) ⊛ raw (ensured 𝓤 H A callee.ended (callee.clauses 𝓤 H A at-mem run) tt (fs, (i, tt)) tt r)))) (id⊢ 𝓤 _) $ await ! tt $ pick ! (λ r.
+        calls-at ! (fmOf 𝓤 H (W .laws) 𝓣) (Callee 𝓤 H A at-mem run) known (to-callee i)
+        (and-then ! (load ! (from ! (stop !)) (look ! 7 refl)) (and-then ! (load ! (from ! (stop !)) (look ! 2 refl)) (no-more !))) (λ w.
+        use1 W (later (some (λ (r : Fetch). (‵ ftrue ⊛ ‵ (R .own r (w ∷ []))) ⊛ raw
+        (ensured 𝓤 H A callee.ended (callee.clauses 𝓤 H A at-mem run) tt (fs, (i, tt)) tt r)))) (id⊢ 𝓤 _) $ await ! tt $ pick ! (λ r.
         split ! $ move ! (1 ∷ []) $ use1 W (raw (fact 𝓤 (r ≡ entryOf fs i))) (got-of i r) $ heard ! (r ≡ entryOf fs i) (λ e. split ! $ drop ! $
         peeks ! R (Is R) (shows 𝓤 H A R) r (w ∷ []) (λ is.
         -- [what the entry owns; the row; _4; _5; _6; _7; _8; _1; _2; _3; room for _0; …]
         land ! (from ! (stop !)) (init ! 4 refl (typed r w is)) $
-        assigns ! (bin ! (load ! (from ! (stop !)) (look ! 2 refl)) (lit ! tt) (scaled-fits i (length ys) 12 in-list (gn .1))) (from ! (stop !)) (init ! 5 refl (tt, scaled-fits i (length ys) 12 in-list (gn .1))) $
-        assigns ! (bin ! (load ! (from ! (fld ! refl (stop !))) (look-in ! 8 (sub ! 0 refl (whole !)))) (load ! (from ! (stop !)) (look ! 5 refl)) tt) (from ! (stop !)) (init ! 6 refl (tt, tt)) $
+        assigns ! (bin ! (load ! (from ! (stop !)) (look ! 2 refl)) (lit ! tt) (scaled-fits i (length ys) 12 in-list (gn .1))) (from ! (stop !))
+        (init ! 5 refl (tt, scaled-fits i (length ys) 12 in-list (gn .1))) $
+        assigns ! (bin ! (load ! (from ! (fld ! refl (stop !))) (look-in ! 8 (sub ! 0 refl (whole !))))
+        (load ! (from ! (stop !)) (look ! 5 refl)) tt) (from ! (stop !)) (init ! 6 refl (tt, tt)) $
         rewrite ! 6 (λ (p : ℕ). ‵ (fat fullShare tyPtr l₈ 0 (vptr b p))) (sym (place-is 12 o i)) refl $
-        move ! (1 ∷ []) $ elem-out ! R (Is R) (shows 𝓤 H A R) (LL.vals T.the-type T′.the-laws) (LL.tells T.the-type T′.the-laws) fullShare (written fs i ys) i r b o (within i small) (λ _.
+        move ! (1 ∷ []) $ elem-out ! R (Is R) (shows 𝓤 H A R) (LL.vals T.the-type T′.the-laws) (LL.tells T.the-type T′.the-laws) fullShare
+        (written fs i ys) i r b o (within i small) (λ _.
         -- [out[i]; what it owns; the others; what the entry owns; _4; _5; _6; _7; _8; …]
         assigns ! (of-opd ! (load ! (from ! (stop !)) (look ! 6 refl))) (from ! (hop ! (look ! 8 refl) (stop !))) (store-raw ! 0 refl (typed r w is)) $
         move ! (1 ∷ []) $ drop ! $ move ! (0 ∷ 2 ∷ []) $ elem-put ! R fullShare (written fs i ys) i r (w ∷ []) b o (within i small) $
-        assigns-last ! (bin ! (load ! (from ! (stop !)) (look ! 1 refl)) (lit ! tt) (record { fits = next-fits })) (from ! (stop !)) (store ! 1 refl (tt, record { fits = next-fits })) $
+        assigns-last ! (bin ! (load ! (from ! (stop !)) (look ! 1 refl)) (lit ! tt) (record { fits = next-fits })) (from ! (stop !))
+        (store ! 1 refl (tt, record { fits = next-fits })) $
         forget ! 2 refl $ forget ! 3 refl $ forget ! 4 refl $ forget ! 5 refl $
         rewrite ! 1 (λ (j : ℕ). ‵ (fat fullShare word l₄ 0 (vint w64 j))) (add-one i) refl $
         rewrite ! 0 (λ (l : List Fetch). ‵ (row R fullShare l b o)) (written-more fs i ys r e) refl $ by ! k)))))
@@ -260,7 +274,8 @@ module _ {M : Type 1} (𝓤 : URA M) (H : Heap 𝓤) (A : Atoms 𝓤) (W : Given
         move ! (0 ∷ 10 ∷ 11 ∷ 12 ∷ []) $ closes-slice ! tt R ys zs (length-written fs n ys) b o $
         -- [obs; the borrow; the token; _4; _5; _6; _7; _8; _1; _2; _3; _0; and that each local dies]
         returns ! (look ! 11 refl) $ forget ! 3 refl $ forget ! 4 refl $ forget ! 8 refl $ forget ! 9 refl $ forget ! 10 refl $ forget ! 11 refl $
-        move ! (11 ∷ 12 ∷ []) $ free1 ! $ move ! (8 ∷ 11 ∷ []) $ free1 ! $ move ! (8 ∷ 10 ∷ []) $ free1 ! $ move ! (8 ∷ 9 ∷ []) $ free1 ! $ move ! (3 ∷ 8 ∷ []) $ free1 ! $
+        move ! (11 ∷ 12 ∷ []) $ free1 ! $ move ! (8 ∷ 11 ∷ []) $ free1 ! $ move ! (8 ∷ 10 ∷ []) $ free1 ! $ move ! (8 ∷ 9 ∷ []) $ free1 ! $
+        move ! (3 ∷ 8 ∷ []) $ free1 ! $
         move ! (3 ∷ 7 ∷ []) $ free1 ! $ move ! (3 ∷ 6 ∷ []) $ free1 ! $ move ! (3 ∷ 5 ∷ []) $ free1 ! $ move ! (3 ∷ 4 ∷ []) $ free1 ! $ free0 ! $
         keep ! (0 ∷ 1 ∷ 2 ∷ []) $ by ! (exits gn go)
 
@@ -290,9 +305,12 @@ module _ {M : Type 1} (𝓤 : URA M) (H : Heap 𝓤) (A : Atoms 𝓤) (W : Given
 
     -- what is had before the loop
     abbrev Start : List (Item 𝓤)
-    Start = ‵ (froom tyPtr l₈ 0) ∷ ‵ (fdies tyPtr l₈) ∷ ‵ (froom word l₇ 0) ∷ ‵ (fdies word l₇) ∷ ‵ (froom τ₆ l₆ 0) ∷ ‵ (fdies τ₆ l₆) ∷ ‵ (froom tyBool l₅ 0) ∷ ‵ (fdies tyBool l₅)
-        ∷ ‵ (fat fullShare word l₄ 0 (vint w64 0)) ∷ ‵ (fdies word l₄) ∷ ‵ (fat fullShare word l₃ 0 (vint w64 n)) ∷ ‵ (fdies word l₃) ∷ ‵ (fat fullShare slice l₂ 0 s) ∷ ‵ (fdies slice l₂)
-        ∷ ‵ (fat fullShare τ₁ l₁ 0 mo) ∷ ‵ (fdies τ₁ l₁) ∷ ‵ (froom tyUnit l₀ 0) ∷ ‵ (fdies tyUnit l₀) ∷ (‵ (flft κ q) ⊛ ‵ ftrue) ∷ ‵ (owns (RO ∷ MutSlice (named 0) κ R ∷ []) x at) ∷ []
+    Start = ‵ (froom tyPtr l₈ 0) ∷ ‵ (fdies tyPtr l₈) ∷ ‵ (froom word l₇ 0) ∷ ‵ (fdies word l₇) ∷ ‵ (froom τ₆ l₆ 0) ∷ ‵ (fdies τ₆ l₆) ∷ ‵
+        (froom tyBool l₅ 0) ∷ ‵ (fdies tyBool l₅)
+        ∷ ‵ (fat fullShare word l₄ 0 (vint w64 0)) ∷ ‵ (fdies word l₄) ∷ ‵ (fat fullShare word l₃ 0 (vint w64 n)) ∷ ‵ (fdies word l₃) ∷ ‵
+        (fat fullShare slice l₂ 0 s) ∷ ‵ (fdies slice l₂)
+        ∷ ‵ (fat fullShare τ₁ l₁ 0 mo) ∷ ‵ (fdies τ₁ l₁) ∷ ‵ (froom tyUnit l₀ 0) ∷ ‵ (fdies tyUnit l₀) ∷ (‵ (flft κ q) ⊛ ‵ ftrue) ∷ ‵
+        (owns (RO ∷ MutSlice (named 0) κ R ∷ []) x at) ∷ []
 
     -- the loop with what follows it: the borrow is opened once, before the loop
     from-loop : ent 𝓤 (⋆ 𝓤 H A Start) (Wp 𝓤 H C Λ En mir-of.t-3 (atReturn 𝓤 H En Post))
@@ -304,16 +322,19 @@ module _ {M : Type 1} (𝓤 : URA M) (H : Heap 𝓤) (A : Atoms 𝓤) (W : Given
         keep ! (0 ∷ 14 ∷ 12 ∷ 10 ∷ 8 ∷ 6 ∷ 20 ∷ 18 ∷ 16 ∷ 22 ∷ 1 ∷ 2 ∷ 3 ∷ 23 ∷ 21 ∷ 19 ∷ 17 ∷ 15 ∷ 13 ∷ 11 ∷ 9 ∷ 7 ∷ []) $ by ! loops
 
   -- the MIR, up to the loop: the entries are counted first
-  walk : (𝓣 : Tables 𝓤 H) → Triple 𝓤 (𝓣 .C #fetch-list·entries) (Counter 𝓤 H A at-mem run) → Triple 𝓤 (𝓣 .C #fetch-list·entry) (Callee 𝓤 H A at-mem run) → Room R (length ys) → Is RO fs (mo ∷ []) → (n ≤ length ys) × (n ≤ 256)
+  walk : (𝓣 : Tables 𝓤 H) → Triple 𝓤 (𝓣 .C #fetch-list·entries) (Counter 𝓤 H A at-mem run)
+      → Triple 𝓤 (𝓣 .C #fetch-list·entry) (Callee 𝓤 H A at-mem run) → Room R (length ys) → Is RO fs (mo ∷ []) → (n ≤ length ys) × (n ≤ 256)
       → ent 𝓤 (onEntry 𝓤 H A this.signature (κ, tt) (q, tt) x at) (WpFn 𝓤 H (𝓣 .C) (𝓣 .Λ) code.function (mo ∷ s ∷ []) Post)
   walk 𝓣 counts known gn go φ =
       qed W ((‵ (flft κ q) ⊛ ‵ ftrue) ∷ ‵ (owns (RO ∷ MutSlice (named 0) κ R ∷ []) x at) ∷ []) ∵ enter ! (𝓣 .C) (𝓣 .Λ) code.function (mo ∷ s ∷ []) _ $
-      alloc1 ! (λ l₀. alloc1 ! (λ l₁. alloc1 ! (λ l₂. alloc1 ! (λ l₃. alloc1 ! (λ l₄. alloc1 ! (λ l₅. alloc1 ! (λ l₆. alloc1 ! (λ l₇. alloc1 ! (λ l₈. alloc0 ! $ params1 ! $
+      alloc1 ! (λ l₀. alloc1 ! (λ l₁. alloc1 ! (λ l₂. alloc1 !
+      (λ l₃. alloc1 ! (λ l₄. alloc1 ! (λ l₅. alloc1 ! (λ l₆. alloc1 ! (λ l₇. alloc1 ! (λ l₈. alloc0 ! $ params1 ! $
       pass1 ! (init ! 14 refl (typedO go)) $ pass1 ! (init ! 12 refl (tt, (tt, (record { fits = gn .0 }, tt)))) $ pass0 ! $
       owned ! RO (Is RO) (LL.makes O.the-type O′.the-plain 𝓤 H A) fs _ go $
       use1 W (raw (Counter 𝓤 H A at-mem run .pre to-counter)) goes-to-counter $
       calls-at ! (fmOf 𝓤 H (W .laws) 𝓣) (Counter 𝓤 H A at-mem run) counts to-counter (and-then ! (load ! (from ! (stop !)) (look ! 15 refl)) (no-more !)) (λ w.
-      use1 W (later (some (λ (r : ℕ). (‵ ftrue ⊛ ‵ (usize .own r (w ∷ []))) ⊛ raw (ensured 𝓤 H A counter.ended (counter.clauses 𝓤 H A at-mem run) tt (fs, tt) tt r)))) (id⊢ 𝓤 _) $ await ! tt $ pick ! (λ r.
+      use1 W (later (some (λ (r : ℕ). (‵ ftrue ⊛ ‵ (usize .own r (w ∷ []))) ⊛ raw
+      (ensured 𝓤 H A counter.ended (counter.clauses 𝓤 H A at-mem run) tt (fs, tt) tt r)))) (id⊢ 𝓤 _) $ await ! tt $ pick ! (λ r.
       split ! $ move ! (1 ∷ []) $ use1 W (raw (fact 𝓤 (r ≡ n))) (counted r) $ heard ! (r ≡ n) (λ e. split ! $ drop ! $
       facts ! usize (Is usize) (shows 𝓤 H A usize) r (w ∷ []) (λ is.
       land ! (from ! (stop !)) (init ! 10 refl (uint-lawful 𝓤 H A W w64 .typed r (w ∷ []) is .0)) $
@@ -324,9 +345,11 @@ module _ {M : Type 1} (𝓤 : URA M) (H : Heap 𝓤) (A : Atoms 𝓤) (W : Given
 module _ {M : Type 1} (𝓤 : URA M) (H : Heap 𝓤) (A : Atoms 𝓤) (W : Given 𝓤 H A) (mem : Memory → SProp 𝓤) (run : Routine → Fun 𝓤) where
   walks : (𝓣 : Tables 𝓤 H) → Triple 𝓤 (𝓣 .C #fetch-list·entries) (Counter 𝓤 H A mem run) → Triple 𝓤 (𝓣 .C #fetch-list·entry) (Callee 𝓤 H A mem run)
       → Walks 𝓤 H A this.ended stayed (WpFn 𝓤 H (𝓣 .C) (𝓣 .Λ) code.function) (this.clauses 𝓤 H A mem run)
-  walks 𝓣 counts known = walked 𝓤 H A this.ended stayed (this.clauses 𝓤 H A mem run) (WpFn 𝓤 H (𝓣 .C) (𝓣 .Λ) code.function) (λ κs. (LL.vals O.the-type O′.the-laws, (slice-vals, tt))) (λ κs. (LL.tells O.the-type O′.the-laws, (mut-slice-tells (named 0) (κs .0) R, tt)))
+  walks 𝓣 counts known = walked 𝓤 H A this.ended stayed (this.clauses 𝓤 H A mem run) (WpFn 𝓤 H (𝓣 .C) (𝓣 .Λ) code.function)
+      (λ κs. (LL.vals O.the-type O′.the-laws, (slice-vals, tt))) (λ κs. (LL.tells O.the-type O′.the-laws, (mut-slice-tells (named 0) (κs .0) R, tt)))
       (λ κs qs bounds a g are. needs 𝓤 ((a .0 .count ≤ length (now (a .1 .0))) × (a .0 .count ≤ 256)) _
-      (walk 𝓤 H A W mem run (κs .0) (qs .0) (a .1 .0 .ptr .0) (a .1 .0 .ptr .1) (a .1 .0 .name) (a .0) (machO (a .0)) (a .1 .0 .now) 𝓣 counts known (are .1 .0 .0 .1) (are .0)))
+      (walk 𝓤 H A W mem run (κs .0) (qs .0) (a .1 .0 .ptr .0) (a .1 .0 .ptr .1) (a .1 .0 .name) (a .0) (machO (a .0)) (a .1 .0 .now) 𝓣 counts known
+      (are .1 .0 .0 .1) (are .0)))
 
 meets : {M : Type 1} (𝓤 : URA M) (H : Heap 𝓤) (A : Atoms 𝓤) → Given 𝓤 H A → (mem : Memory → SProp 𝓤) (run : Routine → Fun 𝓤) (𝓣 : Tables 𝓤 H)
     → Triple 𝓤 (𝓣 .C #fetch-list·entries) (Counter 𝓤 H A mem run) → Triple 𝓤 (𝓣 .C #fetch-list·entry) (Callee 𝓤 H A mem run)
@@ -341,5 +364,6 @@ write-fetches-spec 𝓤 H 𝓜 𝓖 𝓡 =
     entered 𝓤 H (tripleOf 𝓤 H (𝓖 .A) this.signature (this.spec 𝓤 H (𝓖 .A) (𝓜 .mem) (𝓡 .run)))
     (tables 𝓤 H 𝓜 𝓡 code.env .C) (tables 𝓤 H 𝓜 𝓡 code.env .Λ) #fetch-list·write-fetches code.function (code.unfolded 𝓤 H 𝓜 𝓡)
     (meets 𝓤 H (𝓖 .A) (givenOf 𝓤 H 𝓜 𝓖) (𝓜 .mem) (𝓡 .run) (tablesOf 𝓤 H 𝓜 (tables 𝓤 H 𝓜 𝓡 code.env))
-    (cited 𝓤 H (Counter 𝓤 H (𝓖 .A) (𝓜 .mem) (𝓡 .run)) 𝓜 𝓡 code.env #fetch-list·entries counter-def.routine code.calls-fetch-list·entries (counter-thm.met 𝓤 H 𝓜 𝓖 𝓡))
+    (cited 𝓤 H (Counter 𝓤 H (𝓖 .A) (𝓜 .mem) (𝓡 .run)) 𝓜 𝓡 code.env #fetch-list·entries counter-def.routine code.calls-fetch-list·entries
+    (counter-thm.met 𝓤 H 𝓜 𝓖 𝓡))
     (cited 𝓤 H (Callee 𝓤 H (𝓖 .A) (𝓜 .mem) (𝓡 .run)) 𝓜 𝓡 code.env #fetch-list·entry callee-def.routine code.calls-fetch-list·entry (callee-thm.met 𝓤 H 𝓜 𝓖 𝓡)))

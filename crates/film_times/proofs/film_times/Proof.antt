@@ -27,7 +27,8 @@ record Gathering (f : Figures) (total blocks : ℕ) (times : List ℕ) (i : ℕ)
   taken : take i times ≡ map (timeOn f) (upto (totalPositions f - f .blocks) i)
 
 -- one position more
-gathering-next : (f : Figures) (total blocks : ℕ) (times : List ℕ) (i t : ℕ) → i < f .blocks → f .blocks ≤ maxTried → t ≡ timeOn f (totalPositions f - f .blocks + i) → t ≤ maxTime
+gathering-next : (f : Figures) (total blocks : ℕ) (times : List ℕ) (i t : ℕ) → i < f .blocks → f .blocks ≤ maxTried
+    → t ≡ timeOn f (totalPositions f - f .blocks + i) → t ≤ maxTime
     → Gathering f total blocks times i → Gathering f total blocks (set times i t) (i + 1)
 gathering-next f total blocks times i t h few e low g = record {
   all = g .all;
@@ -84,8 +85,10 @@ add-time-at c = let at = c .before .before .before .before in
 time-at-requires : tie.Need-time-at-requires Inv-loop μ-loop
 time-at-requires c κs = let at = c .before .before .before .before in
     let l = at .loop in
-    let s = at .before .before .before .before in
-    (legal-zoned (s .args .t1) (s .pre .0), omega (arith, on-disk (s .args .t1) (s .pre .0) _ (l .i) (l .inv .all) (c .before .before .before .loop-test .taken), total-is (s .args .t1) (s .pre .0)))
+    let s = at .before .before .before .before in (
+      legal-zoned (s .args .t1) (s .pre .0),
+      omega (arith, on-disk (s .args .t1) (s .pre .0) _ (l .i) (l .inv .all) (c .before .before .before .loop-test .taken), total-is (s .args .t1) (s .pre .0)),
+    )
 
 -- the turn of the loop, and where the function begins
 abbrev turn : tie.After-time-at Inv-loop μ-loop → tie.At-loop Inv-loop μ-loop
@@ -102,8 +105,10 @@ loop-again c =
     let l = turn c .loop in
     let s = start c in
     let f = s .args .t1 in
-    let e : c .time-at .result ≡ timeOn f (totalPositions f - f .blocks + l .i) = c .time-at .ensures ∙ ap (λ (p : ℕ). timeOn f (p - f .blocks + l .i)) (l .inv .all) in
-    gathering-next f _ (f .blocks) (l .times) (l .i) _ (below c) (s .pre .1) e (rw e (time-small f (s .pre .0) (totalPositions f - f .blocks + l .i) (omega (arith, below c, s .pre .0 .room)))) (l .inv)
+    let e : c .time-at .result ≡ timeOn f (totalPositions f - f .blocks + l .i) = c .time-at .ensures
+    ∙ ap (λ (p : ℕ). timeOn f (p - f .blocks + l .i)) (l .inv .all) in
+    gathering-next f _ (f .blocks) (l .times) (l .i) _ (below c) (s .pre .1) e
+    (rw e (time-small f (s .pre .0) (totalPositions f - f .blocks + l .i) (omega (arith, below c, s .pre .0 .room)))) (l .inv)
 
 returns : tie.Need-returns Inv-loop μ-loop
 unfolding filmPositions

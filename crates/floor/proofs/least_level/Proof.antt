@@ -50,7 +50,8 @@ loop-again : tie.Need-loop-again Inv-loop μ-loop
 loop-again c = let l = c .before .before .before .before .loop in
     let a = c .before .before .before .before .before in (
       omega arith,
-      λ p xs w. least-turn p _ _ xs _ w ample (l .i) (l .level) (c .lower .result) (omega (arith, c .before .before .before .loop-test .taken, a .pre)) (l .inv .1 p xs w)
+      λ p xs w. least-turn p _ _ xs _ w ample (l .i) (l .level) (c .lower .result)
+          (omega (arith, c .before .before .before .loop-test .taken, a .pre)) (l .inv .1 p xs w)
           (c .lower .ensures .0) (c .lower .ensures .1),
     )
 

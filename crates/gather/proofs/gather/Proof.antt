@@ -1,71 +1,75 @@
-use Prim.Native.Nat.{_-_, _<_}
+use Prim.Native.Nat.{ℕ, _-_, _≤_, _<_}
 use mathlib.Core.Path.{_≡_, sym}
+use mathlib.Core.List.{List}
 use native.Mathlib.Omega.{arith}
+use lib.ListN.{getD}
 use borrow.Author.Needs.{needs}
+use Rattle.numbers.specs.Slots.{waiting, playing}
+use Rattle.words.specs.Words.{wordsOf}
+use Rattle.plan.specs.Disk.{Zoned}
+use Rattle.desk.specs.declared.Desk.{Desk}
+use Rattle.desk_layout.specs.Layout.{deskIn}
+use Rattle.gather.specs.Gather.{Reach, NextFound}
 use Rattle.gather.proofs.Collecting.{Collecting, collecting-none, collecting-next}
 use Rattle.gather.proofs.gather.Statement.{statement}
 use Rattle.gather.proofs.gather.Tie as tie
 
 -- the next blocks of the first i slots are collected
 abbrev Inv-loop : tie.InvT-loop
-Inv-loop kinds next sizes times positions streams g₀ i₀ g i = Collecting sizes times positions kinds next streams g i
+Inv-loop desk positions streams sizes times g₀ i₀ g i =
+    (let d = deskIn (wordsOf desk) in let f = d .plan .figures in Collecting (f .positions) (f .times) positions (d .kinds) (d .next) streams g i)
 
 abbrev μ-loop : tie.MeasureT-loop
-μ-loop kinds next sizes times positions streams g₀ i₀ g i = streams - i
+μ-loop desk positions streams sizes times g₀ i₀ g i = streams - i
+
+-- ---- the places, each from a later one
+
+abbrev timed : tie.At-loop Inv-loop μ-loop → tie.After-zone-times Inv-loop μ-loop
+timed c = c .before .before .before
 
 abbrev start : tie.At-loop Inv-loop μ-loop → tie.Start Inv-loop μ-loop
-start c = c .before .before .before .before
+start c = timed c .before .before .before .before
 
-zeros-requires : tie.Need-zeros-requires Inv-loop μ-loop
-zeros-requires c κs = search needs
+abbrev turn : tie.After-kind-in Inv-loop μ-loop → tie.In-loop Inv-loop μ-loop
+turn c = c .before .before .before
 
-zeros-requires-2 : tie.Need-zeros-requires-2 Inv-loop μ-loop
-zeros-requires-2 c κs = search needs
+abbrev given : tie.Start Inv-loop μ-loop → Desk
+given s = deskIn (wordsOf (s .args .desk .now))
 
-loop-holds : tie.Need-loop-holds Inv-loop μ-loop
-loop-holds c = collecting-none _ _ _ _ _ _ _ (c .before .zeros .ensures) (c .zeros2 .ensures)
+-- what is asked for a block, of numbers that are equal
+asked-same : {sizes zs : List ℕ} (ps : List ℕ) {k j x y : ℕ} → sizes ≡ zs → k ≡ j → x ≡ y → Zoned zs → (waiting ≤ j → j ≤ playing → Reach zs ps y)
+    → (Zoned sizes) × (waiting ≤ k → k ≤ playing → Reach sizes ps x)
+asked-same ps a b c z r = rw (a, b, c) (z, r)
 
-mul-next-block : tie.Need-mul-next-block Inv-loop μ-loop
-mul-next-block c = omega arith
-
-element-copy-out-next-block : tie.Need-element-copy-out-next-block Inv-loop μ-loop
-element-copy-out-next-block c = omega arith
-
-mul-next-block-2 : tie.Need-mul-next-block-2 Inv-loop μ-loop
-mul-next-block-2 c = omega arith
-
-element-copy-out-next-block-2 : tie.Need-element-copy-out-next-block-2 Inv-loop μ-loop
-element-copy-out-next-block-2 c = omega arith
+-- ---- the needs
 
 next-block-requires : tie.Need-next-block-requires Inv-loop μ-loop
-next-block-requires c κs = let t = c .before .before in
+next-block-requires c κs =
+    let k = c .before in
+    let t = turn k in
     let s = start (t .before) in
-    (s .pre .1, s .pre .2 (t .before .loop .i) (t .loop-test .taken))
+    asked-same _ (timed (t .before) .before .zone-sizes .ensures) (k .kind-in .ensures) (c .next-in .ensures) (s .pre .2)
+    (s .pre .3 (t .before .loop .i) (t .loop-test .taken))
 
-mul-g : tie.Need-mul-g Inv-loop μ-loop
-mul-g c = omega arith
-
-element-write-g : tie.Need-element-write-g Inv-loop μ-loop
-element-write-g c = omega arith
-
-mul-g-2 : tie.Need-mul-g-2 Inv-loop μ-loop
-mul-g-2 c = omega arith
-
-element-write-g-2 : tie.Need-element-write-g-2 Inv-loop μ-loop
-element-write-g-2 c = omega arith
-
-add-i : tie.Need-add-i Inv-loop μ-loop
-add-i c = omega arith
-
-loop-less : tie.Need-loop-less Inv-loop μ-loop
-loop-less c = omega arith
+-- what is found for slot i, said of the desk
+finds : (c : tie.After-next-block Inv-loop μ-loop) → (let t = turn (c .before .before) in
+    let s = start (t .before) in
+    let i = t .before .loop .i in
+    let d = given s in
+    let f = d .plan .figures in
+    NextFound (f .positions) (f .times) (s .args .positions .now) (getD (d .kinds) i 0) (getD (d .next) i 0) (c .next-block .result))
+finds c =
+    let k = c .before .before in
+    let z = timed (turn k .before) in
+    rw (sym (z .before .zone-sizes .ensures), sym (z .zone-times .ensures), sym (k .kind-in .ensures), sym (c .before .next-in .ensures))
+    (c .next-block .ensures)
 
 loop-again : tie.Need-loop-again Inv-loop μ-loop
 loop-again c =
-    let t = c .before .before .before in
+    let t = turn (c .before .before) in
     let l = t .before .loop in
-    let h : l .i < 256 = omega (arith, t .loop-test .taken, start (t .before) .pre .0) in
-    collecting-next _ _ _ _ _ _ (l .g) (l .i) (c .next-block .result) (l .inv) (t .loop-test .taken) h (c .next-block .ensures)
+    let h : l .i < 256 = omega (arith, t .loop-test .taken, start (t .before) .pre .1) in
+    collecting-next _ _ _ _ _ _ (l .g) (l .i) (c .next-block .result) (l .inv) (t .loop-test .taken) h (finds c)
 
 returns : tie.Need-returns Inv-loop μ-loop
 returns c =
@@ -79,19 +83,19 @@ gather-spec =
     (tie.spec
     Inv-loop
     μ-loop
-    zeros-requires
-    zeros-requires-2
-    loop-holds
-    mul-next-block
-    element-copy-out-next-block
-    mul-next-block-2
-    element-copy-out-next-block-2
+    (λ c κs. omega arith)
+    (λ c κs. omega arith)
+    (λ c κs. search needs)
+    (λ c κs. search needs)
+    (λ c. collecting-none _ _ _ _ _ _ _ (c .before .zeros .ensures) (c .zeros2 .ensures))
+    (λ c κs. omega arith)
+    (λ c κs. omega arith)
     next-block-requires
-    mul-g
-    element-write-g
-    mul-g-2
-    element-write-g-2
-    add-i
-    loop-less
+    (λ c. omega arith)
+    (λ c. omega arith)
+    (λ c. omega arith)
+    (λ c. omega arith)
+    (λ c. omega arith)
+    (λ c. omega arith)
     loop-again
     returns)

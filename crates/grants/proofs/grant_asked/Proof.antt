@@ -18,7 +18,8 @@ record Trying (kinds₀ leads : List ℕ) (streams bytes rate sum level : ℕ) (
   few : i ≤ streams
   long : length kinds ≡ 256
   most : total ≤ 256 * mostLead + i * mostLead
-  granted : (p : Supply ℕ) (xs hs : List ℕ) (w : Slots p streams kinds₀ xs hs) → Asks p bytes rate sum level leads kinds₀ xs hs → Granted p streams kinds₀ xs hs w kinds total i
+  granted : (p : Supply ℕ) (xs hs : List ℕ) (w : Slots p streams kinds₀ xs hs) → Asks p bytes rate sum level leads kinds₀ xs hs
+      → Granted p streams kinds₀ xs hs w kinds total i
 
 abbrev Inv-loop : tie.InvT-loop
 Inv-loop kinds₀ leads streams bytes rate sum level total₀ i₀ kinds total i = Trying kinds₀ leads streams bytes rate sum level kinds total i
@@ -77,20 +78,23 @@ loop-again c =
       long = length-set (l .kinds) (l .i) filling ∙ v .long;
       most = omega (arith, v .most, own);
       granted = λ p xs hs s k.
-          grants-yes p _ _ xs hs s _ _ _ _ _ k (l .kinds) (v .long) (l .total) (l .i) h (v .granted p xs hs s k) top (a .pre .3) (a .pre .4) (sym (b .is-granted .ensures) ∙ w .0 .taken);
+          grants-yes p _ _ xs hs s _ _ _ _ _ k (l .kinds) (v .long) (l .total) (l .i) h (v .granted p xs hs s k) top (a .pre .3) (a .pre .4)
+          (sym (b .is-granted .ensures) ∙ w .0 .taken);
     }))
     (λ w. rw (w .1, w .2) (record {
       few = omega (arith, t .loop-test .taken);
       long = v .long;
       most = omega (arith, v .most);
       granted = λ p xs hs s k.
-          grants-no p _ _ xs hs s _ _ _ _ _ k (l .kinds) (v .long) (l .total) (l .i) h (v .granted p xs hs s k) top (a .pre .3) (a .pre .4) (sym (b .is-granted .ensures) ∙ w .0 .left);
+          grants-no p _ _ xs hs s _ _ _ _ _ k (l .kinds) (v .long) (l .total) (l .i) h (v .granted p xs hs s k) top (a .pre .3) (a .pre .4)
+          (sym (b .is-granted .ensures) ∙ w .0 .left);
     }))
     (c .if1 .came)
 
 returns : tie.Need-returns Inv-loop μ-loop
 returns c = let l = c .before .loop in
-    λ p xs hs w a. grants-end p _ _ xs hs w (l .kinds) (l .total) (l .i) (l .inv .granted p xs hs w a) (omega (arith, c .loop-test .left, l .inv .few)) (c .before .before .pre .0)
+    λ p xs hs w a. grants-end p _ _ xs hs w (l .kinds) (l .total) (l .i) (l .inv .granted p xs hs w a)
+    (omega (arith, c .loop-test .left, l .inv .few)) (c .before .before .pre .0)
 
 pub grant-asked-spec : {M : Type 1} → statement M
 grant-asked-spec =

@@ -10,7 +10,8 @@ product-requires : tie.Need-product-requires
 product-requires c κs = search needs
 
 returns : tie.Need-returns
-returns c = λ p b. sym (starts-playing p _ (slotOf p (c .before .before .before .args .kind) b (c .before .before .before .args .held)) (omega arith) (omega arith))
+returns c = λ p b. sym (starts-playing p _ (slotOf p (c .before .before .before .args .kind) b (c .before .before .before .args .held)) (omega arith)
+    (omega arith))
 
 returns-2 : tie.Need-returns-2
 returns-2 c = λ p b. let a = c .before .before .before .args in

@@ -1,4 +1,5 @@
-use Rattle.layout.specs.RoundTrip.{plan-kept, desk-kept}
+use Rattle.plan_layout.specs.RoundTrip.{plan-kept}
+use Rattle.desk_layout.specs.RoundTrip.{desk-kept}
 use Rattle.layout.proofs.read_writes_back.Statement.{statement}
 use Rattle.layout.proofs.read_writes_back.Tie as tie
 

@@ -1,4 +1,5 @@
-use Rattle.layout.specs.RoundTrip.{plan-written, desk-written}
+use Rattle.plan_layout.specs.RoundTrip.{plan-written}
+use Rattle.desk_layout.specs.RoundTrip.{desk-written}
 use Rattle.layout.proofs.written_reads_back.Statement.{statement}
 use Rattle.layout.proofs.written_reads_back.Tie as tie
 

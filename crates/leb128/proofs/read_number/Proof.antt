@@ -42,7 +42,8 @@ returns-2 c =
     ∙ l .inv .0
 
 -- the byte's seven bits, where it has its top bit
-digit : (c : tie.Else2 Inv-loop μ-loop) → getD (c .before .before .before .before .before .before .args .s .now) (c .before .before .before .before .loop .at) 0 % 128 < 128
+digit : (c : tie.Else2 Inv-loop μ-loop)
+    → getD (c .before .before .before .before .before .before .args .s .now) (c .before .before .before .before .loop .at) 0 % 128 < 128
 digit c = omega (arith, c .before .shared-slice-known2 .given (c .before .before .before .before .loop .at))
 
 -- it stands where it fits
@@ -74,8 +75,11 @@ loop-again c =
     let t = c .before .before .before .loop-test .taken in
     let g = getD (c .before .before .before .before .before .before .args .s .now) (l .at) 0 % 128 in
     let e : g * 2 ^ l .shift % 2 ^ 64 ≡ g * 2 ^ l .shift = let f = fits c in omega arith in
-    rw e
-    (rw (next-weight (l .shift)) (sym (scan-more _ _ _ _ _ _ t (omega arith) (c .if2 .left)) ∙ l .inv .0), room-more _ _ _ _ (l .inv .1) t (digit c), omega arith)
+    rw e (
+      rw (next-weight (l .shift)) (sym (scan-more _ _ _ _ _ _ t (omega arith) (c .if2 .left)) ∙ l .inv .0),
+      room-more _ _ _ _ (l .inv .1) t (digit c),
+      omega arith,
+    )
 
 returns-3 : tie.Need-returns-3 Inv-loop μ-loop
 returns-3 c =

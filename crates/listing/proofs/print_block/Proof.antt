@@ -1,7 +1,7 @@
 use Prim.Native.Nat.{_≤_}
 use native.Mathlib.Omega.{arith}
 use lib.ListN.{length}
-use Rattle.round_trip.specs.Legality.{Wide}
+use Rattle.legality.specs.Legality.{Wide}
 use Rattle.words.specs.Words.{wordsOf}
 use Rattle.plan.specs.Check.{checked}
 use Rattle.listing.proofs.ListedPlan.{plan-zoned, position-on}
@@ -12,7 +12,8 @@ use Rattle.listing.proofs.print_block.Tie as tie
 wide : (c : tie.Start) → Wide (c .args .plan .figures)
 wide c = (search needs, search needs, search needs)
 
-long : (c : tie.Start) → (c .args .plan .figures .blocks ≤ length (wordsOf (c .args .positions .now))) × (c .args .plan .figures .blocks ≤ length (wordsOf (c .args .leads .now)))
+long : (c : tie.Start) → (c .args .plan .figures .blocks ≤ length (wordsOf (c .args .positions .now)))
+    × (c .args .plan .figures .blocks ≤ length (wordsOf (c .args .leads .now)))
 long c = checked (c .args .plan) (c .args .positions .now) (c .args .leads .now) (c .pre .0) .long
 
 word-at-requires : tie.Need-word-at-requires
@@ -30,36 +31,6 @@ word-at-requires-2 c κs = let t = c .before .before .before .before in
     let s = t .before .before .before .before in
     omega (arith, long s, s .pre)
 
-empty-requires : tie.Need-empty-requires
-empty-requires c κs = search needs
-
-put-number-requires : tie.Need-put-number-requires
-put-number-requires c κs = search needs
-
-cast-put-next : tie.Need-cast-put-next
-cast-put-next c = search needs
-
-put-next-requires : tie.Need-put-next-requires
-put-next-requires c κs = search needs
-
-cast-put-next-2 : tie.Need-cast-put-next-2
-cast-put-next-2 c = search needs
-
-put-next-requires-2 : tie.Need-put-next-requires-2
-put-next-requires-2 c κs = search needs
-
-cast-put-next-3 : tie.Need-cast-put-next-3
-cast-put-next-3 c = search needs
-
-put-next-requires-3 : tie.Need-put-next-requires-3
-put-next-requires-3 c κs = search needs
-
-print-requires : tie.Need-print-requires
-print-requires c κs = search needs
-
-returns : tie.Need-returns
-returns c = search needs
-
 pub print-block-spec : {M : Type 1} → statement M
 print-block-spec =
     tie.close
@@ -67,13 +38,13 @@ print-block-spec =
     word-at-requires
     time-at-requires
     word-at-requires-2
-    empty-requires
-    put-number-requires
-    cast-put-next
-    put-next-requires
-    cast-put-next-2
-    put-next-requires-2
-    cast-put-next-3
-    put-next-requires-3
-    print-requires
-    returns)
+    (λ c κs. search needs)
+    (λ c κs. search needs)
+    (λ c. search needs)
+    (λ c κs. search needs)
+    (λ c. search needs)
+    (λ c κs. search needs)
+    (λ c. search needs)
+    (λ c κs. search needs)
+    (λ c κs. search needs)
+    (λ c. search needs))

@@ -4,12 +4,6 @@ use borrow.Author.Needs.{needs}
 use Rattle.maker.proofs.number_of.Statement.{statement}
 use Rattle.maker.proofs.number_of.Tie as tie
 
-enum-known-heading : tie.Need-enum-known-heading
-enum-known-heading c = search needs
-
-enum-told : tie.Need-enum-told
-enum-told c = search needs
-
 returns : tie.Need-returns
 unfolding headingFault
 returns c = ap headingFault (sym (c .before .heading .given .1))
@@ -19,4 +13,4 @@ unfolding headingFault
 returns-2 c = ap headingFault (sym (c .enum-told .given .1))
 
 pub number-of-spec : {M : Type 1} → statement M
-number-of-spec = tie.close (tie.spec enum-known-heading enum-told returns returns-2)
+number-of-spec = tie.close (tie.spec (λ c. search needs) (λ c. search needs) returns returns-2)

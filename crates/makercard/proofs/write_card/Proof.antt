@@ -12,16 +12,12 @@ use Rattle.makercard.proofs.write_card.Tie as tie
 fits : (c : tie.After-write-card) → c .write-card .result .length ≤ length (c .write-card .last .1 .0)
 fits c =
     let s = c .before .before .before in
-    omega (arith, ap (λ (w : CardWritten). w .length) (c .write-card .ensures .0), written-short (s .args .figures) (c .before .before .buffer .result), c .write-card .kept)
-
-buffer-requires : tie.Need-buffer-requires
-buffer-requires c κs = search needs
-
-slice-aggregate-write-card : tie.Need-slice-aggregate-write-card
-slice-aggregate-write-card c = search needs
-
-write-card-requires : tie.Need-write-card-requires
-write-card-requires c κs = search needs
+    omega (
+      arith,
+      ap (λ (w : CardWritten). w .length) (c .write-card .ensures .0),
+      written-short (s .args .figures) (c .before .before .buffer .result),
+      c .write-card .kept,
+    )
 
 array-share-prefix-out : tie.Need-array-share-prefix-out
 array-share-prefix-out c = fits (c .before)
@@ -29,32 +25,17 @@ array-share-prefix-out c = fits (c .before)
 slice-aggregate-write-all : tie.Need-slice-aggregate-write-all
 slice-aggregate-write-all c = sym (length-take-le _ _ (fits (c .before .before)))
 
-write-all-requires : tie.Need-write-all-requires
-write-all-requires c κs = search needs
-
-slice-aggregate-say : tie.Need-slice-aggregate-say
-slice-aggregate-say c = search needs
-
-say-requires : tie.Need-say-requires
-say-requires c κs = search needs
-
-returns : tie.Need-returns
-returns c = search needs
-
-returns-2 : tie.Need-returns-2
-returns-2 c = search needs
-
 pub write-card-spec : {M : Type 1} → statement M
 write-card-spec =
     tie.close
     (tie.spec
-    buffer-requires
-    slice-aggregate-write-card
-    write-card-requires
+    (λ c κs. search needs)
+    (λ c. search needs)
+    (λ c κs. search needs)
     array-share-prefix-out
     slice-aggregate-write-all
-    write-all-requires
-    slice-aggregate-say
-    say-requires
-    returns
-    returns-2)
+    (λ c κs. search needs)
+    (λ c. search needs)
+    (λ c κs. search needs)
+    (λ c. search needs)
+    (λ c. search needs))

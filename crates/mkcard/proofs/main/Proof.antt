@@ -2,14 +2,15 @@ use borrow.Author.Needs.{needs}
 use Prim.Native.Nat.{_≤_, _-_}
 use mathlib.Core.Path.{_≡_}
 use lib.ListN.{length}
+use Rattle.numbers.specs.Limits.{maxNumber}
 use Rattle.mkcard.proofs.main.Statement.{statement}
 use Rattle.mkcard.proofs.main.Tie as tie
 
 abbrev Inv-loop : tie.InvT-loop
-Inv-loop s₀ piece₀ turns₀ s piece turns = (65536 ≡ length piece) × (turns ≤ 4294967295)
+Inv-loop s₀ piece₀ turns₀ s piece turns = (65536 ≡ length piece) × (turns ≤ maxNumber)
 
 abbrev μ-loop : tie.MeasureT-loop
-μ-loop s₀ piece₀ turns₀ s piece turns = 4294967295 - turns
+μ-loop s₀ piece₀ turns₀ s piece turns = maxNumber - turns
 
 start-requires : tie.Need-start-requires Inv-loop μ-loop
 start-requires c κs = search needs

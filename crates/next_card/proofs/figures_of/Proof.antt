@@ -1,6 +1,7 @@
 use Rattle.small_cards.specs.Cards.{smallFigures}
 use Rattle.small_cards.specs.Next.{figuresOf}
 use borrow.Author.Needs.{needs}
+use Rattle.numbers.specs.Limits.{straightKind}
 use Rattle.next_card.proofs.figures_of.Statement.{statement}
 use Rattle.next_card.proofs.figures_of.Tie as tie
 
@@ -17,7 +18,16 @@ returns : tie.Need-returns
 unfolding figuresOf smallFigures
 returns c = let times = c .before in
     let a = times .before .before .before .before .args .card in
-    λ i. record { kind = 1; zones = a .zones; positions = times .before .enter .ensures i; times = times .enter2 .ensures i; blocks = a .blocks; bytes = 1000; rate = 1000; table = c .overheads .ensures i }
+    λ i. record {
+      kind = straightKind;
+      zones = a .zones;
+      positions = times .before .enter .ensures i;
+      times = times .enter2 .ensures i;
+      blocks = a .blocks;
+      bytes = 1000;
+      rate = 1000;
+      table = c .overheads .ensures i;
+    }
 
 pub figures-of-spec : {M : Type 1} → statement M
 figures-of-spec = tie.close (tie.spec enter-requires enter-requires-2 overheads-requires returns)

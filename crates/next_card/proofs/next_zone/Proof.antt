@@ -17,7 +17,8 @@ add-t8 c = search needs
 
 returns : tie.Need-returns
 returns c = let s = c .before .before .before in
-    zone-past (s .args .card) (s .args .positions) (s .args .times) (omega (arith, long s .0, c .before .if1 .taken)) (omega (arith, long s .1, c .before .if1 .taken))
+    zone-past (s .args .card) (s .args .positions) (s .args .times) (omega (arith, long s .0, c .before .if1 .taken))
+    (omega (arith, long s .1, c .before .if1 .taken))
 
 mul-sizes : tie.Need-mul-sizes
 mul-sizes c = search needs

@@ -3,21 +3,9 @@ use Rattle.plan.specs.Plan.{showingOf}
 use Rattle.plan_strings.proofs.plan.Statement.{statement}
 use Rattle.plan_strings.proofs.plan.Tie as tie
 
-plan-showing-requires : tie.Need-plan-showing-requires
-plan-showing-requires c κs = search needs
-
-same-length : tie.Need-same-length
-same-length c = search needs
-
-same-length-2 : tie.Need-same-length-2
-same-length-2 c = search needs
-
-same-length-3 : tie.Need-same-length-3
-same-length-3 c = search needs
-
 returns : tie.Need-returns
 unfolding showingOf
 returns c = c .before .before .before .before .before .before .plan-showing .ensures
 
 pub plan-spec : {M : Type 1} → statement M
-plan-spec = tie.close (tie.spec plan-showing-requires same-length same-length-2 same-length-3 returns)
+plan-spec = tie.close (tie.spec (λ c κs. search needs) (λ c. search needs) (λ c. search needs) (λ c. search needs) returns)

@@ -23,33 +23,12 @@ start c = made c .before .before .before .before .before .before
 plan-legal-requires : tie.Need-plan-legal-requires
 plan-legal-requires c κs = c .before .before .before .before .before .pre .1
 
-verdict-answer-requires : tie.Need-verdict-answer-requires
-verdict-answer-requires c κs = search needs
-
-same-length : tie.Need-same-length
-same-length c = search needs
-
-same-length-2 : tie.Need-same-length-2
-same-length-2 c = search needs
-
 returns : tie.Need-returns
 returns c =
     let k = c .before in
     let m = made k .plan-legal .ensures in
     let s = start k in
     plan-kept (showing s) (figures s) _ _ _ (s .pre .0) _ (m .0) _ (k .before .verdict-answer .ensures) _ _ (m .2) (m .3) (c .if1 .taken)
-
-refused-requires : tie.Need-refused-requires
-refused-requires c κs = search needs
-
-same-length-3 : tie.Need-same-length-3
-same-length-3 c = search needs
-
-same-length-4 : tie.Need-same-length-4
-same-length-4 c = search needs
-
-same-length-5 : tie.Need-same-length-5
-same-length-5 c = search needs
 
 returns-2 : tie.Need-returns-2
 returns-2 c =
@@ -59,19 +38,8 @@ returns-2 c =
     let k = e .before in
     let m = made k .plan-legal .ensures in
     let s = start k in
-    plan-cleared (showing s) (figures s) _ _ _ (s .pre .0) _ (m .0) _ (w .refused .ensures .0) _ _ (m .2) (m .3) (e .if1 .left) (t .if2 .taken) _ (w .refused .ensures .1)
-
-write-parts-requires : tie.Need-write-parts-requires
-write-parts-requires c κs = search needs
-
-same-length-6 : tie.Need-same-length-6
-same-length-6 c = search needs
-
-same-length-7 : tie.Need-same-length-7
-same-length-7 c = search needs
-
-same-length-8 : tie.Need-same-length-8
-same-length-8 c = search needs
+    plan-cleared (showing s) (figures s) _ _ _ (s .pre .0) _ (m .0) _ (w .refused .ensures .0) _ _ (m .2) (m .3) (e .if1 .left) (t .if2 .taken) _
+    (w .refused .ensures .1)
 
 returns-3 : tie.Need-returns-3
 returns-3 c =
@@ -81,24 +49,25 @@ returns-3 c =
     let k = e .before in
     let m = made k .plan-legal .ensures in
     let s = start k in
-    plan-written (showing s) (figures s) _ _ _ (s .pre .0) _ (m .0) _ (k .before .verdict-answer .ensures) _ _ (m .2) (m .3) (t .if2 .left) _ (m .1 (t .if2 .left)) _ (w .write-parts .ensures .0)
+    plan-written (showing s) (figures s) _ _ _ (s .pre .0) _ (m .0) _ (k .before .verdict-answer .ensures) _ _ (m .2) (m .3) (t .if2 .left) _
+    (m .1 (t .if2 .left)) _ (w .write-parts .ensures .0)
 
 pub plan-into-spec : {M : Type 1} → statement M
 plan-into-spec =
     tie.close
     (tie.spec
     plan-legal-requires
-    verdict-answer-requires
-    same-length
-    same-length-2
+    (λ c κs. search needs)
+    (λ c. search needs)
+    (λ c. search needs)
     returns
-    refused-requires
-    same-length-3
-    same-length-4
-    same-length-5
+    (λ c κs. search needs)
+    (λ c. search needs)
+    (λ c. search needs)
+    (λ c. search needs)
     returns-2
-    write-parts-requires
-    same-length-6
-    same-length-7
-    same-length-8
+    (λ c κs. search needs)
+    (λ c. search needs)
+    (λ c. search needs)
+    (λ c. search needs)
     returns-3)

@@ -3,7 +3,7 @@ use Rattle.words.specs.Words.{Bytes}
 use Rattle.words.specs.Laws.{bytes-fit}
 use Rattle.card.specs.Read.{blankZones, blankTable}
 use Rattle.card_reader.specs.Told.{told-refused, told-figures}
-use Rattle.plan.specs.Ways.{card-legal}
+use Rattle.round_trip.specs.RoundTrip.{card-legal}
 use Rattle.plan_strings.proofs.Ways.{other-length, refused-card, planned-card}
 use borrow.Author.Needs.{needs}
 use Rattle.plan_strings.proofs.plan_showing.Statement.{statement}
@@ -20,24 +20,12 @@ bytes c = bytes-fit (start c .args .card .now) (c .before .before .before .befor
 abbrev sized : tie.After-read-into → tie.Else1
 sized c = c .before .before .before .before
 
-unwritten-requires : tie.Need-unwritten-requires
-unwritten-requires c κs = search needs
-
 returns : tie.Need-returns
 returns c = other-length _ _ _ _ _ (c .before .if1 .taken) _ (c .unwritten .ensures _)
 
 read-into-requires : tie.Need-read-into-requires
 unfolding blankZones blankTable
 read-into-requires c κs = (refl, refl, refl)
-
-enum-known-told : tie.Need-enum-known-told
-enum-known-told c = search needs
-
-refused-requires : tie.Need-refused-requires
-refused-requires c κs = search needs
-
-enum-known-told-2 : tie.Need-enum-known-told-2
-enum-known-told-2 c = search needs
 
 plan-into-requires : tie.Need-plan-into-requires
 plan-into-requires c κs =
@@ -46,25 +34,14 @@ plan-into-requires c κs =
     let z = sized r in
     (z .if1 .left, card-legal _ (bytes z) _ (told-figures _ _ _ (t .told2 .given .1) ∙ r .read-into .ensures) refl)
 
-same-length : tie.Need-same-length
-same-length c = search needs
-
 returns-2 : tie.Need-returns-2
 returns-2 c =
     let w = c .before .before in
     let t = w .before .before .before in
     let r = t .before .before in
     let z = sized r in
-    refused-card _ _ _ _ _ (z .if1 .left) (bytes z) _ _ (told-refused _ _ _ (t .told .given .1) ∙ r .read-into .ensures) _ (w .refused .ensures .0) _ (w .refused .ensures .1)
-
-same-length-2 : tie.Need-same-length-2
-same-length-2 c = search needs
-
-same-length-3 : tie.Need-same-length-3
-same-length-3 c = search needs
-
-same-length-4 : tie.Need-same-length-4
-same-length-4 c = search needs
+    refused-card _ _ _ _ _ (z .if1 .left) (bytes z) _ _ (told-refused _ _ _ (t .told .given .1) ∙ r .read-into .ensures) _ (w .refused .ensures .0) _
+    (w .refused .ensures .1)
 
 returns-3 : tie.Need-returns-3
 returns-3 c =
@@ -78,16 +55,16 @@ pub plan-showing-spec : {M : Type 1} → statement M
 plan-showing-spec =
     tie.close
     (tie.spec
-    unwritten-requires
+    (λ c κs. search needs)
     returns
     read-into-requires
-    enum-known-told
-    refused-requires
-    enum-known-told-2
+    (λ c. search needs)
+    (λ c κs. search needs)
+    (λ c. search needs)
     plan-into-requires
-    same-length
+    (λ c. search needs)
     returns-2
-    same-length-2
-    same-length-3
-    same-length-4
+    (λ c. search needs)
+    (λ c. search needs)
+    (λ c. search needs)
     returns-3)

@@ -3,27 +3,20 @@ use borrow.Author.Needs.{needs}
 use Rattle.plan_strings.proofs.unwritten.Statement.{statement}
 use Rattle.plan_strings.proofs.unwritten.Tie as tie
 
-read-card-requires : tie.Need-read-card-requires
-read-card-requires c κs = search needs
-
-verdict-answer-requires : tie.Need-verdict-answer-requires
-verdict-answer-requires c κs = search needs
-
 returns : tie.Need-returns
-returns c = λ x. let r = c .before .before .before .before .read-card in card-refused x (r .result) _ (r .ensures) _ (c .before .if1 .taken) (c .verdict-answer .ensures)
-
-verdict-answer-requires-2 : tie.Need-verdict-answer-requires-2
-verdict-answer-requires-2 c κs = search needs
+returns c = λ x. let r = c .before .before .before .before .read-card in
+    card-refused x (r .result) _ (r .ensures) _ (c .before .if1 .taken) (c .verdict-answer .ensures)
 
 returns-2 : tie.Need-returns-2
-returns-2 c = λ x. let r = c .before .before .before .before .read-card in card-accepted x (r .result) _ (r .ensures) _ (c .before .if1 .left) (c .verdict-answer2 .ensures)
+returns-2 c = λ x. let r = c .before .before .before .before .read-card in
+    card-accepted x (r .result) _ (r .ensures) _ (c .before .if1 .left) (c .verdict-answer2 .ensures)
 
 pub unwritten-spec : {M : Type 1} → statement M
 unwritten-spec =
     tie.close
     (tie.spec
-    read-card-requires
-    verdict-answer-requires
+    (λ c κs. search needs)
+    (λ c κs. search needs)
     returns
-    verdict-answer-requires-2
+    (λ c κs. search needs)
     returns-2)

@@ -1,7 +1,8 @@
 use Rattle.placement.specs.Showing.{one}
 use Rattle.words.specs.Laws.{bytes-fit}
 use Rattle.plan.specs.Check.{showing-back}
-use Rattle.plan.specs.Ways.{outcome-same, card-legal}
+use Rattle.round_trip.specs.RoundTrip.{card-legal}
+use Rattle.plan.specs.Ways.{outcome-same}
 use borrow.Author.Needs.{needs}
 use Rattle.planner.proofs.plan_card.Statement.{statement}
 use Rattle.planner.proofs.plan_card.Tie as tie

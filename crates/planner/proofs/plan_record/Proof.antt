@@ -1,5 +1,5 @@
 use Rattle.placement.specs.Showing.{one}
-use Rattle.round_trip.specs.Legality.{Wide}
+use Rattle.legality.specs.Legality.{Wide}
 use Rattle.plan.specs.Check.{showing-back}
 use Rattle.plan.specs.Ways.{outcome-same, judged-legal}
 use borrow.Author.Needs.{needs}

@@ -1,4 +1,4 @@
-use Rattle.round_trip.specs.Legality.{judge-legal}
+use Rattle.legality.specs.Legality.{judge-legal}
 use Rattle.round_trip.proofs.judge_accepts_legal.Statement.{statement}
 use Rattle.round_trip.proofs.judge_accepts_legal.Tie as tie
 

@@ -2,14 +2,14 @@ use Prim.Native.Nat.{ℕ, _/_}
 use mathlib.Core.Path.{_≡_, ap, _∙_}
 use native.Mathlib.Omega.{arith}
 use lib.ListN.{length}
-use Rattle.round_trip.specs.Legality as legality
+use Rattle.legality.specs.Legality as legality
 use Rattle.words.specs.Words.{wordsOf, withWords}
 use Rattle.desk.specs.declared.Fetches.{Fetches}
 use Rattle.desk.specs.declared.Begun.{Begun}
 use Rattle.desk.specs.Desk.{beginDesk, entriesOf, fetchListAfter}
 use Rattle.desk.specs.View.{Wide}
 use Rattle.scheduler.specs.Count.{begin-few}
-use Rattle.layout.specs.Entries.{rows, rows-of}
+use Rattle.entry_layout.specs.Entries.{rows, rows-of}
 use borrow.Author.Needs.{needs}
 use Rattle.scheduler.proofs.begin_into.Statement.{statement}
 use Rattle.scheduler.proofs.begin_into.Tie as tie
@@ -51,7 +51,8 @@ returns c =
     let ps = s .args .positions .now in
     let ls = s .args .leads .now in
     let out = s .args .fetches .now in
-    let b : j .begin .result ≡ beginDesk d ps ls (length (wordsOf out) / 3) = j .begin .ensures ∙ ap (λ (k : ℕ). beginDesk d ps ls (k / 3)) (j .before .entries .ensures) in (
+    let b : j .begin .result ≡ beginDesk d ps ls (length (wordsOf out) / 3) = j .begin .ensures
+    ∙ ap (λ (k : ℕ). beginDesk d ps ls (k / 3)) (j .before .entries .ensures) in (
       b,
       c .before .before .write-entries .ensures
           ∙ ap (λ (f : Fetches). withWords out 0 (rows 0 (f .count) f)) (ap (λ (x : Begun). x .fetches) b)

@@ -1,44 +1,202 @@
-use mathlib.Core.Path.{ap, _∙_}
-use Rattle.round_trip.specs.Legality as legality
-use Rattle.desk.specs.declared.Desk.{Desk}
-use Rattle.desk.specs.Desk.{beginDesk}
-use Rattle.desk.specs.View.{Wide}
-use Rattle.sweep.specs.Steps.{sweptOf}
-use Rattle.desk.specs.Lent.{lent-desk}
+use Prim.Native.Nat.{ℕ, _≤_}
+use mathlib.Core.Path.{_≡_, sym, ap, subst, _∙_}
+use mathlib.Core.Bool.{true}
+use native.Mathlib.Omega.{arith}
 use borrow.Author.Needs.{needs}
+use borrow.Author.Tests.{not-true, not-false}
+use lib.ListN.{length}
+use Rattle.numbers.specs.Limits.{maxStreams}
+use Rattle.numbers.specs.Refusals.{tooShort, notSound, wrongPhase}
+use Rattle.legality.specs.Legality as legality
+use Rattle.words.specs.Words.{wordsOf}
+use Rattle.desk.specs.declared.Desk.{Desk}
+use Rattle.desk.specs.View.{Wide}
+use Rattle.desk.specs.Slots.{length-zeros}
+use Rattle.desk.specs.Ready.{Ready, streams-are}
+use Rattle.desk_layout.specs.Layout.{deskIn}
+use Rattle.desk_layout.specs.Sized.{wide-in, slim-in}
+use Rattle.floor.specs.Floor.{Listed, Added, Taken}
+use Rattle.soundness.specs.Facts.{soundDesk}
+use Rattle.soundness.specs.Ready.{sound-ready, sound-plan, sound-listed, sound-taken}
+use Rattle.gather.specs.Gather.{Reached, Collected}
+use Rattle.scheduler.specs.Gathered.{zoned, reached, gathers, in-range}
+use Rattle.sweep.specs.Begins.{Begins}
+use Rattle.sweep.specs.Steps.{sweptOf, notSwept}
+use Rattle.sweep.specs.Kept.{not-swept}
+use Rattle.scheduler.specs.Answers.{begin-unsound, begin-in-sweep, begin-no-room, begin-begun}
 use Rattle.scheduler.proofs.judge_begin.Statement.{statement}
 use Rattle.scheduler.proofs.judge_begin.Tie as tie
 
-wide : (c : tie.Start) → Wide (c .args .t1)
-wide c = record { kinds = search needs; next = search needs; held = search needs }
+-- the desk that is judged
+abbrev given : tie.Start → Desk
+given c = deskIn (wordsOf (c .args .desk .now))
 
-slim : (c : tie.Start) → legality.Wide (c .args .t1 .plan .figures)
-slim c = (search needs, search needs, search needs)
+wide : (c : tie.Start) → Wide (given c)
+wide c = wide-in (c .args .desk .now) (c .pre)
 
-abbrev taken : tie.After-numbers-in → tie.After-scalars-in
-taken c = c .before .before .before .before .before .before
+slim : (c : tie.Start) → legality.Wide (given c .plan .figures)
+slim c = slim-in (c .args .desk .now) (c .pre)
 
-abbrev start : tie.After-numbers-in → tie.Start
-start c = taken c .before .before .before .before
+-- ---- the places, each from a later one
 
-scalars-in-requires : tie.Need-scalars-in-requires
-scalars-in-requires c κs = search needs
+abbrev start : tie.After-is-sound → tie.Start
+start c = c .before .before .before .before
 
-numbers-in-requires : tie.Need-numbers-in-requires
-numbers-in-requires c κs = search needs
+abbrev tested : tie.Else1 → tie.After-is-sound
+tested c = c .before
 
-begin-verdict-requires : tie.Need-begin-verdict-requires
-begin-verdict-requires c κs =
-    let s = start (c .before .before .before) in
-    let w = wide s in
-    (record { kinds = w .kinds; next = w .next; held = w .held }, slim s .0, slim s .1, slim s .2)
+abbrev asked : tie.After-phase-in → tie.Else1
+asked c = c .before
+
+abbrev counted : tie.Else3 → tie.After-streams-in
+counted c = c .before
+
+abbrev between : tie.After-streams-in → tie.Else2
+between c = c .before
+
+abbrev roomy : tie.After-gather-leads → tie.Else3
+roomy c = c .before .before .before
+
+abbrev gathering : tie.After-found2 → tie.After-gather
+gathering c = c .before .before .before .before
+
+-- the place past the test of soundness
+abbrev first : tie.After-streams-in → tie.Else1
+first c = asked (between c .before)
+
+-- ---- what is known there
+
+passed : (c : tie.Else1) → (let s = start (tested c) in soundDesk (given s) (s .args .positions .now) (s .args .leads .now) ≡ true)
+passed c = sym (tested c .is-sound .ensures) ∙ not-false _ (c .if1 .left)
+
+ready : (c : tie.Else1) → Ready (given (start (tested c)))
+ready c = sound-ready _ _ _ (slim (start (tested c))) (passed c)
+
+-- n as it was read is that of the desk
+few : (c : tie.After-streams-in) → c .streams-in .result ≤ maxStreams
+few c = omega (arith, streams-are _ (ready (first c)), c .streams-in .ensures)
+
+listed : (c : tie.After-streams-in) → (let s = start (tested (first c)) in
+    let d = given s in
+    Listed (wordsOf (s .args .leads .now)) (d .kinds) (d .next) (c .streams-in .result))
+listed c = let e = first c in
+    let s = start (tested e) in
+    subst (Listed _ _ _) (sym (c .streams-in .ensures)) (sound-listed (given s) (wide s) _ _ (slim s) (passed e))
+
+-- what the steps of a begin are told
+told : (c : tie.After-gather) → (let m = c .before in
+    let l = m .before in
+    Begins (given (start (tested (first (counted (roomy l)))))) (c .gather .result .times) (c .gather .result .positions)
+    (l .gather-leads .last .1 .1 .1 .0) (m .sum-leads .result))
+told c =
+    let m = c .before in
+    let l = m .before in
+    let k = counted (roomy l) in
+    let e = first k in
+    let s = start (tested e) in
+    let a = s .args in
+    let d = given s in
+    let p = sound-plan _ _ _ (passed e) in
+    let f = d .plan .figures in
+    let n = k .streams-in .ensures in
+    let g = subst (λ (n : ℕ). Collected (f .positions) (f .times) (a .positions .now) (d .kinds) (d .next) n (c .gather .result)) n (c .gather .ensures) in
+    record {
+      wide = wide s;
+      ready = ready e;
+      gathers = gathers d (wide s) (ready e) _ _ p (c .gather .result) g;
+      range = in-range d (wide s) (ready e) _ _ p (c .gather .result) g;
+      leads = sound-taken d (wide s) _ _ (slim s) (passed e) _
+          (subst (λ (n : ℕ). Taken (wordsOf (a .leads .now)) (d .kinds) (d .next) n (l .gather-leads .last .1 .1 .1 .0)) n (l .gather-leads .ensures)) _
+          (subst (λ (n : ℕ). Added (wordsOf (a .leads .now)) (d .kinds) (d .next) n (m .sum-leads .result)) n (m .sum-leads .ensures));
+    }
+
+-- ---- the needs
 
 returns : tie.Need-returns
 returns c =
-    let n = c .before .before .before .before in
-    let a = start n .args in
-    c .begin-verdict .ensures
-    ∙ ap (λ (d : Desk). sweptOf (beginDesk d (a .positions .now) (a .leads .now) (a .room))) (lent-desk _ _ (a .t1) (taken n .scalars-in .ensures) (n .numbers-in .ensures))
+    let k = c .before in
+    let t = k .before .before in
+    let s = start t in
+    c .not-swept .ensures ∙ ap (λ ks. notSwept ks notSound) (k .all-kinds .ensures) ∙ not-swept (given s) notSound
+    ∙ ap sweptOf (begin-unsound (given s) (wide s) _ _ _ (sym (t .is-sound .ensures) ∙ not-true _ (k .before .if1 .taken)))
+
+returns-2 : tie.Need-returns-2
+returns-2 c =
+    let k = c .before in
+    let p = k .before .before in
+    let e = asked p in
+    let s = start (tested e) in
+    c .not-swept2 .ensures ∙ ap (λ ks. notSwept ks wrongPhase) (k .all-kinds2 .ensures) ∙ not-swept (given s) wrongPhase
+    ∙ ap sweptOf (begin-in-sweep (given s) (wide s) _ _ _ (passed e) (λ z. k .before .if2 .taken (p .phase-in .ensures ∙ z)))
+
+returns-3 : tie.Need-returns-3
+returns-3 c =
+    let k = c .before in
+    let n = k .before .before in
+    let p = between n in
+    let e = first n in
+    let s = start (tested e) in
+    c .not-swept3 .ensures ∙ ap (λ ks. notSwept ks tooShort) (k .all-kinds3 .ensures) ∙ not-swept (given s) tooShort
+    ∙ ap sweptOf (begin-no-room (given s) (wide s) _ _ _ (passed e) (sym (p .before .phase-in .ensures) ∙ p .if2 .left)
+    (omega (arith, k .before .if3 .taken, n .streams-in .ensures)))
+
+gather-leads-requires : tie.Need-gather-leads-requires
+gather-leads-requires c κs =
+    let z = c .before in
+    let k = counted (z .before) in
+    (few k, start (tested (first k)) .pre, listed k, ap length (z .zeros .ensures) ∙ length-zeros)
+
+sum-leads-requires : tie.Need-sum-leads-requires
+sum-leads-requires c κs = let k = counted (roomy c) in (few k, start (tested (first k)) .pre, listed k)
+
+gather-requires : tie.Need-gather-requires
+gather-requires c κs =
+    let k = counted (roomy (c .before)) in
+    let e = first k in
+    let s = start (tested e) in
+    let d = given s in
+    let p = sound-plan _ _ _ (passed e) in (
+      s .pre,
+      few k,
+      zoned d (wide s) (ready e) _ _ p,
+      subst (Reached (d .plan .figures .positions) (s .args .positions .now) (d .kinds) (d .next)) (sym (k .streams-in .ensures))
+          (reached d (wide s) (ready e) _ _ p),
+    )
+
+begin-sweep-requires : tie.Need-begin-sweep-requires
+begin-sweep-requires c κs = let g = gathering c in (start (tested (first (counted (roomy (g .before .before))))) .pre, told g)
+
+returns-4 : tie.Need-returns-4
+returns-4 c =
+    let o = roomy (gathering (c .before) .before .before) in
+    let k = counted o in
+    let p = between k in
+    let e = first k in
+    let s = start (tested e) in
+    c .begin-sweep .ensures
+    ∙ ap sweptOf (begin-begun (given s) (wide s) _ _ _ (passed e) (sym (p .before .phase-in .ensures) ∙ p .if2 .left)
+    (omega (arith, o .if3 .left, k .streams-in .ensures)))
 
 pub judge-begin-spec : {M : Type 1} → statement M
-judge-begin-spec = tie.close (tie.spec scalars-in-requires numbers-in-requires begin-verdict-requires returns)
+judge-begin-spec =
+    tie.close
+    (tie.spec
+    (λ c κs. search needs)
+    (λ c κs. search needs)
+    (λ c κs. search needs)
+    returns
+    (λ c κs. search needs)
+    (λ c κs. search needs)
+    (λ c κs. search needs)
+    returns-2
+    (λ c κs. search needs)
+    (λ c. search needs)
+    (λ c κs. search needs)
+    (λ c κs. search needs)
+    returns-3
+    (λ c κs. search needs)
+    gather-leads-requires
+    sum-leads-requires
+    gather-requires
+    begin-sweep-requires
+    returns-4)

@@ -1,43 +1,201 @@
-use mathlib.Core.Path.{ap, _∙_}
-use Rattle.round_trip.specs.Legality as legality
-use Rattle.desk.specs.declared.Desk.{Desk}
-use Rattle.desk.specs.Desk.{endDesk}
-use Rattle.desk.specs.View.{Wide}
-use Rattle.desk.specs.Lent.{lent-desk}
+use Prim.Native.Nat.{ℕ, _≤_}
+use mathlib.Core.Path.{_≡_, refl, sym, ap, subst, _∙_}
+use mathlib.Core.Bool.{true}
+use mathlib.Core.List.{List}
+use native.Mathlib.Omega.{arith}
 use borrow.Author.Needs.{needs}
+use borrow.Author.Tests.{not-true, not-false}
+use Rattle.numbers.specs.Limits.{maxStreams}
+use Rattle.numbers.specs.Slots.{sweeping}
+use Rattle.card.specs.CardLaws.{table-range}
+use Rattle.legality.specs.Legality as legality
+use Rattle.words.specs.Words.{wordsOf}
+use Rattle.plan.specs.Disk.{Zoned}
+use Rattle.desk.specs.declared.Desk.{Desk}
+use Rattle.desk.specs.declared.Answer.{Answer}
+use Rattle.desk.specs.Desk.{supplyOf, viewOf, endDesk}
+use Rattle.desk.specs.Records.{withRead, read-same}
+use Rattle.desk.specs.View.{Wide}
+use Rattle.desk.specs.Ready.{Ready, streams-are, buffer-has}
+use Rattle.desk_layout.specs.Layout.{deskIn}
+use Rattle.desk_layout.specs.Sized.{wide-in, slim-in}
+use Rattle.soundness.specs.Facts.{soundDesk}
+use Rattle.soundness.specs.Ready.{sound-ready, sound-plan}
+use Rattle.gather.specs.Gather.{Reached, Collected}
+use Rattle.scheduler.specs.Gathered.{zoned, reached, gathers, in-range}
+use Rattle.scheduler.specs.Answers.{end-unsound, end-between, end-judged}
+use Rattle.scheduler.proofs.Sweeping.{timed, sweeps}
 use Rattle.scheduler.proofs.judge_end.Statement.{statement}
 use Rattle.scheduler.proofs.judge_end.Tie as tie
 
-wide : (c : tie.Start) → Wide (c .args .t1)
-wide c = record { kinds = search needs; next = search needs; held = search needs }
+-- the desk that is judged
+abbrev given : tie.Start → Desk
+given c = deskIn (wordsOf (c .args .desk .now))
 
-slim : (c : tie.Start) → legality.Wide (c .args .t1 .plan .figures)
-slim c = (search needs, search needs, search needs)
+-- the verdict of an answer
+told : {a b : Answer} → a ≡ b → a .verdict ≡ b .verdict
+told e = ap (λ (a : Answer). a .verdict) e
 
-abbrev taken : tie.After-numbers-in → tie.After-scalars-in
-taken c = c .before .before .before .before .before .before
+-- ---- the places, each from a later one
 
-abbrev start : tie.After-numbers-in → tie.Start
-start c = taken c .before .before .before .before .before
+abbrev start : tie.After-is-sound → tie.Start
+start c = c .before .before .before .before .before
 
-scalars-in-requires : tie.Need-scalars-in-requires
-scalars-in-requires c κs = search needs
+abbrev tested : tie.Else1 → tie.After-is-sound
+tested c = c .before
 
-numbers-in-requires : tie.Need-numbers-in-requires
-numbers-in-requires c κs = search needs
+abbrev buffered : tie.After-all-kinds → tie.After-buffer-in
+buffered c = c .before .before .before
 
-end-verdict-requires : tie.Need-end-verdict-requires
-end-verdict-requires c κs =
-    let s = start (c .before .before .before) in
-    let w = wide s in
-    (record { kinds = w .kinds; next = w .next; held = w .held }, slim s .0, slim s .1, slim s .2)
+abbrev between : tie.After-buffer-in → tie.Else2
+between c = c .before .before .before .before
+
+abbrev passing : tie.After-buffer-in → tie.Else1
+passing c = between c .before .before
+
+abbrev bounding : tie.After-sweep-bound → tie.After-gather
+bounding c = c .before .before .before .before .before .before
+
+-- ---- what is known there
+
+-- past the test of soundness
+passed : (c : tie.Else1) → (let s = start (tested c) in soundDesk (given s) (s .args .positions .now) (s .args .leads .now) ≡ true)
+passed c = sym (tested c .is-sound .ensures) ∙ not-false _ (c .if1 .left)
+
+-- what was read of the desk, and that it is the desk
+abbrev desk : tie.After-all-kinds → Desk
+desk c =
+    let b = buffered c in
+    let r = b .before .before in
+    let d = given (start (tested (passing b))) in
+    withRead d (r .before .bytes-in .result) (r .rate-in .result) (b .before .streams-in .result) (b .buffer-in .result)
+    (c .before .before .overheads .result) (c .all-kinds .result) (d .next) (c .before .all-held .result)
+
+desk-is : (c : tie.After-all-kinds) → desk c ≡ given (start (tested (passing (buffered c))))
+desk-is c =
+    let b = buffered c in
+    let r = b .before .before in
+    read-same (given (start (tested (passing b)))) (r .before .bytes-in .ensures) (r .rate-in .ensures) (b .before .streams-in .ensures) (b .buffer-in .ensures)
+    (c .before .before .overheads .ensures) (c .all-kinds .ensures) refl (c .before .all-held .ensures)
+
+-- what is known of the desk
+record Judged (d : Desk) (ps ls : List ℕ) : Type 0 where
+  wide : Wide d
+  sound : soundDesk d ps ls ≡ true
+  ready : Ready d
+  phase : d .phase ≡ sweeping
+
+judged : (c : tie.After-all-kinds) → (let a = start (tested (passing (buffered c))) .args in Judged (desk c) (a .positions .now) (a .leads .now))
+judged c =
+    let b = buffered c in
+    let e = passing b in
+    let s = start (tested e) in
+    let p = between b in
+    subst (λ (d : Desk). Judged d (s .args .positions .now) (s .args .leads .now)) (sym (desk-is c))
+    (record {
+      wide = wide-in (s .args .desk .now) (s .pre);
+      sound = passed e;
+      ready = sound-ready _ _ _ (slim-in (s .args .desk .now) (s .pre)) (passed e);
+      phase = sym (p .before .phase-in .ensures) ∙ p .if2 .left;
+    })
+
+-- what was gathered
+collected : (c : tie.After-gather) → (let k = c .before in
+    let d = desk k in
+    let f = d .plan .figures in
+    Collected (f .positions) (f .times) (start (tested (passing (buffered k))) .args .positions .now) (d .kinds) (d .next) (d .plan .streams)
+    (c .gather .result))
+collected c =
+    let k = c .before in
+    let s = start (tested (passing (buffered k))) in
+    subst (λ (d : Desk). Collected (d .plan .figures .positions) (d .plan .figures .times) (s .args .positions .now) (d .kinds) (d .next)
+    (desk k .plan .streams) (c .gather .result))
+    (sym (desk-is k)) (c .gather .ensures)
+
+-- what is asked for the gathering
+abbrev Reachable : Desk → ℕ → List ℕ → Type 0
+Reachable d n ps = (n ≤ maxStreams) × Zoned (d .plan .figures .positions) × Reached (d .plan .figures .positions) ps (d .kinds) (d .next) n
+
+-- ---- the needs
 
 returns : tie.Need-returns
 returns c =
-    let n = c .before .before .before .before in
-    let a = start n .args in
-    c .end-verdict .ensures
-    ∙ ap (λ (d : Desk). endDesk d (a .positions .now) (a .leads .now) (a .draws .now) .verdict) (lent-desk _ _ (a .t1) (taken n .scalars-in .ensures) (n .numbers-in .ensures))
+    let t = c .before .before in
+    let s = start t in
+    c .verdict .ensures ∙ told (end-unsound (given s) (wide-in _ (s .pre)) _ _ _ (sym (t .is-sound .ensures) ∙ not-true _ (c .before .if1 .taken)))
+
+returns-2 : tie.Need-returns-2
+returns-2 c =
+    let p = c .before .before in
+    let e = p .before in
+    let s = start (tested e) in
+    c .verdict2 .ensures ∙ told (end-between (given s) (wide-in _ (s .pre)) _ _ _ (passed e) (λ z. c .before .if2 .taken (p .phase-in .ensures ∙ z)))
+
+sub-room : tie.Need-sub-room
+sub-room c =
+    let e = passing c in
+    let s = start (tested e) in
+    let r = sound-ready _ _ _ (slim-in _ (s .pre)) (passed e) in
+    omega (arith, buffer-has (given s .plan) (r .planned), c .buffer-in .ensures, c .before .before .before .bytes-in .ensures)
+
+gather-requires : tie.Need-gather-requires
+gather-requires c κs =
+    let s = start (tested (passing (buffered c))) in
+    let j = judged c in
+    let p = sound-plan _ _ _ (j .sound) in
+    let r = subst (λ (d : Desk). Reachable d (desk c .plan .streams) (s .args .positions .now)) (desk-is c)
+    (streams-are (desk c) (j .ready), zoned (desk c) (j .wide) (j .ready) _ _ p, reached (desk c) (j .wide) (j .ready) _ _ p)
+    in
+    (s .pre, r .0, r .1, r .2)
+
+sweep-bound-requires : tie.Need-sweep-bound-requires
+sweep-bound-requires c κs =
+    let g = c .before .before .before .before .before in
+    let k = g .before in
+    let j = judged k in
+    let i = in-range _ (j .wide) (j .ready) _ _ (sound-plan _ _ _ (j .sound)) (g .gather .result) (collected g) in
+    (streams-are _ (j .ready), i .times, λ k h. table-range _ (j .ready .legal) k h .1)
+
+judge-draws-requires : tie.Need-judge-draws-requires
+judge-draws-requires c κs = let k = bounding (c .before .before .before) .before in streams-are _ (judged k .ready)
+
+returns-3 : tie.Need-returns-3
+returns-3 c =
+    let m = c .before in
+    let b = m .before .before .before in
+    let g = bounding b in
+    let k = g .before in
+    let a = start (tested (passing (buffered k))) .args in
+    let d = desk k in
+    let j = judged k in
+    let p = supplyOf (d .plan) in
+    let f = gathers d (j .wide) (j .ready) _ _ (sound-plan _ _ _ (j .sound)) (g .gather .result) (collected g) in
+    let t = b .sweep-bound .ensures p (d .next) (timed d (j .wide) (j .ready) (g .gather .result) f) in
+    c .judge-draws .ensures p (viewOf d) (d .next) (sweeps d (j .wide) (j .ready) (j .phase) _ _ t (m .most-drawn .ensures))
+    ∙ end-judged d (j .wide) _ _ _ (j .sound)
+    ∙ ap (λ (e : Desk). endDesk e (a .positions .now) (a .leads .now) (a .draws .now) .verdict) (desk-is k)
 
 pub judge-end-spec : {M : Type 1} → statement M
-judge-end-spec = tie.close (tie.spec scalars-in-requires numbers-in-requires end-verdict-requires returns)
+judge-end-spec =
+    tie.close
+    (tie.spec
+    (λ c κs. search needs)
+    (λ c κs. search needs)
+    returns
+    (λ c κs. search needs)
+    (λ c κs. search needs)
+    returns-2
+    (λ c κs. search needs)
+    (λ c κs. search needs)
+    (λ c κs. search needs)
+    (λ c. search needs)
+    (λ c κs. search needs)
+    sub-room
+    (λ c κs. search needs)
+    (λ c κs. search needs)
+    (λ c κs. search needs)
+    gather-requires
+    sweep-bound-requires
+    (λ c κs. search needs)
+    judge-draws-requires
+    returns-3)

@@ -1,9 +1,12 @@
 use Prim.Native.Nat.{_≤_}
 use mathlib.Core.Path.{_≡_, sym, _∙_}
 use mathlib.Core.Bool.{true}
+use native.Mathlib.Omega.{arith}
 use borrow.Author.Needs.{needs}
 use borrow.Author.Tests.{not-true, not-false}
-use Rattle.round_trip.specs.Legality as legality
+use Rattle.words.specs.Words.{wordsOf}
+use Rattle.words.specs.Laws.{words-length}
+use Rattle.legality.specs.Legality as legality
 use Rattle.card.specs.Card.{Legal}
 use Rattle.plan.specs.Plan.{showingIn}
 use Rattle.plan.specs.Answer.{isPlan}
@@ -11,7 +14,8 @@ use Rattle.plan.specs.Check.{checked-legal}
 use Rattle.desk.specs.declared.Desk.{Desk}
 use Rattle.desk.specs.Desk.{supplyOf}
 use Rattle.desk.specs.View.{Wide}
-use Rattle.desk.specs.Records.{lentDesk}
+use Rattle.desk_layout.specs.Layout.{deskIn}
+use Rattle.desk_layout.specs.RoundTrip.{DeskSized, desk-sized}
 use Rattle.soundness.specs.Facts.{AllTidy, LeadList}
 use Rattle.soundness.specs.Tests.{tidy-slots, tidy-listed, tidy-leads, unsound-phase, unsound-slots, sound-told}
 use Rattle.soundness.specs.Ready.{plan-leads, plan-streams}
@@ -19,31 +23,35 @@ use Rattle.soundness.proofs.Tells.{fails-first, then-second}
 use Rattle.soundness.proofs.is_sound.Statement.{statement}
 use Rattle.soundness.proofs.is_sound.Tie as tie
 
--- the record that is tested
+-- the desk that is tested
 abbrev given : tie.Start → Desk
-given c =
-    let a = c .args in
-    lentDesk (a .figures) (a .sizes .now) (a .times .now) (a .table .now) (a .plan) (a .phase) (a .kinds .now) (a .next .now) (a .held .now)
+given c = deskIn (wordsOf (c .args .desk .now))
+
+sized : (c : tie.Start) → DeskSized (given c)
+sized c = desk-sized _ (omega (arith, words-length (c .args .desk .now), c .pre))
 
 wide : (c : tie.Start) → Wide (given c)
-wide c = c .pre .0
+wide c = let z = sized c in record { kinds = z .kinds; next = z .next; held = z .held }
 
 slim : (c : tie.Start) → legality.Wide (given c .plan .figures)
-slim c = (c .pre .1, c .pre .2, c .pre .3)
+slim c = let z = sized c .plan in (z .positions, z .times, z .table)
 
 -- ---- the places, each from a later one
 
 abbrev start : tie.Else1 → tie.Start
-start c = c .before .before .before .before
+start c = c .before .before .before .before .before
 
-abbrev planned : tie.Else3 → tie.Else1
-planned c = c .before .before .before .before
+abbrev counted : tie.Else3 → tie.After-streams-in
+counted c = c .before .before
+
+abbrev planned : tie.After-streams-in → tie.Else1
+planned c = c .before .before .before
 
 -- ---- what is known there
 
 -- past the check of the plan
 passed : (c : tie.Else1) → (let s = start c in isPlan (given s .plan) (s .args .positions .now) (s .args .leads .now) ≡ true)
-passed c = sym (c .before .is-plan-of .ensures) ∙ not-false _ (c .if1 .left)
+passed c = sym (c .before .has-plan .ensures) ∙ not-false _ (c .if1 .left)
 
 legal : (c : tie.Else1) → Legal (given (start c) .plan .figures)
 legal c = checked-legal _ _ _ (slim (start c)) (passed c)
@@ -55,66 +63,73 @@ lent : (c : tie.Else1) → LeadList (showingIn (given (start c) .plan)) (given (
 lent c = plan-leads _ _ _ (slim (start c)) (passed c)
 
 -- past the test of the slots
-tidy : (c : tie.Else3) → AllTidy (given (start (planned c)))
+tidy : (c : tie.Else3) → AllTidy (given (start (planned (counted c))))
 tidy c = c .before .all-tidy .ensures .yes (not-false _ (c .if3 .left))
 
 -- ---- the needs
 
-is-plan-of-requires : tie.Need-is-plan-of-requires
-is-plan-of-requires c κs = slim (c .before .before)
-
 returns : tie.Need-returns
-returns c = fails-first _ _ (sym (c .before .is-plan-of .ensures) ∙ not-true _ (c .if1 .taken))
+returns c = fails-first _ _ (sym (c .before .has-plan .ensures) ∙ not-true _ (c .if1 .taken))
 
 returns-2 : tie.Need-returns-2
-returns-2 c = let e = c .before in
-    then-second _ _ _ (passed e) (unsound-phase (given (start e)) (wide (start e)) (c .if2 .taken))
-
-cast-streams : tie.Need-cast-streams
-cast-streams c = search needs
+returns-2 c =
+    let e = c .before .before in
+    then-second _ _ _ (passed e) (unsound-phase (given (start e)) (wide (start e)) (omega (arith, c .if2 .taken, c .before .phase-in .ensures)))
 
 all-tidy-requires : tie.Need-all-tidy-requires
-all-tidy-requires c κs = few (c .before .before)
+all-tidy-requires c κs = let e = planned c in
+    (omega (arith, few e, c .streams-in .ensures), start e .pre, c .streams-in .ensures)
 
 returns-3 : tie.Need-returns-3
-returns-3 c = let e = c .before .before .before .before in
+returns-3 c = let e = planned (c .before .before) in
     let s = start e in
     then-second _ _ _ (passed e) (unsound-slots (given s) (wide s) (c .before .all-tidy .ensures .no (not-true _ (c .if3 .taken))))
 
 sum-leads-requires : tie.Need-sum-leads-requires
-sum-leads-requires c κs = let e = planned c in
+sum-leads-requires c κs = let e = planned (counted c) in
     let s = start e in
-    (few e, tidy-listed (given s) (wide s) (tidy c) (few e) _ (lent e))
+    rw (counted c .streams-in .ensures) (few e, s .pre, tidy-listed (given s) (wide s) (tidy c) (few e) _ (lent e))
 
 low-water-requires : tie.Need-low-water-requires
-low-water-requires c κs = let h = legal (planned (c .before)) in (h .bytes .1, h .rate .1)
+low-water-requires c κs = let h = legal (planned (counted (c .before .before .before))) in
+    rw (c .before .bytes-in .ensures, c .rate-in .ensures) (h .bytes .1, h .rate .1)
 
 players-hold-requires : tie.Need-players-hold-requires
-players-hold-requires c κs = few (planned (c .before .before))
+players-hold-requires c κs = let k = counted (c .before .before .before .before) in
+    (omega (arith, few (planned k), k .streams-in .ensures), start (planned k) .pre)
 
 returns-4 : tie.Need-returns-4
 returns-4 c =
     let m = c .before in
-    let l = m .before in
+    let b = m .before .before in
+    let l = b .before in
     let t = l .before in
-    let e = planned t in
+    let k = counted t in
+    let e = planned k in
     let s = start e in
     let d = given s in
-    let f = l .sum-leads .ensures .sums (supplyOf (d .plan)) (d .held) (tidy-slots d (wide s) (tidy t)) (tidy-leads d (wide s) (tidy t) (few e) _ (lent e)) in
+    let f = (rw (k .streams-in .ensures) at (l .sum-leads .ensures)) .sums (supplyOf (d .plan)) (d .held) (tidy-slots d (wide s) (tidy t))
+    (tidy-leads d (wide s) (tidy t) (few e) _ (lent e)) in
     then-second _ _ _ (passed e)
-    (sound-told d (wide s) _ _ _ f (m .low-water .ensures) (t .before .before .before .if2 .left) (tidy t) (c .players-hold .ensures))
+    (sound-told d (wide s) _ _ _ f (m .low-water .ensures ∙ rw (b .bytes-in .ensures, m .before .rate-in .ensures))
+    (omega (arith, k .before .if2 .left, k .before .before .phase-in .ensures)) (tidy t)
+    (rw (k .streams-in .ensures) at (c .players-hold .ensures)))
 
 pub is-sound-spec : {M : Type 1} → statement M
 is-sound-spec =
     tie.close
     (tie.spec
-    is-plan-of-requires
+    (λ c κs. search needs)
     returns
+    (λ c κs. search needs)
     returns-2
-    cast-streams
+    (λ c κs. search needs)
+    (λ c. search needs)
     all-tidy-requires
     returns-3
     sum-leads-requires
+    (λ c κs. search needs)
+    (λ c κs. search needs)
     low-water-requires
     players-hold-requires
     returns-4)

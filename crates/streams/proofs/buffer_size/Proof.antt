@@ -7,9 +7,6 @@ use borrow.Author.Needs.{needs}
 use Rattle.streams.proofs.buffer_size.Statement.{statement}
 use Rattle.streams.proofs.buffer_size.Tie as tie
 
-cast-parts : tie.Need-cast-parts
-cast-parts c = search needs
-
 mul-result : tie.Need-mul-result
 unfolding bufferOf
 mul-result c = omega (arith, c .pre .2)
@@ -17,21 +14,12 @@ mul-result c = omega (arith, c .pre .2)
 mul-product : tie.Need-mul-product
 mul-product c = let p : c .args .n * c .args .margin ≤ maxStreams * (2 * maxTime) = mul-le-mul (c .pre .0) (c .pre .1) in omega arith
 
-product-requires : tie.Need-product-requires
-product-requires c κs = search needs
-
-sub-result : tie.Need-sub-result
-sub-result c = search needs
-
 add-result : tie.Need-add-result
 add-result c = let a = c .before .args in
     let q : a .n * a .margin ≤ maxStreams * (2 * maxTime) = mul-le-mul (c .before .pre .0) (c .before .pre .1) in
     let r : a .rate ≤ maxNumber = omega arith in
     let p : a .rate * (a .n * a .margin) ≤ maxNumber * (maxStreams * (2 * maxTime)) = mul-le-mul r q in
     omega (arith, c .product .ensures)
-
-div-result : tie.Need-div-result
-div-result c = search needs
 
 cast-result : tie.Need-cast-result
 unfolding bufferOf
@@ -48,4 +36,5 @@ returns c = omega (arith, c .product .ensures)
 pub buffer-size-spec : {M : Type 1} → statement M
 buffer-size-spec =
     tie.close
-    (tie.spec cast-parts mul-result mul-product product-requires sub-result add-result div-result cast-result add-result-2 returns)
+    (tie.spec (λ c. search needs) mul-result mul-product (λ c κs. search needs) (λ c. search needs) add-result
+    (λ c. search needs) cast-result add-result-2 returns)

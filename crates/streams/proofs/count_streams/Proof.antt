@@ -21,9 +21,6 @@ Inv-loop rate worst2 table bytes room n₀ n = Tries rate worst2 table bytes roo
 abbrev μ-loop : tie.MeasureT-loop
 μ-loop rate worst2 table bytes room n₀ n = n
 
-product-requires : tie.Need-product-requires Inv-loop μ-loop
-product-requires c κs = search needs
-
 div-room : tie.Need-div-room Inv-loop μ-loop
 div-room c = c .before .pre .1
 
@@ -43,15 +40,6 @@ loop-holds c = let s = c .before .before in
 two-sweeps-requires : tie.Need-two-sweeps-requires Inv-loop μ-loop
 two-sweeps-requires c κs = (c .before .before .before .before .pre .0, c .before .loop .inv .few)
 
-cast-if2 : tie.Need-cast-if2 Inv-loop μ-loop
-cast-if2 c = search needs
-
-sub-n : tie.Need-sub-n Inv-loop μ-loop
-sub-n c = omega arith
-
-loop-less : tie.Need-loop-less Inv-loop μ-loop
-loop-less c = omega arith
-
 loop-again : tie.Need-loop-again Inv-loop μ-loop
 loop-again c = let s = c .before .before .before .before .before .before in
     let a = s .args in
@@ -61,7 +49,8 @@ loop-again c = let s = c .before .before .before .before .before .before in
     record {
       few = omega (arith, l .inv .few);
       left = l .inv .left;
-      same = sym (tried-down (a .rate) (a .worst2) over (a .bytes) (l .n) (omega arith) (time-passes (a .rate) (a .worst2) over (a .bytes) (l .n) (s .pre .1) late)) ∙ l .inv .same;
+      same = sym (tried-down (a .rate) (a .worst2) over (a .bytes) (l .n) (omega arith)
+          (time-passes (a .rate) (a .worst2) over (a .bytes) (l .n) (s .pre .1) late)) ∙ l .inv .same;
     }
 
 returns : tie.Need-returns Inv-loop μ-loop
@@ -74,7 +63,8 @@ returns-2 c = let s = c .before .before .before .before .before .before in
     let l = c .before .before .before .loop in
     let over = overhead (a .table .now) in
     let soon : twoSweeps (a .worst2) over (l .n) ≤ parts * a .bytes / a .rate = omega (arith, l .inv .left, c .before .two-sweeps .ensures) in
-    sym (tried-hit (a .rate) (a .worst2) over (a .bytes) (l .n) (omega arith) (time-fits (a .rate) (a .worst2) over (a .bytes) (l .n) (s .pre .1) soon)) ∙ l .inv .same
+    sym (tried-hit (a .rate) (a .worst2) over (a .bytes) (l .n) (omega arith) (time-fits (a .rate) (a .worst2) over (a .bytes) (l .n) (s .pre .1) soon))
+    ∙ l .inv .same
 
 pub count-streams-spec : {M : Type 1} → statement M
 count-streams-spec =
@@ -82,14 +72,14 @@ count-streams-spec =
     (tie.spec
     Inv-loop
     μ-loop
-    product-requires
+    (λ c κs. search needs)
     div-room
     (λ c κs. search needs)
     loop-holds
     two-sweeps-requires
-    cast-if2
-    sub-n
-    loop-less
+    (λ c. search needs)
+    (λ c. omega arith)
+    (λ c. omega arith)
     loop-again
     returns
     returns-2)

@@ -6,18 +6,6 @@ use Rattle.streams.specs.Halves.{product-parts, product-fits}
 use Rattle.streams.proofs.product.Statement.{statement}
 use Rattle.streams.proofs.product.Tie as tie
 
-upper-requires : tie.Need-upper-requires
-upper-requires c κs = search needs
-
-times-half-requires : tie.Need-times-half-requires
-times-half-requires c κs = search needs
-
-lower-requires : tie.Need-lower-requires
-lower-requires c κs = search needs
-
-times-half-requires-2 : tie.Need-times-half-requires-2
-times-half-requires-2 c κs = search needs
-
 returns : tie.Need-returns
 returns c =
     let a = c .before .before .before .before .args in
@@ -31,4 +19,4 @@ add-result c = let a = c .before .before .before .before .args in omega (arith, 
 pub product-spec : {M : Type 1} → statement M
 product-spec =
     tie.close
-    (tie.spec upper-requires times-half-requires lower-requires times-half-requires-2 add-result returns)
+    (tie.spec (λ c κs. search needs) (λ c κs. search needs) (λ c κs. search needs) (λ c κs. search needs) add-result returns)

@@ -11,9 +11,6 @@ use Rattle.streams.proofs.two_sweeps.Tie as tie
 mul-result : tie.Need-mul-result
 mul-result c = let p : c .args .n * c .args .worst2 ≤ maxStreams * (2 * maxTime) = mul-le-mul (c .pre .1) (c .pre .0 .pair) in omega arith
 
-overhead-requires : tie.Need-overhead-requires
-overhead-requires c κs = search needs
-
 mul-result-2 : tie.Need-mul-result-2
 mul-result-2 c = omega (arith, c .overhead .ensures, c .before .pre .0 .moves (c .before .args .n) (omega (arith, c .before .pre .1)))
 
@@ -27,4 +24,4 @@ returns c = let a = c .before .args in
     ap (λ (o : ℕ). a .n * a .worst2 + 2 * o) (c .overhead .ensures ∙ sym (overhead-entry (a .table .now) (a .n) (c .before .pre .1)))
 
 pub two-sweeps-spec : {M : Type 1} → statement M
-two-sweeps-spec = tie.close (tie.spec mul-result overhead-requires mul-result-2 add-result returns)
+two-sweeps-spec = tie.close (tie.spec mul-result (λ c κs. search needs) mul-result-2 add-result returns)

@@ -10,19 +10,10 @@ use Rattle.tracks.proofs.positions.Tie as tie
 mul-product : tie.Need-mul-product
 mul-product c = let a = c .args in omega (arith, tracks-fit (a .heads) (a .cylinders) (c .pre .0) (c .pre .2))
 
-product-requires : tie.Need-product-requires
-product-requires c κs = search needs
-
-div-narrow : tie.Need-div-narrow
-div-narrow c = search needs
-
-narrow-requires : tie.Need-narrow-requires
-narrow-requires c κs = search needs
-
 returns : tie.Need-returns
 unfolding positionsIn
 returns c = let a = c .before .before .args in c .narrow .ensures ∙ ap (λ (x : ℕ). narrowed (x / a .block)) (c .before .product .ensures)
 
 pub positions-spec : {M : Type 1} → statement M
 positions-spec =
-    tie.close (tie.spec mul-product product-requires div-narrow narrow-requires returns)
+    tie.close (tie.spec mul-product (λ c κs. search needs) (λ c. search needs) (λ c κs. search needs) returns)

@@ -4,18 +4,9 @@ use borrow.Author.Needs.{needs}
 use Rattle.tracks.proofs.round_up.Statement.{statement}
 use Rattle.tracks.proofs.round_up.Tie as tie
 
-sub-result : tie.Need-sub-result
-sub-result c = search needs
-
-add-result : tie.Need-add-result
-add-result c = search needs
-
-div-result : tie.Need-div-result
-div-result c = search needs
-
 returns : tie.Need-returns
 unfolding roundedUp
 returns c = refl
 
 pub round-up-spec : {M : Type 1} → statement M
-round-up-spec = tie.close (tie.spec sub-result add-result div-result returns)
+round-up-spec = tie.close (tie.spec (λ c. search needs) (λ c. search needs) (λ c. search needs) returns)

@@ -1,7 +1,8 @@
 use mathlib.Core.Path.{refl}
 use Rattle.card.specs.Read.{readCard}
 use Rattle.plan.specs.Answer.{judged}
-use Rattle.plan.specs.Ways.{card-legal, judged-legal}
+use Rattle.round_trip.specs.RoundTrip.{card-legal}
+use Rattle.plan.specs.Ways.{judged-legal}
 use Rattle.try_all.specs.Ways.{same-answer}
 use Rattle.try_all.proofs.both_planners_agree.Statement.{statement}
 use Rattle.try_all.proofs.both_planners_agree.Tie as tie

@@ -3,7 +3,7 @@ use mathlib.Core.Path.{_≡_, sym, _∙_}
 use native.Mathlib.Omega.{arith}
 use Rattle.numbers.specs.Limits.{maxTried}
 use Rattle.card.specs.Card.{Legal}
-use Rattle.card.specs.TableLaws.{table-range}
+use Rattle.card.specs.CardLaws.{table-range}
 use Rattle.plan.specs.Plan.{showingOf}
 use Rattle.plan.specs.Legal.{worst2-small}
 use Rattle.layings.specs.Layings.{leastOf, countOf}
@@ -53,8 +53,10 @@ count-streams-requires c κs =
     let e = t .before .before in
     let a = start e .args in
     let x = showingOf (a .showing) in
-    let f = a .read .figures in
-    (record { pair = omega (arith, found t .0, least-is-planned x f (legal e), worst2-small x f (legal e)); moves = λ k h. table-range f (legal e) k h .1 }, legal e .rate .0)
+    let f = a .read .figures in (
+      record { pair = omega (arith, found t .0, least-is-planned x f (legal e), worst2-small x f (legal e)); moves = λ k h. table-range f (legal e) k h .1 },
+      legal e .rate .0,
+    )
 
 returns-3 : tie.Need-returns-3
 returns-3 c =
@@ -62,7 +64,8 @@ returns-3 c =
     let e = t .before .before in
     let a = start e .args in
     let f = found t in
-    c .refused3 .ensures ∙ by-streams (showingOf (a .showing)) (a .read) (accepted e) (few e) _ (f .0) (sym (c .before .before .count-streams .ensures) ∙ c .before .if3 .taken)
+    c .refused3 .ensures ∙ by-streams (showingOf (a .showing)) (a .read) (accepted e) (few e) _ (f .0)
+    (sym (c .before .before .count-streams .ensures) ∙ c .before .if3 .taken)
 
 returns-4 : tie.Need-returns-4
 returns-4 c =

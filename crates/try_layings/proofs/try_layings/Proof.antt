@@ -9,7 +9,7 @@ use Rattle.layings.specs.Layings.{howMany}
 use Rattle.layings.specs.Numbered.{factorial, factorial-pos, factorial-most}
 use Rattle.layings.specs.Smallest.{Best, best-none}
 use Rattle.layings.specs.Times.{ordersTried, orders-length}
-use Rattle.try_layings.specs.declared.Found.{Found}
+use Rattle.try_layings.specs.declared.Search.{Search}
 use Rattle.try_layings.proofs.Ordering.{tried-at, best-next}
 use borrow.Author.Needs.{needs}
 use Rattle.try_layings.proofs.try_layings.Statement.{statement}
@@ -20,7 +20,7 @@ abbrev tries : ℕ → ℕ → List ℕ → List ℕ
 tries showing blocks times = ordersTried (showingOf showing) blocks (take blocks times)
 
 -- the best of the first so many
-record Trying (showing blocks : ℕ) (times : List ℕ) (total : ℕ) (found : Found) (number : ℕ) : Type 0 where
+record Trying (showing blocks : ℕ) (times : List ℕ) (total : ℕ) (found : Search) (number : ℕ) : Type 0 where
   all : total ≡ factorial blocks
   within : number ≤ total
   best : Best (take number (tries showing blocks times)) (found .least) (found .count)
@@ -68,7 +68,8 @@ loop-again c =
     record {
       all = l .inv .all;
       within = omega (arith, i .loop-test .taken);
-      best = best-next ws (l .number) (w .worst-of .result) _ _ (omega (arith, more i .0, orders-length x (a .blocks) (take (a .blocks) (a .times)))) e (c .met .ensures (take (l .number) ws) (l .inv .best));
+      best = best-next ws (l .number) (w .worst-of .result) _ _ (omega (arith, more i .0, orders-length x (a .blocks) (take (a .blocks) (a .times)))) e
+          (c .met .ensures (take (l .number) ws) (l .inv .best));
     }
 
 returns : tie.Need-returns Inv-loop μ-loop

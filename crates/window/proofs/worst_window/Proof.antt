@@ -5,7 +5,7 @@ use native.Mathlib.Nat.{mul-le-mul}
 use Rattle.numbers.specs.Refusals.{notSound, wrongWindow}
 use Rattle.card.specs.declared.Figures.{Figures}
 use Rattle.card.specs.Card.{Legal, totalPositions}
-use Rattle.round_trip.specs.Legality.{Wide}
+use Rattle.legality.specs.Legality.{Wide}
 use Rattle.plan.specs.Legal.{legal-zoned, total-zones}
 use Rattle.plan.specs.declared.Plan.{Plan}
 use Rattle.plan.specs.Plan.{planFrom, showingIn}
@@ -65,7 +65,7 @@ sum-positions-requires : tie.Need-sum-positions-requires
 sum-positions-requires c κs = let ok = legal (c .before .before) in (legal-zoned _ ok, ok .zones .1)
 
 last-place-requires : tie.Need-last-place-requires
-last-place-requires c κs = let w = passed (c .before .before .before .before .before .before) in (w .some, w .room)
+last-place-requires c κs = let w = passed (c .before .before .before .before .before .before) in (w .some, w .within)
 
 worst-row-requires : tie.Need-worst-row-requires
 worst-row-requires c κs = let t = c .before .before .before .before in
@@ -83,7 +83,8 @@ returns-2 c = let r = c .before in
     let d = t .before .before .before in
     let a = start (d .before) .args in
     answered (a .t1) (a .positions .now) (a .count) _ (judged (d .before)) _ _ _ (d .if1 .left)
-    (worst-is (showingIn (a .t1)) (a .t1 .figures) (a .count) _ _ _ _ (sum t) (r .before .last-place .ensures .0) (r .worst-row .ensures)) (c .window-bytes .ensures)
+    (worst-is (showingIn (a .t1)) (a .t1 .figures) (a .count) _ _ _ _ (sum t) (r .before .last-place .ensures .0) (r .worst-row .ensures))
+    (c .window-bytes .ensures)
 
 pub worst-window-spec : {M : Type 1} → statement M
 worst-window-spec =

@@ -27,7 +27,8 @@ add-put-word c = omega (arith, words-length (c .before .before .before .before .
 
 put-word-requires : tie.Need-put-word-requires Inv-loop μ-loop
 put-word-requires c κs =
-    let room = write-room _ _ _ _ _ (c .before .before .before .loop .inv) in omega (arith, words-length (c .before .before .before .before .before .before .args .list .now))
+    let room = write-room _ _ _ _ _ (c .before .before .before .loop .inv) in
+    omega (arith, words-length (c .before .before .before .before .before .before .args .list .now))
 
 add-i : tie.Need-add-i Inv-loop μ-loop
 add-i c = search needs

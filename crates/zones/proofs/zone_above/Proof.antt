@@ -3,7 +3,7 @@ use mathlib.Core.List.{List}
 use native.Mathlib.Omega.{arith}
 use lib.ListN.{getD}
 use Rattle.zones.specs.declared.Zone.{Zone}
-use Rattle.zones.specs.Walk.{ZoneOf}
+use Rattle.zones.specs.Cursor.{ZoneOf}
 use Rattle.zones.proofs.Cursors.{zone-after}
 use Rattle.zones.proofs.zone_above.Statement.{statement}
 use Rattle.zones.proofs.zone_above.Tie as tie
@@ -37,7 +37,7 @@ mul-end : tie.Need-mul-end Inv-loop μ-loop
 mul-end c = let n = next c in omega arith
 
 element-copy-out-end : tie.Need-element-copy-out-end Inv-loop μ-loop
-element-copy-out-end c = next c .room
+element-copy-out-end c = next c .number
 
 add-end : tie.Need-add-end Inv-loop μ-loop
 add-end c = let n = next (c .before) in omega arith

@@ -3,7 +3,7 @@ use mathlib.Core.List.{List}
 use native.Mathlib.Omega.{arith}
 use lib.ListN.{getD}
 use Rattle.zones.specs.declared.Zone.{Zone}
-use Rattle.zones.specs.Walk.{ZoneOf}
+use Rattle.zones.specs.Cursor.{ZoneOf}
 use Rattle.zones.proofs.Cursors.{zone-before}
 use Rattle.zones.proofs.zone_below.Statement.{statement}
 use Rattle.zones.proofs.zone_below.Tie as tie
@@ -21,7 +21,8 @@ abbrev μ-loop : tie.MeasureT-loop
 
 -- the zone of a turn
 next : (c : tie.After-struct-known2 Inv-loop μ-loop) → (let l = c .before .before .before in let ps = l .before .args .sizes .now in let z = l .loop .zone in
-    (0 < z .index) × (getD ps (z .index - 1) 0 ≤ z .first) × ZoneOf ps (record { index = z .index - 1; first = z .first - getD ps (z .index - 1) 0; end = z .first }))
+    (0 < z .index) × (getD ps (z .index - 1) 0 ≤ z .first)
+    × ZoneOf ps (record { index = z .index - 1; first = z .first - getD ps (z .index - 1) 0; end = z .first }))
 next c =
     let l = c .before .before .before in
     let s = l .before in
@@ -34,7 +35,7 @@ sub-index : tie.Need-sub-index Inv-loop μ-loop
 sub-index c = next c .0
 
 element-copy-out-first : tie.Need-element-copy-out-first Inv-loop μ-loop
-element-copy-out-first c = next c .2 .room
+element-copy-out-first c = next c .2 .number
 
 sub-first : tie.Need-sub-first Inv-loop μ-loop
 sub-first c = next (c .before) .1

@@ -22,6 +22,7 @@ pub enum Call {
     Begin,
     End,
     Window { blocks: u32 },
+    DrawLimit { slot: u32, bound: u32 },
 }
 
 impl Call {
@@ -36,6 +37,7 @@ impl Call {
             Call::Begin => 5,
             Call::End => 6,
             Call::Window { .. } => 7,
+            Call::DrawLimit { .. } => 8,
         }
     }
 
@@ -50,12 +52,13 @@ impl Call {
             Call::Begin => &[(DESK, true), (POSITIONS, false), (LEADS, false), (FETCHES, true)],
             Call::End => &[(DESK, true), (POSITIONS, false), (LEADS, false), (DRAWS, false)],
             Call::Window { .. } => &[(PLAN, false), (POSITIONS, false)],
+            Call::DrawLimit { .. } => &[(DESK, false)],
         }
     }
 }
 
-pub const SORTS: [&str; 8] =
-    ["plan", "plan_loop", "open", "join", "leave", "begin", "end", "window"];
+pub const SORTS: [&str; 9] =
+    ["plan", "plan_loop", "open", "join", "leave", "begin", "end", "window", "draw_limit"];
 
 /// What a call answers; a part that it does not have is 0.
 #[derive(Clone, Copy, Debug, Default, PartialEq, Eq)]
@@ -69,6 +72,8 @@ pub struct Answer {
     pub time: u32,
     pub first: u32,
     pub bytes: u32,
+    /// Of a draw limit.
+    pub limit: u64,
 }
 
 /// The answer of a call and all strings after it.

@@ -4,7 +4,7 @@ use crate::call::{Call, Strings, CARD, DESK, DRAWS, FETCHES, LEADS, PLAN, POSITI
 use crate::layout::{
     bytes_of, desk_bytes, plan_bytes, DESK_BYTES, ENTRY_BYTES, FETCH_BYTES, PLAN_BYTES,
 };
-use film_disk_model::desk::{floor, ASKED, BETWEEN, FILLING, PLAYING, TAIL};
+use film_disk_model::desk::{floor, sweep_bound, ASKED, BETWEEN, FILLING, PLAYING, SLOTS, TAIL};
 use film_disk_model::plan::TWO_MILLION;
 use film_disk_model::rng::borders::{border_card, border_plan_for};
 use film_disk_model::rng::cards::any_card;
@@ -182,6 +182,30 @@ pub fn desk_case(rng: &mut Rng) -> (Call, Strings) {
     let (desk, step) = any_step(rng, &planned);
     let desk = read_string(rng, desk_bytes(&desk));
     step_strings(rng, desk, &step, 20)
+}
+
+/// A slot of a desk, one about the borders, or any.
+fn some_slot(rng: &mut Rng, desk: &Desk) -> u32 {
+    let (used, slots, any) = (rng.between(0, desk.plan.streams - 1), SLOTS as u32, rng.any());
+    rng.pick(&[used, used, used, used, desk.plan.streams, slots - 1, slots, slots + 1, any])
+}
+
+/// What a slot may draw, of any desk: sound, reached or not, corrupted, noise. The bound is a sweep's, at an end of its range, or any.
+pub fn limit_case(rng: &mut Rng) -> (Call, Strings) {
+    let planned = some_plan(rng);
+    let mut desk = sound_desk(rng, &planned);
+    let (slot, own, any) = (some_slot(rng, &desk), sweep_bound(&desk), rng.any());
+    if (slot as usize) < SLOTS && !rng.once_in(3) {
+        desk.kinds[slot as usize] =
+            rng.pick(&[PLAYING, TAIL, PLAYING, TAIL, FILLING, TAIL + 1, any]);
+    }
+    if rng.once_in(2) {
+        desk.plan.figures.rate = rng.pick(&[u32::MAX, u32::MAX, 0, 65_536, 10_000_000]);
+    }
+    let bound = rng.pick(&[own, own, own + 1, 0, 1, 65_535, 65_536, u32::MAX, u32::MAX, any, any]);
+    let mut strings = Strings::default();
+    strings[DESK] = read_string(rng, desk_bytes(&desk));
+    (Call::DrawLimit { slot, bound }, strings)
 }
 
 /// A used slot becomes a tail, mostly as one showing has it.

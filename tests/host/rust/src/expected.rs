@@ -7,6 +7,7 @@ use crate::layout::{
     bytes_of, desk_bytes, fetch_bytes, plan_bytes, read_desk, read_plan, words_of, DESK_BYTES,
     ENTRY_BYTES, FETCH_BYTES, PLAN_BYTES,
 };
+use film_disk_model::desk::{draw_limit, SLOTS};
 use film_disk_model::plan::plan_card_for;
 use film_disk_model::{
     answer, cause, fill_lent, open, read_card, window, Refusal, Showing, Window,
@@ -81,7 +82,9 @@ pub fn model_call(call: Call, strings: &Strings) -> film_disk_model::Call {
             film_disk_model::Call::Begin { fetch_list: strings[FETCHES].len() / FETCH_BYTES }
         }
         Call::End => film_disk_model::Call::End { draws: words_of(&strings[DRAWS]) },
-        Call::Plan(_) | Call::Open | Call::Window { .. } => unreachable!("no call on a desk"),
+        Call::Plan(_) | Call::Open | Call::Window { .. } | Call::DrawLimit { .. } => {
+            unreachable!("no call that alters a desk")
+        }
     }
 }
 
@@ -113,11 +116,22 @@ fn expected_window(strings: &Strings, blocks: u32) -> Outcome {
     }
 }
 
+/// A draw limit refuses nothing: where there is no such slot it is 0.
+fn expected_limit(strings: &Strings, slot: u32, bound: u32) -> Outcome {
+    let mut outcome = accepted(strings.clone());
+    if strings[DESK].len() == DESK_BYTES && (slot as usize) < SLOTS {
+        let limit = draw_limit(&read_desk(&strings[DESK]), slot as usize, bound);
+        outcome.answer.limit = limit as u64;
+    }
+    outcome
+}
+
 pub fn expected(call: Call, strings: &Strings) -> Outcome {
     match call {
         Call::Plan(showing) => expected_plan(showing, strings),
         Call::Open => expected_open(strings),
         Call::Window { blocks } => expected_window(strings, blocks),
+        Call::DrawLimit { slot, bound } => expected_limit(strings, slot, bound),
         _ => expected_desk_call(call, strings),
     }
 }

@@ -1,30 +1,14 @@
-//! The static library, called over guarded strings.
+//! A static library, called over guarded strings.
 
 use crate::call::{
     Answer, Call, Outcome, Strings, CARD, DESK, DRAWS, FETCHES, LEADS, NAMES, PLAN, POSITIONS,
 };
+use crate::entries::{Entries, FilmdiskAnswer, FilmdiskWindowAnswer};
 use film_disk_model::Showing;
 use std::ffi::{c_char, c_int, CString};
 
 /// Room for the longest string of a case.
 const MOST_BYTES: usize = 80_000;
-
-#[repr(C)]
-struct FilmdiskAnswer {
-    number: u32,
-    place: usize,
-    count: u32,
-    bound: u32,
-}
-
-#[repr(C)]
-struct FilmdiskWindowAnswer {
-    number: u32,
-    place: usize,
-    time: u32,
-    first: u32,
-    bytes: u32,
-}
 
 impl From<FilmdiskAnswer> for Answer {
     fn from(answer: FilmdiskAnswer) -> Answer {
@@ -38,21 +22,6 @@ impl From<FilmdiskWindowAnswer> for Answer {
         let FilmdiskWindowAnswer { number, place, time, first, bytes } = answer;
         Answer { number, place: place as u64, time, first, bytes, ..Answer::default() }
     }
-}
-
-type Read = *const u8;
-type Write = *mut u8;
-
-#[rustfmt::skip]
-extern "C" {
-    fn filmdisk_plan(card: Read, card_len: usize, plan: Write, plan_len: usize, positions: Write, positions_len: usize, leads: Write, leads_len: usize) -> FilmdiskAnswer;
-    fn filmdisk_plan_loop(card: Read, card_len: usize, plan: Write, plan_len: usize, positions: Write, positions_len: usize, leads: Write, leads_len: usize) -> FilmdiskAnswer;
-    fn filmdisk_open(plan: Read, plan_len: usize, positions: Read, positions_len: usize, leads: Read, leads_len: usize, desk: Write, desk_len: usize) -> FilmdiskAnswer;
-    fn filmdisk_join(desk: Write, desk_len: usize, positions: Read, positions_len: usize, leads: Read, leads_len: usize, slot: u32, block: u32) -> FilmdiskAnswer;
-    fn filmdisk_leave(desk: Write, desk_len: usize, positions: Read, positions_len: usize, leads: Read, leads_len: usize, slot: u32) -> FilmdiskAnswer;
-    fn filmdisk_begin(desk: Write, desk_len: usize, positions: Read, positions_len: usize, leads: Read, leads_len: usize, fetches: Write, fetches_len: usize) -> FilmdiskAnswer;
-    fn filmdisk_end(desk: Write, desk_len: usize, positions: Read, positions_len: usize, leads: Read, leads_len: usize, draws: Read, draws_len: usize) -> FilmdiskAnswer;
-    fn filmdisk_window(plan: Read, plan_len: usize, positions: Read, positions_len: usize, blocks: u32) -> FilmdiskWindowAnswer;
 }
 
 /// guarded.h
@@ -82,6 +51,7 @@ pub struct Lending {
 
 /// The library with room for each string. One at a time: the strings are its own.
 pub struct Library {
+    entries: Entries,
     lent: [Guarded; 7],
     pointers: [*mut u8; 7],
 }
@@ -94,7 +64,7 @@ pub fn set_scene(words: &str) {
 }
 
 impl Library {
-    pub fn new() -> Library {
+    pub fn new(entries: Entries) -> Library {
         // SAFETY: sets the handlers of two signals.
         unsafe { guarded_watch() };
         let lent = NAMES.map(|_| {
@@ -104,7 +74,7 @@ impl Library {
             unsafe { guarded_make(&mut string, MOST_BYTES) };
             string
         });
-        Library { lent, pointers: [std::ptr::null_mut(); 7] }
+        Library { entries, lent, pointers: [std::ptr::null_mut(); 7] }
     }
 
     fn lend(&mut self, which: usize, bytes: &[u8], is_written: bool, lending: Lending) {
@@ -139,17 +109,19 @@ impl Library {
     /// SAFETY: the strings of the call are lent.
     #[rustfmt::skip]
     unsafe fn make(&self, call: Call) -> Answer {
+        let e = &self.entries;
         let p = |which: usize| self.pointers[which];
         let n = |which: usize| self.lent[which].length;
         match call {
-            Call::Plan(Showing::Once) => filmdisk_plan(p(CARD), n(CARD), p(PLAN), n(PLAN), p(POSITIONS), n(POSITIONS), p(LEADS), n(LEADS)).into(),
-            Call::Plan(Showing::Loop) => filmdisk_plan_loop(p(CARD), n(CARD), p(PLAN), n(PLAN), p(POSITIONS), n(POSITIONS), p(LEADS), n(LEADS)).into(),
-            Call::Open => filmdisk_open(p(PLAN), n(PLAN), p(POSITIONS), n(POSITIONS), p(LEADS), n(LEADS), p(DESK), n(DESK)).into(),
-            Call::Join { slot, block } => filmdisk_join(p(DESK), n(DESK), p(POSITIONS), n(POSITIONS), p(LEADS), n(LEADS), slot, block).into(),
-            Call::Leave { slot } => filmdisk_leave(p(DESK), n(DESK), p(POSITIONS), n(POSITIONS), p(LEADS), n(LEADS), slot).into(),
-            Call::Begin => filmdisk_begin(p(DESK), n(DESK), p(POSITIONS), n(POSITIONS), p(LEADS), n(LEADS), p(FETCHES), n(FETCHES)).into(),
-            Call::End => filmdisk_end(p(DESK), n(DESK), p(POSITIONS), n(POSITIONS), p(LEADS), n(LEADS), p(DRAWS), n(DRAWS)).into(),
-            Call::Window { blocks } => filmdisk_window(p(PLAN), n(PLAN), p(POSITIONS), n(POSITIONS), blocks).into(),
+            Call::Plan(Showing::Once) => (e.plan)(p(CARD), n(CARD), p(PLAN), n(PLAN), p(POSITIONS), n(POSITIONS), p(LEADS), n(LEADS)).into(),
+            Call::Plan(Showing::Loop) => (e.plan_loop)(p(CARD), n(CARD), p(PLAN), n(PLAN), p(POSITIONS), n(POSITIONS), p(LEADS), n(LEADS)).into(),
+            Call::Open => (e.open)(p(PLAN), n(PLAN), p(POSITIONS), n(POSITIONS), p(LEADS), n(LEADS), p(DESK), n(DESK)).into(),
+            Call::Join { slot, block } => (e.join)(p(DESK), n(DESK), p(POSITIONS), n(POSITIONS), p(LEADS), n(LEADS), slot, block).into(),
+            Call::Leave { slot } => (e.leave)(p(DESK), n(DESK), p(POSITIONS), n(POSITIONS), p(LEADS), n(LEADS), slot).into(),
+            Call::Begin => (e.begin)(p(DESK), n(DESK), p(POSITIONS), n(POSITIONS), p(LEADS), n(LEADS), p(FETCHES), n(FETCHES)).into(),
+            Call::End => (e.end)(p(DESK), n(DESK), p(POSITIONS), n(POSITIONS), p(LEADS), n(LEADS), p(DRAWS), n(DRAWS)).into(),
+            Call::Window { blocks } => (e.window)(p(PLAN), n(PLAN), p(POSITIONS), n(POSITIONS), blocks).into(),
+            Call::DrawLimit { slot, bound } => Answer { limit: (e.draw_limit)(p(DESK), n(DESK), slot, bound), ..Answer::default() },
         }
     }
 

@@ -78,6 +78,10 @@ impl<'a> List<'a> {
         self.desk = got.strings[DESK].clone();
         self.rules = read_desk(&expected.strings[DESK]);
         trial.note_rounds(self.rounds());
+        if let Some(bound) = begun(call, &got) {
+            let slot = rng.below(self.planned.plan.streams as usize) as u32;
+            trial.both(rng, Call::DrawLimit { slot, bound }, &got.strings)?;
+        }
         check_claim(&self.book, &read_desk(&self.desk), &self.rules, begun(call, &got))?;
         Ok(got)
     }

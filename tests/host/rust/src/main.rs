@@ -1,11 +1,14 @@
 //! Compares the static library with the model, call by call: the answer, and every byte of every lent string.
 //!
+//! Built with the feature `earlier` it compares the library with an earlier one instead (`tests/alike`).
+//!
 //! Arguments: seed, count of random cases. Each case has a seed of its own, the first one the given, so that a failing case runs
 //! alone with its seed and count 1. Any other count has the films at the borders before them, count 0 these alone. Exit status 0
 //! only if all passed.
 
 mod call;
 mod cases;
+mod entries;
 mod expected;
 mod films;
 mod layout;
@@ -15,7 +18,8 @@ mod trial;
 mod windows;
 
 use cases::{
-    desk_case, edge_case, open_case, overhead_case, plan_case, showing_case, worst_pair_case,
+    desk_case, edge_case, limit_case, open_case, overhead_case, plan_case, showing_case,
+    worst_pair_case,
 };
 use film_disk_model::Rng;
 use films::{all_films, film_case};
@@ -32,7 +36,7 @@ const SHOWN: u64 = 10;
 
 fn run_case(trial: &mut Trial, seed: u64) -> Result<(), String> {
     let mut rng = Rng::new(seed);
-    let (call, strings) = match rng.below(16) {
+    let (call, strings) = match rng.below(17) {
         0..=2 => plan_case(&mut rng),
         3 => open_case(&mut rng),
         4 | 5 => desk_case(&mut rng),
@@ -41,6 +45,7 @@ fn run_case(trial: &mut Trial, seed: u64) -> Result<(), String> {
         10 => worst_pair_case(&mut rng),
         11 | 12 => window_case(&mut rng),
         13 | 14 => overhead_case(&mut rng),
+        15 => limit_case(&mut rng),
         _ => return list_case(&mut rng, trial),
     };
     trial.both(&mut rng, call, &strings).map(|_| ())

@@ -1,6 +1,7 @@
-//! A call made of the library and of the model, and the tally of what was answered.
+//! A call made of the library and of the model, or of an earlier library in its place, and the tally of what was answered.
 
 use crate::call::{Call, Outcome, Strings, NAMES, PLAN, SORTS};
+use crate::entries::{EARLIER, PRESENT};
 use crate::expected::expected;
 use crate::layout::read_plan;
 use crate::library::{Lending, Library};
@@ -16,9 +17,13 @@ const PLACES: [&str; 3] = ["at block 0", "in mid film", "at the last block"];
 const KINDS: [&str; 2] = ["of kind 1", "of kind 2"];
 /// Where the worst window of a film may be.
 const WINDOWS: [&str; 3] = ["at block 0", "in mid film", "past the last block"];
+/// Sizes of a draw limit.
+const LIMITS: [&str; 3] = ["of 0", "of 32 bits", "of more"];
 
 pub struct Trial {
     library: Library,
+    /// What the library is compared with, if not with the model.
+    earlier: Option<Library>,
     /// For each sort of call, how often each number was answered.
     tally: [[u64; NUMBERS]; SORTS.len()],
     /// The most times that a slot of a loop has got the whole film since its join.
@@ -29,6 +34,8 @@ pub struct Trial {
     kinds: [u64; KINDS.len()],
     /// For each place, how many worst windows of more than one block are there.
     windows: [u64; WINDOWS.len()],
+    /// For each size, how many draw limits have it.
+    limits: [u64; LIMITS.len()],
 }
 
 /// The place of the worst pair.
@@ -45,6 +52,14 @@ fn window_place(plan: &Plan, first: u32, blocks: u32) -> usize {
     match first {
         0 => 0,
         _ if first + blocks <= plan.figures.blocks => 1,
+        _ => 2,
+    }
+}
+
+fn limit_size(limit: u64) -> usize {
+    match limit {
+        0 => 0,
+        _ if limit <= u32::MAX as u64 => 1,
         _ => 2,
     }
 }
@@ -67,12 +82,14 @@ fn tallied(places: &[&str], counts: &[u64]) -> String {
 impl Trial {
     pub fn new() -> Trial {
         Trial {
-            library: Library::new(),
+            library: Library::new(PRESENT),
+            earlier: EARLIER.map(Library::new),
             tally: [[0; NUMBERS]; SORTS.len()],
             rounds: 0,
             worst_pairs: [0; PLACES.len()],
             kinds: [0; KINDS.len()],
             windows: [0; WINDOWS.len()],
+            limits: [0; LIMITS.len()],
         }
     }
 
@@ -84,7 +101,10 @@ impl Trial {
         strings: &Strings,
     ) -> Result<(Outcome, Outcome), String> {
         let lending = Lending { at_start: rng.once_in(2), empty_is_null: rng.once_in(2) };
-        let wanted = expected(call, strings);
+        let wanted = match &mut self.earlier {
+            Some(earlier) => earlier.call(call, strings, lending)?,
+            None => expected(call, strings),
+        };
         self.note(call, &wanted);
         let got = self.library.call(call, strings, lending);
         let got = got.map_err(|words| format!("{}: {words}", describe(call, strings)))?;
@@ -108,6 +128,7 @@ impl Trial {
                 let plan = read_plan(&wanted.strings[PLAN]);
                 self.windows[window_place(&plan, wanted.answer.first, blocks)] += 1;
             }
+            Call::DrawLimit { .. } => self.limits[limit_size(wanted.answer.limit)] += 1,
             _ => {}
         }
     }
@@ -140,12 +161,13 @@ impl Trial {
         }
         println!("worst pairs: {}", tallied(&PLACES, &self.worst_pairs));
         println!("worst windows: {}", tallied(&WINDOWS, &self.windows));
+        println!("draw limits: {}", tallied(&LIMITS, &self.limits));
         println!("plans: {}", tallied(&KINDS, &self.kinds));
         println!("loops: a slot went round {} times", self.rounds);
     }
 
     /// The numbers that each sort of call can answer and that no call was answered; places where no
-    /// worst pair or window was; a kind of card; and loops, if none went round often enough.
+    /// worst pair or window was; a kind of card; a size of a draw limit; and loops, if none went round often enough.
     pub fn missing(&self) -> Vec<String> {
         let plan: Vec<usize> = (0..=13).chain([25, 26]).collect();
         let answers: [&[usize]; SORTS.len()] = [
@@ -157,6 +179,7 @@ impl Trial {
             &[0, 13, 14, 15],
             &[0, 14, 15, 19, 20, 21],
             &[0, 14, 27],
+            &[0],
         ];
         let mut missing = Vec::new();
         for (sort, numbers) in answers.iter().enumerate() {
@@ -172,6 +195,9 @@ impl Trial {
         }
         for (place, _) in WINDOWS.iter().zip(self.windows).filter(|&(_, count)| count == 0) {
             missing.push(format!("a worst window {place}"));
+        }
+        for (size, _) in LIMITS.iter().zip(self.limits).filter(|&(_, count)| count == 0) {
+            missing.push(format!("a draw limit {size}"));
         }
         if self.rounds < MANY_ROUNDS {
             missing.push(format!("a loop gone round {MANY_ROUNDS} times"));

@@ -123,7 +123,7 @@ pub fn bench_listing() -> Listing {
     let tracks = [256, 240, 220, 200, 182, 170, 154, 141];
     let rows = tracks.iter().enumerate();
     let rows = rows.map(|(zone, &track)| [zone as u64 * 600, zone as u64 * 600 + 599, track]);
-    let beside = Beside { blocks: 3600, rate: 524_288, hop: 8280, ret: 10_090 };
+    let beside = Beside { blocks: 3600, rate: 524_288, hop: 8380, ret: 10_090 };
     Listing { drive: [7200, 900, 20, 2048], rows: rows.collect(), beside }
 }
 

@@ -1,7 +1,6 @@
 use mathlib.Core.Path.{_≡_, sym, ap, _∙_}
-use Rattle.card.proofs.JudgeWays.{first-stops, first-goes}
+use Rattle.card_field.specs.RangeLaws.{first-stops, first-goes, zones-range}
 use Rattle.card.specs.declared.Figures.{Figures}
-use Rattle.card.specs.RangeLaws.{zones-range}
 use Rattle.card.specs.Read.{figuresFrom}
 use Rattle.card.specs.Card.{filmFault, zoneFaults, faultWith, unusedZero, recordFault}
 use Rattle.numbers.specs.Limits.{maxTime}
@@ -22,7 +21,8 @@ returns c = first-stops (c .before .fault .ensures) _ (c .if1 .taken)
 
 returns-2 : tie.Need-returns-2
 unfolding recordFault
-returns-2 c = first-stops (c .before .fault2 .ensures) _ (c .if2 .taken) ∙ first-goes (c .before .before .before .fault .ensures) _ (c .before .before .if1 .left)
+returns-2 c =
+    first-stops (c .before .fault2 .ensures) _ (c .if2 .taken) ∙ first-goes (c .before .before .before .fault .ensures) _ (c .before .before .if1 .left)
 
 fault-of-unused-requires : tie.Need-fault-of-unused-requires
 fault-of-unused-requires c κs = let s = start c in (zones-range 0 _ (sym (c .before .fault2 .ensures) ∙ c .if2 .left) .1, s .pre .0, s .pre .1)
@@ -31,7 +31,9 @@ returns-3 : tie.Need-returns-3
 unfolding recordFault unusedZero
 returns-3 c =
     let z = c .before .before in
-    first-stops (c .before .fault-of-unused .ensures) _ (c .if3 .taken) ∙ first-goes (z .before .fault2 .ensures) _ (z .if2 .left) ∙ first-goes (z .before .before .before .fault .ensures) _ (z .before .before .if1 .left)
+    first-stops (c .before .fault-of-unused .ensures) _ (c .if3 .taken)
+    ∙ first-goes (z .before .fault2 .ensures) _ (z .if2 .left)
+    ∙ first-goes (z .before .before .before .fault .ensures) _ (z .before .before .if1 .left)
 
 fault-of-zones-requires : tie.Need-fault-of-zones-requires
 fault-of-zones-requires c κs = let z = c .before .before in zones-range 0 _ (sym (z .before .fault2 .ensures) ∙ z .if2 .left) .1
@@ -41,11 +43,13 @@ zones-left : (c : tie.Else3) → (let f = given (start (c .before .before)) in z
 unfolding recordFault unusedZero
 zones-left c =
     let z = c .before .before in
-    first-goes (c .before .fault-of-unused .ensures) _ (c .if3 .left) ∙ first-goes (z .before .fault2 .ensures) _ (z .if2 .left) ∙ first-goes (z .before .before .before .fault .ensures) _ (z .before .before .if1 .left)
+    first-goes (c .before .fault-of-unused .ensures) _ (c .if3 .left)
+    ∙ first-goes (z .before .fault2 .ensures) _ (z .if2 .left)
+    ∙ first-goes (z .before .before .before .fault .ensures) _ (z .before .before .if1 .left)
 
 -- the fault of the zones, or of the film, is that of the figures
 judged-is : (c : tie.After-fault-of-zones) → (let f = given (start (c .before .before .before)) in faultWith f (c .fault-of-zones .result) ≡ recordFault f)
-judged-is c = c .fault-of-zones .ensures (given (start (c .before .before .before))) ∙ zones-left (c .before)
+judged-is c = c .fault-of-zones .ensures _ _ ∙ zones-left (c .before)
 
 returns-4 : tie.Need-returns-4
 unfolding faultWith

@@ -32,7 +32,8 @@ returns : tie.Need-returns Inv-loop μ-loop
 returns c =
     let l = c .before .before .before .loop in
     let a = c .before .before .before .before in
-    unused-positions (a .args .positions .now) (a .args .times .now) (l .i) (a .pre .1) (a .pre .2) (omega arith) (c .if1 .taken) ∙ ap (λ (t : Bool). cond t 0 wrongZones) (l .inv .1)
+    unused-positions (a .args .positions .now) (a .args .times .now) (l .i) (a .pre .1) (a .pre .2) (omega arith) (c .if1 .taken)
+    ∙ ap (λ (t : Bool). cond t 0 wrongZones) (l .inv .1)
 
 mul-if2 : tie.Need-mul-if2 Inv-loop μ-loop
 mul-if2 c = search needs
@@ -44,7 +45,8 @@ returns-2 : tie.Need-returns-2 Inv-loop μ-loop
 returns-2 c =
     let l = c .before .before .before .before .before .loop in
     let a = c .before .before .before .before .before .before in
-    unused-times (a .args .positions .now) (a .args .times .now) (l .i) (a .pre .1) (a .pre .2) (omega arith) (c .before .before .if1 .left) (c .if2 .taken) ∙ ap (λ (t : Bool). cond t 0 wrongZones) (l .inv .1)
+    unused-times (a .args .positions .now) (a .args .times .now) (l .i) (a .pre .1) (a .pre .2) (omega arith) (c .before .before .if1 .left) (c .if2 .taken)
+    ∙ ap (λ (t : Bool). cond t 0 wrongZones) (l .inv .1)
 
 add-i : tie.Need-add-i Inv-loop μ-loop
 add-i c = search needs
@@ -56,7 +58,9 @@ loop-again : tie.Need-loop-again Inv-loop μ-loop
 loop-again c =
     let l = c .before .before .before .before .before .loop in
     let a = c .before .before .before .before .before .before in
-    (omega arith, unused-more (a .args .positions .now) (a .args .times .now) (l .i) (a .pre .1) (a .pre .2) (omega arith) (c .before .before .if1 .left) (c .if2 .left) ∙ l .inv .1)
+    let more = unused-more (a .args .positions .now) (a .args .times .now) (l .i) (a .pre .1) (a .pre .2) (omega arith)
+    (c .before .before .if1 .left) (c .if2 .left) in
+    (omega arith, more ∙ l .inv .1)
 
 returns-3 : tie.Need-returns-3 Inv-loop μ-loop
 returns-3 c =

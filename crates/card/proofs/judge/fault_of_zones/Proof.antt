@@ -4,11 +4,11 @@ use mathlib.Core.List.{List}
 use native.Mathlib.Omega.{arith}
 use borrow.Author.Needs.{needs}
 use Rattle.numbers.specs.Limits.{maxPositions, maxTime}
-use Rattle.card.specs.RangeLaws.{positions-range}
+use Rattle.card_field.specs.RangeLaws.{positions-range}
 use Rattle.card.proofs.JudgeWays.{zones-done, zones-few, zones-slow, zones-more}
-use Rattle.card.specs.declared.Figures.{Figures}
+use Rattle.card.specs.declared.Scalars.{Scalars}
 use Rattle.card.specs.Card.{zoneFaults, faultWith}
-use Rattle.card.specs.Read.{withArrays}
+use Rattle.card.specs.Read.{figuresFrom}
 use Rattle.card.proofs.judge.fault_of_zones.Statement.{statement}
 use Rattle.card.proofs.judge.fault_of_zones.Tie as tie
 
@@ -16,7 +16,8 @@ use Rattle.card.proofs.judge.fault_of_zones.Tie as tie
 record Judging (zones : ℕ) (positions times : List ℕ) (total before i : ℕ) : Type 0 where
   within : i ≤ zones
   few : total ≤ maxPositions
-  same : (f : Figures) → zoneFaults (zones - i) i (withArrays f positions times) total before ≡ zoneFaults zones 0 (withArrays f positions times) 0 maxTime
+  same : (x : Scalars) (os : List ℕ)
+      → zoneFaults (zones - i) i (figuresFrom x positions times os) total before ≡ zoneFaults zones 0 (figuresFrom x positions times os) 0 maxTime
 
 abbrev Inv-loop : tie.InvT-loop
 Inv-loop zones positions times innermost total₀ before₀ i₀ total before i = Judging zones positions times total before i
@@ -31,7 +32,11 @@ loop-holds : tie.Need-loop-holds Inv-loop μ-loop
 loop-holds c =
     let a = c .before .args in
     let e : a .zones - 0 ≡ a .zones = omega arith in
-    record { within = omega arith; few = omega arith; same = λ f. ap (λ (n : ℕ). zoneFaults n 0 (withArrays f (a .positions .now) (a .times .now)) 0 maxTime) e }
+    record {
+      within = omega arith;
+      few = omega arith;
+      same = λ x os. ap (λ (n : ℕ). zoneFaults n 0 (figuresFrom x (a .positions .now) (a .times .now) os) 0 maxTime) e;
+    }
 
 mul-count : tie.Need-mul-count Inv-loop μ-loop
 mul-count c = search needs
@@ -50,7 +55,9 @@ fault-requires c κs = search needs
 
 returns : tie.Need-returns Inv-loop μ-loop
 unfolding faultWith
-returns c = let l = c .before .before .before .before .before .loop in λ f. zones-few _ _ _ _ _ (omega arith) (c .before .fault .ensures) (c .if1 .taken) ∙ l .inv .same f
+returns c =
+    let l = c .before .before .before .before .before .loop in
+    λ x os. zones-few _ _ _ _ _ (omega arith) (c .before .fault .ensures) (c .if1 .taken) ∙ l .inv .same x os
 
 fault-of-time-requires : tie.Need-fault-of-time-requires Inv-loop μ-loop
 fault-of-time-requires c κs = search needs
@@ -59,7 +66,9 @@ returns-2 : tie.Need-returns-2 Inv-loop μ-loop
 unfolding faultWith
 returns-2 c =
     let l = c .before .before .before .before .before .before .before .loop in
-    λ f. zones-slow _ _ _ _ _ (omega arith) (c .before .before .before .fault .ensures) (c .before .before .if1 .left) (c .before .fault-of-time .ensures) (c .if2 .taken) ∙ l .inv .same f
+    λ x os. zones-slow _ _ _ _ _ (omega arith) (c .before .before .before .fault .ensures) (c .before .before .if1 .left) (c .before .fault-of-time .ensures)
+    (c .if2 .taken)
+    ∙ l .inv .same x os
 
 add-total : tie.Need-add-total Inv-loop μ-loop
 add-total c = let h = positions-range _ _ (sym (c .before .before .before .fault .ensures) ∙ c .before .before .if1 .left) in omega arith
@@ -76,12 +85,13 @@ loop-again c =
     record {
       within = omega arith;
       few = positions-range _ _ (sym (c .before .before .before .fault .ensures) ∙ c .before .before .if1 .left) .1;
-      same = λ f. zones-more _ _ _ _ _ _ (omega arith) (c .before .before .before .fault .ensures) (c .before .before .if1 .left) (c .before .fault-of-time .ensures) (c .if2 .left) ∙ l .inv .same f;
+      same = λ x os. zones-more _ _ _ _ _ _ (omega arith) (c .before .before .before .fault .ensures) (c .before .before .if1 .left)
+          (c .before .fault-of-time .ensures) (c .if2 .left) ∙ l .inv .same x os;
     }
 
 returns-3 : tie.Need-returns-3 Inv-loop μ-loop
 unfolding faultWith
-returns-3 c = let l = c .before .loop in λ f. zones-done _ _ _ _ _ (omega arith) ∙ l .inv .same f
+returns-3 c = let l = c .before .loop in λ x os. zones-done _ _ _ _ _ (omega arith) ∙ l .inv .same x os
 
 pub fault-of-zones-spec : {M : Type 1} → statement M
 fault-of-zones-spec =

@@ -1,15 +1,15 @@
 use mathlib.Core.Path.{_≡_, refl, _∙_}
-use mathlib.Core.List.{[]}
+use Prim.Native.Nat.{ℕ}
 use borrow.Author.Needs.{needs}
-use Rattle.card.specs.declared.Figures.{Figures}
-use Rattle.card.specs.Read.{withFilm, tableFrom, filmFrom}
-use Rattle.card_reader.specs.Told.{zonesRead, toldCard}
+use Rattle.card.specs.declared.CardRead.{CardRead}
+use Rattle.card.specs.Read.{filmFrom}
+use Rattle.card_reader.specs.Told.{toldCard}
 use Rattle.card_reader.proofs.ReaderWays.{card-stops, card-goes, end-left, end-none}
 use Rattle.card_reader.proofs.figures.read_film.Statement.{statement}
 use Rattle.card_reader.proofs.figures.read_film.Tie as tie
 
-read-field-requires : tie.Need-read-field-requires
-read-field-requires c κs = search needs
+read-blocks-requires : tie.Need-read-blocks-requires
+read-blocks-requires c κs = search needs
 
 enum-known-first : tie.Need-enum-known-first
 enum-known-first c = search needs
@@ -22,10 +22,10 @@ refused-field-requires c κs = search needs
 
 returns : tie.Need-returns
 unfolding filmFrom
-returns c = λ ps ts. c .refused-field .ensures ps ts _ ∙ card-stops (c .before .before .before .read-field .ensures) _ _ (c .before .enum-told .given .1)
+returns c = λ ps ts. c .refused-field .ensures ps ts _ ∙ card-stops (c .before .before .before .read-blocks .ensures) _ _ (c .before .enum-told .given .1)
 
-read-field-requires-2 : tie.Need-read-field-requires-2
-read-field-requires-2 c κs = search needs
+read-field-requires : tie.Need-read-field-requires
+read-field-requires c κs = search needs
 
 enum-known-second : tie.Need-enum-known-second
 enum-known-second c = search needs
@@ -40,11 +40,11 @@ returns-2 : tie.Need-returns-2
 unfolding filmFrom
 returns-2 c =
     let blocks = c .before .before .before .before in
-    λ ps ts. c .refused-field2 .ensures ps ts _ ∙ card-stops (c .before .before .before .read-field2 .ensures) _ _ (c .before .enum-told2 .given .1)
-    ∙ card-goes (blocks .before .before .before .read-field .ensures) _ (blocks .before .first .given .1)
+    λ ps ts. c .refused-field2 .ensures ps ts _ ∙ card-stops (c .before .before .before .read-field .ensures) _ _ (c .before .enum-told2 .given .1)
+    ∙ card-goes (blocks .before .before .before .read-blocks .ensures) _ (blocks .before .first .given .1)
 
-read-field-requires-3 : tie.Need-read-field-requires-3
-read-field-requires-3 c κs = search needs
+read-field-requires-2 : tie.Need-read-field-requires-2
+read-field-requires-2 c κs = search needs
 
 enum-known-third : tie.Need-enum-known-third
 enum-known-third c = search needs
@@ -60,22 +60,25 @@ unfolding filmFrom
 returns-3 c =
     let bytes = c .before .before .before .before in
     let blocks = bytes .before .before .before .before in
-    λ ps ts. c .refused-field3 .ensures ps ts _ ∙ card-stops (c .before .before .before .read-field3 .ensures) _ _ (c .before .enum-told3 .given .1)
-    ∙ card-goes (bytes .before .before .before .read-field2 .ensures) _ (bytes .before .second .given .1)
-    ∙ card-goes (blocks .before .before .before .read-field .ensures) _ (blocks .before .first .given .1)
+    λ ps ts. c .refused-field3 .ensures ps ts _ ∙ card-stops (c .before .before .before .read-field2 .ensures) _ _ (c .before .enum-told3 .given .1)
+    ∙ card-goes (bytes .before .before .before .read-field .ensures) _ (bytes .before .second .given .1)
+    ∙ card-goes (blocks .before .before .before .read-blocks .ensures) _ (blocks .before .first .given .1)
 
 -- after N, B and c the overheads are left
-overheads-left : (c : tie.After-known-told3) (f : Figures)
-    → (let third = c .before in let second = third .before .before .before .before in let first = second .before .before .before .before in let a = first .before .before .before .before .args in
-    tableFrom (a .card .now) (third .third .given .0 .1 .0) (withFilm f (first .first .given .0 .0) (second .second .given .0 .0) (third .third .given .0 .0))
-    ≡ filmFrom (a .card .now) (a .at) f (a .total))
+overheads-left : (c : tie.After-known-told3) (go : ℕ → ℕ → ℕ → ℕ → CardRead)
+    → (let third = c .before in
+    let second = third .before .before .before .before in
+    let first = second .before .before .before .before in
+    let a = first .before .before .before .before .args in
+    go (first .first .given .0 .0) (second .second .given .0 .0) (third .third .given .0 .0) (third .third .given .0 .1 .0)
+    ≡ filmFrom (a .card .now) (a .at) (a .total) go)
 unfolding filmFrom
-overheads-left c f =
+overheads-left c go =
     let bytes = c .before .before .before .before in
     let blocks = bytes .before .before .before .before in
-    card-goes (c .before .before .before .read-field3 .ensures) _ (c .before .third .given .1)
-    ∙ card-goes (bytes .before .before .before .read-field2 .ensures) _ (bytes .before .second .given .1)
-    ∙ card-goes (blocks .before .before .before .read-field .ensures) _ (blocks .before .first .given .1)
+    card-goes (c .before .before .before .read-field2 .ensures) _ (c .before .third .given .1)
+    ∙ card-goes (bytes .before .before .before .read-field .ensures) _ (bytes .before .second .given .1)
+    ∙ card-goes (blocks .before .before .before .read-blocks .ensures) _ (blocks .before .first .given .1)
 
 read-table-requires : tie.Need-read-table-requires
 read-table-requires c κs = search needs
@@ -92,38 +95,44 @@ refused-field-requires-4 c κs = search needs
 returns-4 : tie.Need-returns-4
 returns-4 c =
     let table = c .before .before .before in
-    λ ps ts. c .refused-field4 .ensures ps ts _ ∙ card-stops refl _ _ (c .before .enum-told4 .given .1)
-    ∙ table .read-table .ensures (withFilm (zonesRead _ _ ps ts []) _ _ _) refl ∙ overheads-left (table .before .before) (zonesRead _ _ ps ts _)
+    λ ps ts. c .refused-field4 .ensures ps ts _
+    ∙ card-stops refl _ _ (c .before .enum-told4 .given .1)
+    ∙ table .read-table .ensures _
+    ∙ overheads-left (table .before .before) _
 
 returns-5 : tie.Need-returns-5
 unfolding toldCard
 returns-5 c =
     let table = c .before .before .before .before in
-    λ ps ts. end-left _ _ (withFilm (zonesRead _ _ ps ts _) _ _ _) (c .if1 .taken) ∙ card-goes refl _ (c .before .before .last .given .1)
-    ∙ table .read-table .ensures (withFilm (zonesRead _ _ ps ts []) _ _ _) refl ∙ overheads-left (table .before .before) (zonesRead _ _ ps ts _)
+    λ ps ts. end-left _ _ _ (c .if1 .taken)
+    ∙ card-goes refl _ (c .before .before .last .given .1)
+    ∙ table .read-table .ensures _
+    ∙ overheads-left (table .before .before) _
 
 returns-6 : tie.Need-returns-6
 unfolding toldCard
 returns-6 c =
     let table = c .before .before .before .before in
-    λ ps ts. end-none _ _ (withFilm (zonesRead _ _ ps ts _) _ _ _) (c .if1 .left) ∙ card-goes refl _ (c .before .before .last .given .1)
-    ∙ table .read-table .ensures (withFilm (zonesRead _ _ ps ts []) _ _ _) refl ∙ overheads-left (table .before .before) (zonesRead _ _ ps ts _)
+    λ ps ts. end-none _ _ _ (c .if1 .left)
+    ∙ card-goes refl _ (c .before .before .last .given .1)
+    ∙ table .read-table .ensures _
+    ∙ overheads-left (table .before .before) _
 
 pub read-film-spec : {M : Type 1} → statement M
 read-film-spec =
     tie.close
     (tie.spec
-    read-field-requires
+    read-blocks-requires
     enum-known-first
     enum-told
     refused-field-requires
     returns
-    read-field-requires-2
+    read-field-requires
     enum-known-second
     enum-told-2
     refused-field-requires-2
     returns-2
-    read-field-requires-3
+    read-field-requires-2
     enum-known-third
     enum-told-3
     refused-field-requires-3

@@ -4,21 +4,21 @@ use native.Mathlib.Omega.{arith}
 use borrow.Author.Needs.{needs}
 use mathlib.Core.List.{List}
 use Rattle.numbers.specs.Limits.{maxPositions, maxTime}
-use Rattle.card.specs.Read.{zonesFrom}
-use Rattle.card_reader.specs.Told.{zonesRead}
+use Rattle.card.specs.Read.{zonesFrom, afterZones}
 use Rattle.card_reader.proofs.ReaderWays.{field-fits, read-done, read-few, read-slow, read-more}
 use Rattle.card_reader.proofs.figures.read_zones.Statement.{statement}
 use Rattle.card_reader.proofs.figures.read_zones.Tie as tie
 
 -- the zones before the i-th are read
-record Read (card : List ℕ) (start kind zones : ℕ) (sizes₀ times₀ table sizes times : List ℕ) (at total before i : ℕ) : Type 0 where
+record Read (card : List ℕ) (start kind zones : ℕ) (sizes₀ times₀ sizes times : List ℕ) (at total before i : ℕ) : Type 0 where
   within : i ≤ zones
   few : total ≤ maxPositions
-  same : zonesFrom (zones - i) card at i (zonesRead kind zones sizes times table) total before
-      ≡ zonesFrom zones card start 0 (zonesRead kind zones sizes₀ times₀ table) 0 maxTime
+  same : zonesFrom (zones - i) card at i sizes times total before (afterZones card kind zones)
+      ≡ zonesFrom zones card start 0 sizes₀ times₀ 0 maxTime (afterZones card kind zones)
 
 abbrev Inv-loop : tie.InvT-loop
-Inv-loop card start kind zones sizes₀ times₀ table at₀ total₀ before₀ i₀ sizes times at total before i = Read card start kind zones sizes₀ times₀ table sizes times at total before i
+Inv-loop card start kind zones sizes₀ times₀ table at₀ total₀ before₀ i₀ sizes times at total before i =
+    Read card start kind zones sizes₀ times₀ sizes times at total before i
 
 abbrev μ-loop : tie.MeasureT-loop
 μ-loop card start kind zones sizes₀ times₀ table at₀ total₀ before₀ i₀ sizes times at total before i = zones - i
@@ -26,11 +26,12 @@ abbrev μ-loop : tie.MeasureT-loop
 loop-holds : tie.Need-loop-holds Inv-loop μ-loop
 loop-holds c =
     let a = c .before .args in
+    let rest = afterZones (a .card .now) (a .kind) (a .zones) in
     let e : a .zones - 0 ≡ a .zones = omega arith in
     record {
       within = omega arith;
       few = omega arith;
-      same = ap (λ (n : ℕ). zonesFrom n (a .card .now) (a .start) 0 (zonesRead (a .kind) (a .zones) (a .sizes .now) (a .times .now) (a .table .now)) 0 maxTime) e;
+      same = ap (λ (n : ℕ). zonesFrom n (a .card .now) (a .start) 0 (a .sizes .now) (a .times .now) 0 maxTime rest) e;
     }
 
 read-field-requires : tie.Need-read-field-requires Inv-loop μ-loop
@@ -48,7 +49,10 @@ refused-field-requires c κs = search needs
 returns : tie.Need-returns Inv-loop μ-loop
 returns c =
     let l = c .before .before .before .before .before .loop in
-    c .refused-field .ensures _ _ _ ∙ read-few _ (l .at) (l .i) (zonesRead _ _ (l .sizes) (l .times) _) (l .total) (l .before) _ (c .before .before .before .read-field .ensures) (omega arith) _ (c .before .enum-told .given .1) ∙ l .inv .same
+    c .refused-field .ensures _ _ _
+    ∙ read-few _ (l .at) (l .i) (l .sizes) (l .times) (l .total) (l .before) _ _ (c .before .before .before .read-field .ensures) (omega arith) _
+    (c .before .enum-told .given .1)
+    ∙ l .inv .same
 
 element-copy-out-innermost : tie.Need-element-copy-out-innermost Inv-loop μ-loop
 element-copy-out-innermost c = search needs
@@ -70,7 +74,8 @@ returns-2 c =
     let positions = c .before .before .before .before .before .before in
     let l = positions .before .before .before .before .loop in
     c .refused-field2 .ensures _ _ _
-    ∙ read-slow _ (l .at) (l .i) (zonesRead _ _ (l .sizes) (l .times) _) (l .total) (l .before) _ (positions .before .before .read-field .ensures) (positions .first .given .1) (c .before .before .before .read-time .ensures) (omega arith) _ (c .before .enum-told2 .given .1)
+    ∙ read-slow _ (l .at) (l .i) (l .sizes) (l .times) (l .total) (l .before) _ _ (positions .before .before .read-field .ensures) (positions .first .given .1)
+    (c .before .before .before .read-time .ensures) (omega arith) _ (c .before .enum-told2 .given .1)
     ∙ l .inv .same
 
 mul-sizes : tie.Need-mul-sizes Inv-loop μ-loop
@@ -103,7 +108,8 @@ loop-again c =
     record {
       within = omega arith;
       few = field-fits _ _ _ (positions .before .before .read-field .ensures) (positions .first .given .1);
-      same = read-more _ (l .at) (l .i) (zonesRead _ _ (l .sizes) (l .times) _) (l .total) (l .before) _ (positions .before .before .read-field .ensures) (positions .first .given .1) (c .before .before .before .read-time .ensures) _ (omega arith) (c .before .second .given .1) ∙ l .inv .same;
+      same = read-more _ (l .at) (l .i) (l .sizes) (l .times) (l .total) (l .before) _ _ (positions .before .before .read-field .ensures)
+          (positions .first .given .1) (c .before .before .before .read-time .ensures) _ (omega arith) (c .before .second .given .1) ∙ l .inv .same;
     }
 
 read-film-requires : tie.Need-read-film-requires Inv-loop μ-loop
@@ -112,7 +118,7 @@ read-film-requires c κs = search needs
 returns-3 : tie.Need-returns-3 Inv-loop μ-loop
 returns-3 c =
     let l = c .before .before .before .loop in
-    c .read-film .ensures _ _ ∙ read-done _ _ _ _ _ _ _ (omega arith) ∙ l .inv .same
+    c .read-film .ensures _ _ ∙ read-done _ _ _ _ _ _ _ _ _ (omega arith) ∙ l .inv .same
 
 pub read-zones-spec : {M : Type 1} → statement M
 read-zones-spec =

@@ -1,6 +1,6 @@
 use mathlib.Core.Path.{sym, ap}
 use Rattle.card.specs.Read.{thenField, refusedCard}
-use Rattle.card.specs.declared.fields.Field.{Field}
+use Rattle.card_field.specs.declared.Field.{Field}
 use Rattle.card_reader.specs.Told.{toldCard}
 use borrow.Author.Needs.{needs}
 use Rattle.card_reader.proofs.figures.refused_field.Statement.{statement}

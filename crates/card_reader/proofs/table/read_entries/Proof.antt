@@ -1,19 +1,22 @@
 use Prim.Native.Nat.{ℕ, _-_, _≤_}
-use mathlib.Core.Path.{_≡_, refl, _∙_}
+use mathlib.Core.Path.{_≡_, ap, _∙_}
 use mathlib.Core.List.{List}
 use native.Mathlib.Omega.{arith}
 use borrow.Author.Needs.{needs}
 use Rattle.numbers.specs.Limits.{tableLength}
-use Rattle.card.specs.declared.Figures.{Figures}
-use Rattle.card.specs.Read.{thenField, entriesFrom, withTable}
-use Rattle.card_reader.proofs.ReaderWays.{entries-done, entries-stop, entries-more}
+use Rattle.card_field.specs.declared.Rule.the-variants.{Overhead}
+use Rattle.card_field.specs.Ranges.{faultOf}
+use Rattle.card_table.specs.Table.{lastEntry}
+use Rattle.card.specs.declared.CardRead.{CardRead}
+use Rattle.card.specs.Read.{thenField, rowFrom, entriesFrom}
+use Rattle.card_reader.proofs.ReaderWays.{row-done, row-stop, row-more}
 use Rattle.card_reader.proofs.table.read_entries.Statement.{statement}
 use Rattle.card_reader.proofs.table.read_entries.Tie as tie
 
 -- the entries before the k-th are read
 record Read (card : List ℕ) (start : ℕ) (table₀ table : List ℕ) (at before k : ℕ) : Type 0 where
   within : k ≤ tableLength
-  same : (f : Figures) → entriesFrom (tableLength - k) card at k (withTable f table) before ≡ entriesFrom tableLength card start 0 (withTable f table₀) 0
+  same : (go : List ℕ → ℕ → CardRead) → rowFrom (faultOf Overhead) lastEntry (tableLength - k) card at before k table go ≡ entriesFrom card start go
 
 abbrev Inv-loop : tie.InvT-loop
 Inv-loop card start table₀ at₀ before₀ k₀ table at before k = Read card start table₀ table at before k
@@ -22,7 +25,13 @@ abbrev μ-loop : tie.MeasureT-loop
 μ-loop card start table₀ at₀ before₀ k₀ table at before k = tableLength - k
 
 loop-holds : tie.Need-loop-holds Inv-loop μ-loop
-loop-holds c = record { within = omega arith; same = λ f. refl }
+unfolding entriesFrom
+loop-holds c =
+    let a = c .before .args in
+    record {
+      within = omega arith;
+      same = λ go. ap (λ (t : List ℕ). rowFrom (faultOf Overhead) lastEntry tableLength (a .card .now) (a .start) 0 0 t go) (c .before .pre);
+    }
 
 cast-loop : tie.Need-cast-loop Inv-loop μ-loop
 cast-loop c = search needs
@@ -39,7 +48,9 @@ enum-told c = search needs
 returns : tie.Need-returns Inv-loop μ-loop
 returns c =
     let l = c .before .before .before .before .loop in
-    λ f. entries-stop _ (l .at) (l .k) (withTable f (l .table)) (l .before) _ (c .before .before .read-field .ensures) (omega arith) _ (c .enum-told .given .1) ∙ l .inv .same f
+    λ go. row-stop (faultOf Overhead) lastEntry _ (l .at) (l .before) (l .k) (l .table) go _ (c .before .before .read-field .ensures) (omega arith) _
+    (c .enum-told .given .1)
+    ∙ l .inv .same go
 
 mul-table : tie.Need-mul-table Inv-loop μ-loop
 mul-table c = search needs
@@ -58,12 +69,15 @@ loop-again c =
     let l = c .before .before .before .before .before .loop in
     record {
       within = omega arith;
-      same = λ f. entries-more _ (l .at) (l .k) (withTable f (l .table)) (l .before) _ (c .before .before .before .read-field .ensures) _ (omega arith) (c .before .entry .given .1) ∙ l .inv .same f;
+      same = λ go. row-more (faultOf Overhead) lastEntry _ (l .at) (l .before) (l .k) (l .table) go _ (c .before .before .before .read-field .ensures) _
+          (omega arith) (c .before .entry .given .1) ∙ l .inv .same go;
     }
 
 returns-2 : tie.Need-returns-2 Inv-loop μ-loop
 unfolding thenField
-returns-2 c = let l = c .before .loop in λ f. entries-done _ (l .at) (l .k) (withTable f (l .table)) (l .before) _ (omega arith) ∙ l .inv .same f
+returns-2 c =
+    let l = c .before .loop in
+    λ go. row-done (faultOf Overhead) lastEntry _ (l .at) (l .before) (l .k) (l .table) go _ (omega arith) ∙ l .inv .same go
 
 pub read-entries-spec : {M : Type 1} → statement M
 read-entries-spec =

@@ -15,49 +15,25 @@ abbrev μ-loop : tie.MeasureT-loop
 μ-loop out₀ start run value₀ at₀ i₀ out value at i = run .times - i
 
 -- the number has room
-room-left : (c : tie.After-write-number-arg Inv-loop μ-loop) → c .before .before .before .before .before .loop .at + length (groups (c .before .before .before .before .before .loop .value)) ≤ length (c .before .before .before .before .before .loop .out)
+room-left : (c : tie.After-write-number-arg Inv-loop μ-loop)
+    → c .before .before .before .before .before .loop .at + length (groups (c .before .before .before .before .before .loop .value)) ≤ length
+    (c .before .before .before .before .before .loop .out)
 room-left c = omega (arith, c .before .if2 .left, c .before .before .number-length .ensures)
-
-loop-holds : tie.Need-loop-holds Inv-loop μ-loop
-loop-holds c = search needs
-
-number-length-requires : tie.Need-number-length-requires Inv-loop μ-loop
-number-length-requires c κs = search needs
-
-add-if2 : tie.Need-add-if2 Inv-loop μ-loop
-add-if2 c = search needs
 
 write-number-requires : tie.Need-write-number-requires Inv-loop μ-loop
 write-number-requires c κs = room-left c
-
-wrapping-add-u32-requires : tie.Need-wrapping-add-u32-requires Inv-loop μ-loop
-wrapping-add-u32-requires c κs = search needs
-
-add-i : tie.Need-add-i Inv-loop μ-loop
-add-i c = search needs
-
-loop-less : tie.Need-loop-less Inv-loop μ-loop
-loop-less c = search needs
 
 loop-again : tie.Need-loop-again Inv-loop μ-loop
 loop-again c =
     let w = c .before .before .before in
     let l = w .before .before .before .before .before .before .loop in
     let e = w .write-number .ensures in
-    let room = room-left (w .before) in
-    (omega (arith, w .before .before .before .before .if1 .taken), ap length (e .1) ∙ overwrite-length (l .out) (l .at) _ room ∙ l .inv .1, omega (arith, e .0, room, ap length (e .1) ∙ overwrite-length (l .out) (l .at) _ room))
-
-same-length : tie.Need-same-length Inv-loop μ-loop
-same-length c = search needs
-
-returns : tie.Need-returns Inv-loop μ-loop
-returns c = search needs
-
-same-length-2 : tie.Need-same-length-2 Inv-loop μ-loop
-same-length-2 c = search needs
-
-returns-2 : tie.Need-returns-2 Inv-loop μ-loop
-returns-2 c = search needs
+    let room = room-left (w .before) in (
+      omega (arith, w .before .before .before .before .if1 .taken),
+      ap length (e .1) ∙ overwrite-length (l .out) (l .at) _ room
+          ∙ l .inv .1,
+      omega (arith, e .0, room, ap length (e .1) ∙ overwrite-length (l .out) (l .at) _ room),
+    )
 
 pub write-run-spec : {M : Type 1} → statement M
 write-run-spec =
@@ -65,15 +41,15 @@ write-run-spec =
     (tie.spec
     Inv-loop
     μ-loop
-    loop-holds
-    number-length-requires
-    add-if2
+    (λ c. search needs)
+    (λ c κs. search needs)
+    (λ c. search needs)
     write-number-requires
-    wrapping-add-u32-requires
-    add-i
-    loop-less
+    (λ c κs. search needs)
+    (λ c. search needs)
+    (λ c. search needs)
     loop-again
-    same-length
-    returns
-    same-length-2
-    returns-2)
+    (λ c. search needs)
+    (λ c. search needs)
+    (λ c. search needs)
+    (λ c. search needs))

@@ -43,7 +43,8 @@ module _ (tally : Tally) (card : SmallCard) (g : Comparing tally card) where
   stepped h = rw (g .next) (step-ranged (tally .cards) (inside h))
 
   small : card .zones ≤ 3 → Small (figuresOf card)
-  small h = rw (g .next) (rw (step-listed (tally .cards) (inside h)) (listed-small (getD smallCards (tally .cards) blankFigures) (in-at smallCards (tally .cards) blankFigures (inside h))))
+  small h = rw (g .next) (rw (step-listed (tally .cards) (inside h))
+      (listed-small (getD smallCards (tally .cards) blankFigures) (in-at smallCards (tally .cards) blankFigures (inside h))))
 
   outside : (card .zones ≤ 3 → ⊥) → tally .cards ≡ length smallCards
   outside h = by-cases (decLt (tally .cards) (length smallCards))

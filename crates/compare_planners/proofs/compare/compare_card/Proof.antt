@@ -11,28 +11,22 @@ use borrow.Author.Needs.{needs}
 use Rattle.compare_planners.proofs.compare.compare_card.Statement.{statement}
 use Rattle.compare_planners.proofs.compare.compare_card.Tie as tie
 
-buffer-requires : tie.Need-buffer-requires
-buffer-requires c κs = search needs
-
-slice-aggregate-write-card : tie.Need-slice-aggregate-write-card
-slice-aggregate-write-card c = search needs
-
-write-card-requires : tie.Need-write-card-requires
-write-card-requires c κs = search needs
-
 -- the card is in the buffer
 module _ (c : tie.After-write-card) where
   abbrev figures : Figures
   figures = c .before .before .before .args .figures
 
   long : c .write-card .result .length ≡ length (cardOf figures)
-  long = written-length figures (c .before .before .before .pre .legal) (c .before .before .buffer .result) (omega (arith, c .before .before .buffer .ensures)) (c .write-card .result) (c .write-card .ensures .0)
+  long = written-length figures (c .before .before .before .pre .legal) (c .before .before .buffer .result) (omega (arith, c .before .before .buffer .ensures))
+      (c .write-card .result) (c .write-card .ensures .0)
 
   card-is : take (c .write-card .result .length) (c .write-card .last .1 .0) ≡ cardOf figures
-  card-is = written-card figures (c .before .before .before .pre .legal) (c .before .before .buffer .result) (omega (arith, c .before .before .buffer .ensures)) (c .write-card .last .1 .0) (c .write-card .result .length) (c .write-card .ensures .1) long
+  card-is = written-card figures (c .before .before .before .pre .legal) (c .before .before .buffer .result)
+      (omega (arith, c .before .before .buffer .ensures)) (c .write-card .last .1 .0) (c .write-card .result .length) (c .write-card .ensures .1) long
 
   short : c .write-card .result .length ≤ length (c .write-card .last .1 .0)
-  short = written-short figures (c .before .before .before .pre .legal) (c .before .before .buffer .result) (omega (arith, c .before .before .buffer .ensures)) (c .write-card .last .1 .0) (c .write-card .result .length) (c .write-card .ensures .1) long
+  short = written-short figures (c .before .before .before .pre .legal) (c .before .before .buffer .result) (omega (arith, c .before .before .buffer .ensures))
+      (c .write-card .last .1 .0) (c .write-card .result .length) (c .write-card .ensures .1) long
 
 array-share-prefix-out : tie.Need-array-share-prefix-out
 array-share-prefix-out c = short (c .before)
@@ -40,20 +34,11 @@ array-share-prefix-out c = short (c .before)
 slice-aggregate-compare-once : tie.Need-slice-aggregate-compare-once
 slice-aggregate-compare-once c = long (c .before .before) ∙ sym (ap length (card-is (c .before .before)))
 
-compare-once-requires : tie.Need-compare-once-requires
-compare-once-requires c κs = search needs
-
 array-share-prefix-out-2 : tie.Need-array-share-prefix-out-2
 array-share-prefix-out-2 c = short (c .before .before .before)
 
 slice-aggregate-compare-loop : tie.Need-slice-aggregate-compare-loop
 slice-aggregate-compare-loop c = let w = c .before .before .before .before in long w ∙ sym (ap length (card-is w))
-
-compare-loop-requires : tie.Need-compare-loop-requires
-compare-loop-requires c κs = search needs
-
-add-result : tie.Need-add-result
-add-result c = search needs
 
 returns : tie.Need-returns
 returns c = let w = c .before .before .before .before .before in
@@ -63,14 +48,14 @@ pub compare-card-spec : {M : Type 1} → statement M
 compare-card-spec =
     tie.close
     (tie.spec
-    buffer-requires
-    slice-aggregate-write-card
-    write-card-requires
+    (λ c κs. search needs)
+    (λ c. search needs)
+    (λ c κs. search needs)
     array-share-prefix-out
     slice-aggregate-compare-once
-    compare-once-requires
+    (λ c κs. search needs)
     array-share-prefix-out-2
     slice-aggregate-compare-loop
-    compare-loop-requires
-    add-result
+    (λ c κs. search needs)
+    (λ c. search needs)
     returns)

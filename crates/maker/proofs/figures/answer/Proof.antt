@@ -5,12 +5,6 @@ use borrow.Author.Needs.{needs}
 use Rattle.maker.proofs.figures.answer.Statement.{statement}
 use Rattle.maker.proofs.figures.answer.Tie as tie
 
-judge-figures-requires : tie.Need-judge-figures-requires
-judge-figures-requires c κs = search needs
-
-refused-text-requires : tie.Need-refused-text-requires
-refused-text-requires c κs = search needs
-
 returns : tie.Need-returns
 returns c = let j = c .before .before .before in c .refused-text .ensures ∙ figures-refused _ _ (j .judge-figures .ensures) (λ e. omega arith)
 
@@ -18,4 +12,4 @@ returns-2 : tie.Need-returns-2
 returns-2 c = let j = c .before .before in figures-accepted _ _ (j .judge-figures .ensures) (omega arith)
 
 pub answer-spec : {M : Type 1} → statement M
-answer-spec = tie.close (tie.spec judge-figures-requires refused-text-requires returns returns-2)
+answer-spec = tie.close (tie.spec (λ c κs. search needs) (λ c κs. search needs) returns returns-2)

@@ -1,4 +1,3 @@
-use mathlib.Core.Path.{refl}
 use Prim.Native.Nat.{_*_}
 use Rattle.numbers.specs.Limits.{straightKind}
 use Rattle.numbers.specs.Units.{sectorBytes}
@@ -6,12 +5,6 @@ use Rattle.maker.specs.Maker.{filled}
 use borrow.Author.Needs.{needs}
 use Rattle.maker.proofs.figures.figures_of.Statement.{statement}
 use Rattle.maker.proofs.figures.figures_of.Tie as tie
-
-mul-t10 : tie.Need-mul-t10
-mul-t10 c = search needs
-
-table-of-requires : tie.Need-table-of-requires
-table-of-requires c κs = search needs
 
 returns : tie.Need-returns
 unfolding filled
@@ -27,4 +20,4 @@ returns c = let a = c .before .before .before .args in λ t. record {
 }
 
 pub figures-of-spec : {M : Type 1} → statement M
-figures-of-spec = tie.close (tie.spec mul-t10 table-of-requires returns)
+figures-of-spec = tie.close (tie.spec (λ c. search needs) (λ c κs. search needs) returns)

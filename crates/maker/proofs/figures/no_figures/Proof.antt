@@ -3,19 +3,19 @@ use borrow.Author.Needs.{needs}
 use Rattle.maker.proofs.figures.no_figures.Statement.{statement}
 use Rattle.maker.proofs.figures.no_figures.Tie as tie
 
-no-zones-requires : tie.Need-no-zones-requires
-no-zones-requires c κs = search needs
-
-no-zones-requires-2 : tie.Need-no-zones-requires-2
-no-zones-requires-2 c κs = search needs
-
-no-table-requires : tie.Need-no-table-requires
-no-table-requires c κs = search needs
-
 returns : tie.Need-returns
 unfolding blankFigures
 returns c = let times = c .before in
-    λ t. record { kind = 0; zones = 0; positions = times .before .no-zones .ensures t; times = times .no-zones2 .ensures t; blocks = 0; bytes = 0; rate = 0; table = c .no-table .ensures t }
+    λ t. record {
+      kind = 0;
+      zones = 0;
+      positions = times .before .no-zones .ensures t;
+      times = times .no-zones2 .ensures t;
+      blocks = 0;
+      bytes = 0;
+      rate = 0;
+      table = c .no-table .ensures t;
+    }
 
 pub no-figures-spec : {M : Type 1} → statement M
-no-figures-spec = tie.close (tie.spec no-zones-requires no-zones-requires-2 no-table-requires returns)
+no-figures-spec = tie.close (tie.spec (λ c κs. search needs) (λ c κs. search needs) (λ c κs. search needs) returns)

@@ -3,12 +3,9 @@ use borrow.Author.Needs.{needs}
 use Rattle.maker.proofs.figures.refused_text.Statement.{statement}
 use Rattle.maker.proofs.figures.refused_text.Tie as tie
 
-no-figures-requires : tie.Need-no-figures-requires
-no-figures-requires c κs = search needs
-
 returns : tie.Need-returns
 unfolding refusedText
 returns c = let a = c .before .args in λ t. record { verdict = record { number = a .number; place = a .line }; figures = c .no-figures .ensures t }
 
 pub refused-text-spec : {M : Type 1} → statement M
-refused-text-spec = tie.close (tie.spec no-figures-requires returns)
+refused-text-spec = tie.close (tie.spec (λ c κs. search needs) returns)

@@ -1,27 +1,22 @@
 use mathlib.Core.Path.{ap, ap₂, _∙_}
 use native.Mathlib.Omega.{arith}
 use lib.ListN.{length}
-use Rattle.card.specs.Table.{straight}
+use Rattle.card_table.specs.Table.{straight}
 use Rattle.maker.proofs.MoveWays.{move-small, blank-long}
 use borrow.Author.Needs.{needs}
 use Rattle.maker.proofs.figures.table_of.Statement.{statement}
 use Rattle.maker.proofs.figures.table_of.Tie as tie
 
-no-table-requires : tie.Need-no-table-requires
-no-table-requires c κs = search needs
-
-move-in-requires : tie.Need-move-in-requires
-move-in-requires c κs = search needs
-
-move-in-requires-2 : tie.Need-move-in-requires-2
-move-in-requires-2 c κs = search needs
-
 fill-straight-requires : tie.Need-fill-straight-requires
 fill-straight-requires c κs =
     let hop = c .before in
     let none = hop .before .before in
-    let a = none .before .args in
-    (omega (arith, hop .move-in .ensures, move-small (a .hop)), omega (arith, c .move-in2 .ensures, move-small (a .back)), ap length (none .no-table .ensures) ∙ blank-long)
+    let a = none .before .args in (
+      omega (arith, hop .move-in .ensures, move-small (a .hop)),
+      omega (arith, c .move-in2 .ensures, move-small (a .back)),
+      ap length (none .no-table .ensures)
+          ∙ blank-long,
+    )
 
 returns : tie.Need-returns
 returns c = let both = c .before in c .fill-straight .ensures ∙ ap₂ straight (both .before .move-in .ensures) (both .move-in2 .ensures)
@@ -29,4 +24,4 @@ returns c = let both = c .before in c .fill-straight .ensures ∙ ap₂ straight
 pub table-of-spec : {M : Type 1} → statement M
 table-of-spec =
     tie.close
-    (tie.spec no-table-requires move-in-requires move-in-requires-2 fill-straight-requires returns)
+    (tie.spec (λ c κs. search needs) (λ c κs. search needs) (λ c κs. search needs) fill-straight-requires returns)

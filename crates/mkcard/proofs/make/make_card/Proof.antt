@@ -15,7 +15,9 @@ taken : (c : tie.After-write-words) → take (c .write-words .result) (c .write-
 taken c = card-taken (c .before .before .before .args .out .now) _ (c .write-words .ensures .0) (c .write-words .ensures .1)
 
 fits : (c : tie.After-write-words) → c .write-words .result ≤ length (c .write-words .last .1 .0)
-fits c = card-fits (c .before .before .before .args .out .now) _ (c .write-words .ensures .0) (c .write-words .ensures .1) (omega (arith, card-long (c .before .before .before .args .s), c .before .before .before .pre))
+fits c =
+    card-fits (c .before .before .before .args .out .now) _ (c .write-words .ensures .0) (c .write-words .ensures .1)
+    (omega (arith, card-long (c .before .before .before .args .s), c .before .before .before .pre))
 
 read : (c : tie.After-read-card) → c .read-card .result ≡ readCard (cardOfWords (c .before .before .before .before .before .before .before .args .s))
 read c = c .read-card .ensures ∙ ap readCard (taken (c .before .before .before .before))
@@ -58,8 +60,9 @@ returns-2 : tie.Need-returns-2
 returns-2 c = let r = c .before .before .before .before .before .before in
     let w = r .before .before .before .before in
     let s = w .before .before .before .args .s in
-    let front : (n : ℕ) → numbersIn (take n (take (w .write-words .result) (w .write-words .last .1 .0))) ≡ numbersIn (take n (cardOfWords s)) = λ n. ap (λ (x : List ℕ). numbersIn (take n x)) (taken w) in
-    (made-none _ _ (read r) (c .before .before .before .if1 .left) _ (c .line-of .ensures ∙ ap (lineOf s) (c .before .numbers-before .ensures ∙ front (r .read-card .result .verdict .place))), w .write-words .ensures .1)
+    let front = ap (λ (x : List ℕ). numbersIn (take (r .read-card .result .verdict .place) x)) (taken w) in
+    let line = c .line-of .ensures ∙ ap (lineOf s) (c .before .numbers-before .ensures ∙ front) in
+    (made-none _ _ (read r) (c .before .before .before .if1 .left) _ line, w .write-words .ensures .1)
 
 pub make-card-spec : {M : Type 1} → statement M
 make-card-spec =

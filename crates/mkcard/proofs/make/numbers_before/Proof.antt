@@ -21,7 +21,10 @@ loop-holds : tie.Need-loop-holds Inv-loop μ-loop
 loop-holds c = (omega arith, omega arith, omega arith)
 
 returns : tie.Need-returns Inv-loop μ-loop
-returns c = let l = c .before .before .loop in let a = c .before .before .before .args in omega (arith, l .inv, before-place (a .card .now) (a .place) (l .i) (c .if1 .taken))
+returns c =
+    let l = c .before .before .loop in
+    let a = c .before .before .before .args in
+    omega (arith, l .inv, before-place (a .card .now) (a .place) (l .i) (c .if1 .taken))
 
 shared-slice-read-if2 : tie.Need-shared-slice-read-if2 Inv-loop μ-loop
 shared-slice-read-if2 c = search needs

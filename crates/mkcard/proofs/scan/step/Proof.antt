@@ -23,7 +23,8 @@ end-word-requires-2 : tie.Need-end-word-requires-2
 end-word-requires-2 c κs = search needs
 
 returns-4 : tie.Need-returns-4
-returns-4 c = step-hash _ _ (c .before .before .before .if1 .left) (c .before .before .if3 .left) (c .end-word2 .result) (c .end-word2 .ensures) (c .before .if4 .taken)
+returns-4 c =
+    step-hash _ _ (c .before .before .before .if1 .left) (c .before .before .if3 .left) (c .end-word2 .result) (c .end-word2 .ensures) (c .before .if4 .taken)
 
 end-word-requires-3 : tie.Need-end-word-requires-3
 end-word-requires-3 c κs = search needs
@@ -32,10 +33,15 @@ grow-requires : tie.Need-grow-requires
 grow-requires c κs = search needs
 
 returns-5 : tie.Need-returns-5
-returns-5 c = c .end-word3 .ensures ∙ step-blank _ _ (c .before .before .before .before .if1 .left) (c .before .before .before .if3 .left) (c .before .before .if4 .left) (blank-key _ (c .before .match .keys1))
+returns-5 c =
+    c .end-word3 .ensures
+    ∙ step-blank _ _ (c .before .before .before .before .if1 .left) (c .before .before .before .if3 .left) (c .before .before .if4 .left)
+    (blank-key _ (c .before .match .keys1))
 
 returns-6 : tie.Need-returns-6
-returns-6 c = step-word _ _ (c .before .before .before .before .if1 .left) (c .before .before .before .if3 .left) (c .before .before .if4 .left) (blank-none _ (c .before .match .rest .1)) (c .grow .result) (c .grow .ensures)
+returns-6 c =
+    step-word _ _ (c .before .before .before .before .if1 .left) (c .before .before .before .if3 .left) (c .before .before .if4 .left)
+    (blank-none _ (c .before .match .rest .1)) (c .grow .result) (c .grow .ensures)
 
 pub step-spec : {M : Type 1} → statement M
 step-spec =

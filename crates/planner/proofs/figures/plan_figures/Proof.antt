@@ -14,7 +14,8 @@ use Rattle.planner.proofs.figures.plan_figures.Tie as tie
 
 -- the figures are accepted, and planned
 module _ (x : Showing) (r : CardRead) (ps ls : List ℕ) (e : r .verdict .number ≡ 0) (n : ℕ) (made : n ≡ faultAfter x r ps ls) (qs ms : List ℕ)
-    (first : qs ≡ filled 0 (faultAfter x r ps ls) ps (positionsOf x (r .figures))) (second : ms ≡ filled 0 (faultAfter x r ps ls) ls (leadsOf x (r .figures))) where
+    (first : qs ≡ filled 0 (faultAfter x r ps ls) ps (positionsOf x (r .figures)))
+    (second : ms ≡ filled 0 (faultAfter x r ps ls) ls (leadsOf x (r .figures))) where
   -- 13 or 12
   by-fault : (n ≡ 0 → ⊥) → Outcome x r ps ls (refusal n 0) qs ms
   by-fault h = go n made h
@@ -56,7 +57,8 @@ returns-3 c =
     let e = m .before .before .before .before .before .before .before in
     let a = e .before .before .before .before .before .args in
     let r = m .plan-legal .ensures in
-    by-made (showingOf (a .showing)) (a .t1) (a .positions .now) (a .leads .now) (e .if1 .left) _ (r .0) _ _ (r .2) (r .3) (z .if2 .left) _ (p .0) (p .1 ∙ r .1 (z .if2 .left))
+    by-made (showingOf (a .showing)) (a .t1) (a .positions .now) (a .leads .now) (e .if1 .left) _ (r .0) _ _ (r .2) (r .3) (z .if2 .left) _ (p .0)
+    (p .1 ∙ r .1 (z .if2 .left))
 
 pub plan-figures-spec : {M : Type 1} → statement M
 plan-figures-spec =

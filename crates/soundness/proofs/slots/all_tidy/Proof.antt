@@ -1,88 +1,76 @@
 use Prim.Native.Nat.{ℕ, _-_, _≤_, _<_}
+use mathlib.Core.Path.{_≡_, refl}
 use mathlib.Core.Logic.{by-cases}
-use mathlib.Core.List.{List}
 use native.Mathlib.Omega.{arith}
 use native.Mathlib.Decide.{decLt}
 use borrow.Author.Needs.{needs}
 use borrow.Author.Count.{below-more}
 use borrow.Author.Tests.{not-true, not-false}
 use lib.ListN.{getD}
-use Rattle.soundness.specs.Facts.{Tidy}
-use Rattle.soundness.proofs.Tells.{tells-yes, tells-no, zero-tidy}
+use Rattle.words.specs.Words.{wordsOf}
+use Rattle.desk.specs.declared.Desk.{Desk}
+use Rattle.desk_layout.specs.Layout.{deskIn}
+use Rattle.soundness.specs.Facts.{Tells, Tidy}
+use Rattle.soundness.proofs.Tells.{tells-yes, tells-no, zero-tidy, tidy-same}
 use Rattle.soundness.proofs.slots.all_tidy.Statement.{statement}
 use Rattle.soundness.proofs.slots.all_tidy.Tie as tie
 
+-- slot j is tidy
+abbrev TidyAt : Desk → ℕ → Type 0
+TidyAt d j = Tidy (d .plan .showing) (d .plan .figures .blocks) (d .plan .buffer) (getD (d .kinds) j 0) (getD (d .next) j 0) (getD (d .held) j 0)
+
 -- the first i slots are tidy
-record Testing (showing blocks buffer streams : ℕ) (kinds next held : List ℕ) (i : ℕ) : Type 0 where
+record Testing (d : Desk) (streams i : ℕ) : Type 0 where
   few : i ≤ streams
-  tidy : (j : ℕ) → j < i → Tidy showing blocks buffer (getD kinds j 0) (getD next j 0) (getD held j 0)
+  tidy : (j : ℕ) → j < i → TidyAt d j
 
 abbrev Inv-loop : tie.InvT-loop
-Inv-loop showing blocks buffer streams kinds next held i₀ i = Testing showing blocks buffer streams kinds next held i
+Inv-loop desk streams showing blocks buffer i₀ i = Testing (deskIn (wordsOf desk)) streams i
 
 abbrev μ-loop : tie.MeasureT-loop
-μ-loop showing blocks buffer streams kinds next held i₀ i = streams - i
-
-rest-zero-requires : tie.Need-rest-zero-requires Inv-loop μ-loop
-rest-zero-requires c κs = c .pre
+μ-loop desk streams showing blocks buffer i₀ i = streams - i
 
 returns : tie.Need-returns Inv-loop μ-loop
 returns c =
     tells-no (λ t. c .before .rest-zero .ensures .no (not-true _ (c .if1 .taken))
-    (λ i l u. let k = t .unused i l u in
+    (λ i l u. let k = t .unused i l (omega arith) in
     let z = t .slots i l .zeros k in
     (k, z .0, z .1)))
 
 loop-holds : tie.Need-loop-holds Inv-loop μ-loop
 loop-holds c = record { few = omega arith; tidy = λ j h. absurd (omega arith) }
 
-mul-is-tidy : tie.Need-mul-is-tidy Inv-loop μ-loop
-mul-is-tidy c = omega arith
+-- where the loop stands, and what was read before it
+abbrev turn : tie.After-is-tidy Inv-loop μ-loop → tie.At-loop Inv-loop μ-loop
+turn c = c .before .before .before .before .before
 
-element-copy-out-is-tidy : tie.Need-element-copy-out-is-tidy Inv-loop μ-loop
-element-copy-out-is-tidy c = omega arith
+abbrev given : tie.At-loop Inv-loop μ-loop → Desk
+given l = deskIn (wordsOf (l .before .before .before .before .before .before .before .args .desk .now))
 
-mul-is-tidy-2 : tie.Need-mul-is-tidy-2 Inv-loop μ-loop
-mul-is-tidy-2 c = omega arith
-
-element-copy-out-is-tidy-2 : tie.Need-element-copy-out-is-tidy-2 Inv-loop μ-loop
-element-copy-out-is-tidy-2 c = omega arith
-
-mul-is-tidy-3 : tie.Need-mul-is-tidy-3 Inv-loop μ-loop
-mul-is-tidy-3 c = omega arith
-
-element-copy-out-is-tidy-3 : tie.Need-element-copy-out-is-tidy-3 Inv-loop μ-loop
-element-copy-out-is-tidy-3 c = omega arith
-
-is-tidy-requires : tie.Need-is-tidy-requires Inv-loop μ-loop
-is-tidy-requires c κs = search needs
+-- what the test of slot i tells
+told : (c : tie.After-is-tidy Inv-loop μ-loop) → Tells (c .is-tidy .result) (TidyAt (given (turn c)) (turn c .loop .i))
+told c =
+    let b = turn c .before in
+    let h = c .before in
+    tidy-same _ (b .before .before .showing-in .ensures) (b .before .blocks-in .ensures) (b .buffer-in .ensures)
+    (h .before .before .kind-in .ensures) (h .before .next-in .ensures) (h .held-in .ensures) (c .is-tidy .ensures)
 
 returns-2 : tie.Need-returns-2 Inv-loop μ-loop
-returns-2 c =
-    let l = c .before .before .before .before .before .before .loop in
-    tells-no (λ t. c .before .is-tidy .ensures .no (not-true _ (c .if2 .taken)) (t .slots (l .i) (omega arith)))
-
-add-i : tie.Need-add-i Inv-loop μ-loop
-add-i c = omega arith
-
-loop-less : tie.Need-loop-less Inv-loop μ-loop
-loop-less c = omega arith
+returns-2 c = tells-no (λ t. told (c .before) .no (not-true _ (c .if2 .taken)) (t .slots _ (omega arith)))
 
 loop-again : tie.Need-loop-again Inv-loop μ-loop
 loop-again c =
-    let t = c .before .before .before .before .before in
-    let l = t .before .loop in
-    record { few = omega (arith, t .loop-test .taken); tidy = below-more _ (l .i) (l .inv .tidy) (c .before .is-tidy .ensures .yes (not-false _ (c .if2 .left))) }
+    let l = turn (c .before) .loop in
+    record { few = omega arith; tidy = below-more _ (l .i) (l .inv .tidy) (told (c .before) .yes (not-false _ (c .if2 .left))) }
 
 returns-3 : tie.Need-returns-3 Inv-loop μ-loop
 returns-3 c =
     let l = c .before .loop in
-    let e = c .before .before in
+    let e = c .before .before .before .before .before in
     let z = e .before .rest-zero .ensures .yes (not-false _ (e .if1 .left)) in
-    let n = e .before .before .args .streams in
     tells-yes (record {
-      slots = λ j h. by-cases (decLt j n) (λ a. l .inv .tidy j (omega (arith, c .loop-test .left))) (λ a. let y = z j h (omega arith) in zero-tidy (y .0) (y .1) (y .2));
-      unused = λ j h u. z j h u .0;
+      slots = λ j h. by-cases (decLt j (l .i)) (λ a. l .inv .tidy j a) (λ a. let y = z j h (omega arith) in zero-tidy (y .0) (y .1) (y .2));
+      unused = λ j h u. z j h (omega arith) .0;
     })
 
 pub all-tidy-spec : {M : Type 1} → statement M
@@ -91,18 +79,18 @@ all-tidy-spec =
     (tie.spec
     Inv-loop
     μ-loop
-    rest-zero-requires
+    (λ c κs. search needs)
     returns
+    (λ c κs. search needs)
+    (λ c κs. search needs)
+    (λ c κs. search needs)
     loop-holds
-    mul-is-tidy
-    element-copy-out-is-tidy
-    mul-is-tidy-2
-    element-copy-out-is-tidy-2
-    mul-is-tidy-3
-    element-copy-out-is-tidy-3
-    is-tidy-requires
+    (λ c κs. omega arith)
+    (λ c κs. omega arith)
+    (λ c κs. omega arith)
+    (λ c κs. search needs)
     returns-2
-    add-i
-    loop-less
+    (λ c. omega arith)
+    (λ c. omega arith)
     loop-again
     returns-3)

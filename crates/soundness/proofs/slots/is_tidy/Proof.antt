@@ -34,7 +34,8 @@ returns-10 : tie.Need-returns-10
 returns-10 c = let k = c .before .before .match .keys5 in tells-equal _ _ (λ e. omega arith) (λ t. t .past k)
 
 returns-11 : tie.Need-returns-11
-returns-11 c = let r = c .match .rest in tells-no (λ t. no-kind (c .before .before .args .kind) (r .0 .0 .0 .0 .1) (r .0 .0 .0 .1) (r .0 .0 .1) (r .0 .1) (r .1) (t .kinds))
+returns-11 c = let r = c .match .rest in tells-no (λ t. no-kind (c .before .before .args .kind) (r .0 .0 .0 .0 .1) (r .0 .0 .0 .1) (r .0 .0 .1)
+    (r .0 .1) (r .1) (t .kinds))
 
 pub is-tidy-spec : {M : Type 1} → statement M
 is-tidy-spec =

@@ -10,8 +10,5 @@ mul-result c = omega (arith, mul-le-mul (c .pre .0) (c .pre .1))
 cast-result : tie.Need-cast-result
 cast-result c = omega (arith, mul-le-mul (c .pre .0) (c .pre .1))
 
-returns : tie.Need-returns
-returns c = search needs
-
 pub times-spec : {M : Type 1} → statement M
-times-spec = tie.close (tie.spec mul-result cast-result returns)
+times-spec = tie.close (tie.spec mul-result cast-result (λ c. search needs))

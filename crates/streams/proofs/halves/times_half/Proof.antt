@@ -4,18 +4,6 @@ use Rattle.streams.specs.Halves.{product-parts, product-fits}
 use Rattle.streams.proofs.halves.times_half.Statement.{statement}
 use Rattle.streams.proofs.halves.times_half.Tie as tie
 
-upper-requires : tie.Need-upper-requires
-upper-requires c κs = search needs
-
-times-requires : tie.Need-times-requires
-times-requires c κs = search needs
-
-lower-requires : tie.Need-lower-requires
-lower-requires c κs = search needs
-
-times-requires-2 : tie.Need-times-requires-2
-times-requires-2 c κs = search needs
-
 returns : tie.Need-returns
 returns c =
     let a = c .before .before .before .before .args in
@@ -29,4 +17,4 @@ add-result c = let a = c .before .before .before .before .args in omega (arith, 
 pub times-half-spec : {M : Type 1} → statement M
 times-half-spec =
     tie.close
-    (tie.spec upper-requires times-requires lower-requires times-requires-2 add-result returns)
+    (tie.spec (λ c κs. search needs) (λ c κs. search needs) (λ c κs. search needs) (λ c κs. search needs) add-result returns)

@@ -20,12 +20,14 @@ div-there : tie.Need-div-there Inv-loop μ-loop
 div-there c = let l = c .before .loop in
     size-pos _ _ _ _ (l .rest) (l .size) (l .next) (c .before .before .before .pre .0) (c .loop-test .taken) (l .inv)
 
-chosen : (c : tie.In-loop Inv-loop μ-loop) → (let l = c .before .loop in let n = c .before .before .before .args .count in l .next + l .rest / (l .size / (n - l .next)) < n)
+chosen : (c : tie.In-loop Inv-loop μ-loop)
+    → (let l = c .before .loop in let n = c .before .before .before .args .count in l .next + l .rest / (l .size / (n - l .next)) < n)
 chosen c =
     let l = c .before .loop in
     omega (arith, pick _ _ _ _ (l .rest) (l .size) (l .next) (c .before .before .before .pre .0) (c .loop-test .taken) (l .inv))
 
-within : (c : tie.In-loop Inv-loop μ-loop) → (let l = c .before .loop in let n = c .before .before .before .args .count in l .next + l .rest / (l .size / (n - l .next)) < 8)
+within : (c : tie.In-loop Inv-loop μ-loop)
+    → (let l = c .before .loop in let n = c .before .before .before .args .count in l .next + l .rest / (l .size / (n - l .next)) < 8)
 within c = omega (arith, chosen c, c .before .before .before .pre .0)
 
 loop-again : tie.Need-loop-again Inv-loop μ-loop

@@ -22,7 +22,8 @@ abbrev taken : ℕ → ℕ → List ℕ → ℕ → ℕ
 taken showing blocks row = pairTime (showingOf showing) (λ (t : ℕ). t) (laid row) blocks
 
 abbrev Inv-loop : tie.InvT-loop
-Inv-loop blocks showing row pairs worst₀ b₀ worst b = (pairs ≡ pairsOf (showingOf showing) blocks) × (b ≤ pairs) × (worst ≡ greatestOf (taken showing blocks row) b) × (worst ≤ 2 * maxTime)
+Inv-loop blocks showing row pairs worst₀ b₀ worst b = (pairs ≡ pairsOf (showingOf showing) blocks) × (b ≤ pairs)
+    × (worst ≡ greatestOf (taken showing blocks row) b) × (worst ≤ 2 * maxTime)
 
 abbrev μ-loop : tie.MeasureT-loop
 μ-loop blocks showing row pairs worst₀ b₀ worst b = pairs - b
@@ -76,15 +77,22 @@ loop-again c =
     let x = showingOf (a .showing) in
     let g = taken (a .showing) (a .blocks) (a .t1) in
     let e : after x (a .blocks) (l .b) ≡ n .next-block .result = after-round x (a .blocks) (l .b) (inside i .0) ∙ sym (n .next-block .ensures) in
-    let q : g (l .b) ≡ getD (a .t1) (l .b) 0 + getD (a .t1) (n .next-block .result) 0 = ap (λ (k : ℕ). getD (a .t1) (l .b) 0 + getD (a .t1) k 0) e in
-    (l .inv .0, omega (arith, i .loop-test .taken), omega (arith, c .greater .ensures, greatest-next g (l .b), q, l .inv .2), omega (arith, c .greater .ensures, time-small n (l .b), time-small n (n .next-block .result), l .inv .3))
+    let q : g (l .b) ≡ getD (a .t1) (l .b) 0 + getD (a .t1) (n .next-block .result) 0 = ap (λ (k : ℕ). getD (a .t1) (l .b) 0 + getD (a .t1) k 0) e in (
+      l .inv .0,
+      omega (arith, i .loop-test .taken),
+      omega (arith, c .greater .ensures, greatest-next g (l .b), q, l .inv .2),
+      omega (arith, c .greater .ensures, time-small n (l .b), time-small n (n .next-block .result), l .inv .3),
+    )
 
 returns : tie.Need-returns Inv-loop μ-loop
 returns c =
     let l = c .before .loop in
     let a = c .before .before .before .args in
-    let e : l .b ≡ pairsOf (showingOf (a .showing)) (a .blocks) = omega (arith, l .inv .0, l .inv .1, c .loop-test .left) in
-    (l .inv .2 ∙ ap (greatestOf (taken (a .showing) (a .blocks) (a .t1))) e ∙ sym (worst-pair (showingOf (a .showing)) (λ (t : ℕ). t) (laid (a .t1)) (a .blocks)), l .inv .3)
+    let e : l .b ≡ pairsOf (showingOf (a .showing)) (a .blocks) = omega (arith, l .inv .0, l .inv .1, c .loop-test .left) in (
+      l .inv .2 ∙ ap (greatestOf (taken (a .showing) (a .blocks) (a .t1))) e
+          ∙ sym (worst-pair (showingOf (a .showing)) (λ (t : ℕ). t) (laid (a .t1)) (a .blocks)),
+      l .inv .3,
+    )
 
 pub worst-of-spec : {M : Type 1} → statement M
 worst-of-spec =

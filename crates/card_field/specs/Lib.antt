@@ -1,0 +1,4 @@
+pub mod Figure
+pub mod RangeLaws
+pub mod Ranges
+pub mod Row

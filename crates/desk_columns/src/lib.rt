@@ -1,0 +1,141 @@
+// A desk where it lies in a lent byte string: one reader for each number, and for each array one of an entry or of all.
+use desk_layout::offsets;
+use plan_layout::offsets as plan_offsets;
+use words::read_64;
+use words::read_256;
+use words::read_257;
+use words::word_at;
+ghost use mathlib.Core.Path.{_≡_};
+ghost use Prim.Native.Nat.{_≤_, _<_};
+ghost use lib.ListN.{length, getD};
+ghost use Rattle.numbers.specs.Limits.{maxStreams};
+ghost use Rattle.words.specs.Words.{wordsOf};
+ghost use Rattle.desk_layout.specs.Layout.{deskIn, deskSize};
+
+// N.
+pub fn blocks_in(desk: &[u8]) -> u32
+    requires { ⌜ deskSize ≤ length (now desk) ⌝ }
+    ensures { λ r. ⌜ r ≡ deskIn (wordsOf (now (desk .entry))) .plan .figures .blocks ⌝ }
+{
+    word_at(desk, plan_offsets::BLOCKS)
+}
+
+// B, the bytes of a block.
+pub fn bytes_in(desk: &[u8]) -> u32
+    requires { ⌜ deskSize ≤ length (now desk) ⌝ }
+    ensures { λ r. ⌜ r ≡ deskIn (wordsOf (now (desk .entry))) .plan .figures .bytes ⌝ }
+{
+    word_at(desk, plan_offsets::BYTES)
+}
+
+// c.
+pub fn rate_in(desk: &[u8]) -> u32
+    requires { ⌜ deskSize ≤ length (now desk) ⌝ }
+    ensures { λ r. ⌜ r ≡ deskIn (wordsOf (now (desk .entry))) .plan .figures .rate ⌝ }
+{
+    word_at(desk, plan_offsets::RATE)
+}
+
+// n.
+pub fn streams_in(desk: &[u8]) -> u32
+    requires { ⌜ deskSize ≤ length (now desk) ⌝ }
+    ensures { λ r. ⌜ r ≡ deskIn (wordsOf (now (desk .entry))) .plan .streams ⌝ }
+{
+    word_at(desk, plan_offsets::STREAMS)
+}
+
+// The buffer of a slot.
+pub fn buffer_in(desk: &[u8]) -> u32
+    requires { ⌜ deskSize ≤ length (now desk) ⌝ }
+    ensures { λ r. ⌜ r ≡ deskIn (wordsOf (now (desk .entry))) .plan .buffer ⌝ }
+{
+    word_at(desk, plan_offsets::BUFFER)
+}
+
+// The word of the showing.
+pub fn showing_in(desk: &[u8]) -> u32
+    requires { ⌜ deskSize ≤ length (now desk) ⌝ }
+    ensures { λ r. ⌜ r ≡ deskIn (wordsOf (now (desk .entry))) .plan .showing ⌝ }
+{
+    word_at(desk, plan_offsets::SHOWING)
+}
+
+// The phase.
+pub fn phase_in(desk: &[u8]) -> u32
+    requires { ⌜ deskSize ≤ length (now desk) ⌝ }
+    ensures { λ r. ⌜ r ≡ deskIn (wordsOf (now (desk .entry))) .phase ⌝ }
+{
+    word_at(desk, offsets::PHASE)
+}
+
+// The kind of slot i.
+pub fn kind_in(desk: &[u8], i: usize) -> u32
+    requires { ⌜ (i < maxStreams) × (deskSize ≤ length (now desk)) ⌝ }
+    ensures { λ r. ⌜ r ≡ getD (deskIn (wordsOf (now (desk .entry))) .kinds) i 0 ⌝ }
+{
+    word_at(desk, offsets::KINDS + i)
+}
+
+// The next block of slot i.
+pub fn next_in(desk: &[u8], i: usize) -> u32
+    requires { ⌜ (i < maxStreams) × (deskSize ≤ length (now desk)) ⌝ }
+    ensures { λ r. ⌜ r ≡ getD (deskIn (wordsOf (now (desk .entry))) .next) i 0 ⌝ }
+{
+    word_at(desk, offsets::NEXT + i)
+}
+
+// The bytes that slot i holds.
+pub fn held_in(desk: &[u8], i: usize) -> u32
+    requires { ⌜ (i < maxStreams) × (deskSize ≤ length (now desk)) ⌝ }
+    ensures { λ r. ⌜ r ≡ getD (deskIn (wordsOf (now (desk .entry))) .held) i 0 ⌝ }
+{
+    word_at(desk, offsets::HELD + i)
+}
+
+// The kinds of all slots.
+pub fn all_kinds(desk: &[u8]) -> [u32; 256]
+    requires { ⌜ deskSize ≤ length (now desk) ⌝ }
+    ensures { λ r. ⌜ r ≡ deskIn (wordsOf (now (desk .entry))) .kinds ⌝ }
+{
+    read_256(desk, offsets::KINDS)
+}
+
+// The next blocks of all slots.
+pub fn all_next(desk: &[u8]) -> [u32; 256]
+    requires { ⌜ deskSize ≤ length (now desk) ⌝ }
+    ensures { λ r. ⌜ r ≡ deskIn (wordsOf (now (desk .entry))) .next ⌝ }
+{
+    read_256(desk, offsets::NEXT)
+}
+
+// The held bytes of all slots.
+pub fn all_held(desk: &[u8]) -> [u32; 256]
+    requires { ⌜ deskSize ≤ length (now desk) ⌝ }
+    ensures { λ r. ⌜ r ≡ deskIn (wordsOf (now (desk .entry))) .held ⌝ }
+{
+    read_256(desk, offsets::HELD)
+}
+
+// The positions of the zones.
+pub fn zone_sizes(desk: &[u8]) -> [u32; 64]
+    requires { ⌜ deskSize ≤ length (now desk) ⌝ }
+    ensures { λ r. ⌜ r ≡ deskIn (wordsOf (now (desk .entry))) .plan .figures .positions ⌝ }
+{
+    read_64(desk, plan_offsets::POSITIONS)
+}
+
+// The times of the zones.
+pub fn zone_times(desk: &[u8]) -> [u32; 64]
+    requires { ⌜ deskSize ≤ length (now desk) ⌝ }
+    ensures { λ r. ⌜ r ≡ deskIn (wordsOf (now (desk .entry))) .plan .figures .times ⌝ }
+{
+    read_64(desk, plan_offsets::TIMES)
+}
+
+// The table of overheads.
+pub fn overheads(desk: &[u8]) -> [u32; 257]
+    requires { ⌜ deskSize ≤ length (now desk) ⌝ }
+    ensures { λ r. ⌜ r ≡ deskIn (wordsOf (now (desk .entry))) .plan .figures .table ⌝ }
+{
+    read_257(desk, plan_offsets::TABLE)
+}

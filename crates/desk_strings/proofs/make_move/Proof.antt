@@ -1,0 +1,63 @@
+use borrow.Author.Needs.{needs}
+use Rattle.desk.specs.declared.Desk.{Desk}
+use Rattle.admission.specs.Moves.{moveDesk}
+use Rattle.desk_strings.specs.Inner.{moveAnswer, moveString}
+use Rattle.desk_strings.proofs.Judged.{other-call, Judged, move-left, move-room, move-put}
+use Rattle.desk_strings.proofs.make_move.Statement.{statement}
+use Rattle.desk_strings.proofs.make_move.Tie as tie
+
+-- ---- the places, each from a later one
+
+-- the string has the right length
+abbrev right : tie.After-judge-move → tie.Else1
+right c = c .before .before
+
+abbrev start : tie.After-judge-move → tie.Start
+start c = right c .before .before .before .before
+
+abbrev accepted : tie.After-next-after → tie.Else2
+accepted c = c .before .before .before .before
+
+-- ---- what is known there
+
+judged : (c : tie.After-judge-move) → (let a = start c .args in Judged (λ (d : Desk). moveDesk d (a .positions .now) (a .leads .now) (a .step))
+    (a .desk .now) (c .judge-move .result))
+judged c = record { right = right c .if1 .left; verdict = c .judge-move .ensures; bytes = right c .before .before .before .slice-known .given }
+
+-- ---- the needs
+
+returns : tie.Need-returns
+unfolding moveAnswer moveString
+returns c = other-call _ _ _ _ (c .before .if1 .taken) (c .number-answer .ensures)
+
+returns-2 : tie.Need-returns-2
+returns-2 c = move-left _ _ _ _ _ (judged (c .before .before .before)) (c .before .if2 .taken) _ (c .verdict-answer .ensures)
+
+put-slot-requires : tie.Need-put-slot-requires
+put-slot-requires c κs = let e = accepted c in move-room _ _ _ _ _ (judged (e .before .before)) (e .if2 .left)
+
+returns-3 : tie.Need-returns-3
+returns-3 c =
+    let p = c .before .before .before in
+    let n = p .before in
+    let e = accepted n in
+    move-put _ _ _ _ _ (judged (e .before .before)) (e .if2 .left) _ _ (n .before .kind-after .ensures) (n .next-after .ensures)
+    (c .verdict-answer2 .ensures) (p .put-slot .ensures)
+
+pub make-move-spec : {M : Type 1} → statement M
+make-move-spec =
+    tie.close
+    (tie.spec
+    (λ c κs. search needs)
+    returns
+    (λ c κs. search needs)
+    (λ c κs. search needs)
+    (λ c. search needs)
+    returns-2
+    (λ c. search needs)
+    (λ c κs. search needs)
+    (λ c κs. search needs)
+    put-slot-requires
+    (λ c κs. search needs)
+    (λ c. search needs)
+    returns-3)

@@ -1,0 +1,286 @@
+-- The judge of a record refuses nothing just where the figures are legal.
+-- Assumes nothing.
+use Prim.Native.Nat.{ℕ, zero, suc, _+_, _*_, _-_, _≤_, _<_}
+use mathlib.Core.Path.{_≡_, refl, sym, ap, _∙_, subst}
+use mathlib.Core.Logic.{_⊎_, by-cases, _↔_}
+use mathlib.Core.List.{List, [], _∷_}
+use mathlib.Core.Bool.{Bool, true, false, cond}
+use native.Mathlib.Omega.{arith}
+use native.Mathlib.Decide.{decLt, ℕ-discrete}
+use lib.ListN.{length, getD, take, drop, length-drop, List·getD-eq-default}
+use lib.Seq.{drop-cons, getD-drop}
+use lib.Dec.{eqb}
+use borrow.Author.Tests.{eqb-true, eq-eqb}
+use Rattle.laws.specs.Bools.{and-left, and-right, and-both}
+use Rattle.laws.specs.Runs.{allBy, all-at, sumBy}
+use Rattle.numbers.specs.Limits.{straightKind, measuredKind, maxZones, maxPositions, maxTime, timesAsFast, minBlocks, maxBlocks, maxBytes, maxRate, tableLength}
+use Rattle.numbers.specs.Refusals.{wrongZones}
+use Rattle.card.specs.declared.Figures.{Figures}
+use Rattle.card.specs.declared.Verdict.{Verdict}
+use Rattle.card_field.specs.declared.Rule.the-variants.{Kind, Zones, Positions, Measure}
+use Rattle.card_field.specs.Ranges.{faultOf, timeFault, blocksFault}
+use Rattle.card_table.specs.TableFaults.{TableLegal, fault-table, table-fault}
+use Rattle.card.specs.Card.{Legal, totalPositions, filmFault, zoneFaults, zerosFrom, unusedZero, recordFault, judgeRecord}
+use Rattle.card.specs.Read.{accepted}
+use Rattle.card_field.specs.RangeLaws.{first-none, first-clear, kind-range, zones-range, positions-range, time-range, blocks-range}
+use Rattle.card_field.specs.RangeLaws.{measure-range, kind-legal, zones-legal, positions-legal, time-legal, blocks-legal, measure-legal}
+
+-- a record has 64 zone entries and 257 overheads
+abbrev pub Wide : Figures → Type 0
+Wide f = (length (f .positions) ≡ maxZones) × (length (f .times) ≡ maxZones) × (length (f .table) ≡ tableLength)
+
+-- the kind of a record is 1 or 2
+abbrev pub Kinded : Figures → Type 0
+Kinded f = (f .kind ≡ straightKind) ⊎ (f .kind ≡ measuredKind)
+
+-- ---- the film
+
+-- N, B, c and the overheads in their ranges, total being P
+pub record FilmLegal (f : Figures) (total : ℕ) : Type 0 where
+  pub blocks : (minBlocks ≤ f .blocks) × (f .blocks ≤ maxBlocks)
+  pub room : f .blocks ≤ total
+  pub bytes : (1 ≤ f .bytes) × (f .bytes ≤ maxBytes)
+  pub rate : (1 ≤ f .rate) × (f .rate ≤ maxRate)
+  pub table : TableLegal (f .kind) (f .table)
+
+-- a film that is not refused is legal, and back
+pub fault-film : (f : Figures) (total : ℕ) → length (f .table) ≡ tableLength → filmFault f total ≡ 0 → FilmLegal f total
+unfolding filmFault
+fault-film f total w e =
+    let n = first-none (blocksFault total (f .blocks)) _ e in
+    let b = first-none (faultOf Measure maxBytes (f .bytes)) _ (n .1) in
+    let c = first-none (faultOf Measure maxRate (f .rate)) _ (b .1) in
+    let blocks = blocks-range total (f .blocks) (n .0) in
+    record {
+      blocks = (blocks .0, blocks .1);
+      room = blocks .2;
+      bytes = measure-range maxBytes (f .bytes) (b .0);
+      rate = measure-range maxRate (f .rate) (c .0);
+      table = fault-table (f .kind) (f .table) w (c .1);
+    }
+
+film-fault : (f : Figures) (total : ℕ) → Kinded f → FilmLegal f total → filmFault f total ≡ 0
+unfolding filmFault
+film-fault f total k l =
+    first-clear (blocks-legal total (f .blocks) (l .blocks .0) (l .blocks .1) (l .room))
+    (first-clear (measure-legal maxBytes (f .bytes) (l .bytes .0) (l .bytes .1))
+    (first-clear (measure-legal maxRate (f .rate) (l .rate .0) (l .rate .1)) (table-fault (f .kind) (f .table) k (l .table))))
+
+-- ---- the zones
+
+-- the positions of `left` zones from the i-th on
+unfoldable sumFrom : ℕ → ℕ → Figures → ℕ
+sumFrom left i f = sumBy (λ (p : ℕ). p) (take left (drop i (f .positions)))
+
+-- the sum's two clauses
+sum-none : (i : ℕ) (f : Figures) → sumFrom 0 i f ≡ 0
+unfolding sumFrom sumBy
+sum-none i f = refl
+
+sum-here : (left i : ℕ) (f : Figures) → i < length (f .positions) → sumFrom (suc left) i f ≡ getD (f .positions) i 0 + sumFrom left (i + 1) f
+unfolding sumFrom sumBy
+sum-here left i f h = let e : i + 1 ≡ suc i = omega arith in rw (drop-cons (f .positions) i 0 h, e)
+
+-- `left` zones from the i-th on and the film are legal, after zones of `total` positions of which the last has the time `before`
+record ZonesLegal (left i : ℕ) (f : Figures) (total before : ℕ) : Type 0 where
+  positions : (j : ℕ) → i ≤ j → j < i + left → 1 ≤ getD (f .positions) j 0
+  times : (j : ℕ) → i ≤ j → j < i + left → (1 ≤ getD (f .times) j 0) × (getD (f .times) j 0 ≤ maxTime)
+  start : 0 < left → getD (f .times) i 0 ≤ before
+  falling : (j : ℕ) → i ≤ j → suc j < i + left → getD (f .times) (suc j) 0 ≤ getD (f .times) j 0
+  thrice : (j : ℕ) → i ≤ j → j < i + left → getD (f .times) 0 0 ≤ timesAsFast * getD (f .times) j 0
+  sum : total + sumFrom left i f ≤ maxPositions
+  film : FilmLegal f (total + sumFrom left i f)
+
+-- a fact at i and from the next on is a fact from i on
+from-here : (P : ℕ → Type 0) (i left : ℕ) → P i → ((j : ℕ) → i + 1 ≤ j → j < i + 1 + left → P j) → (j : ℕ) → i ≤ j → j < i + suc left → P j
+from-here P i left here later j l h = by-cases (ℕ-discrete i j) (λ e. subst P e here) (λ n. later j (omega arith) (omega arith))
+
+-- zones that are not refused are legal
+fault-zones-legal : (left i : ℕ) (f : Figures) (total before : ℕ) → i + left ≤ length (f .positions) → length (f .table) ≡ tableLength → total ≤ maxPositions
+    → zoneFaults left i f total before ≡ 0 → ZonesLegal left i f total before
+unfolding zoneFaults
+fault-zones-legal zero i f total before w x t e =
+    let sum : total + sumFrom 0 i f ≡ total = omega (arith, sum-none i f) in
+    record {
+      positions = λ j l h. absurd (omega arith);
+      times = λ j l h. absurd (omega arith);
+      start = λ h. absurd (omega arith);
+      falling = λ j l h. absurd (omega arith);
+      thrice = λ j l h. absurd (omega arith);
+      sum = omega arith;
+      film = fault-film f (total + sumFrom 0 i f) x (rw sum e);
+    }
+fault-zones-legal (suc left) i f total before w x t e =
+    let p = first-none (faultOf Positions total (getD (f .positions) i 0)) _ e in
+    let q = first-none (timeFault (getD (f .times) 0 0) before (getD (f .times) i 0)) _ (p .1) in
+    let few = positions-range total (getD (f .positions) i 0) (p .0) in
+    let slow = time-range before (getD (f .times) i 0) (getD (f .times) 0 0) (q .0) in
+    let later = fault-zones-legal left (i + 1) f (total + getD (f .positions) i 0) (getD (f .times) i 0) (omega arith) x (few .1) (q .1) in
+    let next : i + 1 ≡ suc i = omega arith in
+    let sum : total + sumFrom (suc left) i f ≡ total + getD (f .positions) i 0 + sumFrom left (i + 1) f = omega (arith, sum-here left i f (omega arith)) in
+    record {
+      positions = from-here (λ j. 1 ≤ getD (f .positions) j 0) i left (few .0) (later .positions);
+      times = from-here (λ j. (1 ≤ getD (f .times) j 0) × (getD (f .times) j 0 ≤ maxTime)) i left (slow .0, slow .1) (later .times);
+      start = λ h. slow .2;
+      falling = λ j l h. by-cases (ℕ-discrete i j)
+          (λ n. subst (λ (k : ℕ). getD (f .times) (suc k) 0 ≤ getD (f .times) k 0) n (rw (sym next) (later .start (omega arith))))
+          (λ n. later .falling j (omega arith) (omega arith));
+      thrice = from-here (λ j. getD (f .times) 0 0 ≤ timesAsFast * getD (f .times) j 0) i left (slow .3) (later .thrice);
+      sum = omega (arith, later .sum);
+      film = rw sum (later .film);
+    }
+
+-- legal zones are not refused
+zones-legal-fault : (left i : ℕ) (f : Figures) (total before : ℕ) → i + left ≤ length (f .positions) → Kinded f
+    → ZonesLegal left i f total before → zoneFaults left i f total before ≡ 0
+unfolding zoneFaults
+zones-legal-fault zero i f total before w k l =
+    let sum : total + sumFrom 0 i f ≡ total = omega (arith, sum-none i f) in
+    rw sum at (film-fault f (total + sumFrom 0 i f) k (l .film))
+zones-legal-fault (suc left) i f total before w k l =
+    let sum : total + sumFrom (suc left) i f ≡ total + getD (f .positions) i 0 + sumFrom left (i + 1) f = omega (arith, sum-here left i f (omega arith)) in
+    let next : i + 1 ≡ suc i = omega arith in
+    let times = l .times i (omega arith) (omega arith) in
+    let later : ZonesLegal left (i + 1) f (total + getD (f .positions) i 0) (getD (f .times) i 0) = record {
+      positions = λ j m h. l .positions j (omega arith) (omega arith);
+      times = λ j m h. l .times j (omega arith) (omega arith);
+      start = λ h. rw next (l .falling i (omega arith) (omega arith));
+      falling = λ j m h. l .falling j (omega arith) (omega arith);
+      thrice = λ j m h. l .thrice j (omega arith) (omega arith);
+      sum = omega (arith, l .sum);
+      film = rw (sym sum) (l .film);
+    } in
+    first-clear (positions-legal total (getD (f .positions) i 0) (l .positions i (omega arith) (omega arith)) (omega (arith, l .sum)))
+    (first-clear
+    (time-legal before (getD (f .times) i 0) (getD (f .times) 0 0) (times .0) (times .1) (l .start (omega arith)) (l .thrice i (omega arith) (omega arith)))
+    (zones-legal-fault left (i + 1) f (total + getD (f .positions) i 0) (getD (f .times) i 0) (omega arith) k later))
+
+-- ---- the unused zones
+
+-- the entries from the z-th on are zero
+abbrev zeros : ℕ → List ℕ → Bool
+zeros z xs = allBy (λ (v : ℕ). eqb v 0) (drop z xs)
+
+-- a test that holds at each index holds of the list
+all-by : (g : ℕ → Bool) (xs : List ℕ) → ((i : ℕ) → i < length xs → g (getD xs i 0) ≡ true) → allBy g xs ≡ true
+unfolding allBy
+all-by g [] h = refl
+all-by g (x ∷ xs) h = and-both (h 0 (omega arith)) (all-by g xs (λ i l. h (suc i) (omega arith)))
+
+-- the test on the unused entries says that each of them is zero, and back
+zeros-at : (z : ℕ) (xs : List ℕ) → zeros z xs ≡ true → (i : ℕ) → z ≤ i → getD xs i 0 ≡ 0
+zeros-at z xs e i l = by-cases (decLt i (length xs)) inside (λ h. List·getD-eq-default xs 0 (omega arith))
+  where
+    inside : i < length xs → getD xs i 0 ≡ 0
+    inside h =
+        let index : z + (i - z) ≡ i = omega arith in
+        let zero-here = all-at 0 (λ (v : ℕ). eqb v 0) (drop z xs) (i - z) e (omega (arith, length-drop z xs)) in
+        rw index at (sym (getD-drop z xs (i - z) 0) ∙ eqb-true (getD (drop z xs) (i - z) 0) 0 zero-here)
+
+at-zeros : (z : ℕ) (xs : List ℕ) → ((i : ℕ) → z ≤ i → getD xs i 0 ≡ 0) → zeros z xs ≡ true
+at-zeros z xs h = all-by (λ (v : ℕ). eqb v 0) (drop z xs) (λ i l. eq-eqb (getD (drop z xs) i 0) 0 (getD-drop z xs i 0 ∙ h (z + i) (omega arith)))
+
+-- ---- the record
+
+-- entries past the zone count are zero
+abbrev pub Unused : Figures → Type 0
+Unused f = (i : ℕ) → f .zones ≤ i → (getD (f .positions) i 0 ≡ 0) × (getD (f .times) i 0 ≡ 0)
+
+-- no refusal by 4
+clear : (t : Bool) → _≡_ {A = ℕ} (cond t 0 wrongZones) 0 → t ≡ true
+clear true e = refl
+clear false e = absurd (omega arith)
+
+-- what the judge of a record looks at, one by one
+pub record Judged (f : Figures) : Type 0 where
+  pub kind : Kinded f
+  pub zones : (1 ≤ f .zones) × (f .zones ≤ maxZones)
+  pub unused : Unused f
+  pub faults : zoneFaults (f .zones) 0 f 0 maxTime ≡ 0
+
+-- a record without a fault has none of these, and back
+pub fault-judged : (f : Figures) → recordFault f ≡ 0 → Judged f
+unfolding recordFault unusedZero zerosFrom
+fault-judged f e =
+    let k = first-none (faultOf Kind 0 (f .kind)) _ e in
+    let z = first-none (faultOf Zones 0 (f .zones)) _ (k .1) in
+    let u = first-none (cond (unusedZero f) 0 wrongZones) _ (z .1) in
+    let both = clear (unusedZero f) (u .0) in
+    let ps = and-left (zeros (f .zones) (f .positions)) _ both in
+    let ts = and-right (zeros (f .zones) (f .positions)) _ both in
+    record {
+      kind = kind-range 0 (f .kind) (k .0);
+      zones = zones-range 0 (f .zones) (z .0);
+      unused = λ i l. (zeros-at (f .zones) (f .positions) ps i l, zeros-at (f .zones) (f .times) ts i l);
+      faults = u .1;
+    }
+
+pub judged-fault : (f : Figures) → Judged f → recordFault f ≡ 0
+unfolding recordFault unusedZero zerosFrom
+judged-fault f j =
+    let ps = at-zeros (f .zones) (f .positions) (λ i l. j .unused i l .0) in
+    let ts = at-zeros (f .zones) (f .times) (λ i l. j .unused i l .1) in
+    let both : unusedZero f ≡ true = and-both ps ts in
+    first-clear (kind-legal 0 (f .kind) (j .kind)) (first-clear (zones-legal 0 (f .zones) (j .zones .0) (j .zones .1)) (first-clear (rw both) (j .faults)))
+
+-- the positions from the first zone on are P
+sum-total : (f : Figures) → 0 + sumFrom (f .zones) 0 f ≡ totalPositions f
+unfolding sumFrom totalPositions
+sum-total f = omega arith
+
+-- FIGURES THAT ARE NOT REFUSED ARE LEGAL
+pub fault-legal : (f : Figures) → Wide f → recordFault f ≡ 0 → Legal f
+fault-legal f w e =
+    let j = fault-judged f e in
+    let l = fault-zones-legal (f .zones) 0 f 0 maxTime (omega (arith, j .zones)) (w .2) (omega arith) (j .faults) in
+    record {
+      wide = w;
+      kind = j .kind;
+      zones = j .zones;
+      unused = j .unused;
+      positions = λ i h. l .positions i (omega arith) (omega arith);
+      total = omega (arith, l .sum, sum-total f);
+      times = λ i h. l .times i (omega arith) (omega arith);
+      falling = λ i h. l .falling i (omega arith) (omega arith);
+      thrice = λ i h. l .thrice i (omega arith) (omega arith);
+      blocks = l .film .blocks;
+      room = omega (arith, l .film .room, sum-total f);
+      bytes = l .film .bytes;
+      rate = l .film .rate;
+      straight = l .film .table .straight;
+      measured = l .film .table .measured;
+    }
+
+-- LEGAL FIGURES ARE NOT REFUSED
+pub legal-fault : (f : Figures) → Legal f → recordFault f ≡ 0
+legal-fault f l =
+    let film : FilmLegal f (0 + sumFrom (f .zones) 0 f) = record {
+      blocks = l .blocks;
+      room = omega (arith, l .room, sum-total f);
+      bytes = l .bytes;
+      rate = l .rate;
+      table = record { straight = l .straight; measured = l .measured };
+    } in
+    let zones : ZonesLegal (f .zones) 0 f 0 maxTime = record {
+      positions = λ j m h. l .positions j (omega arith);
+      times = λ j m h. l .times j (omega arith);
+      start = λ h. l .times 0 h .1;
+      falling = λ j m h. l .falling j (omega arith);
+      thrice = λ j m h. l .thrice j (omega arith);
+      sum = omega (arith, l .total, sum-total f);
+      film = film;
+    } in
+    judged-fault f (record {
+      kind = l .kind;
+      zones = l .zones;
+      unused = l .unused;
+      faults = zones-legal-fault (f .zones) 0 f 0 maxTime (omega (arith, l .zones, l .wide)) (l .kind) zones;
+    })
+
+-- THE JUDGE ACCEPTS EXACTLY THE LEGAL FIGURES
+pub judge-legal : (f : Figures) → Wide f → ((judgeRecord f ≡ accepted) ↔ Legal f) × ((recordFault f ≡ 0) ↔ Legal f)
+unfolding judgeRecord
+judge-legal f w = (
+  (λ e. fault-legal f w (ap (λ (v : Verdict). v .number) e), λ l. ap (λ (k : ℕ). record { number = k; place = 0 }) (legal-fault f l)),
+  (fault-legal f w, legal-fault f),
+)

@@ -1,0 +1,51 @@
+use Prim.Native.Nat.{ℕ}
+use mathlib.Core.Path.{_≡_, sym, ap, ap₂, _∙_}
+use mathlib.Core.Bool.{Bool, _&&_}
+use lib.Dec.{ltb}
+use Rattle.card.specs.Card.{recordFault}
+use Rattle.legality.specs.Legality.{fault-legal}
+use Rattle.plan.specs.declared.Plan.{Plan}
+use Rattle.plan.specs.Plan.{showingIn, lentPlan}
+use Rattle.plan.specs.Answer.{sameNumbers}
+use Rattle.plan.specs.Ways.{plan-streams, not-legal, numbers-decide}
+use borrow.Author.Needs.{needs}
+use Rattle.plan_check.proofs.has_numbers.Statement.{statement}
+use Rattle.plan_check.proofs.has_numbers.Tie as tie
+
+-- the plan that is lent
+abbrev given : tie.Start → Plan
+given c = let a = c .args in lentPlan (a .figures) (a .sizes .now) (a .times .now) (a .table .now) (a .plan)
+
+-- past the judge
+clear : (c : tie.Else1) → recordFault (given (c .before .before) .figures) ≡ 0
+clear c = sym (c .before .fault-of-figures .ensures) ∙ c .if1 .left
+
+fault-of-figures-requires : tie.Need-fault-of-figures-requires
+fault-of-figures-requires c κs = c .pre
+
+returns : tie.Need-returns
+returns c = not-legal (given (c .before .before)) (λ e. c .if1 .taken (c .before .fault-of-figures .ensures ∙ e))
+
+plan-numbers-requires : tie.Need-plan-numbers-requires
+plan-numbers-requires c κs = let s = c .before .before in fault-legal (given s .figures) (s .pre) (clear c)
+
+returns-2 : tie.Need-returns-2
+returns-2 c = let o = c .before .before .before in
+    let e = o .before in
+    let p = given (e .before .before) in
+    let own = o .plan-numbers .ensures in
+    c .both .ensures
+    ∙ ap₂ (λ (n : ℕ) (t : Bool). ltb 0 n && t) (plan-streams (showingIn p) (p .figures) _ own)
+    (c .before .same-numbers .ensures (p .figures) ∙ ap (λ (q : Plan). sameNumbers p q) own)
+    ∙ numbers-decide p (clear e)
+
+pub has-numbers-spec : {M : Type 1} → statement M
+has-numbers-spec =
+    tie.close
+    (tie.spec
+    fault-of-figures-requires
+    returns
+    plan-numbers-requires
+    (λ c κs. search needs)
+    (λ c κs. search needs)
+    returns-2)

@@ -1,0 +1,90 @@
+use Prim.Native.Nat.{ℕ}
+use mathlib.Core.Path.{_≡_, sym, ap, ap₂, _∙_}
+use mathlib.Core.Bool.{true, false, _&&_, and-true}
+use mathlib.Core.List.{List}
+use borrow.Author.Tests.{not-true, not-false}
+use Rattle.words.specs.Words.{wordsOf}
+use Rattle.card.specs.Card.{totalPositions}
+use Rattle.plan.specs.declared.Plan.{Plan}
+use Rattle.plan.specs.Legal.{legal-zoned, total-zones}
+use Rattle.plan.specs.Plan.{showingIn, lentPlan}
+use Rattle.plan.specs.Answer.{begins, hasNumbers, hasPositions, hasLeads}
+use Rattle.plan.specs.Check.{Numbered, numbered}
+use Rattle.plan.specs.Ways.{plan-worst2, film-on, small-on, positions-are, leads-are}
+use borrow.Author.Needs.{needs}
+use Rattle.plan_check.proofs.is_plan_with.Statement.{statement}
+use Rattle.plan_check.proofs.is_plan_with.Tie as tie
+
+-- the plan that is lent
+abbrev given : tie.Start → Plan
+given c = let a = c .args in lentPlan (a .figures) (a .sizes .now) (a .times .now) (a .table .now) (a .plan)
+
+abbrev start : (c : tie.Else1) → tie.Start
+start c = c .before .before .before .before
+
+passed : (c : tie.Else1) → hasNumbers (given (start c)) ≡ true
+passed c = sym (c .before .has-numbers .ensures) ∙ not-false _ (c .if1 .left)
+
+has : (c : tie.Else1) → Numbered (given (start c))
+has c = numbered (given (start c)) (start c .pre) (passed c)
+
+abbrev first : (c : tie.After-sum-positions) → tie.Else1
+first c = c .before
+
+sum : (c : tie.After-sum-positions) → c .sum-positions .result ≡ totalPositions (given (start (first c)) .figures)
+sum c = c .sum-positions .ensures ∙ total-zones (given (start (first c)) .figures) (has (first c) .legal)
+
+-- the positions
+placed : (c : tie.After-same-positions) → (let s = start (first (c .before)) in c .same-positions .result ≡ hasPositions (given s) (s .args .positions .now))
+unfolding hasPositions
+placed c = let s = start (first (c .before)) in
+    let p = given s in
+    c .same-positions .ensures
+    ∙ ap (λ (x : List ℕ). begins x (wordsOf (s .args .positions .now)))
+    (positions-are (p .figures) (has (first (c .before)) .legal) _ (sum (c .before)) (showingIn p))
+
+has-numbers-requires : tie.Need-has-numbers-requires
+has-numbers-requires c κs = c .before .before .pre
+
+returns : tie.Need-returns
+returns c = let e : hasNumbers (given (c .before .before .before .before)) ≡ false = sym (c .before .has-numbers .ensures) ∙ not-true _ (c .if1 .taken) in rw e
+
+sum-positions-requires : tie.Need-sum-positions-requires
+sum-positions-requires c κs = let ok = has c .legal in (legal-zoned _ ok, ok .zones .1)
+
+same-positions-requires : tie.Need-same-positions-requires
+same-positions-requires c κs = let f = film-on _ (has (first c) .legal) _ (sum c) in (f .some, f .room, small-on _ (has (first c) .legal) _ (sum c))
+
+returns-2 : tie.Need-returns-2
+returns-2 c = let d = first (c .before .before) in
+    rw (passed d, not-true (start d .args .asked) (c .if2 .taken)) (placed (c .before) ∙ sym (and-true _))
+
+same-leads-requires : tie.Need-same-leads-requires
+same-leads-requires c κs = let t = c .before .before in film-on _ (has (first t) .legal) _ (sum t)
+
+returns-3 : tie.Need-returns-3
+unfolding hasLeads
+returns-3 c = let e = c .before .before in
+    let t = e .before .before in
+    let d = first t in
+    let a = start d .args in
+    let p = given (start d) in
+    rw (passed d, not-false (a .asked) (e .if2 .left))
+    (c .both .ensures
+    ∙ ap₂ _&&_ (placed (e .before))
+    (c .before .same-leads .ensures
+    ∙ ap (λ (x : List ℕ). begins x (wordsOf (a .leads .now)))
+    (leads-are (p .figures) (has d .legal) _ (sum t) (showingIn p) _ (plan-worst2 (showingIn p) (p .figures) p (has d .plan)))))
+
+pub is-plan-with-spec : {M : Type 1} → statement M
+is-plan-with-spec =
+    tie.close
+    (tie.spec
+    has-numbers-requires
+    returns
+    sum-positions-requires
+    same-positions-requires
+    returns-2
+    same-leads-requires
+    (λ c κs. search needs)
+    returns-3)

@@ -1,0 +1,91 @@
+// The plan of legal figures and its lists: 13 where a list is too short, then 12 where no stream fits.
+use block_lists::write_leads;
+use block_lists::write_positions;
+use card::Scalars;
+use numbers::refusals::ACCEPTED;
+use numbers::refusals::NO_STREAM;
+use numbers::refusals::TOO_SHORT;
+use plan::Numbers;
+use plan_numbers::plan_numbers;
+use zones::sum_positions;
+ghost use mathlib.Core.Path.{_≡_};
+ghost use Prim.Native.Nat.{_<_};
+ghost use lib.ListN.{length};
+ghost use Rattle.numbers.specs.Refusals.{noStream};
+ghost use Rattle.words.specs.Words.{wordsOf};
+ghost use Rattle.card.specs.Card.{Legal};
+ghost use Rattle.card.specs.Read.{figuresFrom};
+ghost use Rattle.plan.specs.Plan.{showingOf, planOf, planFrom, positionsOf, leadsOf};
+ghost use Rattle.plan.specs.Answer.{planFault, filled};
+
+// The number that a plan of so many streams answers: 12 where not even one fits.
+fn stream_fault(streams: u32) -> u32
+    ensures { λ r. ⌜ ((r ≡ 0 → ⊥) → (streams ≡ 0) × (r ≡ noStream)) × (r ≡ 0 → 0 < streams) ⌝ }
+{
+    if streams == 0 {
+        return NO_STREAM;
+    }
+    ACCEPTED
+}
+
+// What the planner makes of legal figures: 13, 12 or 0, and where it is 0 the numbers of their plan.
+pub struct Made {
+    pub number: u32,
+    pub plan: Numbers,
+}
+
+// No plan is made.
+fn not_made(number: u32) -> Made
+    ensures { λ r. ⌜ r .number ≡ number ⌝ }
+{
+    Made {
+        number: number,
+        plan: Numbers {
+            streams: 0,
+            buffer: 0,
+            worst2: 0,
+            margin: 0,
+            showing: 0,
+            worstat: 0,
+        },
+    }
+}
+
+// Plans legal figures, their arrays lent, in a showing: 13, then 12. A refusal leaves both lists.
+pub fn plan_legal<'a>(
+    figures: Scalars,
+    sizes: &'a [u32; 64],
+    times: &'a [u32; 64],
+    table: &'a [u32; 257],
+    showing: u32,
+    positions: &mut [u8],
+    leads: &mut [u8],
+) -> Made
+    requires { ⌜ Legal (figuresFrom figures (now sizes) (now times) (now table)) ⌝ }
+    ensures { λ r. ⌜ (let x = showingOf showing in let f = figuresFrom figures (now (sizes .entry)) (now (times .entry)) (now (table .entry)) in
+        let fault = planFault x f (length (wordsOf (now (positions .entry)))) (length (wordsOf (now (leads .entry)))) in
+        (r .number ≡ fault) × (r .number ≡ 0 → planFrom f (r .plan) ≡ planOf x f)
+        × (now (positions .exit) ≡ filled 0 fault (now (positions .entry)) (positionsOf x f))
+        × (now (leads .exit) ≡ filled 0 fault (now (leads .entry)) (leadsOf x f))) ⌝ }
+{
+    let blocks = figures.blocks as usize;
+    if words::entries(positions) < blocks {
+        return not_made(TOO_SHORT);
+    }
+    if words::entries(leads) < blocks {
+        return not_made(TOO_SHORT);
+    }
+    let own = plan_numbers(figures, sizes, times, table, showing);
+    let number = stream_fault(own.streams);
+    if number != ACCEPTED {
+        return not_made(number);
+    }
+    let total = sum_positions(sizes, figures.zones);
+    write_positions(showing, total, figures.blocks, positions);
+    let worst2 = own.worst2;
+    write_leads(sizes, times, showing, total, figures.blocks, worst2, leads);
+    Made {
+        number: number,
+        plan: own,
+    }
+}

@@ -1,0 +1,12 @@
+use Rattle.plan.specs.Check.{shows-loop, shows-once}
+use Rattle.plan_numbers.proofs.known_word.Statement.{statement}
+use Rattle.plan_numbers.proofs.known_word.Tie as tie
+
+returns : tie.Need-returns
+returns c = rw (shows-loop _ (c .if1 .taken))
+
+returns-2 : tie.Need-returns-2
+returns-2 c = rw (shows-once _ (c .if1 .left))
+
+pub known-word-spec : {M : Type 1} → statement M
+known-word-spec = tie.close (tie.spec returns returns-2)

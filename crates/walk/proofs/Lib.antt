@@ -1,0 +1,2 @@
+mod Layings
+pub mod Runs
