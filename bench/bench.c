@@ -1,6 +1,6 @@
 /*
  * The library against plain C doing the same checks, or against an earlier library in its place, which the argument then names: same
- * input, one run, both in turn. Prints times a call, ratios with their
+ * input, one run, both in turn. Calls by scratch are also measured against the same call by list. Prints times a call, ratios with their
  * quartiles, and stack use. Each repetition compares what the two answered and wrote, byte for byte.
  */
 #define _XOPEN_SOURCE 700
@@ -16,11 +16,14 @@
 
 enum { REPETITIONS = 101, BATCH_NS = 30000, MAX_BATCH = 4096 };
 
+/* The series of a case: a call of both twins, and after them the same call by scratch. */
+enum { LIBRARY_SCRATCH = TWINS, PLAIN_C_SCRATCH, SERIES };
+
 static struct input input;
-static struct strings strings[TWINS];
+static struct strings strings[SERIES];
 
 /* Measured times of a case: nanoseconds a call in each repetition. */
-static double times[TWINS][COPIES][REPETITIONS];
+static double times[SERIES][COPIES][REPETITIONS];
 
 static int rows, missed;
 
@@ -62,11 +65,11 @@ static struct range ratio(int one, int one_copy, int other, int other_copy)
 }
 
 /* The copy whose place in memory suits it best. */
-static int best_copy(int twin)
+static int best_copy(int series)
 {
     int best = 0;
     for (int copy = 1; copy < COPIES; copy++)
-        if (ratio(twin, copy, twin, best).median < 1)
+        if (ratio(series, copy, series, best).median < 1)
             best = copy;
     return best;
 }
@@ -78,12 +81,12 @@ static void lend_desks(struct strings *s)
 }
 
 /* Nanoseconds a call over a batch; desks are made fresh before it and not within its time. */
-static double time_batch(call *c, int twin, int copy, size_t batch, filmdisk_answer *a)
+static double time_batch(call *c, int series, int copy, size_t batch, filmdisk_answer *a)
 {
-    lend_desks(&strings[twin]);
+    lend_desks(&strings[series]);
     double start = now();
     for (size_t i = 0; i < batch; i++)
-        *a = c(&twins[twin][copy], &input, &strings[twin], i % DESKS);
+        *a = c(&twins[series % TWINS][copy], &input, &strings[series], i % DESKS);
     return (now() - start) / (double)batch;
 }
 
@@ -93,13 +96,28 @@ static bool same_answer(filmdisk_answer a, filmdisk_answer b)
 }
 
 /* Ends the run where the two differ, or do not answer as they should. */
-static void compare(const char *name, const filmdisk_answer answers[TWINS], uint32_t expected)
+static void compare(const char *name, int library, const filmdisk_answer answers[SERIES], uint32_t expected)
 {
-    if (answers[PLAIN_C].number == expected && same_answer(answers[LIBRARY], answers[PLAIN_C]) &&
-        memcmp(&strings[LIBRARY], &strings[PLAIN_C], sizeof strings[LIBRARY]) == 0)
+    int other = library + PLAIN_C;
+    if (answers[other].number == expected && same_answer(answers[library], answers[other]) &&
+        memcmp(&strings[library], &strings[other], sizeof strings[library]) == 0)
         return;
     fprintf(stderr, "bench: %s: the library answers %u, %s %u, expected %u; or they write other bytes\n", name,
-            answers[LIBRARY].number, other_name, answers[PLAIN_C].number, expected);
+            answers[library].number, other_name, answers[other].number, expected);
+    exit(1);
+}
+
+/* By scratch all is written as by list, but for the leads. */
+static void compare_ways(const char *name, const filmdisk_answer answers[SERIES])
+{
+    static struct strings one, other;
+    one = strings[LIBRARY];
+    other = strings[LIBRARY_SCRATCH];
+    memset(one.leads, 0, sizeof one.leads);
+    memset(other.leads, 0, sizeof other.leads);
+    if (same_answer(answers[LIBRARY], answers[LIBRARY_SCRATCH]) && memcmp(&one, &other, sizeof one) == 0)
+        return;
+    fprintf(stderr, "bench: %s: another answer or other bytes by scratch\n", name);
     exit(1);
 }
 
@@ -112,36 +130,57 @@ static size_t batch_size(call *c, bool in_place)
     return batch < 1 ? 1 : batch < most ? batch : most;
 }
 
-/* Times every copy in turn; the turns move on with each repetition. */
-static void repeat(const char *name, call *c, bool in_place, uint32_t expected)
+/* Times every copy in turn; the turns move on with each repetition. With a call by scratch its series are in the same turns. */
+static void repeat(const char *name, call *c, call *by_scratch, bool in_place, uint32_t expected)
 {
+    call *const calls[] = { c, by_scratch };
+    int series_count = by_scratch == NULL ? TWINS : SERIES;
     size_t batch = batch_size(c, in_place);
-    filmdisk_answer answers[TWINS];
+    filmdisk_answer answers[SERIES];
     memset(strings, 0xA5, sizeof strings);
     for (int r = 0; r < REPETITIONS; r++) {
         for (int copy = 0; copy < COPIES; copy++) {
-            for (int k = 0; k < TWINS; k++) {
-                int twin = (k + r) % TWINS;
-                times[twin][copy][r] = time_batch(c, twin, copy, batch, &answers[twin]);
+            for (int k = 0; k < series_count; k++) {
+                int series = (k + r) % series_count;
+                times[series][copy][r] = time_batch(calls[series / TWINS], series, copy, batch, &answers[series]);
             }
-            compare(name, answers, expected);
+            compare(name, LIBRARY, answers, expected);
+            if (by_scratch == NULL)
+                continue;
+            compare(name, LIBRARY_SCRATCH, answers, expected);
+            compare_ways(name, answers);
         }
     }
 }
 
-/* The ratio at the best places, and the least and greatest median over all places. */
-static void print_ratio(void)
+/* The ratio of two series at their best places, and the least and greatest median over all places. Answers the first. */
+static double print_ratio(int one, int other)
 {
-    struct range r = ratio(LIBRARY, best_copy(LIBRARY), PLAIN_C, best_copy(PLAIN_C));
+    struct range r = ratio(one, best_copy(one), other, best_copy(other));
     double least = r.median, greatest = r.median;
     for (int k = 0; k < COPIES * COPIES; k++) {
-        double median = ratio(LIBRARY, k / COPIES, PLAIN_C, k % COPIES).median;
+        double median = ratio(one, k / COPIES, other, k % COPIES).median;
         least = median < least ? median : least;
         greatest = median > greatest ? median : greatest;
     }
-    printf(" %.2f (%.2f to %.2f) | %.2f to %.2f |\n", r.median, r.low, r.high, least, greatest);
+    printf(" %.2f (%.2f to %.2f) | %.2f to %.2f |", r.median, r.low, r.high, least, greatest);
+    return r.median;
+}
+
+static void print_time(int series)
+{
+    printf(" %.0f |", range_of(times[series][best_copy(series)]).median);
+}
+
+/* The times of the library and of the other, by list or by scratch, and their ratio: the end of a row. */
+static void print_twins(int library)
+{
+    print_time(library);
+    print_time(library + PLAIN_C);
+    missed += print_ratio(library, library + PLAIN_C) > 1.1;
     rows++;
-    missed += r.median > 1.1;
+    printf("\n");
+    fflush(stdout);
 }
 
 /* Measures one call on the input and prints its row, named by the format and what follows. */
@@ -152,12 +191,9 @@ __attribute__((format(printf, 4, 5))) static void measure(call *c, bool in_place
     va_start(values, format);
     vsnprintf(name, sizeof name, format, values);
     va_end(values);
-    repeat(name, c, in_place, expected);
+    repeat(name, c, NULL, in_place, expected);
     printf("| %s |", name);
-    for (int t = 0; t < TWINS; t++)
-        printf(" %.0f |", range_of(times[t][best_copy(t)]).median);
-    print_ratio();
-    fflush(stdout);
+    print_twins(LIBRARY);
 }
 
 static void head(const char *title)
@@ -306,6 +342,71 @@ static void measure_windows(void)
     }
 }
 
+/* A film on which calls by scratch are measured against those by list, and what their ratio may be at most. */
+struct scratch_film {
+    uint32_t blocks, zones, streams;
+    double bar;
+};
+
+/* A call in both ways on the input: the times of the library, scratch / list, and the call by scratch against plain C. Answers the ratio. */
+static double measure_ways(const char *name, const struct scratch_film *film, call *c, call *by_scratch, bool in_place)
+{
+    repeat(name, c, by_scratch, in_place, FILMDISK_ACCEPTED);
+    printf("| %s, N %u, %u zones, %u streams |", name, film->blocks, film->zones, film->streams);
+    print_time(LIBRARY);
+    double median = print_ratio(LIBRARY_SCRATCH, LIBRARY);
+    print_twins(LIBRARY_SCRATCH);
+    return median;
+}
+
+static double greater(double a, double b)
+{
+    return a > b ? a : b;
+}
+
+/* All calls of a film by scratch; answers the greatest ratio to the same call by list. */
+static double measure_scratch_film(const struct scratch_film *film)
+{
+    uint32_t all = film->streams;
+    make_film(&input, film->blocks, film->zones, all);
+    double worst = measure_ways("plan", film, call_plan, call_plan_scratch, false);
+    worst = greater(worst, measure_ways("open", film, call_open, call_open_scratch, false));
+    make_players(&input, FILMDISK_BETWEEN, all);
+    worst = greater(worst, measure_ways("leave", film, call_leave, call_leave_scratch, true));
+    worst = greater(worst, measure_ways("begin", film, call_begin, call_begin_scratch, true));
+    make_players(&input, FILMDISK_SWEEPING, all);
+    make_draws(&input, 1000);
+    worst = greater(worst, measure_ways("end", film, call_end, call_end_scratch, true));
+    make_film(&input, film->blocks, film->zones, all);
+    make_players(&input, FILMDISK_BETWEEN, all - 1);
+    worst = greater(worst, measure_ways("join", film, call_join, call_join_scratch, true));
+    make_loop(&input, film->blocks, film->zones, all);
+    return greater(worst, measure_ways("plan_loop", film, call_plan_loop, call_plan_loop_scratch, false));
+}
+
+static bool has_scratch(int twin)
+{
+    return twins[twin][0].plan_scratch != NULL;
+}
+
+static void measure_scratch(void)
+{
+    static const struct scratch_film films[] = { { 16384, 7, 16, 1.0 }, { 16384, 64, 16, 1.0 }, { 6, 64, 256, 1.2 } };
+    double worst[sizeof films / sizeof films[0]];
+    if (!has_scratch(PLAIN_C))
+        return;
+    printf("\nA scratch in the lead list's place, each call beside the same with the list; all slots playing and fetched for\n\n");
+    printf("| Case | List, ns | Scratch / list | over places | Scratch, ns | %s by scratch, ns | Library / %s | over places |\n", other_name,
+           other_name);
+    printf("|---|---|---|---|---|---|---|---|\n");
+    for (size_t i = 0; i < sizeof films / sizeof films[0]; i++)
+        worst[i] = measure_scratch_film(&films[i]);
+    printf("\n");
+    for (size_t i = 0; i < sizeof films / sizeof films[0]; i++)
+        printf("Scratch / list, the greatest at N %u, %u zones, %u streams: %.3f, bar %.1f%s\n", films[i].blocks, films[i].zones,
+               films[i].streams, worst[i], films[i].bar, worst[i] > films[i].bar ? ", above it" : "");
+}
+
 /* How cost grows with one of N, zones and streams, the others fixed. */
 static void measure_growth(void)
 {
@@ -351,6 +452,17 @@ static void print_stack(const char *name, call *c, uint32_t phase, uint32_t firs
     printf("\n");
 }
 
+static void print_scratch_stacks(void)
+{
+    print_stack("plan_scratch", call_plan_scratch, FILMDISK_BETWEEN, 0);
+    print_stack("plan_loop_scratch", call_plan_loop_scratch, FILMDISK_BETWEEN, 0);
+    print_stack("open_scratch", call_open_scratch, FILMDISK_BETWEEN, 0);
+    print_stack("join_scratch", call_join_scratch, FILMDISK_BETWEEN, 255);
+    print_stack("leave_scratch", call_leave_scratch, FILMDISK_BETWEEN, 256);
+    print_stack("begin_scratch", call_begin_scratch, FILMDISK_BETWEEN, 256);
+    print_stack("end_scratch", call_end_scratch, FILMDISK_SWEEPING, 256);
+}
+
 static void print_stacks(void)
 {
     printf("\nStack of an accepted call, in bytes (N 1000, 64 zones, 256 streams)\n\n");
@@ -363,6 +475,8 @@ static void print_stacks(void)
     print_stack("begin", call_begin, FILMDISK_BETWEEN, 256);
     print_stack("end", call_end, FILMDISK_SWEEPING, 256);
     print_stack("window", call_window, FILMDISK_BETWEEN, 0);
+    if (has_scratch(PLAIN_C))
+        print_scratch_stacks();
 }
 
 int main(int argc, char **argv)
@@ -380,6 +494,7 @@ int main(int argc, char **argv)
     measure_loops();
     measure_measured();
     measure_windows();
+    measure_scratch();
     measure_growth();
     print_stacks();
     printf("\n%d rows, %d above 1.1 x %s\n", rows, missed, other_name);

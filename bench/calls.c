@@ -47,6 +47,47 @@ filmdisk_answer call_end(const struct twin *t, const struct input *in, struct st
                   in->draws_len);
 }
 
+filmdisk_answer call_plan_scratch(const struct twin *t, const struct input *in, struct strings *s, size_t i)
+{
+    (void)i;
+    return t->plan_scratch(in->card, in->card_len, s->plan, sizeof s->plan, s->positions, in->list_len, s->scratch, sizeof s->scratch);
+}
+
+filmdisk_answer call_plan_loop_scratch(const struct twin *t, const struct input *in, struct strings *s, size_t i)
+{
+    (void)i;
+    return t->plan_loop_scratch(in->card, in->card_len, s->plan, sizeof s->plan, s->positions, in->list_len, s->scratch,
+                                sizeof s->scratch);
+}
+
+filmdisk_answer call_open_scratch(const struct twin *t, const struct input *in, struct strings *s, size_t i)
+{
+    return t->open_scratch(in->plan, sizeof in->plan, in->positions, in->list_len, s->scratch, sizeof s->scratch, s->desks[i],
+                           sizeof s->desks[i]);
+}
+
+filmdisk_answer call_join_scratch(const struct twin *t, const struct input *in, struct strings *s, size_t i)
+{
+    return t->join_scratch(s->desks[i], sizeof s->desks[i], in->positions, in->list_len, s->scratch, sizeof s->scratch, last_slot(in), 1);
+}
+
+filmdisk_answer call_leave_scratch(const struct twin *t, const struct input *in, struct strings *s, size_t i)
+{
+    return t->leave_scratch(s->desks[i], sizeof s->desks[i], in->positions, in->list_len, s->scratch, sizeof s->scratch, last_slot(in));
+}
+
+filmdisk_answer call_begin_scratch(const struct twin *t, const struct input *in, struct strings *s, size_t i)
+{
+    return t->begin_scratch(s->desks[i], sizeof s->desks[i], in->positions, in->list_len, s->scratch, sizeof s->scratch, s->fetches,
+                            sizeof s->fetches);
+}
+
+filmdisk_answer call_end_scratch(const struct twin *t, const struct input *in, struct strings *s, size_t i)
+{
+    return t->end_scratch(s->desks[i], sizeof s->desks[i], in->positions, in->list_len, s->scratch, sizeof s->scratch, in->draws,
+                          in->draws_len);
+}
+
 filmdisk_answer call_window(const struct twin *t, const struct input *in, struct strings *s, size_t i)
 {
     filmdisk_window_answer w = t->window(in->plan, sizeof in->plan, in->positions, in->list_len, in->window);

@@ -9,10 +9,19 @@ DECLARE_TWIN(plain0)
 DECLARE_TWIN(plain1)
 DECLARE_TWIN(plain2)
 
-#define TWIN(prefix) \
-    { prefix##_plan, prefix##_plan_loop, prefix##_open, prefix##_join, prefix##_leave, prefix##_begin, prefix##_end, prefix##_window }
+#define LISTED(prefix) \
+    prefix##_plan, prefix##_plan_loop, prefix##_open, prefix##_join, prefix##_leave, prefix##_begin, prefix##_end, prefix##_window
+#define SCRATCHED(prefix) \
+    prefix##_plan_scratch, prefix##_plan_loop_scratch, prefix##_open_scratch, prefix##_join_scratch, prefix##_leave_scratch, \
+        prefix##_begin_scratch, prefix##_end_scratch
+#define TWIN(prefix) { LISTED(prefix), SCRATCHED(prefix) }
+#ifdef OTHER_WITHOUT_SCRATCH /* an earlier library from before 0.9.0 */
+#define OTHER(prefix) { LISTED(prefix), NULL, NULL, NULL, NULL, NULL, NULL, NULL }
+#else
+#define OTHER(prefix) TWIN(prefix)
+#endif
 
 const struct twin twins[TWINS][COPIES] = {
     { TWIN(library0), TWIN(library1), TWIN(library2) },
-    { TWIN(plain0), TWIN(plain1), TWIN(plain2) },
+    { OTHER(plain0), OTHER(plain1), OTHER(plain2) },
 };

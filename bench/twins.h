@@ -21,6 +21,14 @@ struct twin {
     filmdisk_answer (*begin)(uint8_t *, size_t, const uint8_t *, size_t, const uint8_t *, size_t, uint8_t *, size_t);
     filmdisk_answer (*end)(uint8_t *, size_t, const uint8_t *, size_t, const uint8_t *, size_t, const uint8_t *, size_t);
     filmdisk_window_answer (*window)(const uint8_t *, size_t, const uint8_t *, size_t, uint32_t);
+    /* With a scratch in the lead list's place; an earlier library may have none of these. */
+    filmdisk_answer (*plan_scratch)(const uint8_t *, size_t, uint8_t *, size_t, uint8_t *, size_t, uint8_t *, size_t);
+    filmdisk_answer (*plan_loop_scratch)(const uint8_t *, size_t, uint8_t *, size_t, uint8_t *, size_t, uint8_t *, size_t);
+    filmdisk_answer (*open_scratch)(const uint8_t *, size_t, const uint8_t *, size_t, const uint8_t *, size_t, uint8_t *, size_t);
+    filmdisk_answer (*join_scratch)(uint8_t *, size_t, const uint8_t *, size_t, const uint8_t *, size_t, uint32_t, uint32_t);
+    filmdisk_answer (*leave_scratch)(uint8_t *, size_t, const uint8_t *, size_t, const uint8_t *, size_t, uint32_t);
+    filmdisk_answer (*begin_scratch)(uint8_t *, size_t, const uint8_t *, size_t, const uint8_t *, size_t, uint8_t *, size_t);
+    filmdisk_answer (*end_scratch)(uint8_t *, size_t, const uint8_t *, size_t, const uint8_t *, size_t, const uint8_t *, size_t);
 };
 
 extern const struct twin twins[TWINS][COPIES];

@@ -6,13 +6,18 @@
  *
  * Films: a plan is for one showing or for a loop, by its planner call; a word of the plan says which, and all calls on its desk go by it.
  *
+ * Scratch: each call that takes the lead list has a second way in, by its name with _scratch, that takes a scratch in its place, for boards
+ * without room for the leads of a long film. A scratch has FILMDISK_SCRATCH_WORDS whole words or more; fewer are 13, which a call on a desk,
+ * an opening too, judges first of all. All else is as with the film's own leads, the answer and the desk that is left. No call reads or
+ * writes a byte of the scratch, and calls of both ways may be mixed on one desk.
+ *
  * Refused calls leave all that they were lent as it was, but for two: a plan call that is refused by 1 to 12, 25 or 26 fills a plan
  * string of the right length with zeros, and an opening that is refused by 14 a desk string of the right length.
  *
  * Threads: the library has no globals and keeps nothing between calls, so calls on different strings may run at once. A string that is
  * only read, such as the lists of several desks, may be lent to several calls at a time.
  *
- * Cost: each call on a desk but a draw limit judges its plan and both lists anew, so its time grows with N; so does that of a window.
+ * Cost: each call on a desk but a draw limit judges its plan and its lists anew, so its time grows with N; so does that of a window.
  * Microseconds by docs/BENCH.md: with 16 streams about 1 at N 1,000 and 10 at N 16,384, and 24 for a begin with 256 streams or a window there.
  *
  * Memory: the stack alone, for each call at most FILMDISK_STACK_ bytes below the caller's frame.
@@ -27,9 +32,9 @@
 extern "C" {
 #endif
 
-#define FILMDISK_VERSION "0.8.0"
+#define FILMDISK_VERSION "0.9.0"
 #define FILMDISK_VERSION_MAJOR 0
-#define FILMDISK_VERSION_MINOR 8
+#define FILMDISK_VERSION_MINOR 9
 #define FILMDISK_VERSION_PATCH 0
 
 /* Limits. */
@@ -39,6 +44,7 @@ extern "C" {
 #define FILMDISK_MAX_STREAMS 256
 #define FILMDISK_MAX_WINDOW 64 /* blocks of a window */
 #define FILMDISK_OVERHEADS 257 /* of a sweep of 0 to 256 blocks */
+#define FILMDISK_SCRATCH_WORDS 512 /* of a scratch in the lead list's place, at least */
 
 /* The words of a plan, one after the other. */
 enum filmdisk_plan_word {
@@ -73,10 +79,11 @@ enum filmdisk_fetch_word { FILMDISK_FETCH_POSITION, FILMDISK_FETCH_SLOT, FILMDIS
 
 /* Sizes in bytes. */
 #define FILMDISK_WORD_BYTES 4
-#define FILMDISK_PLAN_BYTES (FILMDISK_PLAN_WORDS * FILMDISK_WORD_BYTES)   /* 1,584 */
-#define FILMDISK_DESK_BYTES (FILMDISK_DESK_WORDS * FILMDISK_WORD_BYTES)   /* 4,660 */
-#define FILMDISK_ENTRY_BYTES FILMDISK_WORD_BYTES                          /* an entry of positions, leads or draws */
-#define FILMDISK_FETCH_BYTES (FILMDISK_FETCH_WORDS * FILMDISK_WORD_BYTES) /* an entry of the fetch list */
+#define FILMDISK_PLAN_BYTES (FILMDISK_PLAN_WORDS * FILMDISK_WORD_BYTES)       /* 1,584 */
+#define FILMDISK_DESK_BYTES (FILMDISK_DESK_WORDS * FILMDISK_WORD_BYTES)       /* 4,660 */
+#define FILMDISK_ENTRY_BYTES FILMDISK_WORD_BYTES                              /* an entry of positions, leads or draws */
+#define FILMDISK_FETCH_BYTES (FILMDISK_FETCH_WORDS * FILMDISK_WORD_BYTES)     /* an entry of the fetch list */
+#define FILMDISK_SCRATCH_BYTES (FILMDISK_SCRATCH_WORDS * FILMDISK_WORD_BYTES) /* 2,048, a scratch */
 
 /* Stack in bytes that a call takes below the caller's frame, at most. */
 #define FILMDISK_STACK_PLAN 3900
@@ -85,9 +92,16 @@ enum filmdisk_fetch_word { FILMDISK_FETCH_POSITION, FILMDISK_FETCH_SLOT, FILMDIS
 #define FILMDISK_STACK_OPEN 2600
 #define FILMDISK_STACK_JOIN 2600
 #define FILMDISK_STACK_LEAVE 2600
-#define FILMDISK_STACK_BEGIN 13900
+#define FILMDISK_STACK_BEGIN 13000
 #define FILMDISK_STACK_DRAW_LIMIT 16
-#define FILMDISK_STACK_END 10400
+#define FILMDISK_STACK_END 7400
+#define FILMDISK_STACK_PLAN_SCRATCH 3900
+#define FILMDISK_STACK_PLAN_LOOP_SCRATCH 3900
+#define FILMDISK_STACK_OPEN_SCRATCH 2600
+#define FILMDISK_STACK_JOIN_SCRATCH 2600
+#define FILMDISK_STACK_LEAVE_SCRATCH 2600
+#define FILMDISK_STACK_BEGIN_SCRATCH 13000
+#define FILMDISK_STACK_END_SCRATCH 7400
 
 /* The kind of a card: overheads by hop and return, or measured for each number of blocks. */
 enum filmdisk_card_kind { FILMDISK_STRAIGHT = 1, FILMDISK_MEASURED = 2 };
@@ -173,7 +187,7 @@ static inline const char *filmdisk_meaning(uint32_t number)
         "block bytes, rate, hop or return out of range",
         "bytes left over",
         "not even one stream fits",
-        "lent list too short, or a plan or desk string of another length where it is only written",
+        "lent list or scratch too short, or a plan or desk string of another length where it is only written",
         "record not sound with these lists, or a plan or desk string of another length where it is read",
         "wrong phase",
         "no such slot",
@@ -325,6 +339,59 @@ filmdisk_answer filmdisk_end(uint8_t *desk, size_t desk_len,
                              const uint8_t *positions, size_t positions_len,
                              const uint8_t *leads, size_t leads_len,
                              const uint8_t *draws, size_t draws_len);
+
+/*
+ * The same calls with a scratch in the lead list's place.
+ *
+ * Plans a card for one showing: writes the plan and the first N entries of the positions. Refusals 1 to 11, 25 and 26, then 13, for a short
+ * scratch too, then 12.
+ */
+filmdisk_answer filmdisk_plan_scratch(const uint8_t *card, size_t card_len,
+                                      uint8_t *plan, size_t plan_len,
+                                      uint8_t *positions, size_t positions_len,
+                                      uint8_t *scratch, size_t scratch_len);
+
+/* Plans a card as a loop; all else as above. */
+filmdisk_answer filmdisk_plan_loop_scratch(const uint8_t *card, size_t card_len,
+                                           uint8_t *plan, size_t plan_len,
+                                           uint8_t *positions, size_t positions_len,
+                                           uint8_t *scratch, size_t scratch_len);
+
+/*
+ * Opens a desk of either plan and its positions: writes the whole desk. Refusals 13 for the scratch, after which the desk string stays as it
+ * was, then 14, then 13 for the desk string.
+ */
+filmdisk_answer filmdisk_open_scratch(const uint8_t *plan, size_t plan_len,
+                                      const uint8_t *positions, size_t positions_len,
+                                      const uint8_t *scratch, size_t scratch_len,
+                                      uint8_t *desk, size_t desk_len);
+
+/* A free slot asks to watch from a start block: alters the desk in place. Refusals 13, 14 to 18. */
+filmdisk_answer filmdisk_join_scratch(uint8_t *desk, size_t desk_len,
+                                      const uint8_t *positions, size_t positions_len,
+                                      const uint8_t *scratch, size_t scratch_len,
+                                      uint32_t slot, uint32_t block);
+
+/* An occupied slot becomes free: alters the desk in place. Refusals 13, 14 to 17. */
+filmdisk_answer filmdisk_leave_scratch(uint8_t *desk, size_t desk_len,
+                                       const uint8_t *positions, size_t positions_len,
+                                       const uint8_t *scratch, size_t scratch_len,
+                                       uint32_t slot);
+
+/*
+ * Begins a sweep: alters the desk in place, writes the answer's `count` fetches, and answers its `bound`. Refusals 13 for the scratch, 14,
+ * 15, then 13 for the fetch list.
+ */
+filmdisk_answer filmdisk_begin_scratch(uint8_t *desk, size_t desk_len,
+                                       const uint8_t *positions, size_t positions_len,
+                                       const uint8_t *scratch, size_t scratch_len,
+                                       uint8_t *fetches, size_t fetches_len);
+
+/* Ends a sweep, with the bytes that each of the n slots drew: alters the desk in place. Refusals 13, 14, 15, 19, 20, 21. */
+filmdisk_answer filmdisk_end_scratch(uint8_t *desk, size_t desk_len,
+                                     const uint8_t *positions, size_t positions_len,
+                                     const uint8_t *scratch, size_t scratch_len,
+                                     const uint8_t *draws, size_t draws_len);
 
 #ifdef __cplusplus
 }

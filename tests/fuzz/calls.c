@@ -1,7 +1,9 @@
 /*
  * Fuzz target: the bytes of an input are read as a card and then as calls on its desk, with damage to strings between them. The film is
- * shown once or is a loop; a few bytes may stand for the table of a card of kind 2. Each call is made of the library and of its plain C twin (bench/plain.c); answers and strings must be the
- * same. The twin is built with coverage, which leads the fuzzer; the library's strings touch pages that may not be touched.
+ * shown once or is a loop; a few bytes may stand for the table of a card of kind 2. Each call is made of the library and of its plain C
+ * twin (bench/plain.c); answers and strings must be the same. Each is made twice, with the lead list and with a scratch of random bytes in
+ * its place, and what comes of the two must be the same where the list is the film's own; the desk goes on as either left it. The twin is
+ * built with coverage, which leads the fuzzer; the library's strings touch pages that may not be touched.
  */
 #include "guarded.h"
 #include "plain.h"
@@ -16,7 +18,8 @@
 
 int LLVMFuzzerTestOneInput(const uint8_t *data, size_t size);
 
-enum lent { CARD, PLAN, POSITIONS, LEADS, DESK, FETCHES, DRAWS, STRINGS };
+enum lent { CARD, PLAN, POSITIONS, LEADS, DESK, FETCHES, DRAWS, SCRATCH, STRINGS };
+enum way { BY_LIST, BY_SCRATCH, WAYS };
 enum sort { CALL_PLAN, CALL_PLAN_LOOP, CALL_OPEN, CALL_JOIN, CALL_LEAVE, CALL_BEGIN, CALL_END };
 
 struct call {
@@ -25,8 +28,8 @@ struct call {
     uint32_t block;
 };
 
-/* What the library and its twin have alike. */
-struct interface {
+/* The calls that are lent leads, or a scratch in their place. */
+struct calls {
     __typeof__(filmdisk_plan) *plan;
     __typeof__(filmdisk_plan_loop) *plan_loop;
     __typeof__(filmdisk_open) *open;
@@ -34,18 +37,31 @@ struct interface {
     __typeof__(filmdisk_leave) *leave;
     __typeof__(filmdisk_begin) *begin;
     __typeof__(filmdisk_end) *end;
+};
+
+/* What the library and its twin have alike. */
+struct interface {
+    struct calls by[WAYS];
     __typeof__(filmdisk_window) *window;
     __typeof__(filmdisk_draw_limit) *draw_limit;
 };
 
-static const struct interface library = {filmdisk_plan,  filmdisk_plan_loop, filmdisk_open,   filmdisk_join,      filmdisk_leave,
-                                         filmdisk_begin, filmdisk_end,       filmdisk_window, filmdisk_draw_limit};
-static const struct interface twin = {plain_plan,  plain_plan_loop, plain_open,   plain_join,      plain_leave,
-                                      plain_begin, plain_end,       plain_window, plain_draw_limit};
+#define CALLS(prefix, suffix) \
+    {prefix##_plan##suffix,  prefix##_plan_loop##suffix, prefix##_open##suffix, prefix##_join##suffix, \
+     prefix##_leave##suffix, prefix##_begin##suffix,     prefix##_end##suffix}
+#define INTERFACE(prefix) {{CALLS(prefix, ), CALLS(prefix, _scratch)}, prefix##_window, prefix##_draw_limit}
+
+static const struct interface library = INTERFACE(filmdisk);
+static const struct interface twin = INTERFACE(plain);
 
 static uint8_t contents[STRINGS][MOST_BYTES];
+static uint8_t left[WAYS][STRINGS][MOST_BYTES]; /* the contents as the twin's call leaves them */
 static size_t lengths[STRINGS];
 static guarded lent[STRINGS];
+static uint8_t own_leads[MOST_BYTES]; /* as the planner wrote them */
+static size_t own_leads_len;
+static uint32_t habit; /* how the desk goes on: as the list call left it, as the scratch call did, or in turn */
+static uint32_t calls_made;
 static uint32_t last_bound;
 static int has_table; /* the card ends with a table that a few bytes stand for */
 
@@ -70,30 +86,33 @@ static uint32_t take_number(void)
 
 /* Calls. */
 
-static filmdisk_answer make(const struct interface *of, const struct call *call, uint8_t *const *s)
+static filmdisk_answer make(const struct interface *interface, enum way way, const struct call *call, uint8_t *const *s)
 {
+    const struct calls *of = &interface->by[way];
+    const enum lent by = way == BY_LIST ? LEADS : SCRATCH;
     const size_t *n = lengths;
     switch (call->sort) {
     case CALL_PLAN:
-        return of->plan(s[CARD], n[CARD], s[PLAN], n[PLAN], s[POSITIONS], n[POSITIONS], s[LEADS], n[LEADS]);
+        return of->plan(s[CARD], n[CARD], s[PLAN], n[PLAN], s[POSITIONS], n[POSITIONS], s[by], n[by]);
     case CALL_PLAN_LOOP:
-        return of->plan_loop(s[CARD], n[CARD], s[PLAN], n[PLAN], s[POSITIONS], n[POSITIONS], s[LEADS], n[LEADS]);
+        return of->plan_loop(s[CARD], n[CARD], s[PLAN], n[PLAN], s[POSITIONS], n[POSITIONS], s[by], n[by]);
     case CALL_OPEN:
-        return of->open(s[PLAN], n[PLAN], s[POSITIONS], n[POSITIONS], s[LEADS], n[LEADS], s[DESK], n[DESK]);
+        return of->open(s[PLAN], n[PLAN], s[POSITIONS], n[POSITIONS], s[by], n[by], s[DESK], n[DESK]);
     case CALL_JOIN:
-        return of->join(s[DESK], n[DESK], s[POSITIONS], n[POSITIONS], s[LEADS], n[LEADS], call->slot, call->block);
+        return of->join(s[DESK], n[DESK], s[POSITIONS], n[POSITIONS], s[by], n[by], call->slot, call->block);
     case CALL_LEAVE:
-        return of->leave(s[DESK], n[DESK], s[POSITIONS], n[POSITIONS], s[LEADS], n[LEADS], call->slot);
+        return of->leave(s[DESK], n[DESK], s[POSITIONS], n[POSITIONS], s[by], n[by], call->slot);
     case CALL_BEGIN:
-        return of->begin(s[DESK], n[DESK], s[POSITIONS], n[POSITIONS], s[LEADS], n[LEADS], s[FETCHES], n[FETCHES]);
+        return of->begin(s[DESK], n[DESK], s[POSITIONS], n[POSITIONS], s[by], n[by], s[FETCHES], n[FETCHES]);
     default:
-        return of->end(s[DESK], n[DESK], s[POSITIONS], n[POSITIONS], s[LEADS], n[LEADS], s[DRAWS], n[DRAWS]);
+        return of->end(s[DESK], n[DESK], s[POSITIONS], n[POSITIONS], s[by], n[by], s[DRAWS], n[DRAWS]);
     }
 }
 
-static void differ(const struct call *call, const char *words, size_t which)
+static void differ(const struct call *call, enum way way, const char *words, size_t which)
 {
-    fprintf(stderr, "call of sort %d (slot %u, block %u): %s, string %zu\n", (int)call->sort, call->slot, call->block, words, which);
+    fprintf(stderr, "call of sort %d by %s (slot %u, block %u): %s, string %zu\n", (int)call->sort, way == BY_LIST ? "list" : "scratch",
+            call->slot, call->block, words, which);
     abort();
 }
 
@@ -104,40 +123,91 @@ static void lend_all(uint8_t **strings, int edge)
         strings[i] = guarded_lend(&lent[i], contents[i], lengths[i], edge);
 }
 
-static filmdisk_answer call_library(const struct call *call, int edge)
+/* Not a byte of the scratch may be touched. */
+static filmdisk_answer call_library(enum way way, const struct call *call, int edge)
 {
     uint8_t *strings[STRINGS];
     lend_all(strings, edge);
-    filmdisk_answer answer = make(&library, call, strings);
+    guarded_seal(&lent[SCRATCH], GUARDED_CLOSED);
+    filmdisk_answer answer = make(&library, way, call, strings);
+    guarded_seal(&lent[SCRATCH], GUARDED_OPEN);
     for (size_t i = 0; i < STRINGS; i++)
         if (!guarded_beside_kept(&lent[i]))
-            differ(call, "a byte beside the string was written", i);
+            differ(call, way, "a byte beside the string was written", i);
     return answer;
 }
 
-/* The twin writes the contents themselves. */
-static filmdisk_answer call_twin(const struct call *call)
+/* The twin writes a copy of the contents. */
+static filmdisk_answer call_twin(enum way way, const struct call *call)
 {
     uint8_t *strings[STRINGS];
-    for (size_t i = 0; i < STRINGS; i++)
-        strings[i] = contents[i];
-    return make(&twin, call, strings);
+    for (size_t i = 0; i < STRINGS; i++) {
+        memcpy(left[way][i], contents[i], lengths[i]);
+        strings[i] = left[way][i];
+    }
+    return make(&twin, way, call, strings);
 }
 
+static int same_answer(filmdisk_answer one, filmdisk_answer other)
+{
+    if (one.number == other.number && one.place == other.place && one.count == other.count && one.bound == other.bound)
+        return 1;
+    fprintf(stderr, "%u at %zu, %u, %u; %u at %zu, %u, %u\n", one.number, one.place, one.count, one.bound, other.number, other.place,
+            other.count, other.bound);
+    return 0;
+}
+
+/* The call of the library and of its twin. */
+static filmdisk_answer call_by(enum way way, const struct call *call)
+{
+    filmdisk_answer got = call_library(way, call, (int)(call->slot + call->sort + input_left) & 1);
+    filmdisk_answer wanted = call_twin(way, call);
+    if (!same_answer(got, wanted))
+        differ(call, way, "other answers of library and twin", STRINGS);
+    for (size_t i = 0; i < STRINGS; i++)
+        if (lengths[i] > 0 && memcmp(lent[i].bytes, left[way][i], lengths[i]) != 0)
+            differ(call, way, "other contents", i);
+    return got;
+}
+
+/*
+ * Is the lead list the full one? For a planner it has room for N entries: N of the plan, or where none was made no more than the positions
+ * have room for. A desk's is what the planner wrote.
+ */
+static int is_full_list(const struct call *call, filmdisk_answer by_scratch)
+{
+    if (call->sort == CALL_PLAN || call->sort == CALL_PLAN_LOOP) {
+        size_t blocks = by_scratch.number == 0 ? filmdisk_word(left[BY_SCRATCH][PLAN], FILMDISK_PLAN_BLOCKS)
+                                               : lengths[POSITIONS] / FILMDISK_ENTRY_BYTES;
+        return lengths[LEADS] / FILMDISK_ENTRY_BYTES >= blocks;
+    }
+    return own_leads_len > 0 && lengths[LEADS] >= own_leads_len && memcmp(contents[LEADS], own_leads, own_leads_len) == 0;
+}
+
+/* By a scratch that is not short the answer and all strings are those by the full list. */
+static void compare_ways(const struct call *call, const filmdisk_answer answers[WAYS])
+{
+    if (lengths[SCRATCH] < FILMDISK_SCRATCH_BYTES || !is_full_list(call, answers[BY_SCRATCH]))
+        return;
+    if (!same_answer(answers[BY_SCRATCH], answers[BY_LIST]))
+        differ(call, BY_SCRATCH, "other answers by list", STRINGS);
+    for (size_t i = 0; i < STRINGS; i++)
+        if (i != LEADS && memcmp(left[BY_SCRATCH][i], left[BY_LIST][i], lengths[i]) != 0)
+            differ(call, BY_SCRATCH, "other contents by list", i);
+}
+
+/* The call twice; answers what came of the way by which the desk goes on. Leads are always the list call's. */
 static filmdisk_answer call_both(enum sort sort, uint32_t slot, uint32_t block)
 {
     const struct call call = {sort, slot, block};
-    filmdisk_answer got = call_library(&call, (int)(slot + sort + input_left) & 1);
-    filmdisk_answer wanted = call_twin(&call);
-    if (got.number != wanted.number || got.place != wanted.place || got.count != wanted.count || got.bound != wanted.bound) {
-        fprintf(stderr, "library %u at %zu, %u, %u; twin %u at %zu, %u, %u\n", got.number, got.place, got.count, got.bound,
-                wanted.number, wanted.place, wanted.count, wanted.bound);
-        differ(&call, "other answers", STRINGS);
-    }
+    const enum way goes_on = habit < WAYS ? habit : calls_made++ % WAYS;
+    filmdisk_answer answers[WAYS];
+    for (int way = BY_LIST; way < WAYS; way++)
+        answers[way] = call_by(way, &call);
+    compare_ways(&call, answers);
     for (size_t i = 0; i < STRINGS; i++)
-        if (lengths[i] > 0 && memcmp(lent[i].bytes, contents[i], lengths[i]) != 0)
-            differ(&call, "other contents", i);
-    return got;
+        memcpy(contents[i], left[i == LEADS ? BY_LIST : goes_on][i], lengths[i]);
+    return answers[goes_on];
 }
 
 /* The window of the plan and its positions, or of the plan that the desk begins with. Neither writes a byte. */
@@ -186,6 +256,18 @@ static void set_noise(enum lent which, size_t length)
         contents[which][i] = (uint8_t)(i * 31 + 7);
 }
 
+/* A scratch of random bytes, with 512 words or more. */
+static void set_scratch(uint32_t choice)
+{
+    static const size_t spare[] = {0, 0, 0, 0, 1, 3, 4, 5000};
+    uint64_t state = input_left;
+    lengths[SCRATCH] = FILMDISK_SCRATCH_BYTES + spare[choice % COUNT(spare)];
+    for (size_t i = 0; i < lengths[SCRATCH]; i++) {
+        state = state * 6364136223846793005u + 1442695040888963407u;
+        contents[SCRATCH][i] = (uint8_t)(state >> 56);
+    }
+}
+
 static void take_card(void)
 {
     lengths[CARD] = take();
@@ -217,11 +299,13 @@ static void take_table(void)
 static enum sort take_planner(void)
 {
     static const size_t entries[] = {64, 64, 64, FILMDISK_MAX_BLOCKS, 6, 5, 1, 0};
-    uint32_t choice = take(), plan = take();
+    uint32_t choice = take(), plan = take(), desk = take();
     set_noise(POSITIONS, entries[choice % 8] * FILMDISK_ENTRY_BYTES + choice / 64);
     set_noise(LEADS, entries[choice / 8 % 8] * FILMDISK_ENTRY_BYTES + choice / 64);
     set_noise(PLAN, FILMDISK_PLAN_BYTES - (plan % 8 == 1));
-    set_noise(DESK, FILMDISK_DESK_BYTES - (take() % 8 == 1));
+    set_noise(DESK, FILMDISK_DESK_BYTES - (desk % 8 == 1));
+    set_scratch(desk / 32);
+    habit = desk / 8 % 4;
     has_table = plan / 16 % 4 == 1;
     return plan / 8 % 2 == 0 ? CALL_PLAN : CALL_PLAN_LOOP;
 }
@@ -284,7 +368,8 @@ static void resize(enum lent which, size_t choice)
 /* Damages one byte of what is lent, or gives it another length. */
 static void damage(void)
 {
-    enum lent which = take() % STRINGS;
+    uint32_t choice = take();
+    enum lent which = choice < 240 ? choice % SCRATCH : SCRATCH;
     size_t at = take() * 16 + take();
     uint8_t change = (uint8_t)take();
     if (change % 4 == 0)
@@ -422,6 +507,8 @@ int LLVMFuzzerTestOneInput(const uint8_t *data, size_t size)
     input = data;
     input_left = size;
     last_bound = 0;
+    own_leads_len = 0;
+    calls_made = 0;
     set_noise(FETCHES, 0);
     set_noise(DRAWS, 0);
     enum sort planner = take_planner();
@@ -431,6 +518,10 @@ int LLVMFuzzerTestOneInput(const uint8_t *data, size_t size)
     if (call_both(planner, 0, 0).number != 0)
         return 0;
     size_t list_bytes = (size_t)word(PLAN, FILMDISK_PLAN_BLOCKS) * FILMDISK_ENTRY_BYTES;
+    if (lengths[LEADS] >= list_bytes) {
+        own_leads_len = list_bytes;
+        memcpy(own_leads, contents[LEADS], list_bytes);
+    }
     lengths[POSITIONS] = lengths[LEADS] = list_bytes;
     uint32_t more = take();
     for (; more >= 200; more = take())

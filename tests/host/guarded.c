@@ -67,7 +67,7 @@ void guarded_make(guarded *string, size_t most)
     if (pages == MAP_FAILED)
         give_up("mmap");
     string->room = pages + page;
-    guarded_seal(string, 0);
+    guarded_seal(string, GUARDED_OPEN);
 }
 
 /* The bytes beside the string: where they begin, and how many are looked at. */
@@ -111,11 +111,12 @@ uint8_t *guarded_lend(guarded *string, const uint8_t *contents, size_t length, i
     return string->bytes;
 }
 
-void guarded_seal(const guarded *string, int sealed)
+void guarded_seal(const guarded *string, int sealing)
 {
+    static const int allowed[] = {PROT_READ | PROT_WRITE, PROT_READ, PROT_NONE};
     if (on_heap)
         return;
-    if (mprotect(string->room, string->capacity, sealed ? PROT_READ : PROT_READ | PROT_WRITE) != 0)
+    if (mprotect(string->room, string->capacity, allowed[sealing]) != 0)
         give_up("mprotect");
 }
 

@@ -27,8 +27,11 @@ void guarded_make(guarded *string, size_t most);
 /* Lends `length` bytes at an edge, with these contents. */
 uint8_t *guarded_lend(guarded *string, const uint8_t *contents, size_t length, int edge);
 
-/* Forbids writing to the string (1), or allows it again (0). */
-void guarded_seal(const guarded *string, int sealed);
+/* How a string is sealed: not at all, not to be written, not to be touched. */
+enum guarded_sealing { GUARDED_OPEN = 0, GUARDED_READ = 1, GUARDED_CLOSED = 2 };
+
+/* Forbids writing to the string, or reading it too, or allows both again. */
+void guarded_seal(const guarded *string, int sealing);
 
 /* Have the bytes beside the string kept their filling? */
 int guarded_beside_kept(const guarded *string);

@@ -15,7 +15,7 @@ const uint32_t bench_film[BENCH_NUMBERS] = {
     1, 6, 1, 22270, 1, 20550, 1, 19090, 1, 17810, 1, 16700, 1, 15720, 6, 262144, 500000, 12670, 15000,
 };
 
-static const char *const names[STRINGS] = {"card", "plan", "positions", "leads", "desk", "fetches", "draws"};
+static const char *const names[STRINGS] = {"card", "plan", "positions", "leads", "desk", "fetches", "draws", "scratch"};
 static guarded strings[STRINGS];
 static uint8_t before[STRINGS][MOST_BYTES];
 static int is_null[STRINGS];
@@ -248,7 +248,10 @@ static void check_cleared(enum lent which, size_t right_length)
     check_others_kept(1u << which);
 }
 
-/* Strings that the call may write are in the set; the others may not even be written with what they hold. */
+/*
+ * Strings that the call may write are in the set; the others may not even be written with what they hold, and the scratch may not be
+ * touched at all.
+ */
 static void before_call(unsigned written)
 {
     /* Which edge is guarded goes on without a pattern that calls could fall in with. */
@@ -259,31 +262,32 @@ static void before_call(unsigned written)
             memcpy(before[which], bytes_of(which), length);
         guarded_lend(&strings[which], before[which], length, edge);
         if ((written >> which & 1) == 0)
-            guarded_seal(&strings[which], 1);
+            guarded_seal(&strings[which], which == SCRATCH ? GUARDED_CLOSED : GUARDED_READ);
     }
 }
 
 static void after_call(void)
 {
     for (int which = 0; which < STRINGS; which++) {
-        guarded_seal(&strings[which], 0);
+        guarded_seal(&strings[which], GUARDED_OPEN);
         check(guarded_beside_kept(&strings[which]), "bytes beside %s are kept", names[which]);
     }
 }
 
 /* The calls. */
 
-/* A plan call writes the plan and both lists. */
-#define PLANNED (1u << PLAN | 1u << POSITIONS | 1u << LEADS)
+/* A plan call writes the plan and both lists; with a scratch the plan and the positions. */
+#define PLANNED_SCRATCH (1u << PLAN | 1u << POSITIONS)
+#define PLANNED (PLANNED_SCRATCH | 1u << LEADS)
 
-static filmdisk_answer plan_answer(filmdisk_answer answer)
+static filmdisk_answer plan_answer(filmdisk_answer answer, unsigned written)
 {
     after_call();
     if (answer.number == 0) {
         size_t list_bytes = (size_t)word(PLAN, FILMDISK_PLAN_BLOCKS) * FILMDISK_ENTRY_BYTES;
         check_kept(POSITIONS, list_bytes);
         check_kept(LEADS, list_bytes);
-        check_others_kept(PLANNED);
+        check_others_kept(written);
     } else if (answer.number == FILMDISK_REFUSED_TOO_SHORT) {
         check_others_kept(0);
     } else {
@@ -295,19 +299,29 @@ static filmdisk_answer plan_answer(filmdisk_answer answer)
 filmdisk_answer host_plan(void)
 {
     before_call(PLANNED);
-    return plan_answer(filmdisk_plan(LENT(CARD), LENT(PLAN), LENT(POSITIONS), LENT(LEADS)));
+    return plan_answer(filmdisk_plan(LENT(CARD), LENT(PLAN), LENT(POSITIONS), LENT(LEADS)), PLANNED);
+}
+
+filmdisk_answer host_plan_scratch(void)
+{
+    before_call(PLANNED_SCRATCH);
+    return plan_answer(filmdisk_plan_scratch(LENT(CARD), LENT(PLAN), LENT(POSITIONS), LENT(SCRATCH)), PLANNED_SCRATCH);
 }
 
 filmdisk_answer host_plan_loop(void)
 {
     before_call(PLANNED);
-    return plan_answer(filmdisk_plan_loop(LENT(CARD), LENT(PLAN), LENT(POSITIONS), LENT(LEADS)));
+    return plan_answer(filmdisk_plan_loop(LENT(CARD), LENT(PLAN), LENT(POSITIONS), LENT(LEADS)), PLANNED);
 }
 
-filmdisk_answer host_open(void)
+filmdisk_answer host_plan_loop_scratch(void)
 {
-    before_call(1u << DESK);
-    filmdisk_answer answer = filmdisk_open(LENT(PLAN), LENT(POSITIONS), LENT(LEADS), LENT(DESK));
+    before_call(PLANNED_SCRATCH);
+    return plan_answer(filmdisk_plan_loop_scratch(LENT(CARD), LENT(PLAN), LENT(POSITIONS), LENT(SCRATCH)), PLANNED_SCRATCH);
+}
+
+static filmdisk_answer open_answer(filmdisk_answer answer)
+{
     after_call();
     if (answer.number == 0)
         check_others_kept(1u << DESK);
@@ -316,6 +330,18 @@ filmdisk_answer host_open(void)
     else
         check_cleared(DESK, FILMDISK_DESK_BYTES);
     return answer;
+}
+
+filmdisk_answer host_open(void)
+{
+    before_call(1u << DESK);
+    return open_answer(filmdisk_open(LENT(PLAN), LENT(POSITIONS), LENT(LEADS), LENT(DESK)));
+}
+
+filmdisk_answer host_open_scratch(void)
+{
+    before_call(1u << DESK);
+    return open_answer(filmdisk_open_scratch(LENT(PLAN), LENT(POSITIONS), LENT(SCRATCH), LENT(DESK)));
 }
 
 /* Join, leave and end write the desk alone, and only if accepted. */
@@ -333,10 +359,22 @@ filmdisk_answer host_join(uint32_t slot, uint32_t block)
     return desk_answer(filmdisk_join(LENT(DESK), LENT(POSITIONS), LENT(LEADS), slot, block));
 }
 
+filmdisk_answer host_join_scratch(uint32_t slot, uint32_t block)
+{
+    before_call(1u << DESK);
+    return desk_answer(filmdisk_join_scratch(LENT(DESK), LENT(POSITIONS), LENT(SCRATCH), slot, block));
+}
+
 filmdisk_answer host_leave(uint32_t slot)
 {
     before_call(1u << DESK);
     return desk_answer(filmdisk_leave(LENT(DESK), LENT(POSITIONS), LENT(LEADS), slot));
+}
+
+filmdisk_answer host_leave_scratch(uint32_t slot)
+{
+    before_call(1u << DESK);
+    return desk_answer(filmdisk_leave_scratch(LENT(DESK), LENT(POSITIONS), LENT(SCRATCH), slot));
 }
 
 filmdisk_answer host_end(void)
@@ -345,10 +383,14 @@ filmdisk_answer host_end(void)
     return desk_answer(filmdisk_end(LENT(DESK), LENT(POSITIONS), LENT(LEADS), LENT(DRAWS)));
 }
 
-filmdisk_answer host_begin(void)
+filmdisk_answer host_end_scratch(void)
 {
-    before_call(1u << DESK | 1u << FETCHES);
-    filmdisk_answer answer = filmdisk_begin(LENT(DESK), LENT(POSITIONS), LENT(LEADS), LENT(FETCHES));
+    before_call(1u << DESK);
+    return desk_answer(filmdisk_end_scratch(LENT(DESK), LENT(POSITIONS), LENT(SCRATCH), LENT(DRAWS)));
+}
+
+static filmdisk_answer begin_answer(filmdisk_answer answer)
+{
     after_call();
     if (answer.number == 0) {
         check_kept(FETCHES, (size_t)answer.count * FILMDISK_FETCH_BYTES);
@@ -357,6 +399,18 @@ filmdisk_answer host_begin(void)
         check_others_kept(0);
     }
     return answer;
+}
+
+filmdisk_answer host_begin(void)
+{
+    before_call(1u << DESK | 1u << FETCHES);
+    return begin_answer(filmdisk_begin(LENT(DESK), LENT(POSITIONS), LENT(LEADS), LENT(FETCHES)));
+}
+
+filmdisk_answer host_begin_scratch(void)
+{
+    before_call(1u << DESK | 1u << FETCHES);
+    return begin_answer(filmdisk_begin_scratch(LENT(DESK), LENT(POSITIONS), LENT(SCRATCH), LENT(FETCHES)));
 }
 
 /* A window writes nothing. */
@@ -431,22 +485,44 @@ void expect_words(enum lent which, size_t first, const uint32_t *words, size_t c
               word(which, first + i));
 }
 
-void open_desk(planner *plan, const uint32_t *numbers, size_t count)
+/* The card, and noise in what either plan call writes; the lists are cut to N entries. */
+static void plan_card(planner *plan, const uint32_t *numbers, size_t count)
 {
     lend_card(numbers, count);
     lend_noise(PLAN, FILMDISK_PLAN_BYTES);
     lend_noise(POSITIONS, FILMDISK_MAX_BLOCKS * FILMDISK_ENTRY_BYTES);
-    lend_noise(LEADS, FILMDISK_MAX_BLOCKS * FILMDISK_ENTRY_BYTES);
     expect(plan(), 0, 0);
     size_t list_bytes = (size_t)word(PLAN, FILMDISK_PLAN_BLOCKS) * FILMDISK_ENTRY_BYTES;
-    size_t streams = word(PLAN, FILMDISK_PLAN_STREAMS);
     resize(POSITIONS, list_bytes);
-    resize(LEADS, list_bytes);
+    if (length_of(LEADS) > list_bytes)
+        resize(LEADS, list_bytes);
+}
+
+/* What either opening and the sweeps write and read. */
+static void lend_sweep(void)
+{
+    size_t streams = word(PLAN, FILMDISK_PLAN_STREAMS);
     lend_noise(DESK, FILMDISK_DESK_BYTES);
     lend_noise(FETCHES, streams * FILMDISK_FETCH_BYTES);
-    expect(host_open(), 0, 0);
     lend_noise(DRAWS, streams * FILMDISK_ENTRY_BYTES);
     memset(bytes_of(DRAWS), 0, length_of(DRAWS));
+}
+
+void open_desk(planner *plan, const uint32_t *numbers, size_t count)
+{
+    lend_noise(LEADS, FILMDISK_MAX_BLOCKS * FILMDISK_ENTRY_BYTES);
+    plan_card(plan, numbers, count);
+    lend_sweep();
+    expect(host_open(), 0, 0);
+}
+
+void open_desk_scratch(planner *plan_scratch, const uint32_t *numbers, size_t count)
+{
+    lend_null(LEADS);
+    lend_noise(SCRATCH, FILMDISK_SCRATCH_BYTES);
+    plan_card(plan_scratch, numbers, count);
+    lend_sweep();
+    expect(host_open_scratch(), 0, 0);
 }
 
 void open_film(planner *plan, const uint32_t *times, uint32_t blocks)

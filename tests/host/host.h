@@ -10,7 +10,7 @@
 #include <stdint.h>
 
 /* The strings that calls are lent. */
-enum lent { CARD, PLAN, POSITIONS, LEADS, DESK, FETCHES, DRAWS, STRINGS };
+enum lent { CARD, PLAN, POSITIONS, LEADS, DESK, FETCHES, DRAWS, SCRATCH, STRINGS };
 
 /* A test has a name by which it can be run alone. */
 typedef struct test {
@@ -65,6 +65,15 @@ filmdisk_answer host_begin(void);
 filmdisk_answer host_end(void);
 filmdisk_window_answer host_window(uint32_t blocks);
 
+/* The same with the scratch in place of the leads. No call may touch a byte of it. */
+filmdisk_answer host_plan_scratch(void);
+filmdisk_answer host_plan_loop_scratch(void);
+filmdisk_answer host_open_scratch(void);
+filmdisk_answer host_join_scratch(uint32_t slot, uint32_t block);
+filmdisk_answer host_leave_scratch(uint32_t slot);
+filmdisk_answer host_begin_scratch(void);
+filmdisk_answer host_end_scratch(void);
+
 /* Number and place of an answer; the rest of a refused one is 0. */
 void expect(filmdisk_answer answer, uint32_t number, size_t place);
 
@@ -86,6 +95,9 @@ typedef filmdisk_answer planner(void);
 
 /* Lends a card with noise in all that a plan call writes, plans it and opens a desk with room for its fetches and draws. */
 void open_desk(planner *plan, const uint32_t *numbers, size_t count);
+
+/* The same with a scratch of noise, and no list of leads. */
+void open_desk_scratch(planner *plan_scratch, const uint32_t *numbers, size_t count);
 
 /* The same of a film on positions with these times, innermost first, each a zone; all else as the bench film has it. */
 void open_film(planner *plan, const uint32_t *times, uint32_t blocks);

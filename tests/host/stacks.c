@@ -42,6 +42,41 @@ static void call_end(void)
     answer = filmdisk_end(LENT(DESK), LENT(POSITIONS), LENT(LEADS), LENT(DRAWS));
 }
 
+static void call_plan_scratch(void)
+{
+    answer = filmdisk_plan_scratch(LENT(CARD), LENT(PLAN), LENT(POSITIONS), LENT(SCRATCH));
+}
+
+static void call_plan_loop_scratch(void)
+{
+    answer = filmdisk_plan_loop_scratch(LENT(CARD), LENT(PLAN), LENT(POSITIONS), LENT(SCRATCH));
+}
+
+static void call_open_scratch(void)
+{
+    answer = filmdisk_open_scratch(LENT(PLAN), LENT(POSITIONS), LENT(SCRATCH), LENT(DESK));
+}
+
+static void call_join_scratch(void)
+{
+    answer = filmdisk_join_scratch(LENT(DESK), LENT(POSITIONS), LENT(SCRATCH), 0, 0);
+}
+
+static void call_leave_scratch(void)
+{
+    answer = filmdisk_leave_scratch(LENT(DESK), LENT(POSITIONS), LENT(SCRATCH), 0);
+}
+
+static void call_begin_scratch(void)
+{
+    answer = filmdisk_begin_scratch(LENT(DESK), LENT(POSITIONS), LENT(SCRATCH), LENT(FETCHES));
+}
+
+static void call_end_scratch(void)
+{
+    answer = filmdisk_end_scratch(LENT(DESK), LENT(POSITIONS), LENT(SCRATCH), LENT(DRAWS));
+}
+
 static void call_window(void)
 {
     const filmdisk_window_answer window = filmdisk_window(LENT(PLAN), LENT(POSITIONS), 2);
@@ -112,6 +147,32 @@ static void stack_of_begin_and_end(void)
     }
 }
 
+static void stack_of_plans_by_scratch(void)
+{
+    open_desk_scratch(host_plan_scratch, bench_film, BENCH_NUMBERS);
+    expect_stack(call_plan_scratch, FILMDISK_STACK_PLAN_SCRATCH);
+    open_desk_scratch(host_plan_loop_scratch, bench_film, BENCH_NUMBERS);
+    expect_stack(call_plan_loop_scratch, FILMDISK_STACK_PLAN_LOOP_SCRATCH);
+}
+
+static void stack_of_desk_calls_by_scratch(void)
+{
+    static planner *const scratch_planners[] = {host_plan_scratch, host_plan_loop_scratch};
+    for (size_t i = 0; i < COUNT(scratch_planners); i++) {
+        open_desk_scratch(scratch_planners[i], bench_film, BENCH_NUMBERS);
+        expect_stack(call_open_scratch, FILMDISK_STACK_OPEN_SCRATCH);
+        expect(host_join_scratch(0, 0), 0, 0);
+        expect(host_leave_scratch(0), 0, 0);
+        expect_stack(call_join_scratch, FILMDISK_STACK_JOIN_SCRATCH);
+        expect_stack(call_leave_scratch, FILMDISK_STACK_LEAVE_SCRATCH);
+        expect(host_join_scratch(0, 0), 0, 0);
+        expect(host_begin_scratch(), 0, 0);
+        expect(host_end_scratch(), 0, 0);
+        expect_stack(call_begin_scratch, FILMDISK_STACK_BEGIN_SCRATCH);
+        expect_stack(call_end_scratch, FILMDISK_STACK_END_SCRATCH);
+    }
+}
+
 static void stack_of_window(void)
 {
     for (size_t i = 0; i < COUNT(planners); i++) {
@@ -136,6 +197,8 @@ static const test tests[] = {
     TEST(stack_of_open),
     TEST(stack_of_join_and_leave),
     TEST(stack_of_begin_and_end),
+    TEST(stack_of_plans_by_scratch),
+    TEST(stack_of_desk_calls_by_scratch),
     TEST(stack_of_window),
     TEST(stack_of_draw_limit),
 };

@@ -1,18 +1,21 @@
 -- A join and a leave told as one, a move: which of the two, its slot, and the start block of a join.
 -- Assumes nothing.
 use Prim.Native.Nat.{ℕ}
-use mathlib.Core.Path.{_≡_, refl}
+use mathlib.Core.Path.{_≡_, refl, ap}
 use mathlib.Core.Bool.{Bool, true, false, cond}
 use mathlib.Core.List.{List}
 use native.Mathlib.Omega.{arith}
 use lib.Dec.{ltb, eqb}
-use Rattle.numbers.specs.Refusals.{slotState, noSuchBlock}
+use Rattle.numbers.specs.Refusals.{tooShort, slotState, noSuchBlock}
 use Rattle.numbers.specs.Slots.{free, waiting}
 use Rattle.card.specs.declared.Verdict.{Verdict}
 use Rattle.rules.specs.Scheduler.{Call, join, leave}
 use Rattle.desk.specs.declared.Desk.{Desk}
 use Rattle.desk.specs.declared.Answer.{Answer}
+use Rattle.plan.specs.Scratch.{scratchShort}
 use Rattle.desk.specs.Desk.{verdict, answerOf, answered, joinDesk, leaveDesk}
+use Rattle.desk.specs.Records.{answers}
+use Rattle.desk.specs.Scratch.{deskLeads, joinScratch, leaveScratch}
 use Rattle.admission.specs.declared.Move.{Move}
 
 abbrev pub joinOf : ℕ → ℕ → Move
@@ -36,6 +39,18 @@ join-is d ps ls slot block = refl
 pub leave-is : (d : Desk) (ps ls : List ℕ) (slot : ℕ) → moveDesk d ps ls (leaveOf slot) ≡ leaveDesk d ps ls slot
 unfolding moveDesk leaveDesk
 leave-is d ps ls slot = refl
+
+-- the same with a scratch s
+unfoldable pub moveScratch : Desk → List ℕ → List ℕ → Move → Answer
+moveScratch d ps s m = cond (scratchShort s) (answers d tooShort 0) (moveDesk d ps (deskLeads d) m)
+
+pub join-scratch-is : (d : Desk) (ps s : List ℕ) (slot block : ℕ) → moveScratch d ps s (joinOf slot block) ≡ joinScratch d ps s slot block
+unfolding moveScratch joinScratch
+join-scratch-is d ps s slot block = ap (cond (scratchShort s) (answers d tooShort 0)) (join-is d ps (deskLeads d) slot block)
+
+pub leave-scratch-is : (d : Desk) (ps s : List ℕ) (slot : ℕ) → moveScratch d ps s (leaveOf slot) ≡ leaveScratch d ps s slot
+unfolding moveScratch leaveScratch
+leave-scratch-is d ps s slot = ap (cond (scratchShort s) (answers d tooShort 0)) (leave-is d ps (deskLeads d) slot)
 
 -- the kind and the next block that it gives its slot
 unfoldable pub kindAfter : Move → ℕ

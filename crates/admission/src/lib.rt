@@ -17,28 +17,49 @@ use numbers::refusals::NO_SUCH_BLOCK;
 use numbers::refusals::NO_SUCH_SLOT;
 use numbers::refusals::NOT_SOUND;
 use numbers::refusals::SLOT_STATE;
+use numbers::refusals::TOO_SHORT;
 use numbers::refusals::WRONG_PHASE;
 use numbers::slots::BETWEEN;
 use numbers::slots::FREE;
 use numbers::slots::WAITING;
 use plan::Plan;
+use plan::is_short;
 use soundness::is_sound;
 ghost use mathlib.Core.Path.{_≡_};
 ghost use Prim.Native.Nat.{_≤_};
 ghost use lib.ListN.{length};
+ghost use Rattle.plan.specs.Scratch.{leadsBy};
 ghost use Rattle.desk.specs.Desk.{openDesk, joinDesk, leaveDesk};
+ghost use Rattle.desk.specs.Scratch.{openScratch, joinScratch, leaveScratch};
 ghost use Rattle.words.specs.Words.{wordsOf};
 ghost use Rattle.desk_layout.specs.Layout.{deskIn, deskSize};
-ghost use Rattle.admission.specs.Moves.{joinOf, leaveOf, moveDesk, stateVerdict, kindAfter, nextAfter};
+ghost use Rattle.admission.specs.Moves.{joinOf, leaveOf, moveDesk, moveScratch, stateVerdict, kindAfter, nextAfter};
+
+// Opens a desk with its lists, or with a scratch in the lead list's place.
+fn opened(plan: Plan, positions: &[u8], leads: &[u8], listed: bool) -> Answer
+    ensures { λ r. ⌜ r ≡ openDesk plan (now (positions .entry)) (leadsBy listed plan (now (leads .entry))) ⌝ }
+{
+    if !plan_check::is_plan(plan, positions, leads, listed) {
+        return answer_with(blank_desk(), NOT_SOUND, 0);
+    }
+    answer_with(fresh_desk(plan), ACCEPTED, 0)
+}
 
 // Opens a desk: 14 where the record and the lists are not the plan of its figures; the new desk is then all zero.
 pub fn open(plan: Plan, positions: &[u8], leads: &[u8]) -> Answer
     ensures { λ r. ⌜ r ≡ openDesk plan (now (positions .entry)) (now (leads .entry)) ⌝ }
 {
-    if !plan_check::is_plan(plan, positions, leads) {
-        return answer_with(blank_desk(), NOT_SOUND, 0);
+    opened(plan, positions, leads, true)
+}
+
+// Opens a desk with a scratch: 13 where it is too short, then 14.
+pub fn open_scratch(plan: Plan, positions: &[u8], scratch: &[u8]) -> Answer
+    ensures { λ r. ⌜ r ≡ openScratch plan (now (positions .entry)) (now (scratch .entry)) ⌝ }
+{
+    if is_short(scratch) {
+        return answer_with(blank_desk(), TOO_SHORT, 0);
     }
-    answer_with(fresh_desk(plan), ACCEPTED, 0)
+    opened(plan, positions, scratch, false)
 }
 
 // A join of a slot at its start block, or a leave of it.
@@ -111,11 +132,12 @@ fn judge_state(kind: u32, blocks: u32, step: Move) -> Verdict
 }
 
 // The refusal of a move of the desk in a lent string, 14 to 18, or 0.
-pub fn judge_move(desk: &[u8], positions: &[u8], leads: &[u8], step: Move) -> Verdict
+pub fn judge_move(desk: &[u8], positions: &[u8], leads: &[u8], listed: bool, step: Move) -> Verdict
     requires { ⌜ deskSize ≤ length (now desk) ⌝ }
-    ensures { λ r. ⌜ r ≡ moveDesk (deskIn (wordsOf (now (desk .entry)))) (now (positions .entry)) (now (leads .entry)) step .verdict ⌝ }
+    ensures { λ r. ⌜ (let d = deskIn (wordsOf (now (desk .entry))) in
+        r ≡ moveDesk d (now (positions .entry)) (leadsBy listed (d .plan) (now (leads .entry))) step .verdict) ⌝ }
 {
-    if !is_sound(desk, positions, leads) {
+    if !is_sound(desk, positions, leads, listed) {
         return verdict(NOT_SOUND, 0);
     }
     if phase_in(desk) != BETWEEN {
@@ -129,11 +151,11 @@ pub fn judge_move(desk: &[u8], positions: &[u8], leads: &[u8], step: Move) -> Ve
 }
 
 // A desk after a move; a refused one answers the desk it was given.
-fn moved(desk: Desk, positions: &[u8], leads: &[u8], step: Move) -> Answer
-    ensures { λ r. ⌜ r ≡ moveDesk desk (now (positions .entry)) (now (leads .entry)) step ⌝ }
+fn moved(desk: Desk, positions: &[u8], leads: &[u8], listed: bool, step: Move) -> Answer
+    ensures { λ r. ⌜ r ≡ moveDesk desk (now (positions .entry)) (leadsBy listed (desk .plan) (now (leads .entry))) step ⌝ }
 {
     let string = string_of(desk);
-    let verdict = judge_move(&string, positions, leads, step);
+    let verdict = judge_move(&string, positions, leads, listed, step);
     if verdict.number != ACCEPTED {
         return Answer {
             verdict: verdict,
@@ -152,12 +174,36 @@ fn moved(desk: Desk, positions: &[u8], leads: &[u8], step: Move) -> Answer
 pub fn join(desk: Desk, positions: &[u8], leads: &[u8], slot: u32, block: u32) -> Answer
     ensures { λ r. ⌜ r ≡ joinDesk desk (now (positions .entry)) (now (leads .entry)) slot block ⌝ }
 {
-    moved(desk, positions, leads, join_of(slot, block))
+    moved(desk, positions, leads, true, join_of(slot, block))
 }
 
 // An occupied slot becomes free, all zero: 14 to 17. A refused call answers the desk it was given.
 pub fn leave(desk: Desk, positions: &[u8], leads: &[u8], slot: u32) -> Answer
     ensures { λ r. ⌜ r ≡ leaveDesk desk (now (positions .entry)) (now (leads .entry)) slot ⌝ }
 {
-    moved(desk, positions, leads, leave_of(slot))
+    moved(desk, positions, leads, true, leave_of(slot))
+}
+
+// A desk after a move with a scratch: 13 where it is too short, then 14 to 18.
+fn moved_scratch(desk: Desk, positions: &[u8], scratch: &[u8], step: Move) -> Answer
+    ensures { λ r. ⌜ r ≡ moveScratch desk (now (positions .entry)) (now (scratch .entry)) step ⌝ }
+{
+    if is_short(scratch) {
+        return answer_with(desk, TOO_SHORT, 0);
+    }
+    moved(desk, positions, scratch, false, step)
+}
+
+// A join with a scratch: 13, then 14 to 18.
+pub fn join_scratch(desk: Desk, positions: &[u8], scratch: &[u8], slot: u32, block: u32) -> Answer
+    ensures { λ r. ⌜ r ≡ joinScratch desk (now (positions .entry)) (now (scratch .entry)) slot block ⌝ }
+{
+    moved_scratch(desk, positions, scratch, join_of(slot, block))
+}
+
+// A leave with a scratch: 13, then 14 to 17.
+pub fn leave_scratch(desk: Desk, positions: &[u8], scratch: &[u8], slot: u32) -> Answer
+    ensures { λ r. ⌜ r ≡ leaveScratch desk (now (positions .entry)) (now (scratch .entry)) slot ⌝ }
+{
+    moved_scratch(desk, positions, scratch, leave_of(slot))
 }

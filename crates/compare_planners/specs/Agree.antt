@@ -121,4 +121,4 @@ accepted-both x f small =
 
     number : planned x read eight eight .verdict .number ≡ 0
     number = ap (λ (a : Planned). a .verdict .number)
-        (sym (by-none x read eight eight refl (some-stream x f (length (wordsOf eight)) (length (wordsOf eight)) room room (fed x f small)) .0))
+        (sym (by-none x read eight eight refl (some-stream x f (length (wordsOf eight)) (length (wordsOf eight)) room room (fed x f small))))

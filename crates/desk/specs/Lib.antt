@@ -4,6 +4,7 @@ pub mod FilmEnd
 pub mod Promise
 pub mod Ready
 pub mod Records
+pub mod Scratch
 pub mod Shown
 pub mod Slots
 pub mod Supply

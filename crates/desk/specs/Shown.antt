@@ -10,7 +10,6 @@ use Rattle.rules.specs.Supply.{Supply}
 use Rattle.rules.specs.Arrays.{slotsOf}
 use Rattle.turns.specs.ArrayLaws.{SameLength}
 use Rattle.turns.specs.Facts.{FreeFrom}
-use Rattle.desk.specs.declared.Gathered.{Gathered}
 
 -- 256 slots, of which those from n on are free
 pub record Slots (p : Supply ℕ) (n : ℕ) (ks xs hs : List ℕ) : Type 0 where
@@ -22,7 +21,12 @@ pub record Slots (p : Supply ℕ) (n : ℕ) (ks xs hs : List ℕ) : Type 0 where
 abbrev pub OfNext : Supply ℕ → (ℕ → ℕ) → List ℕ → List ℕ → List ℕ → Type 0
 OfNext p f ks xs vs = (i : ℕ) → i < maxStreams → waiting ≤ getD ks i 0 → getD ks i 0 ≤ playing → getD vs i 0 ≡ f (getD xs i (p .none))
 
--- time and position of these blocks were gathered
+-- what is gathered of the list of positions and the zones for the slots: time and position of the next block of each
+pub record Gathered : Type 0 where
+  pub times : List ℕ
+  pub positions : List ℕ
+
+-- they are those of the supply
 pub record Gathers (p : Supply ℕ) (ks xs : List ℕ) (g : Gathered) : Type 0 where
   pub times : OfNext p (p .time) ks xs (g .times)
   pub positions : OfNext p (p .position) ks xs (g .positions)

@@ -49,12 +49,6 @@ pub struct Fetch {
     pub block: u32,
 }
 
-// What is gathered of the list of positions and the zones for each slot: time and position of its next block (kinds 1 to 3).
-pub struct Gathered {
-    pub times: [u32; 256],
-    pub positions: [u32; 256],
-}
-
 // 256 zeros.
 pub fn zeros() -> [u32; 256]
     ensures { λ r. ⌜ r ≡ zeros ⌝ }

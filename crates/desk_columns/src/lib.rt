@@ -12,12 +12,28 @@ ghost use Rattle.numbers.specs.Limits.{maxStreams};
 ghost use Rattle.words.specs.Words.{wordsOf};
 ghost use Rattle.desk_layout.specs.Layout.{deskIn, deskSize};
 
+// The zones of the disk.
+pub fn zones_in(desk: &[u8]) -> u32
+    requires { ⌜ deskSize ≤ length (now desk) ⌝ }
+    ensures { λ r. ⌜ r ≡ deskIn (wordsOf (now (desk .entry))) .plan .figures .zones ⌝ }
+{
+    word_at(desk, plan_offsets::ZONES)
+}
+
 // N.
 pub fn blocks_in(desk: &[u8]) -> u32
     requires { ⌜ deskSize ≤ length (now desk) ⌝ }
     ensures { λ r. ⌜ r ≡ deskIn (wordsOf (now (desk .entry))) .plan .figures .blocks ⌝ }
 {
     word_at(desk, plan_offsets::BLOCKS)
+}
+
+// worst2.
+pub fn worst2_in(desk: &[u8]) -> u32
+    requires { ⌜ deskSize ≤ length (now desk) ⌝ }
+    ensures { λ r. ⌜ r ≡ deskIn (wordsOf (now (desk .entry))) .plan .worst2 ⌝ }
+{
+    word_at(desk, plan_offsets::WORST2)
 }
 
 // B, the bytes of a block.

@@ -13,6 +13,8 @@ use Rattle.desk.specs.declared.Desk.{Desk}
 use Rattle.desk.specs.declared.Answer.{Answer}
 use Rattle.desk.specs.declared.Begun.{Begun}
 use Rattle.desk.specs.Desk.{verdict, blankDesk, openDesk, joinDesk, leaveDesk, beginDesk, fetchListAfter, endDesk}
+use Rattle.plan.specs.Scratch.{scratchShort}
+use Rattle.desk.specs.Scratch.{planLeads, deskLeads}
 use Rattle.draws.specs.Draws.{kindLimit}
 use Rattle.layout.specs.declared.FilmdiskAnswer.{FilmdiskAnswer}
 use Rattle.layout.specs.Answers.{verdictAnswer}
@@ -84,6 +86,56 @@ beginString D ps ls F = stringBy D (beginDesk (said D) ps ls (roomIn F) .desk)
 
 unfoldable pub fetchString : List ℕ → List ℕ → List ℕ → List ℕ → List ℕ
 fetchString D ps ls F = cond (eqb (length D) deskSize) (fetchListAfter (said D) ps ls (roomIn F) F) F
+
+-- ---- the same with a scratch s in place of the lead list (document 02, ticket 10): 13 where it is too short, ahead of all else (T10.5), and
+-- every string is left; else the call with the film's own leads (T10.2)
+
+-- the film's own lead list, by a plan string and by a desk string
+abbrev pub leadsOfPlan : List ℕ → List ℕ
+leadsOfPlan P = planLeads (planIn (wordsOf P))
+
+abbrev pub leadsOfDesk : List ℕ → List ℕ
+leadsOfDesk D = deskLeads (said D)
+
+-- an answer, and a string after the call
+abbrev pub orShort : List ℕ → FilmdiskAnswer → FilmdiskAnswer
+orShort s a = cond (scratchShort s) (refusedBy tooShort) a
+
+abbrev pub orKept : List ℕ → List ℕ → List ℕ → List ℕ
+orKept s old new = cond (scratchShort s) old new
+
+unfoldable pub openScratchAnswer : List ℕ → List ℕ → List ℕ → List ℕ → FilmdiskAnswer
+openScratchAnswer P ps s D = orShort s (openAnswer P ps (leadsOfPlan P) D)
+
+unfoldable pub openScratchString : List ℕ → List ℕ → List ℕ → List ℕ → List ℕ
+openScratchString P ps s D = orKept s D (openString P ps (leadsOfPlan P) D)
+
+unfoldable pub joinScratchAnswer : List ℕ → List ℕ → List ℕ → ℕ → ℕ → FilmdiskAnswer
+joinScratchAnswer D ps s slot block = orShort s (joinAnswer D ps (leadsOfDesk D) slot block)
+
+unfoldable pub joinScratchString : List ℕ → List ℕ → List ℕ → ℕ → ℕ → List ℕ
+joinScratchString D ps s slot block = orKept s D (joinString D ps (leadsOfDesk D) slot block)
+
+unfoldable pub leaveScratchAnswer : List ℕ → List ℕ → List ℕ → ℕ → FilmdiskAnswer
+leaveScratchAnswer D ps s slot = orShort s (leaveAnswer D ps (leadsOfDesk D) slot)
+
+unfoldable pub leaveScratchString : List ℕ → List ℕ → List ℕ → ℕ → List ℕ
+leaveScratchString D ps s slot = orKept s D (leaveString D ps (leadsOfDesk D) slot)
+
+unfoldable pub beginScratchAnswer : List ℕ → List ℕ → List ℕ → List ℕ → FilmdiskAnswer
+beginScratchAnswer D ps s F = orShort s (beginAnswer D ps (leadsOfDesk D) F)
+
+unfoldable pub beginScratchString : List ℕ → List ℕ → List ℕ → List ℕ → List ℕ
+beginScratchString D ps s F = orKept s D (beginString D ps (leadsOfDesk D) F)
+
+unfoldable pub fetchScratchString : List ℕ → List ℕ → List ℕ → List ℕ → List ℕ
+fetchScratchString D ps s F = orKept s F (fetchString D ps (leadsOfDesk D) F)
+
+unfoldable pub endScratchAnswer : List ℕ → List ℕ → List ℕ → List ℕ → FilmdiskAnswer
+endScratchAnswer D ps s draws = orShort s (endAnswer D ps (leadsOfDesk D) draws)
+
+unfoldable pub endScratchString : List ℕ → List ℕ → List ℕ → List ℕ → List ℕ
+endScratchString D ps s draws = orKept s D (endString D ps (leadsOfDesk D) draws)
 
 -- ---- what a slot may draw in a sweep of this bound (D14): c × bound / 1,000,000 where it plays or is tail, else 0. A string of another
 -- length has no slots, and a desk has 256

@@ -1,4 +1,6 @@
 // The calls of the desk on lent byte strings: what the bytes say, called, and written back. Strings lent to one call share no byte.
+pub mod scratch; // the calls with a scratch in the lead list's place
+
 use admission::Move;
 use admission::join_of;
 use admission::judge_move;
@@ -28,11 +30,13 @@ use numbers::refusals::NOT_SOUND;
 use numbers::refusals::TOO_SHORT;
 use numbers::slots::BETWEEN;
 use numbers::slots::SWEEPING;
-use plan::numbers_in;
-use plan::scalars_in;
 use plan_check::is_plan_of;
 use plan_layout::PLAN_BYTES;
-use plan_layout::read_plan;
+use plan_layout::numbers_at;
+use plan_layout::scalars_at;
+use plan_layout::sizes_at;
+use plan_layout::table_at;
+use plan_layout::times_at;
 use scheduler::judge_begin;
 use scheduler::judge_end;
 use sweep::Swept;
@@ -43,14 +47,15 @@ ghost use Rattle.numbers.specs.Refusals.{notSound};
 ghost use Rattle.numbers.specs.Slots.{sweeping};
 ghost use Rattle.words.specs.Words.{wordsOf, withWords};
 ghost use Rattle.desk.specs.Desk.{blankDesk};
+ghost use Rattle.plan_layout.specs.Layout.{planSize};
 ghost use Rattle.desk_layout.specs.Layout.{deskWords, deskIn, deskSize, withKinds};
 ghost use Rattle.entry_layout.specs.Entries.{rows};
 ghost use Rattle.desk_strings.specs.Calls.{refusedBy, stringBy, openAnswer, openString, joinAnswer, joinString, leaveAnswer, leaveString};
 ghost use Rattle.desk_strings.specs.Calls.{beginAnswer, beginString, fetchString, endAnswer, endString, drawLimitOf};
-ghost use Rattle.desk_strings.specs.Inner.{FetchesFit, moveAnswer, moveString, sweptAnswer};
+ghost use Rattle.desk_strings.specs.Inner.{FetchesFit, moveAnswer, moveString, sweptAnswer, planBy, deskBy};
 
 // An answer that is a number alone.
-fn number_answer(number: u32) -> FilmdiskAnswer
+pub fn number_answer(number: u32) -> FilmdiskAnswer
     ensures { λ r. ⌜ r ≡ refusedBy number ⌝ }
 {
     verdict_answer(Verdict {
@@ -70,51 +75,85 @@ fn refuse_open(desk: &mut [u8]) -> FilmdiskAnswer
     number_answer(NOT_SOUND)
 }
 
-// Opens a desk: 14, then 13 where the desk string has another length.
-pub fn open(plan: &[u8], positions: &[u8], leads: &[u8], desk: &mut [u8]) -> FilmdiskAnswer
-    ensures { λ r. ⌜ (r ≡ openAnswer (now (plan .entry)) (now (positions .entry)) (now (leads .entry)) (now (desk .entry)))
-        × (now (desk .exit) ≡ openString (now (plan .entry)) (now (positions .entry)) (now (leads .entry)) (now (desk .entry))) ⌝ }
+// Opens a desk of a plan string of the right length.
+fn open_plan(
+    plan: &[u8],
+    positions: &[u8],
+    leads: &[u8],
+    listed: bool,
+    desk: &mut [u8],
+) -> FilmdiskAnswer
+    requires { ⌜ length (now plan) ≡ planSize ⌝ }
+    ensures { λ r. ⌜ (let ls = planBy listed (now (plan .entry)) (now (leads .entry)) in
+        (r ≡ openAnswer (now (plan .entry)) (now (positions .entry)) ls (now (desk .entry)))
+        × (now (desk .exit) ≡ openString (now (plan .entry)) (now (positions .entry)) ls (now (desk .entry)))) ⌝ }
 {
-    if plan.len() != PLAN_BYTES {
-        return refuse_open(desk);
-    }
-    let read = read_plan(plan);
-    let figures = scalars_in(read);
-    let numbers = numbers_in(read);
+    let figures = scalars_at(plan);
+    let numbers = numbers_at(plan);
+    let sizes = sizes_at(plan);
+    let times = times_at(plan);
+    let table = table_at(plan);
     if !is_plan_of(
         figures,
-        &read.figures.positions,
-        &read.figures.times,
-        &read.figures.table,
+        &sizes,
+        &times,
+        &table,
         numbers,
         positions,
         leads,
+        listed,
     ) {
         return refuse_open(desk);
     }
     if desk.len() != DESK_BYTES {
         return number_answer(TOO_SHORT);
     }
-    write_fresh(
-        desk,
-        figures,
-        &read.figures.positions,
-        &read.figures.times,
-        &read.figures.table,
-        numbers,
-    );
+    write_fresh(desk, figures, &sizes, &times, &table, numbers);
     number_answer(ACCEPTED)
 }
 
+// Opens a desk with its lists, or with a scratch in the lead list's place.
+pub fn open_by(
+    plan: &[u8],
+    positions: &[u8],
+    leads: &[u8],
+    listed: bool,
+    desk: &mut [u8],
+) -> FilmdiskAnswer
+    ensures { λ r. ⌜ (let ls = planBy listed (now (plan .entry)) (now (leads .entry)) in
+        (r ≡ openAnswer (now (plan .entry)) (now (positions .entry)) ls (now (desk .entry)))
+        × (now (desk .exit) ≡ openString (now (plan .entry)) (now (positions .entry)) ls (now (desk .entry)))) ⌝ }
+{
+    if plan.len() != PLAN_BYTES {
+        return refuse_open(desk);
+    }
+    open_plan(plan, positions, leads, listed, desk)
+}
+
+// Opens a desk: 14, then 13 where the desk string has another length.
+pub fn open(plan: &[u8], positions: &[u8], leads: &[u8], desk: &mut [u8]) -> FilmdiskAnswer
+    ensures { λ r. ⌜ (r ≡ openAnswer (now (plan .entry)) (now (positions .entry)) (now (leads .entry)) (now (desk .entry)))
+        × (now (desk .exit) ≡ openString (now (plan .entry)) (now (positions .entry)) (now (leads .entry)) (now (desk .entry))) ⌝ }
+{
+    open_by(plan, positions, leads, true, desk)
+}
+
 // Makes a move: 14 to 18. A refused one writes nothing, another its slot alone.
-fn make_move(desk: &mut [u8], positions: &[u8], leads: &[u8], step: Move) -> FilmdiskAnswer
-    ensures { λ r. ⌜ (r ≡ moveAnswer (now (desk .entry)) (now (positions .entry)) (now (leads .entry)) step)
-        × (now (desk .exit) ≡ moveString (now (desk .entry)) (now (positions .entry)) (now (leads .entry)) step) ⌝ }
+pub fn make_move(
+    desk: &mut [u8],
+    positions: &[u8],
+    leads: &[u8],
+    listed: bool,
+    step: Move,
+) -> FilmdiskAnswer
+    ensures { λ r. ⌜ (let ls = deskBy listed (now (desk .entry)) (now (leads .entry)) in
+        (r ≡ moveAnswer (now (desk .entry)) (now (positions .entry)) ls step)
+        × (now (desk .exit) ≡ moveString (now (desk .entry)) (now (positions .entry)) ls step)) ⌝ }
 {
     if desk.len() != DESK_BYTES {
         return number_answer(NOT_SOUND);
     }
-    let judged = judge_move(desk, positions, leads, step);
+    let judged = judge_move(desk, positions, leads, listed, step);
     if judged.number != ACCEPTED {
         return verdict_answer(judged);
     }
@@ -134,7 +173,7 @@ pub fn join(
     ensures { λ r. ⌜ (r ≡ joinAnswer (now (desk .entry)) (now (positions .entry)) (now (leads .entry)) slot block)
         × (now (desk .exit) ≡ joinString (now (desk .entry)) (now (positions .entry)) (now (leads .entry)) slot block) ⌝ }
 {
-    make_move(desk, positions, leads, join_of(slot, block))
+    make_move(desk, positions, leads, true, join_of(slot, block))
 }
 
 // An occupied slot becomes free: 14 to 17. A refused call writes nothing, another its slot alone.
@@ -142,7 +181,7 @@ pub fn leave(desk: &mut [u8], positions: &[u8], leads: &[u8], slot: u32) -> Film
     ensures { λ r. ⌜ (r ≡ leaveAnswer (now (desk .entry)) (now (positions .entry)) (now (leads .entry)) slot)
         × (now (desk .exit) ≡ leaveString (now (desk .entry)) (now (positions .entry)) (now (leads .entry)) slot) ⌝ }
 {
-    make_move(desk, positions, leads, leave_of(slot))
+    make_move(desk, positions, leads, true, leave_of(slot))
 }
 
 // Writes what an accepted begin changes: the fetches, the phase and the kinds.
@@ -170,17 +209,22 @@ fn write_begun(desk: &mut [u8], fetches: &mut [u8], swept: Swept) -> FilmdiskAns
     }
 }
 
-// Begins a sweep: 14, 15, 13. A refused call writes nothing.
-pub fn begin(desk: &mut [u8], positions: &[u8], leads: &[u8], fetches: &mut [u8]) -> FilmdiskAnswer
-    ensures { λ r. ⌜ (r ≡ beginAnswer (now (desk .entry)) (now (positions .entry)) (now (leads .entry)) (now (fetches .entry)))
-        × (now (desk .exit) ≡ beginString (now (desk .entry)) (now (positions .entry)) (now (leads .entry)) (now (fetches .entry)))
-        × (now (fetches .exit) ≡ fetchString (now (desk .entry)) (now (positions .entry)) (now (leads .entry)) (now (fetches .entry))) ⌝ }
+// Begins a sweep of a desk string of the right length. A refused call writes nothing.
+fn begin_desk(
+    desk: &mut [u8],
+    positions: &[u8],
+    leads: &[u8],
+    listed: bool,
+    fetches: &mut [u8],
+) -> FilmdiskAnswer
+    requires { ⌜ length (now desk) ≡ deskSize ⌝ }
+    ensures { λ r. ⌜ (let ls = deskBy listed (now (desk .entry)) (now (leads .entry)) in
+        (r ≡ beginAnswer (now (desk .entry)) (now (positions .entry)) ls (now (fetches .entry)))
+        × (now (desk .exit) ≡ beginString (now (desk .entry)) (now (positions .entry)) ls (now (fetches .entry)))
+        × (now (fetches .exit) ≡ fetchString (now (desk .entry)) (now (positions .entry)) ls (now (fetches .entry)))) ⌝ }
 {
-    if desk.len() != DESK_BYTES {
-        return number_answer(NOT_SOUND);
-    }
     let room = words::entries(fetches) / 3;
-    let swept = judge_begin(desk, positions, leads, room);
+    let swept = judge_begin(desk, positions, leads, listed, room);
     let judged = swept.verdict;
     if judged.number != ACCEPTED {
         return verdict_answer(judged);
@@ -188,15 +232,48 @@ pub fn begin(desk: &mut [u8], positions: &[u8], leads: &[u8], fetches: &mut [u8]
     write_begun(desk, fetches, swept)
 }
 
-// Ends a sweep: 14, 15, 19, 20, 21. A refused call writes nothing.
-pub fn end(desk: &mut [u8], positions: &[u8], leads: &[u8], draws: &[u8]) -> FilmdiskAnswer
-    ensures { λ r. ⌜ (r ≡ endAnswer (now (desk .entry)) (now (positions .entry)) (now (leads .entry)) (now (draws .entry)))
-        × (now (desk .exit) ≡ endString (now (desk .entry)) (now (positions .entry)) (now (leads .entry)) (now (draws .entry))) ⌝ }
+// Begins a sweep with its lists, or with a scratch in the lead list's place.
+pub fn begin_by(
+    desk: &mut [u8],
+    positions: &[u8],
+    leads: &[u8],
+    listed: bool,
+    fetches: &mut [u8],
+) -> FilmdiskAnswer
+    ensures { λ r. ⌜ (let ls = deskBy listed (now (desk .entry)) (now (leads .entry)) in
+        (r ≡ beginAnswer (now (desk .entry)) (now (positions .entry)) ls (now (fetches .entry)))
+        × (now (desk .exit) ≡ beginString (now (desk .entry)) (now (positions .entry)) ls (now (fetches .entry)))
+        × (now (fetches .exit) ≡ fetchString (now (desk .entry)) (now (positions .entry)) ls (now (fetches .entry)))) ⌝ }
 {
     if desk.len() != DESK_BYTES {
         return number_answer(NOT_SOUND);
     }
-    let judged = judge_end(desk, positions, leads, draws);
+    begin_desk(desk, positions, leads, listed, fetches)
+}
+
+// Begins a sweep: 14, 15, 13.
+pub fn begin(desk: &mut [u8], positions: &[u8], leads: &[u8], fetches: &mut [u8]) -> FilmdiskAnswer
+    ensures { λ r. ⌜ (r ≡ beginAnswer (now (desk .entry)) (now (positions .entry)) (now (leads .entry)) (now (fetches .entry)))
+        × (now (desk .exit) ≡ beginString (now (desk .entry)) (now (positions .entry)) (now (leads .entry)) (now (fetches .entry)))
+        × (now (fetches .exit) ≡ fetchString (now (desk .entry)) (now (positions .entry)) (now (leads .entry)) (now (fetches .entry))) ⌝ }
+{
+    begin_by(desk, positions, leads, true, fetches)
+}
+
+// Ends a sweep of a desk string of the right length. A refused call writes nothing.
+fn end_desk(
+    desk: &mut [u8],
+    positions: &[u8],
+    leads: &[u8],
+    listed: bool,
+    draws: &[u8],
+) -> FilmdiskAnswer
+    requires { ⌜ length (now desk) ≡ deskSize ⌝ }
+    ensures { λ r. ⌜ (let ls = deskBy listed (now (desk .entry)) (now (leads .entry)) in
+        (r ≡ endAnswer (now (desk .entry)) (now (positions .entry)) ls (now (draws .entry)))
+        × (now (desk .exit) ≡ endString (now (desk .entry)) (now (positions .entry)) ls (now (draws .entry)))) ⌝ }
+{
+    let judged = judge_end(desk, positions, leads, listed, draws);
     if judged.number != ACCEPTED {
         return verdict_answer(judged);
     }
@@ -206,6 +283,32 @@ pub fn end(desk: &mut [u8], positions: &[u8], leads: &[u8], draws: &[u8]) -> Fil
     end_slots(desk, &mut kinds, &mut next, &mut held, draws);
     put_slots(desk, BETWEEN, &kinds, &next, &held);
     verdict_answer(judged)
+}
+
+// Ends a sweep with its lists, or with a scratch in the lead list's place.
+pub fn end_by(
+    desk: &mut [u8],
+    positions: &[u8],
+    leads: &[u8],
+    listed: bool,
+    draws: &[u8],
+) -> FilmdiskAnswer
+    ensures { λ r. ⌜ (let ls = deskBy listed (now (desk .entry)) (now (leads .entry)) in
+        (r ≡ endAnswer (now (desk .entry)) (now (positions .entry)) ls (now (draws .entry)))
+        × (now (desk .exit) ≡ endString (now (desk .entry)) (now (positions .entry)) ls (now (draws .entry)))) ⌝ }
+{
+    if desk.len() != DESK_BYTES {
+        return number_answer(NOT_SOUND);
+    }
+    end_desk(desk, positions, leads, listed, draws)
+}
+
+// Ends a sweep: 14, 15, 19, 20, 21.
+pub fn end(desk: &mut [u8], positions: &[u8], leads: &[u8], draws: &[u8]) -> FilmdiskAnswer
+    ensures { λ r. ⌜ (r ≡ endAnswer (now (desk .entry)) (now (positions .entry)) (now (leads .entry)) (now (draws .entry)))
+        × (now (desk .exit) ≡ endString (now (desk .entry)) (now (positions .entry)) (now (leads .entry)) (now (draws .entry))) ⌝ }
+{
+    end_by(desk, positions, leads, true, draws)
 }
 
 // What a slot may draw in a sweep of this bound, by the desk that its begin left: one that plays or is tail the most, others 0. A string of

@@ -1,11 +1,16 @@
 // The planner and the desk for C: numbers and byte strings, whose layouts docs/LAYOUT.md fixes. Strings lent to one call share no byte.
+use desk_strings::scratch;
 use layout::FilmdiskAnswer;
 use layout::FilmdiskWindowAnswer;
 ghost use mathlib.Core.Path.{_≡_};
 ghost use Rattle.placement.specs.Showing.{one, loop};
 ghost use Rattle.plan_strings.specs.Calls.{planAnswer, planString, positionsString, leadsString};
+ghost use Rattle.plan_strings.specs.Calls.{planScratchAnswer, planScratchString, positionsScratchString};
 ghost use Rattle.desk_strings.specs.Calls.{openAnswer, openString, joinAnswer, joinString, leaveAnswer, leaveString, beginAnswer, beginString};
 ghost use Rattle.desk_strings.specs.Calls.{fetchString, endAnswer, endString, drawLimitOf};
+ghost use Rattle.desk_strings.specs.Calls.{openScratchAnswer, openScratchString, joinScratchAnswer, joinScratchString, leaveScratchAnswer};
+ghost use Rattle.desk_strings.specs.Calls.{leaveScratchString, beginScratchAnswer, beginScratchString, fetchScratchString, endScratchAnswer};
+ghost use Rattle.desk_strings.specs.Calls.{endScratchString};
 ghost use Rattle.window_strings.specs.Calls.{windowCall};
 
 // Plans a card for one showing: 1 to 11, 25 and 26, then 13, then 12.
@@ -38,6 +43,40 @@ pub extern "C" fn filmdisk_plan_loop(
         × (now (leads .exit) ≡ leadsString loop (now (card .entry)) (now (plan .entry)) (now (positions .entry)) (now (leads .entry))) ⌝ }
 {
     plan_strings::plan_loop(card, plan, positions, leads)
+}
+
+// Plans a card for one showing with a scratch of 512 numbers in place of the lead list: 1 to 11, 25 and 26, then 13, then 12. The scratch stays
+// as it was.
+#[no_mangle]
+pub extern "C" fn filmdisk_plan_scratch(
+    card: &[u8],
+    plan: &mut [u8],
+    positions: &mut [u8],
+    scratch: &mut [u8],
+) -> FilmdiskAnswer
+    ensures { λ r. ⌜ (r ≡ planScratchAnswer one (now (card .entry)) (now (plan .entry)) (now (positions .entry)) (now (scratch .entry)))
+        × (now (plan .exit) ≡ planScratchString one (now (card .entry)) (now (plan .entry)) (now (positions .entry)) (now (scratch .entry)))
+        × (now (positions .exit) ≡ positionsScratchString one (now (card .entry)) (now (plan .entry)) (now (positions .entry)) (now (scratch .entry)))
+        × (now (scratch .exit) ≡ now (scratch .entry)) ⌝ }
+{
+    plan_strings::plan_scratch(card, plan, positions, scratch)
+}
+
+// Plans a card as a loop with a scratch of 512 numbers in place of the lead list: 1 to 11, 25 and 26, then 13, then 12. The scratch stays as it
+// was.
+#[no_mangle]
+pub extern "C" fn filmdisk_plan_loop_scratch(
+    card: &[u8],
+    plan: &mut [u8],
+    positions: &mut [u8],
+    scratch: &mut [u8],
+) -> FilmdiskAnswer
+    ensures { λ r. ⌜ (r ≡ planScratchAnswer loop (now (card .entry)) (now (plan .entry)) (now (positions .entry)) (now (scratch .entry)))
+        × (now (plan .exit) ≡ planScratchString loop (now (card .entry)) (now (plan .entry)) (now (positions .entry)) (now (scratch .entry)))
+        × (now (positions .exit) ≡ positionsScratchString loop (now (card .entry)) (now (plan .entry)) (now (positions .entry)) (now (scratch .entry)))
+        × (now (scratch .exit) ≡ now (scratch .entry)) ⌝ }
+{
+    plan_strings::plan_loop_scratch(card, plan, positions, scratch)
 }
 
 // The worst time of so many successive blocks of a plan with its positions list: 14, then 27.
@@ -130,4 +169,76 @@ pub extern "C" fn filmdisk_draw_limit(desk: &[u8], slot: u32, bound: u32) -> u64
     ensures { λ r. ⌜ r ≡ drawLimitOf (now (desk .entry)) slot bound ⌝ }
 {
     desk_strings::draw_limit(desk, slot, bound)
+}
+
+// Opens a desk of a plan and its positions, with a scratch in the lead list's place: 13, then 14, then 13.
+#[no_mangle]
+pub extern "C" fn filmdisk_open_scratch(
+    plan: &[u8],
+    positions: &[u8],
+    scratch: &[u8],
+    desk: &mut [u8],
+) -> FilmdiskAnswer
+    ensures { λ r. ⌜ (r ≡ openScratchAnswer (now (plan .entry)) (now (positions .entry)) (now (scratch .entry)) (now (desk .entry)))
+        × (now (desk .exit) ≡ openScratchString (now (plan .entry)) (now (positions .entry)) (now (scratch .entry)) (now (desk .entry))) ⌝ }
+{
+    scratch::open(plan, positions, scratch, desk)
+}
+
+// A free slot asks to watch from a start block, with a scratch: 13, then 14 to 18.
+#[no_mangle]
+pub extern "C" fn filmdisk_join_scratch(
+    desk: &mut [u8],
+    positions: &[u8],
+    scratch: &[u8],
+    slot: u32,
+    block: u32,
+) -> FilmdiskAnswer
+    ensures { λ r. ⌜ (r ≡ joinScratchAnswer (now (desk .entry)) (now (positions .entry)) (now (scratch .entry)) slot block)
+        × (now (desk .exit) ≡ joinScratchString (now (desk .entry)) (now (positions .entry)) (now (scratch .entry)) slot block) ⌝ }
+{
+    scratch::join(desk, positions, scratch, slot, block)
+}
+
+// An occupied slot becomes free, with a scratch: 13, then 14 to 17.
+#[no_mangle]
+pub extern "C" fn filmdisk_leave_scratch(
+    desk: &mut [u8],
+    positions: &[u8],
+    scratch: &[u8],
+    slot: u32,
+) -> FilmdiskAnswer
+    ensures { λ r. ⌜ (r ≡ leaveScratchAnswer (now (desk .entry)) (now (positions .entry)) (now (scratch .entry)) slot)
+        × (now (desk .exit) ≡ leaveScratchString (now (desk .entry)) (now (positions .entry)) (now (scratch .entry)) slot) ⌝ }
+{
+    scratch::leave(desk, positions, scratch, slot)
+}
+
+// Begins a sweep, with a scratch: 13, then 14, 15, 13.
+#[no_mangle]
+pub extern "C" fn filmdisk_begin_scratch(
+    desk: &mut [u8],
+    positions: &[u8],
+    scratch: &[u8],
+    fetches: &mut [u8],
+) -> FilmdiskAnswer
+    ensures { λ r. ⌜ (r ≡ beginScratchAnswer (now (desk .entry)) (now (positions .entry)) (now (scratch .entry)) (now (fetches .entry)))
+        × (now (desk .exit) ≡ beginScratchString (now (desk .entry)) (now (positions .entry)) (now (scratch .entry)) (now (fetches .entry)))
+        × (now (fetches .exit) ≡ fetchScratchString (now (desk .entry)) (now (positions .entry)) (now (scratch .entry)) (now (fetches .entry))) ⌝ }
+{
+    scratch::begin(desk, positions, scratch, fetches)
+}
+
+// Ends a sweep with the draws of its slots, with a scratch: 13, then 14, 15, 19, 20, 21.
+#[no_mangle]
+pub extern "C" fn filmdisk_end_scratch(
+    desk: &mut [u8],
+    positions: &[u8],
+    scratch: &[u8],
+    draws: &[u8],
+) -> FilmdiskAnswer
+    ensures { λ r. ⌜ (r ≡ endScratchAnswer (now (desk .entry)) (now (positions .entry)) (now (scratch .entry)) (now (draws .entry)))
+        × (now (desk .exit) ≡ endScratchString (now (desk .entry)) (now (positions .entry)) (now (scratch .entry)) (now (draws .entry))) ⌝ }
+{
+    scratch::end(desk, positions, scratch, draws)
 }

@@ -15,30 +15,40 @@ use Rattle.rules.specs.Arrays.{slotsOf}
 use Rattle.turns.specs.ArrayLaws.{length-slots, slot-at}
 use Rattle.turns.specs.Turns.{leads-none, leads-next, leads-skip, leads-rest}
 use Rattle.desk.specs.Shown.{Slots}
-use Rattle.floor.specs.Floor.{mostLead, Listed, LeadsOf, Added}
+use Rattle.floor.specs.Floor.{mostLead, Small, LeadsOf, Added}
+
+-- what a slot of kind k adds to the sum: its lead v where it is filling or playing
+pub record Adds (k v a : ℕ) : Type 0 where
+  pub block : filling ≤ k → k ≤ playing → a ≡ v
+  pub none : (filling ≤ k → k ≤ playing → ⊥) → a ≡ 0
 
 -- the leads of the first i slots are added up
-pub record Summed (ws ks xs : List ℕ) (n sum i : ℕ) : Type 0 where
+pub record Summed (g : ℕ → ℕ) (ks xs : List ℕ) (n sum i : ℕ) : Type 0 where
   pub few : i ≤ n
   pub most : sum ≤ i * mostLead
-  pub sums : (p : Supply ℕ) (hs : List ℕ) → Slots p n ks xs hs → LeadsOf p ws ks xs n → sum ≡ leads p (take i (slotsOf p ks xs hs))
+  pub sums : (p : Supply ℕ) (hs : List ℕ) → Slots p n ks xs hs → LeadsOf p g ks xs n → sum ≡ leads p (take i (slotsOf p ks xs hs))
 
-module _ (ws ks xs : List ℕ) (n : ℕ) where
-  pub summed-none : Summed ws ks xs n 0 0
+module _ (g : ℕ → ℕ) (ks xs : List ℕ) (n : ℕ) where
+  pub summed-none : Summed g ks xs n 0 0
   summed-none = record { few = omega arith; most = omega arith; sums = λ p hs w u. sym (leads-none p (slotsOf p ks xs hs)) }
 
   -- a is what slot i adds
-  module _ (q : Listed ws ks xs n) (i a : ℕ) (l : i < n) (r : filling ≤ getD ks i 0 → getD ks i 0 ≤ playing → a ≡ getD ws (getD xs i 0) 0)
-      (o : (filling ≤ getD ks i 0 → getD ks i 0 ≤ playing → ⊥) → a ≡ 0) where
+  module _ (q : Small g ks n) (i a : ℕ) (l : i < n) (adds : Adds (getD ks i 0) (g i) a) where
+    r : filling ≤ getD ks i 0 → getD ks i 0 ≤ playing → a ≡ g i
+    r = adds .block
+
+    o : (filling ≤ getD ks i 0 → getD ks i 0 ≤ playing → ⊥) → a ≡ 0
+    o = adds .none
+
     pub added-small : a ≤ mostLead
     added-small =
         by-cases (decLe filling (getD ks i 0))
         (λ c. by-cases (decLe (getD ks i 0) playing)
-        (λ d. omega (arith, r c d, q .small i l (omega arith) d))
+        (λ d. omega (arith, r c d, q i l (omega arith) d))
         (λ d. omega (arith, o (λ _ e. d e))))
         (λ c. omega (arith, o (λ e _. c e)))
 
-    pub summed-next : (sum : ℕ) → Summed ws ks xs n sum i → i < 256 → Summed ws ks xs n (sum + a) (i + 1)
+    pub summed-next : (sum : ℕ) → Summed g ks xs n sum i → i < 256 → Summed g ks xs n (sum + a) (i + 1)
     summed-next sum inv h = record {
       few = omega arith;
       most = omega (arith, inv .most, added-small);
@@ -60,7 +70,7 @@ module _ (ws ks xs : List ℕ) (n : ℕ) where
     }
 
   -- the slots from n on add nothing
-  pub summed-end : (sum i : ℕ) → Summed ws ks xs n sum i → i ≡ n → n ≤ maxStreams → Added ws ks xs n sum
+  pub summed-end : (sum i : ℕ) → Summed g ks xs n sum i → i ≡ n → n ≤ maxStreams → Added g ks xs n sum
   summed-end sum i inv e h = record {
     sums = λ p hs w u. inv .sums p hs w u ∙ ap (λ (m : ℕ). leads p (take m (slotsOf p ks xs hs))) e ∙ leads-rest p n (slotsOf p ks xs hs) (w .unused);
     most = omega (arith, inv .most);

@@ -3,7 +3,7 @@
 use Prim.Native.Nat.{ℕ, _+_, _*_, _-_, _≤_, _<_}
 use mathlib.Core.Path.{_≡_, refl}
 use mathlib.Core.List.{List}
-use lib.ListN.{length, getD}
+use lib.ListN.{getD}
 use Rattle.numbers.specs.Limits.{maxTime, maxStreams}
 use Rattle.numbers.specs.Slots.{waiting, playing}
 use Rattle.numbers.specs.Units.{parts}
@@ -13,7 +13,7 @@ use Rattle.rules.specs.Scheduler.{leads, lowWater}
 use Rattle.rules.specs.Arrays.{slotsOf}
 use Rattle.desk.specs.declared.Desk.{Desk}
 use Rattle.desk.specs.Desk.{supplyOf, slotsIn}
-use Rattle.desk.specs.Shown.{Slots, OfNext}
+use Rattle.desk.specs.Shown.{Slots}
 
 -- no lead of a plan is above it: twice the greatest time, less a worst time that is greater than it
 abbrev pub mostLead : ℕ
@@ -27,30 +27,17 @@ ample = 1000000000000
 abbrev pub leadSum : Desk → ℕ
 leadSum d = leads (supplyOf (d .plan)) (slotsIn d)
 
--- a list of leads ws has the next block of each asked, filling or playing slot of the first n, its lead in its range: kinds ks, next blocks xs
-pub record Listed (ws ks xs : List ℕ) (n : ℕ) : Type 0 where
-  pub here : (i : ℕ) → i < n → waiting ≤ getD ks i 0 → getD ks i 0 ≤ playing → getD xs i 0 < length ws
-  pub small : (i : ℕ) → i < n → waiting ≤ getD ks i 0 → getD ks i 0 ≤ playing → getD ws (getD xs i 0) 0 ≤ mostLead
+-- g has the lead of the next block of each asked, filling or playing slot of the first n, by the slot: it is in its range
+abbrev pub Small : (ℕ → ℕ) → List ℕ → ℕ → Type 0
+Small g ks n = (i : ℕ) → i < n → waiting ≤ getD ks i 0 → getD ks i 0 ≤ playing → g i ≤ mostLead
 
--- the leads there are those of a supply p
-abbrev pub LeadsOf : Supply ℕ → List ℕ → List ℕ → List ℕ → ℕ → Type 0
-LeadsOf p ws ks xs n = (i : ℕ) → i < n → waiting ≤ getD ks i 0 → getD ks i 0 ≤ playing → getD ws (getD xs i 0) 0 ≡ p .lead (getD xs i (p .none))
+-- and it is that of a supply p
+abbrev pub LeadsOf : Supply ℕ → (ℕ → ℕ) → List ℕ → List ℕ → ℕ → Type 0
+LeadsOf p g ks xs n = (i : ℕ) → i < n → waiting ≤ getD ks i 0 → getD ks i 0 ≤ playing → g i ≡ p .lead (getD xs i (p .none))
 
--- sum is what the leads of the filling and playing slots add up to, for every supply that the list has the leads of
-pub record Added (ws ks xs : List ℕ) (n sum : ℕ) : Type 0 where
-  pub sums : (p : Supply ℕ) (hs : List ℕ) → Slots p n ks xs hs → LeadsOf p ws ks xs n → sum ≡ leads p (slotsOf p ks xs hs)
-  pub most : sum ≤ maxStreams * mostLead
-
--- vs has the leads of these blocks, and nothing for the other kinds
-pub record Taken (ws ks xs : List ℕ) (n : ℕ) (vs : List ℕ) : Type 0 where
-  pub block : (i : ℕ) → i < n → waiting ≤ getD ks i 0 → getD ks i 0 ≤ playing → getD vs i 0 ≡ getD ws (getD xs i 0) 0
-  pub none : (i : ℕ) → i < n → (waiting ≤ getD ks i 0 → getD ks i 0 ≤ playing → ⊥) → getD vs i 0 ≡ 0
-
--- vs has the leads of the next blocks of a supply's slots, those of the first n in their range; sum is what filling and playing ones add up to
-pub record Leads (p : Supply ℕ) (n : ℕ) (ks xs hs vs : List ℕ) (sum : ℕ) : Type 0 where
-  pub each : OfNext p (p .lead) ks xs vs
-  pub small : (i : ℕ) → i < n → getD vs i 0 ≤ mostLead
-  pub sums : sum ≡ leads p (slotsOf p ks xs hs)
+-- sum is what the leads of the filling and playing slots add up to, for every supply whose leads they are
+pub record Added (g : ℕ → ℕ) (ks xs : List ℕ) (n sum : ℕ) : Type 0 where
+  pub sums : (p : Supply ℕ) (hs : List ℕ) → Slots p n ks xs hs → LeadsOf p g ks xs n → sum ≡ leads p (slotsOf p ks xs hs)
   pub most : sum ≤ maxStreams * mostLead
 
 -- the floor as the code computes it

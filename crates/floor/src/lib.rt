@@ -1,92 +1,138 @@
 // The leads of slots, and the floor of document 01 (rules: the low-water mark) that they give.
 use desk_columns::kind_in;
 use desk_columns::next_in;
+use desk_columns::worst2_in;
 use numbers::slots::FILLING;
 use numbers::slots::PLAYING;
-use numbers::slots::WAITING;
 use numbers::units::PARTS;
+use streams::lead;
 use streams::product;
 use words::word_at;
+use zones::time_at;
 ghost use mathlib.Core.Path.{_≡_};
 ghost use mathlib.Core.List.{List};
-ghost use Prim.Native.Nat.{ℕ, _+_, _*_, _≤_, _<_, min};
-ghost use lib.ListN.{length, getD};
+ghost use Prim.Native.Nat.{ℕ, _+_, _*_, _≤_, min};
+ghost use lib.ListN.{length};
 ghost use Rattle.words.specs.Words.{wordsOf};
 ghost use Rattle.numbers.specs.Limits.{maxBytes, maxRate, maxStreams};
-ghost use Rattle.numbers.specs.Slots.{waiting, filling, playing};
+ghost use Rattle.numbers.specs.Slots.{filling, playing};
 ghost use Rattle.numbers.specs.Units.{parts};
 ghost use Rattle.rules.specs.Supply.{Supply};
 ghost use Rattle.rules.specs.Arrays.{slotsOf};
 ghost use Rattle.turns.specs.Turns.{leastHeld};
 ghost use Rattle.desk.specs.Shown.{Slots};
 ghost use Rattle.desk_layout.specs.Layout.{deskIn, deskSize};
-ghost use Rattle.floor.specs.Floor.{ample, Listed, Added, Taken};
+ghost use Rattle.floor.specs.Floor.{ample, Added};
+ghost use Rattle.floor.specs.Sources.{Sourced, leadFrom, leadsNext, Found, leadsIn, Timely};
 
 // Stands for the least that a playing slot holds where none plays, in two-millionths of a byte: above every floor.
 const AMPLE: u64 = 2000000000000000000;
 
-// The lead of a block: the lent list has it.
-fn lead_at(leads: &[u8], block: u32) -> u32
-    requires { ⌜ block < length (wordsOf (now leads)) ⌝ }
-    ensures { λ r. ⌜ r ≡ getD (wordsOf (now (leads .entry))) block 0 ⌝ }
+// The lead of a block: the lent list has it; where there is none, it is twice the block's time less worst2.
+fn lead_from<'a>(
+    sizes: &'a [u32; 64],
+    times: &'a [u32; 64],
+    worst2: u32,
+    positions: &[u8],
+    leads: &[u8],
+    listed: bool,
+    block: u32,
+) -> u32
+    requires { ⌜ Sourced listed (now sizes) (now times) (now positions) (now leads) block ⌝ }
+    ensures { λ r. ⌜ r ≡ leadFrom listed (now (sizes .entry)) (now (times .entry)) worst2 (now (positions .entry)) (now (leads .entry)) block ⌝ }
 {
-    word_at(leads, block as usize)
-}
-
-// The lead of the next block of a slot that is asked, filling or playing; 0 for another kind.
-fn next_lead(kind: u32, next: u32, leads: &[u8]) -> u32
-    requires { ⌜ (waiting ≤ kind → kind ≤ playing → next < length (wordsOf (now leads))) ⌝ }
-    ensures block { λ r. ⌜ (waiting ≤ kind → kind ≤ playing → r ≡ getD (wordsOf (now (leads .entry))) next 0) ⌝ }
-    ensures none { λ r. ⌜ ((waiting ≤ kind → kind ≤ playing → ⊥) → r ≡ 0) ⌝ }
-{
-    match kind {
-        WAITING => lead_at(leads, next),
-        FILLING => lead_at(leads, next),
-        PLAYING => lead_at(leads, next),
-        _ => 0,
+    let entry = block as usize;
+    if listed {
+        return word_at(leads, entry);
     }
+    lead(time_at(sizes, times, word_at(positions, entry)), worst2)
 }
 
 // What a slot adds to the sum: the lead of its next block where it is filling or playing.
-fn added_lead(kind: u32, next: u32, leads: &[u8]) -> u32
-    requires { ⌜ (filling ≤ kind → kind ≤ playing → next < length (wordsOf (now leads))) ⌝ }
-    ensures reads { λ r. ⌜ (filling ≤ kind → kind ≤ playing → r ≡ getD (wordsOf (now (leads .entry))) next 0) ⌝ }
-    ensures other { λ r. ⌜ ((filling ≤ kind → kind ≤ playing → ⊥) → r ≡ 0) ⌝ }
+fn added_lead<'a>(
+    sizes: &'a [u32; 64],
+    times: &'a [u32; 64],
+    worst2: u32,
+    positions: &[u8],
+    leads: &[u8],
+    listed: bool,
+    kind: u32,
+    next: u32,
+) -> u32
+    requires { ⌜ (filling ≤ kind → kind ≤ playing → Sourced listed (now sizes) (now times) (now positions) (now leads) next) ⌝ }
+    ensures block { λ r. ⌜ (filling ≤ kind → kind ≤ playing
+        → r ≡ leadFrom listed (now (sizes .entry)) (now (times .entry)) worst2 (now (positions .entry)) (now (leads .entry)) next) ⌝ }
+    ensures none { λ r. ⌜ ((filling ≤ kind → kind ≤ playing → ⊥) → r ≡ 0) ⌝ }
 {
     match kind {
-        FILLING => lead_at(leads, next),
-        PLAYING => lead_at(leads, next),
+        FILLING => lead_from(sizes, times, worst2, positions, leads, listed, next),
+        PLAYING => lead_from(sizes, times, worst2, positions, leads, listed, next),
         _ => 0,
     }
 }
 
 // The leads at the next blocks of the filling and playing slots of a desk, added up. The slots from `streams` on are free.
-pub fn sum_leads(desk: &[u8], streams: usize, leads: &[u8]) -> u32
-    requires { ⌜ (let d = deskIn (wordsOf (now desk)) in
-        (streams ≤ maxStreams) × (deskSize ≤ length (now desk)) × Listed (wordsOf (now leads)) (d .kinds) (d .next) streams) ⌝ }
-    ensures { λ r. ⌜ (let d = deskIn (wordsOf (now (desk .entry))) in Added (wordsOf (now (leads .entry))) (d .kinds) (d .next) streams r) ⌝ }
+pub fn sum_leads<'a>(
+    desk: &[u8],
+    streams: usize,
+    sizes: &'a [u32; 64],
+    times: &'a [u32; 64],
+    positions: &[u8],
+    leads: &[u8],
+    listed: bool,
+) -> u32
+    requires { ⌜ (let d = deskIn (wordsOf (now desk)) in (streams ≤ maxStreams) × (deskSize ≤ length (now desk))
+        × Found listed (now sizes) (now times) (d .plan .worst2) (now positions) (now leads) (d .kinds) (d .next) streams) ⌝ }
+    ensures { λ r. ⌜ (let d = deskIn (wordsOf (now (desk .entry))) in
+        Added (leadsNext listed (now (sizes .entry)) (now (times .entry)) (d .plan .worst2) (now (positions .entry)) (now (leads .entry)) (d .next))
+        (d .kinds) (d .next) streams r) ⌝ }
 {
+    let worst2 = worst2_in(desk);
     let mut sum: u32 = 0;
     let mut i: usize = 0;
     while i < streams {
-        sum += added_lead(kind_in(desk, i), next_in(desk, i), leads);
+        sum += added_lead(
+            sizes,
+            times,
+            worst2,
+            positions,
+            leads,
+            listed,
+            kind_in(desk, i),
+            next_in(desk, i),
+        );
         i += 1;
     }
     sum
 }
 
-// The lead of the next block of each of the first `streams` slots of a desk goes into `found`; 0 for free slots and tails.
-pub fn gather_leads(desk: &[u8], streams: usize, leads: &[u8], found: &mut [u32; 256])
-    requires { ⌜ (let d = deskIn (wordsOf (now desk)) in
-        (streams ≤ maxStreams) × (deskSize ≤ length (now desk)) × Listed (wordsOf (now leads)) (d .kinds) (d .next) streams
-        × (length (now found) ≡ maxStreams)) ⌝ }
-    ensures { λ _. ⌜ (let d = deskIn (wordsOf (now (desk .entry))) in Taken (wordsOf (now (leads .entry))) (d .kinds) (d .next) streams (now (found .exit))) ⌝ }
+// What a slot with this lead adds to the sum.
+fn counted_lead(kind: u32, own: u32) -> u32
+    ensures block { λ r. ⌜ (filling ≤ kind → kind ≤ playing → r ≡ own) ⌝ }
+    ensures none { λ r. ⌜ ((filling ≤ kind → kind ≤ playing → ⊥) → r ≡ 0) ⌝ }
 {
+    match kind {
+        FILLING => own,
+        PLAYING => own,
+        _ => 0,
+    }
+}
+
+// The leads of the filling and playing slots of a desk, by the times of their next blocks, added up. The slots from `streams` on are free.
+pub fn sum_times(desk: &[u8], streams: usize, times: &[u32; 256]) -> u32
+    requires { ⌜ (let d = deskIn (wordsOf (now desk)) in
+        (streams ≤ maxStreams) × (deskSize ≤ length (now desk)) × Timely (now times) (d .plan .worst2) streams) ⌝ }
+    ensures { λ r. ⌜ (let d = deskIn (wordsOf (now (desk .entry))) in
+        Added (leadsIn (now (times .entry)) (d .plan .worst2)) (d .kinds) (d .next) streams r) ⌝ }
+{
+    let worst2 = worst2_in(desk);
+    let mut sum: u32 = 0;
     let mut i: usize = 0;
     while i < streams {
-        found[i] = next_lead(kind_in(desk, i), next_in(desk, i), leads);
+        sum += counted_lead(kind_in(desk, i), lead(times[i], worst2));
         i += 1;
     }
+    sum
 }
 
 // The floor in two-millionths of a byte, for leads that add up to `leads`: B plus c / 2,000,000 times the leads.

@@ -9,7 +9,7 @@ use lib.ListN.{length, getD, set, length-set}
 use lib.Seq.{getD-set-same, getD-set-other}
 use borrow.Author.Count.{below-more}
 use Rattle.laws.specs.Each.{zero-at}
-use Rattle.desk.specs.declared.Gathered.{Gathered}
+use Rattle.desk.specs.Shown.{Gathered}
 use Rattle.desk.specs.Desk.{zeros}
 use Rattle.desk.specs.Slots.{length-zeros}
 use Rattle.gather.specs.declared.Block.{Block}

@@ -7,7 +7,7 @@ use lib.ListN.{length, getD}
 use Rattle.numbers.specs.Slots.{waiting, playing}
 use Rattle.words.specs.Words.{wordsOf}
 use Rattle.placement.specs.Zones.{total, timeAt}
-use Rattle.desk.specs.declared.Gathered.{Gathered}
+use Rattle.desk.specs.Shown.{Gathered}
 use Rattle.gather.specs.declared.Block.{Block}
 
 -- the list of positions has block x, and its position is on the disk
@@ -28,6 +28,10 @@ pub record NextFound (sizes times ps : List ℕ) (k x : ℕ) (r : Block) : Type 
 -- the list has the next block of each asked, filling or playing slot among the first n; kinds ks, next blocks xs
 abbrev pub Reached : List ℕ → List ℕ → List ℕ → List ℕ → ℕ → Type 0
 Reached sizes ps ks xs n = (i : ℕ) → i < n → waiting ≤ getD ks i 0 → getD ks i 0 ≤ playing → Reach sizes ps (getD xs i 0)
+
+-- what two arrays hold
+abbrev pub gathered : List ℕ → List ℕ → Gathered
+gathered ts qs = record { times = ts; positions = qs }
 
 -- what was gathered for slot i
 abbrev pub blockAt : Gathered → ℕ → Block

@@ -1,6 +1,4 @@
 // What is gathered of the list of positions and the zones for the slots of a desk.
-use desk::Gathered;
-use desk::zeros;
 use desk_columns::kind_in;
 use desk_columns::next_in;
 use desk_columns::zone_sizes;
@@ -10,14 +8,16 @@ use numbers::slots::PLAYING;
 use numbers::slots::WAITING;
 use words::word_at;
 use zones::time_at;
+ghost use mathlib.Core.Path.{_≡_};
 ghost use Prim.Native.Nat.{_≤_};
 ghost use lib.ListN.{length};
 ghost use Rattle.words.specs.Words.{wordsOf};
 ghost use Rattle.numbers.specs.Limits.{maxStreams};
 ghost use Rattle.numbers.specs.Slots.{waiting, playing};
 ghost use Rattle.plan.specs.Disk.{Zoned};
+ghost use Rattle.desk.specs.Desk.{zeros};
 ghost use Rattle.desk_layout.specs.Layout.{deskIn, deskSize};
-ghost use Rattle.gather.specs.Gather.{Reach, Reached, Here, NextFound, Collected};
+ghost use Rattle.gather.specs.Gather.{Reach, Reached, Here, NextFound, Collected, gathered};
 
 // Time and position of a block.
 pub struct Block {
@@ -59,19 +59,23 @@ fn next_block<'a>(
     }
 }
 
-// Time and position of the next block of each of the first `streams` slots of a desk; zero for free slots and tails, and past these.
-pub fn gather(desk: &[u8], positions: &[u8], streams: usize) -> Gathered
+// Time and position of the next block of each of the first `streams` slots of a desk go into two arrays that are all zero; nothing for free
+// slots and tails.
+pub fn gather<'a>(
+    desk: &[u8],
+    positions: &[u8],
+    streams: usize,
+    found: &'a mut [u32; 256],
+    places: &'a mut [u32; 256],
+)
     requires { ⌜ (let d = deskIn (wordsOf (now desk)) in (let f = d .plan .figures in (deskSize ≤ length (now desk)) × (streams ≤ maxStreams)
-        × (Zoned (f .positions)) × (Reached (f .positions) (now positions) (d .kinds) (d .next) streams))) ⌝ }
-    ensures { λ r. ⌜ (let d = deskIn (wordsOf (now (desk .entry))) in (let f = d .plan .figures in
-        Collected (f .positions) (f .times) (now (positions .entry)) (d .kinds) (d .next) streams r)) ⌝ }
+        × (Zoned (f .positions)) × (Reached (f .positions) (now positions) (d .kinds) (d .next) streams) × (now found ≡ zeros) × (now places ≡ zeros))) ⌝ }
+    ensures { λ _. ⌜ (let d = deskIn (wordsOf (now (desk .entry))) in (let f = d .plan .figures in
+        Collected (f .positions) (f .times) (now (positions .entry)) (d .kinds) (d .next) streams
+        (gathered (now (found .exit)) (now (places .exit))))) ⌝ }
 {
     let sizes = zone_sizes(desk);
     let times = zone_times(desk);
-    let mut g = Gathered {
-        times: zeros(),
-        positions: zeros(),
-    };
     let mut i: usize = 0;
     while i < streams {
         let b = next_block(
@@ -81,9 +85,8 @@ pub fn gather(desk: &[u8], positions: &[u8], streams: usize) -> Gathered
             kind_in(desk, i),
             next_in(desk, i),
         );
-        g.times[i] = b.time;
-        g.positions[i] = b.position;
+        found[i] = b.time;
+        places[i] = b.position;
         i += 1;
     }
-    g
 }

@@ -65,15 +65,15 @@ module _ (p : Supply ℕ) (n : ℕ) (ks₀ xs hs : List ℕ) (w : Slots p n ks�
     pub slots : slotsOf p ks xs hs ≡ tries p ss 0 i
     pub leads : sum ≡ leads p (tries p ss 0 i)
 
-  module _ (B c sum₀ level : ℕ) (ls : List ℕ) (a : Asks p B c sum₀ level ls ks₀ xs hs) where
+  module _ (B c sum₀ level : ℕ) (g : ℕ → ℕ) (a : Asks p B c sum₀ level g ks₀ xs hs) where
     pub grants-none : Granted ks₀ sum₀ 0
     grants-none = let q = sym (tries-none p ss) in record { slots = q; leads = a .leads ∙ ap (leads p) q }
 
     module _ (ks : List ℕ) (long : length ks ≡ 256) (sum i : ℕ) (l : i < 256) (inv : Granted ks sum i)
-        (top : sum + getD ls i 0 ≤ 513 * mostLead) (B-most : B ≤ maxBytes) (c-most : c ≤ maxRate) where
+        (top : sum + g i ≤ 513 * mostLead) (B-most : B ≤ maxBytes) (c-most : c ≤ maxRate) where
       -- the sum with the lead of slot i
       abbrev raised : ℕ
-      raised = sum + getD ls i 0
+      raised = sum + g i
 
       kind-now : getD ks i 0 ≡ at p ss i .kind
       kind-now =
@@ -81,7 +81,7 @@ module _ (p : Supply ℕ) (n : ℕ) (ks₀ xs hs : List ℕ) (w : Slots p n ks�
           (sym (slot-at p ks xs hs (same ks long) i) ∙ ap (λ (ts : List (Slot ℕ)). at p ts i) (inv .slots) ∙ tries-past p ss i i (omega arith))
 
       -- of an asked slot it is that of its next block
-      own-lead : at p ss i .kind ≡ waiting → getD ls i 0 ≡ p .lead (at p ss i .next)
+      own-lead : at p ss i .kind ≡ waiting → g i ≡ p .lead (at p ss i .next)
       own-lead k =
           let s = slot-at p ks₀ xs hs (w .same) i in
           a .own i l (sym (ap (λ (s : Slot ℕ). s .kind) s) ∙ k) ∙ ap (λ (s : Slot ℕ). p .lead (s .next)) (sym s)

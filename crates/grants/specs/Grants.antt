@@ -13,10 +13,10 @@ use Rattle.rules.specs.Arrays.{slotsOf}
 use Rattle.turns.specs.Turns.{leastHeld}
 use Rattle.floor.specs.Floor.{ample}
 
--- B and c are the supply's, sum and level those of the slots, and ls has the lead of each asked slot's next block
-pub record Asks (p : Supply ℕ) (B c sum level : ℕ) (ls ks xs hs : List ℕ) : Type 0 where
+-- B and c are the supply's, sum and level those of the slots, and g has the lead of each asked slot's next block, by the slot
+pub record Asks (p : Supply ℕ) (B c sum level : ℕ) (g : ℕ → ℕ) (ks xs hs : List ℕ) : Type 0 where
   pub bytes : B ≡ p .B
   pub rate : c ≡ p .c
   pub leads : sum ≡ leads p (slotsOf p ks xs hs)
   pub least : level ≡ parts * leastHeld p ample (slotsOf p ks xs hs)
-  pub own : (i : ℕ) → i < maxStreams → getD ks i 0 ≡ waiting → getD ls i 0 ≡ p .lead (getD xs i (p .none))
+  pub own : (i : ℕ) → i < maxStreams → getD ks i 0 ≡ waiting → g i ≡ p .lead (getD xs i (p .none))

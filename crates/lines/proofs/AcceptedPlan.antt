@@ -46,6 +46,6 @@ answer-plan x s y ps ls e =
     let g = no-fault x (r .figures) (length (wordsOf ps)) (length (wordsOf ls)) (n .1) in
     rw (n .0, n .1) (plan-passes x (r .figures) (card-legal s y r refl (n .0)) (g .2) ps ls (g .0) (g .1))
 
-pub accepted-plan : (x : Showing) (s : List ℕ) → Bytes s → (ps ls : List ℕ) (a : Planned) (qs ms : List ℕ) → Outcome x (readCard s) ps ls a qs ms
+pub accepted-plan : (x : Showing) (s : List ℕ) → Bytes s → (ps ls : List ℕ) (a : Planned) (qs ms : List ℕ) → Outcome true x (readCard s) ps ls a qs ms
     → a .verdict .number ≡ 0 → isPlan (a .plan) qs ms ≡ true
 accepted-plan x s y ps ls a qs ms e n = rw (e .0, e .1, e .2) (answer-plan x s y ps ls (sym (ap (λ (b : Planned). b .verdict .number) (e .0)) ∙ n))

@@ -99,3 +99,7 @@ maxTrack = 10000
 -- the blocks of a film of which every laying is tried (document 02, ticket 12)
 abbrev pub maxTried : ℕ
 maxTried = 8
+
+-- the numbers of a scratch in place of the lead list (document 02, ticket 10)
+abbrev pub scratchLength : ℕ
+scratchLength = 512

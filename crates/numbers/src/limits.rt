@@ -68,3 +68,6 @@ pub const MAX_TRACK: u32 = 10000;
 
 // The blocks of a film of which every laying is tried.
 pub const MAX_TRIED: u32 = 8;
+
+// The numbers of a scratch in place of the lead list.
+pub const SCRATCH_LENGTH: u32 = 512;

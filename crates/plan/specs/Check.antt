@@ -118,14 +118,15 @@ same-numbers-self p =
     (and-both (eq-eqb (p .worst2) (p .worst2) refl) (and-both (eq-eqb (p .margin) (p .margin) refl)
     (and-both (eq-eqb (p .showing) (p .showing) refl) (eq-eqb (p .worstat) (p .worstat) refl)))))
 
-row-words : (g : ℕ → ℕ) (b n : ℕ) → ((k : ℕ) → k < b + n → g k < 4294967296) → Words (row g b n)
+pub row-words : (g : ℕ → ℕ) (b n : ℕ) → ((k : ℕ) → k < b + n → g k < 4294967296) → Words (row g b n)
 unfolding row
 row-words g b zero h i = omega arith
 row-words g b (suc n) h zero = h b (omega arith)
 row-words g b (suc n) h (suc i) = row-words g (suc b) n (λ k u. h k (omega arith)) i
 
 -- a list in which a row was written begins with it
-written-begins : (g : ℕ → ℕ) (n : ℕ) (s : List ℕ) → Words (row g 0 n) → n ≤ length (wordsOf s) → begins (row g 0 n) (wordsOf (withWords s 0 (row g 0 n))) ≡ true
+pub written-begins : (g : ℕ → ℕ) (n : ℕ) (s : List ℕ) → Words (row g 0 n) → n ≤ length (wordsOf s)
+    → begins (row g 0 n) (wordsOf (withWords s 0 (row g 0 n))) ≡ true
 written-begins g n s w h = take-begins (row g 0 n) _ (read-written s 0 (row g 0 n) w (omega (arith, row-length g 0 n)))
 
 -- THE PLAN OF LEGAL FIGURES PASSES, with the lists that the planner leaves

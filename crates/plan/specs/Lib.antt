@@ -8,4 +8,7 @@ pub mod Lent
 pub mod Plan
 pub mod Promise
 pub mod Rows
+pub mod Scratch
+pub mod ScratchLaws
 pub mod Ways
+pub mod Written

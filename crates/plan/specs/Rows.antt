@@ -53,6 +53,12 @@ begins-long g b zero ws e = omega arith
 begins-long g b (suc n) [] e = clash e refl
 begins-long g b (suc n) (w ∷ ws) e = omega (arith, begins-long g (suc b) n ws (and-right (eqb w (g b)) _ e))
 
+-- a list begins with itself
+pub begins-self : (vs : List ℕ) → begins vs vs ≡ true
+unfolding begins
+begins-self [] = refl
+begins-self (v ∷ vs) = and-both (eq-eqb v v refl) (begins-self vs)
+
 -- a shorter list does not begin with them
 pub begins-short : (g : ℕ → ℕ) (b n : ℕ) (ws : List ℕ) → length ws < n → begins (row g b n) ws ≡ false
 begins-short g b n ws h = is-false (begins (row g b n) ws) (λ e. omega (arith, begins-long g b n ws e))

@@ -2,13 +2,14 @@
 -- Assumes nothing.
 use Prim.Native.Nat.{ℕ, zero, suc, _-_, _≤_, _<_}
 use mathlib.Core.Path.{_≡_, refl, sym, ap, ap₂, _∙_, subst}
-use mathlib.Core.Bool.{false, _&&_}
+use mathlib.Core.Bool.{Bool, true, false, cond, _&&_, _||_}
 use mathlib.Core.List.{List}
 use native.Mathlib.Omega.{arith}
 use lib.ListN.{length}
 use lib.Dec.{ltb}
-use borrow.Author.Tests.{lt-ltb, le-ltb, eq-eqb, ne-eqb}
-use Rattle.numbers.specs.Limits.{maxPositions}
+use borrow.Author.Tests.{ltb-true, ltb-false, lt-ltb, le-ltb, eq-eqb, ne-eqb}
+use Rattle.laws.specs.Bools.{clash}
+use Rattle.numbers.specs.Limits.{maxPositions, scratchLength}
 use Rattle.numbers.specs.Refusals.{tooShort, noStream}
 use Rattle.card.specs.declared.Figures.{Figures}
 use Rattle.card.specs.declared.CardRead.{CardRead}
@@ -25,40 +26,68 @@ use Rattle.plan.specs.Disk.{OnDisk, leadAt}
 use Rattle.plan.specs.Legal.{total-is, legal-disk, lead-is}
 use Rattle.plan.specs.Answer.{planFault, faultAfter, refusal, answer, filled, planned, positionsAfter, leadsAfter, judged, sameNumbers, hasNumbers}
 use Rattle.plan.specs.Rows.{row-same}
+use Rattle.plan.specs.Scratch.{scratchLeads, leadsLent, lentAfter, entriesAsked, listsShort}
+use Rattle.plan.specs.ScratchLaws.{scratch-short, scratch-long, short-leads-none, long-leads-all}
 
 module _ (x : Showing) (r : CardRead) (ps ls : List ℕ) where
-  -- the answer and the later contents of both lists
+  -- the figures are accepted: 13 or 12
+  pub by-plan : (k : ℕ) → r .verdict .number ≡ 0 → faultAfter x r ps ls ≡ suc k
+      → (refusal (suc k) 0 ≡ planned x r ps ls) × (ps ≡ positionsAfter x r ps ls)
+  unfolding planned positionsAfter
+  by-plan k e d = rw (e, d) (refl, refl)
+
+  -- the answer by its number
+  pub by-refusal : (k : ℕ) → r .verdict .number ≡ 0 → k ≡ faultAfter x r ps ls → (k ≡ 0 → ⊥) → refusal k 0 ≡ planned x r ps ls
+  by-refusal zero e d n = absurd (n refl)
+  by-refusal (suc k) e d n = by-plan k e (sym d) .0
+
+  -- or a plan
+  pub by-none : r .verdict .number ≡ 0 → faultAfter x r ps ls ≡ 0
+      → _≡_ {A = Planned} (record { verdict = record { number = 0; place = 0 }; plan = planOf x (r .figures) }) (planned x r ps ls)
+  unfolding planned
+  by-none e d = rw (e, d)
+
+-- with a lead list ls, or with a scratch
+module _ (listed : Bool) (x : Showing) (r : CardRead) (ps ls : List ℕ) where
+  abbrev lent : List ℕ
+  lent = leadsLent listed x (r .figures) ls
+
+  -- the later contents of the positions list and of what is lent beside it
+  abbrev pub Lists : List ℕ → List ℕ → Type 0
+  Lists qs ms = (qs ≡ positionsAfter x r ps lent) × (ms ≡ lentAfter listed x r ps ls)
+
+  -- the answer, and these
   abbrev pub Outcome : Planned → List ℕ → List ℕ → Type 0
-  Outcome a qs ms = (a ≡ planned x r ps ls) × (qs ≡ positionsAfter x r ps ls) × (ms ≡ leadsAfter x r ps ls)
+  Outcome a qs ms = (a ≡ planned x r ps lent) × (qs ≡ positionsAfter x r ps lent) × (ms ≡ lentAfter listed x r ps ls)
 
   -- the figures are refused
   pub by-figures : (r .verdict .number ≡ 0 → ⊥) → Outcome (refusal (r .verdict .number) (r .verdict .place)) ps ls
   unfolding planned positionsAfter leadsAfter
-  by-figures n = go (r .verdict .number) n
+  by-figures n = go (r .verdict .number) listed n
     where
-      go : (k : ℕ) → (k ≡ 0 → ⊥)
-          → (refusal k (r .verdict .place) ≡ answer x k (faultAfter x r ps ls) r)
-          × (ps ≡ filled k (faultAfter x r ps ls) ps (positionsOf x (r .figures))) × (ls ≡ filled k (faultAfter x r ps ls) ls (leadsOf x (r .figures)))
-      go zero n = absurd (n refl)
-      go (suc k) n = (refl, refl, refl)
+      go : (k : ℕ) (b : Bool) → (k ≡ 0 → ⊥)
+          → (refusal k (r .verdict .place) ≡ answer x k (faultAfter x r ps lent) r)
+          × (ps ≡ filled k (faultAfter x r ps lent) ps (positionsOf x (r .figures)))
+          × (ls ≡ cond b (filled k (faultAfter x r ps ls) ls (leadsOf x (r .figures))) ls)
+      go zero b n = absurd (n refl)
+      go (suc k) true n = (refl, refl, refl)
+      go (suc k) false n = (refl, refl, refl)
 
-  -- 13 or 12
-  pub by-plan : (k : ℕ) → r .verdict .number ≡ 0 → faultAfter x r ps ls ≡ suc k → Outcome (refusal (suc k) 0) ps ls
-  unfolding planned positionsAfter leadsAfter
-  by-plan k e d = rw (e, d) (refl, refl, refl)
-
-  -- accepted
-  pub by-none : r .verdict .number ≡ 0 → faultAfter x r ps ls ≡ 0
-      → Outcome (record { verdict = record { number = 0; place = 0 }; plan = planOf x (r .figures) }) (withWords ps 0 (positionsOf x (r .figures)))
-      (withWords ls 0 (leadsOf x (r .figures)))
-  unfolding planned positionsAfter leadsAfter
-  by-none e d = rw (e, d) (refl, refl, refl)
+  -- they are accepted: the lists by 13, 12 or 0
+  pub by-lists : r .verdict .number ≡ 0 → (qs ms : List ℕ) → qs ≡ filled 0 (faultAfter x r ps lent) ps (positionsOf x (r .figures))
+      → ms ≡ cond listed (filled 0 (faultAfter x r ps lent) ls (leadsOf x (r .figures))) ls → Lists qs ms
+  unfolding positionsAfter leadsAfter
+  by-lists e qs ms p l = (rw e p, l ∙ go listed)
+    where
+      go : (b : Bool) → cond b (filled 0 (faultAfter x r ps (leadsLent b x (r .figures) ls)) ls (leadsOf x (r .figures))) ls ≡ lentAfter b x r ps ls
+      go true = rw e
+      go false = refl
 
 -- the same outcome of equal figures in an equal showing
-pub outcome-same : {x y : Showing} {r s : CardRead} (ps ls : List ℕ) (a : Planned) (qs ms : List ℕ) → x ≡ y → r ≡ s → Outcome x r ps ls a qs ms
-    → Outcome y s ps ls a qs ms
-outcome-same {x} {y} {r} {s} ps ls a qs ms e d o =
-    subst (λ (t : CardRead). Outcome y t ps ls a qs ms) d (subst (λ (z : Showing). Outcome z r ps ls a qs ms) e o)
+pub outcome-same : {x y : Showing} {r s : CardRead} (listed : Bool) (ps ls : List ℕ) (a : Planned) (qs ms : List ℕ) → x ≡ y → r ≡ s
+    → Outcome listed x r ps ls a qs ms → Outcome listed y s ps ls a qs ms
+outcome-same {x} {y} {r} {s} listed ps ls a qs ms e d o =
+    subst (λ (t : CardRead). Outcome listed y t ps ls a qs ms) d (subst (λ (z : Showing). Outcome listed z r ps ls a qs ms) e o)
 
 module _ (x : Showing) (f : Figures) (np nl : ℕ) where
   pub short-positions : np < f .blocks → planFault x f np nl ≡ tooShort
@@ -76,6 +105,47 @@ module _ (x : Showing) (f : Figures) (np nl : ℕ) where
   pub some-stream : f .blocks ≤ np → f .blocks ≤ nl → (streamsOf x f ≡ 0 → ⊥) → planFault x f np nl ≡ 0
   unfolding planFault
   some-stream l m e = rw (le-ltb np (f .blocks) l, le-ltb nl (f .blocks) m, ne-eqb (streamsOf x f) 0 e)
+
+-- the two lengths, with a lead list or with a scratch
+module _ (listed : Bool) (x : Showing) (f : Figures) (ps ls : List ℕ) where
+  -- one is too short: 13
+  pub lent-short : 0 < f .blocks → listsShort listed (f .blocks) ps ls ≡ true
+      → planFault x f (length (wordsOf ps)) (length (wordsOf (leadsLent listed x f ls))) ≡ tooShort
+  unfolding planFault
+  lent-short some e = go listed e
+    where
+      alone : (t : Bool) → (t || ltb (length (wordsOf ls)) scratchLength) ≡ true → (t || ltb (length (wordsOf (scratchLeads x f ls))) (f .blocks)) ≡ true
+      alone true h = refl
+      alone false h =
+          let none = short-leads-none x f ls (scratch-short ls (ltb-true (length (wordsOf ls)) scratchLength h)) in
+          lt-ltb (length (wordsOf (scratchLeads x f ls))) (f .blocks) (omega arith)
+
+      go : (b : Bool) → listsShort b (f .blocks) ps ls ≡ true
+          → planFault x f (length (wordsOf ps)) (length (wordsOf (leadsLent b x f ls))) ≡ tooShort
+      go true h = rw h
+      go false h = rw (alone (ltb (length (wordsOf ps)) (f .blocks)) h)
+
+  -- neither is: each has its entries
+  pub lent-long : listsShort listed (f .blocks) ps ls ≡ false
+      → (f .blocks ≤ length (wordsOf ps)) × (f .blocks ≤ length (wordsOf (leadsLent listed x f ls)))
+      × (entriesAsked listed (f .blocks) ≤ length (wordsOf ls))
+  lent-long e = go listed e
+    where
+      neither : (a b : Bool) → (a || b) ≡ false → (a ≡ false) × (b ≡ false)
+      neither true b h = clash refl h
+      neither false b h = (refl, h)
+
+      go : (b : Bool) → listsShort b (f .blocks) ps ls ≡ false
+          → (f .blocks ≤ length (wordsOf ps)) × (f .blocks ≤ length (wordsOf (leadsLent b x f ls))) × (entriesAsked b (f .blocks) ≤ length (wordsOf ls))
+      go true h =
+          let n = neither (ltb (length (wordsOf ps)) (f .blocks)) (ltb (length (wordsOf ls)) (f .blocks)) h in
+          let l = ltb-false (length (wordsOf ls)) (f .blocks) (n .1) in
+          (ltb-false (length (wordsOf ps)) (f .blocks) (n .0), l, l)
+      go false h =
+          let n = neither (ltb (length (wordsOf ps)) (f .blocks)) (ltb (length (wordsOf ls)) scratchLength) h in
+          let l = ltb-false (length (wordsOf ls)) scratchLength (n .1) in
+          let all = long-leads-all x f ls (scratch-long ls l) in
+          (ltb-false (length (wordsOf ps)) (f .blocks) (n .0), omega arith, l)
 
 -- ---- the lists, as the code makes them
 

@@ -4,6 +4,7 @@ use card::CardRead;
 use card::Figures;
 use card::Scalars;
 use card::Verdict;
+use numbers::limits::SCRATCH_LENGTH;
 ghost use mathlib.Core.Path.{_≡_};
 ghost use Prim.Native.Nat.{ℕ, _*_, _≤_, _<_};
 ghost use Rattle.numbers.specs.Limits.{maxStreams};
@@ -19,6 +20,7 @@ ghost use Rattle.plan.specs.Plan.{planFrom, timeOn, positionOf, worst2Of
 ghost use Rattle.plan.specs.Answer.{planFault, judged};
 ghost use Rattle.plan.specs.Greatest.{Starts, GreatestRun, MostStreams, TooMany, EarliestPair};
 ghost use Rattle.plan.specs.Promise.{LeadLaws, Promise};
+ghost use Rattle.plan.specs.Scratch.{scratchShort};
 
 // A plan; all zero where there is none.
 pub struct Plan {
@@ -51,6 +53,13 @@ pub struct Numbers {
 pub struct Planned {
     pub verdict: Verdict,
     pub plan: Plan,
+}
+
+// Is a scratch in the lead list's place too short?
+pub fn is_short(scratch: &[u8]) -> bool
+    ensures { λ r. ⌜ r ≡ scratchShort (now (scratch .entry)) ⌝ }
+{
+    words::entries(scratch) < SCRATCH_LENGTH as usize
 }
 
 // The single numbers among a plan's figures.

@@ -84,7 +84,7 @@ fn read_plan(text: &[u8], start: usize) -> Plan {
 
 // Is this the plan of its figures, with its lists?
 fn check(plan: Plan, positions: &[u8], leads: &[u8]) {
-    if plan_check::is_plan(plan, positions, leads) {
+    if plan_check::is_plan(plan, positions, leads, true) {
         print(b" yes");
         return;
     }

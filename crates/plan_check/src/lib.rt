@@ -18,6 +18,7 @@ ghost use Rattle.numbers.specs.Limits.{maxZones, tableLength};
 ghost use Rattle.card.specs.declared.Figures.{Figures};
 ghost use Rattle.plan.specs.Plan.{planFrom, lentPlan};
 ghost use Rattle.plan.specs.Answer.{sameNumbers, hasNumbers, hasPositions, hasLeads, isPlan};
+ghost use Rattle.plan.specs.Scratch.{leadsBy};
 
 // Two plans of the same figures have the same numbers: streams, buffer, worst2, margin, showing and worstat.
 fn same_numbers(plan: Numbers, own: Numbers) -> bool
@@ -88,7 +89,8 @@ fn is_plan_with<'a>(
     both(placed, led)
 }
 
-// Is a plan, its arrays lent, the plan of its figures, and do both lists begin with its N entries?
+// Is a plan, its arrays lent, the plan of its figures, and do both lists begin with its N entries? A scratch in the lead list's place, not
+// `listed`, is asked nothing.
 pub fn is_plan_of<'a>(
     figures: Scalars,
     sizes: &'a [u32; 64],
@@ -97,12 +99,13 @@ pub fn is_plan_of<'a>(
     plan: Numbers,
     positions: &[u8],
     leads: &[u8],
+    listed: bool,
 ) -> bool
     requires { ⌜ (length (now sizes) ≡ maxZones) × (length (now times) ≡ maxZones) × (length (now table) ≡ tableLength) ⌝ }
-    ensures { λ r. ⌜ r ≡ isPlan (lentPlan figures (now (sizes .entry)) (now (times .entry)) (now (table .entry)) plan) (now (positions .entry))
-        (now (leads .entry)) ⌝ }
+    ensures { λ r. ⌜ (let p = lentPlan figures (now (sizes .entry)) (now (times .entry)) (now (table .entry)) plan in
+        r ≡ isPlan p (now (positions .entry)) (leadsBy listed p (now (leads .entry)))) ⌝ }
 {
-    is_plan_with(figures, sizes, times, table, plan, positions, leads, true)
+    is_plan_with(figures, sizes, times, table, plan, positions, leads, listed)
 }
 
 // The same for a call that has no leads.
@@ -130,9 +133,9 @@ pub fn is_laid_of<'a>(
     )
 }
 
-// Is this record the plan of its figures, and do both lists begin with its N entries?
-pub fn is_plan(plan: Plan, positions: &[u8], leads: &[u8]) -> bool
-    ensures { λ r. ⌜ r ≡ isPlan plan (now (positions .entry)) (now (leads .entry)) ⌝ }
+// Is this record the plan of its figures, and do both lists begin with its N entries? The same of a scratch.
+pub fn is_plan(plan: Plan, positions: &[u8], leads: &[u8], listed: bool) -> bool
+    ensures { λ r. ⌜ r ≡ isPlan plan (now (positions .entry)) (leadsBy listed plan (now (leads .entry))) ⌝ }
 {
     let figures = scalars_in(plan);
     let numbers = numbers_in(plan);
@@ -144,5 +147,6 @@ pub fn is_plan(plan: Plan, positions: &[u8], leads: &[u8]) -> bool
         numbers,
         positions,
         leads,
+        listed,
     )
 }

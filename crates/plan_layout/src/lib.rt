@@ -95,6 +95,28 @@ pub fn numbers_at(list: &[u8]) -> Numbers
     }
 }
 
+// And its arrays: the positions and the times of the zones, and the table of overheads.
+pub fn sizes_at(list: &[u8]) -> [u32; 64]
+    requires { ⌜ planWordCount ≤ length (wordsOf (now list)) ⌝ }
+    ensures { λ r. ⌜ r ≡ planIn (wordsOf (now (list .entry))) .figures .positions ⌝ }
+{
+    read_64(list, offsets::POSITIONS)
+}
+
+pub fn times_at(list: &[u8]) -> [u32; 64]
+    requires { ⌜ planWordCount ≤ length (wordsOf (now list)) ⌝ }
+    ensures { λ r. ⌜ r ≡ planIn (wordsOf (now (list .entry))) .figures .times ⌝ }
+{
+    read_64(list, offsets::TIMES)
+}
+
+pub fn table_at(list: &[u8]) -> [u32; 257]
+    requires { ⌜ planWordCount ≤ length (wordsOf (now list)) ⌝ }
+    ensures { λ r. ⌜ r ≡ planIn (wordsOf (now (list .entry))) .figures .table ⌝ }
+{
+    read_257(list, offsets::TABLE)
+}
+
 // Writes a plan, its arrays lent, at the front of a string.
 pub fn write_parts<'a>(
     list: &mut [u8],

@@ -1,7 +1,9 @@
-// The plan of legal figures and its lists: 13 where a list is too short, then 12 where no stream fits.
+// The plan of legal figures and its lists, with a lead list or with a scratch in its place: 13 where a list is too short, then 12 where no
+// stream fits.
 use block_lists::write_leads;
 use block_lists::write_positions;
 use card::Scalars;
+use numbers::limits::SCRATCH_LENGTH;
 use numbers::refusals::ACCEPTED;
 use numbers::refusals::NO_STREAM;
 use numbers::refusals::TOO_SHORT;
@@ -9,6 +11,7 @@ use plan::Numbers;
 use plan_numbers::plan_numbers;
 use zones::sum_positions;
 ghost use mathlib.Core.Path.{_≡_};
+ghost use mathlib.Core.Bool.{cond};
 ghost use Prim.Native.Nat.{_<_};
 ghost use lib.ListN.{length};
 ghost use Rattle.numbers.specs.Refusals.{noStream};
@@ -17,6 +20,7 @@ ghost use Rattle.card.specs.Card.{Legal};
 ghost use Rattle.card.specs.Read.{figuresFrom};
 ghost use Rattle.plan.specs.Plan.{showingOf, planOf, planFrom, positionsOf, leadsOf};
 ghost use Rattle.plan.specs.Answer.{planFault, filled};
+ghost use Rattle.plan.specs.Scratch.{leadsLent, entriesAsked, listsShort};
 
 // The number that a plan of so many streams answers: 12 where not even one fits.
 fn stream_fault(streams: u32) -> u32
@@ -51,7 +55,28 @@ fn not_made(number: u32) -> Made
     }
 }
 
-// Plans legal figures, their arrays lent, in a showing: 13, then 12. A refusal leaves both lists.
+// The entries asked of a lead list, or of the scratch in its place.
+fn entries_asked(blocks: u32, listed: bool) -> u32
+    ensures { λ r. ⌜ r ≡ entriesAsked listed blocks ⌝ }
+{
+    if listed {
+        return blocks;
+    }
+    SCRATCH_LENGTH
+}
+
+// Is the positions list too short, or the lead list or scratch beside it?
+fn lists_short(blocks: u32, positions: &[u8], leads: &[u8], listed: bool) -> bool
+    ensures { λ r. ⌜ r ≡ listsShort listed blocks (now (positions .entry)) (now (leads .entry)) ⌝ }
+{
+    if words::entries(positions) < blocks as usize {
+        return true;
+    }
+    words::entries(leads) < entries_asked(blocks, listed) as usize
+}
+
+// Plans legal figures, their arrays lent, in a showing: 13, then 12. Where it is not `listed`, `leads` is a scratch, which stays as it was. A
+// refusal leaves both lists.
 pub fn plan_legal<'a>(
     figures: Scalars,
     sizes: &'a [u32; 64],
@@ -60,19 +85,16 @@ pub fn plan_legal<'a>(
     showing: u32,
     positions: &mut [u8],
     leads: &mut [u8],
+    listed: bool,
 ) -> Made
     requires { ⌜ Legal (figuresFrom figures (now sizes) (now times) (now table)) ⌝ }
     ensures { λ r. ⌜ (let x = showingOf showing in let f = figuresFrom figures (now (sizes .entry)) (now (times .entry)) (now (table .entry)) in
-        let fault = planFault x f (length (wordsOf (now (positions .entry)))) (length (wordsOf (now (leads .entry)))) in
+        let fault = planFault x f (length (wordsOf (now (positions .entry)))) (length (wordsOf (leadsLent listed x f (now (leads .entry))))) in
         (r .number ≡ fault) × (r .number ≡ 0 → planFrom f (r .plan) ≡ planOf x f)
         × (now (positions .exit) ≡ filled 0 fault (now (positions .entry)) (positionsOf x f))
-        × (now (leads .exit) ≡ filled 0 fault (now (leads .entry)) (leadsOf x f))) ⌝ }
+        × (now (leads .exit) ≡ cond listed (filled 0 fault (now (leads .entry)) (leadsOf x f)) (now (leads .entry)))) ⌝ }
 {
-    let blocks = figures.blocks as usize;
-    if words::entries(positions) < blocks {
-        return not_made(TOO_SHORT);
-    }
-    if words::entries(leads) < blocks {
+    if lists_short(figures.blocks, positions, leads, listed) {
         return not_made(TOO_SHORT);
     }
     let own = plan_numbers(figures, sizes, times, table, showing);
@@ -80,12 +102,16 @@ pub fn plan_legal<'a>(
     if number != ACCEPTED {
         return not_made(number);
     }
-    let total = sum_positions(sizes, figures.zones);
-    write_positions(showing, total, figures.blocks, positions);
     let worst2 = own.worst2;
-    write_leads(sizes, times, showing, total, figures.blocks, worst2, leads);
-    Made {
+    let made = Made {
         number: number,
         plan: own,
+    };
+    let total = sum_positions(sizes, figures.zones);
+    write_positions(showing, total, figures.blocks, positions);
+    if !listed {
+        return made;
     }
+    write_leads(sizes, times, showing, total, figures.blocks, worst2, leads);
+    made
 }

@@ -3,7 +3,8 @@
 use Prim.Native.Nat.{ℕ, zero, suc}
 use mathlib.Core.Path.{_≡_, refl, sym, ap, _∙_}
 use mathlib.Core.Logic.{_≢_}
-use mathlib.Core.List.{List, []}
+use mathlib.Core.Bool.{Bool, true, false, cond}
+use mathlib.Core.List.{List}
 use native.Mathlib.Omega.{arith}
 use lib.ListN.{length}
 use borrow.Author.Tests.{eq-eqb, ne-eqb}
@@ -20,11 +21,12 @@ use Rattle.plan.specs.declared.Plan.{Plan}
 use Rattle.plan.specs.declared.Planned.{Planned}
 use Rattle.plan.specs.Plan.{planOf, blankPlan, positionsOf, leadsOf}
 use Rattle.plan.specs.Answer.{faultAfter, refusal, answer, filled, planned, positionsAfter, leadsAfter}
+use Rattle.plan.specs.Scratch.{leadsLent}
 use Rattle.plan.specs.Ways as plan
 use Rattle.plan_layout.specs.Layout.{planWords, planSize}
 use Rattle.layout.specs.declared.FilmdiskAnswer.{FilmdiskAnswer}
 use Rattle.layout.specs.Answers.{verdictAnswer}
-use Rattle.plan_strings.specs.Calls.{planFaultOf, plannedOf, planFilled, planAnswer, planString, positionsString, leadsString}
+use Rattle.plan_strings.specs.Calls.{planFaultOf, plannedOf, planFilled, planAnswer, planString, positionsString, leadsString, PlanCall, ReadCall}
 
 -- ---- a card without room for its plan
 
@@ -48,91 +50,90 @@ module _ (x : Showing) (r : CardRead) (s : List ℕ) (e : r ≡ readCard s) (a :
 
 -- ---- the call: the answer, and the later contents of the three strings
 
-abbrev pub Outcome : Showing → List ℕ → List ℕ → List ℕ → List ℕ → FilmdiskAnswer → List ℕ → List ℕ → List ℕ → Type 0
-Outcome x s p ps ls a q qs ms =
-    (a ≡ planAnswer x s p ps ls) × (q ≡ planString x s p ps ls) × (qs ≡ positionsString x s p ps ls) × (ms ≡ leadsString x s p ps ls)
-
--- the same of a card that was read
-abbrev pub Planning : Showing → CardRead → List ℕ → List ℕ → List ℕ → FilmdiskAnswer → List ℕ → List ℕ → List ℕ → Type 0
-Planning x c p ps ls r q qs ms =
-    (r ≡ verdictAnswer (planned x c ps ls .verdict)) × (q ≡ planFilled p (planned x c ps ls)) × (qs ≡ positionsAfter x c ps ls) × (ms ≡ leadsAfter x c ps ls)
-
--- 13 leaves a list
+-- 13 leaves a list, and a scratch
 none-filled : (k : ℕ) (s vs : List ℕ) → s ≡ filled k tooShort s vs
 none-filled zero s vs = refl
 none-filled (suc k) s vs = refl
 
-module _ (x : Showing) (s p ps ls : List ℕ) where
+none-lent : (listed : Bool) (k : ℕ) (s vs : List ℕ) → s ≡ cond listed (filled k tooShort s vs) s
+none-lent true k s vs = none-filled k s vs
+none-lent false k s vs = refl
+
+-- the plan string has its length: 13 leaves it, all else writes it
+module _ (p : List ℕ) (l : length p ≡ planSize) (a : Planned) where
+  filled-short : a .verdict .number ≡ tooShort → p ≡ planFilled p a
+  unfolding planFilled
+  filled-short k = rw (eq-eqb (a .verdict .number) tooShort k, eq-eqb (length p) planSize l)
+
+  filled-plan : a .verdict .number ≢ tooShort → (q : List ℕ) → q ≡ withWords p 0 (planWords (a .plan)) → q ≡ planFilled p a
+  unfolding planFilled
+  filled-plan k q w = w ∙ rw (ne-eqb (a .verdict .number) tooShort k, eq-eqb (length p) planSize l)
+
+module _ (listed : Bool) (x : Showing) (s p ps ls : List ℕ) where
   -- the plan string has another length
   pub other-length : (length p ≡ planSize → ⊥) → (r : FilmdiskAnswer) → r ≡ withoutRoom x (readCard s)
-      → Outcome x s p ps ls r p ps ls
+      → PlanCall listed x s p ps ls r p ps ls
   unfolding planAnswer planString positionsString leadsString plannedOf planFaultOf planFilled
   other-length n r e =
       let k = readCard s .verdict .number in
-      rw (ne-eqb (length p) planSize n) (e, refl, none-filled k ps (positionsOf x (readCard s .figures)), none-filled k ls (leadsOf x (readCard s .figures)))
+      rw (ne-eqb (length p) planSize n)
+      (e, refl, none-filled k ps (positionsOf x (readCard s .figures)), none-lent listed k ls (leadsOf x (readCard s .figures)))
 
   -- it has the right one
   module _ (l : length p ≡ planSize) where
-    filled-short : (a : Planned) → a .verdict .number ≡ tooShort → p ≡ planFilled p a
-    unfolding planFilled
-    filled-short a k = rw (eq-eqb (a .verdict .number) tooShort k, eq-eqb (length p) planSize l)
-
-    filled-plan : (a : Planned) → a .verdict .number ≢ tooShort → (q : List ℕ) → q ≡ withWords p 0 (planWords (a .plan)) → q ≡ planFilled p a
-    unfolding planFilled
-    filled-plan a k q w = w ∙ rw (ne-eqb (a .verdict .number) tooShort k, eq-eqb (length p) planSize l)
-
     -- an answer to the card as it was read
-    outcome : (a : Planned) (qs ms : List ℕ) → plan.Outcome x (readCard s) ps ls a qs ms → (r : FilmdiskAnswer) → r ≡ verdictAnswer (a .verdict)
-        → (q : List ℕ) → q ≡ planFilled p a → Outcome x s p ps ls r q qs ms
+    outcome : (a : Planned) (qs ms : List ℕ) → plan.Outcome listed x (readCard s) ps ls a qs ms → (r : FilmdiskAnswer) → r ≡ verdictAnswer (a .verdict)
+        → (q : List ℕ) → q ≡ planFilled p a → PlanCall listed x s p ps ls r q qs ms
     unfolding planAnswer planString planned plannedOf planFaultOf positionsAfter positionsString leadsAfter leadsString
     outcome a qs ms e r v q w = rw (eq-eqb (length p) planSize l)
         (v ∙ ap (λ (b : Planned). verdictAnswer (b .verdict)) (e .0), w ∙ ap (planFilled p) (e .0), e .1, e .2)
 
     -- the card is refused: the plan string is all zero
     pub refused-card : Bytes s → (k at : ℕ) → refusedCard k at ≡ readCard s → (r : FilmdiskAnswer) → r ≡ verdictAnswer (record { number = k; place = at })
-        → (q : List ℕ) → q ≡ withWords p 0 (planWords blankPlan) → Outcome x s p ps ls r q ps ls
+        → (q : List ℕ) → q ≡ withWords p 0 (planWords blankPlan) → PlanCall listed x s p ps ls r q ps ls
     unfolding refusedCard blankFigures refusal
     refused-card y k at e r v q w =
         let refused : k ≢ 0 = λ z. let ok = card-legal s y (refusedCard k at) e z in omega (arith, ok .blocks) in
         let other : k ≢ tooShort = λ z. read-other s (sym (ap (λ (c : CardRead). c .verdict .number) e) ∙ z) in
-        let o = plan.outcome-same ps ls _ ps ls refl e (plan.by-figures x (refusedCard k at) ps ls refused) in
-        outcome (refusal k at) ps ls o r v q (filled-plan (refusal k at) other q w)
+        let o = plan.outcome-same listed ps ls _ ps ls refl e (plan.by-figures listed x (refusedCard k at) ps ls refused) in
+        outcome (refusal k at) ps ls o r v q (filled-plan p l (refusal k at) other q w)
 
     -- it is accepted and planned
-    pub planned-card : (c : CardRead) → c ≡ readCard s → (r : FilmdiskAnswer) (q qs ms : List ℕ) → Planning x c p ps ls r q qs ms
-        → Outcome x s p ps ls r q qs ms
-    planned-card c e r q qs ms o = outcome (planned x c ps ls) qs ms (plan.outcome-same ps ls _ qs ms refl e (refl, o .2, o .3)) r (o .0) q (o .1)
+    pub planned-card : (c : CardRead) → c ≡ readCard s → (r : FilmdiskAnswer) (q qs ms : List ℕ) → ReadCall listed x c p ps ls r q qs ms
+        → PlanCall listed x s p ps ls r q qs ms
+    planned-card c e r q qs ms o =
+        outcome (planned x c ps (leadsLent listed x (c .figures) ls)) qs ms (plan.outcome-same listed ps ls _ qs ms refl e (refl, o .2, o .3)) r (o .0) q (o .1)
 
 -- ---- legal figures: the planner's answer, and the later contents of the three strings
 
-module _ (x : Showing) (f : Figures) (p ps ls : List ℕ) (l : length p ≡ planSize) (n : ℕ) (made : n ≡ faultAfter x (acceptedCard f) ps ls) (r : FilmdiskAnswer)
-    (v : r ≡ verdictAnswer (record { number = n; place = 0 }))
-    (qs ms : List ℕ) (first : qs ≡ filled 0 (faultAfter x (acceptedCard f) ps ls) ps (positionsOf x f))
-    (second : ms ≡ filled 0 (faultAfter x (acceptedCard f) ps ls) ls (leadsOf x f)) where
-  planning : (a : Planned) → a ≡ planned x (acceptedCard f) ps ls → verdictAnswer (record { number = n; place = 0 }) ≡ verdictAnswer (a .verdict)
-      → (q : List ℕ) → q ≡ planFilled p a → Planning x (acceptedCard f) p ps ls r q qs ms
-  unfolding positionsAfter leadsAfter
-  planning a e d q w = (v ∙ d ∙ ap (λ (b : Planned). verdictAnswer (b .verdict)) e, w ∙ ap (planFilled p) e, first, second)
+module _ (listed : Bool) (x : Showing) (f : Figures) (p ps ls : List ℕ) (l : length p ≡ planSize) where
+  abbrev card : CardRead
+  card = acceptedCard f
 
-  refused : n ≢ 0 → refusal n 0 ≡ planned x (acceptedCard f) ps ls
-  refused h = go n made h
-    where
-      go : (k : ℕ) → k ≡ faultAfter x (acceptedCard f) ps ls → k ≢ 0 → refusal k 0 ≡ planned x (acceptedCard f) ps ls
-      go zero d h = absurd (h refl)
-      go (suc k) d h = plan.by-plan x (acceptedCard f) ps ls k refl (sym d) .0
+  abbrev lent : List ℕ
+  lent = leadsLent listed x f ls
 
-  -- 13 leaves the plan string
-  pub plan-kept : n ≡ tooShort → Planning x (acceptedCard f) p ps ls r p qs ms
-  unfolding refusal
-  plan-kept k = planning (refusal n 0) (refused (λ z. omega arith)) refl p (filled-short x [] p ps ls l (refusal n 0) k)
+  module _ (n : ℕ) (made : n ≡ faultAfter x card ps lent) (r : FilmdiskAnswer) (v : r ≡ verdictAnswer (record { number = n; place = 0 }))
+      (qs ms : List ℕ) (first : qs ≡ filled 0 (faultAfter x card ps lent) ps (positionsOf x f))
+      (second : ms ≡ cond listed (filled 0 (faultAfter x card ps lent) ls (leadsOf x f)) ls) where
+    planning : (a : Planned) → a ≡ planned x card ps lent → verdictAnswer (record { number = n; place = 0 }) ≡ verdictAnswer (a .verdict)
+        → (q : List ℕ) → q ≡ planFilled p a → ReadCall listed x card p ps ls r q qs ms
+    planning a e d q w =
+        let o = plan.by-lists listed x card ps ls refl qs ms first second in
+        (v ∙ d ∙ ap (λ (b : Planned). verdictAnswer (b .verdict)) e, w ∙ ap (planFilled p) e, o .0, o .1)
 
-  -- after 12 it is all zero
-  pub plan-cleared : n ≢ tooShort → n ≢ 0 → (q : List ℕ) → q ≡ withWords p 0 (planWords blankPlan) → Planning x (acceptedCard f) p ps ls r q qs ms
-  unfolding refusal
-  plan-cleared k h q w = planning (refusal n 0) (refused h) refl q (filled-plan x [] p ps ls l (refusal n 0) k q w)
+    -- 13 leaves the plan string
+    pub plan-kept : n ≡ tooShort → ReadCall listed x card p ps ls r p qs ms
+    unfolding refusal
+    plan-kept k = planning (refusal n 0) (plan.by-refusal x card ps lent n refl made (λ z. omega arith)) refl p (filled-short p l (refusal n 0) k)
 
-  pub plan-written : n ≡ 0 → (m : Plan) → m ≡ planOf x f → (q : List ℕ) → q ≡ withWords p 0 (planWords m) → Planning x (acceptedCard f) p ps ls r q qs ms
-  plan-written z m e q w =
-      let a : Planned = record { verdict = record { number = 0; place = 0 }; plan = planOf x f } in
-      planning a (plan.by-none x (acceptedCard f) ps ls refl (sym made ∙ z) .0) (ap (λ (k : ℕ). verdictAnswer (record { number = k; place = 0 })) z) q
-      (filled-plan x [] p ps ls l a (λ h. omega arith) q (w ∙ ap (λ (m : Plan). withWords p 0 (planWords m)) e))
+    -- after 12 it is all zero
+    pub plan-cleared : n ≢ tooShort → n ≢ 0 → (q : List ℕ) → q ≡ withWords p 0 (planWords blankPlan) → ReadCall listed x card p ps ls r q qs ms
+    unfolding refusal
+    plan-cleared k h q w = planning (refusal n 0) (plan.by-refusal x card ps lent n refl made h) refl q (filled-plan p l (refusal n 0) k q w)
+
+    pub plan-written : n ≡ 0 → (m : Plan) → m ≡ planOf x f → (q : List ℕ) → q ≡ withWords p 0 (planWords m) → ReadCall listed x card p ps ls r q qs ms
+    plan-written z m e q w =
+        let a : Planned = record { verdict = record { number = 0; place = 0 }; plan = planOf x f } in
+        planning a (plan.by-none x card ps lent refl (sym made ∙ z)) (ap (λ (k : ℕ). verdictAnswer (record { number = k; place = 0 })) z) q
+        (filled-plan p l a (λ h. omega arith) q (w ∙ ap (λ (m : Plan). withWords p 0 (planWords m)) e))

@@ -22,10 +22,11 @@ ghost use Rattle.card_reader.specs.Told.{acceptedCard};
 ghost use Rattle.numbers.specs.Refusals.{tooShort};
 ghost use Rattle.placement.specs.Showing.{Showing, one, loop};
 ghost use Rattle.plan.specs.Plan.{showingOf, blankPlan};
-ghost use Rattle.plan.specs.Answer.{answer, planned, positionsAfter, leadsAfter};
+ghost use Rattle.plan.specs.Answer.{answer};
 ghost use Rattle.plan_layout.specs.Layout.{planWords, planSize};
 ghost use Rattle.layout.specs.Answers.{verdictAnswer};
-ghost use Rattle.plan_strings.specs.Calls.{planFilled, planAnswer, planString, positionsString, leadsString};
+ghost use Rattle.plan_strings.specs.Calls.{planAnswer, planString, positionsString, leadsString, PlanCall, ReadCall};
+ghost use Rattle.plan_strings.specs.Calls.{planScratchAnswer, planScratchString, positionsScratchString};
 
 // The answer where the plan string has another length, in either showing: the card's refusal, or 13.
 fn unwritten(card: &[u8]) -> FilmdiskAnswer
@@ -56,7 +57,8 @@ fn refused(plan: &mut [u8], number: u32, place: usize) -> FilmdiskAnswer
     })
 }
 
-// Plans the legal figures of a card, their arrays lent, where the plan string has its length: 13, then 12.
+// Plans the legal figures of a card, their arrays lent, where the plan string has its length: 13, then 12. Where it is not `listed`, `leads` is
+// a scratch, which stays as it was.
 fn plan_into<'a>(
     figures: Scalars,
     sizes: &'a [u32; 64],
@@ -66,16 +68,23 @@ fn plan_into<'a>(
     plan: &mut [u8],
     positions: &mut [u8],
     leads: &mut [u8],
+    listed: bool,
 ) -> FilmdiskAnswer
     requires { ⌜ (length (now plan) ≡ planSize) × Legal (figuresFrom figures (now sizes) (now times) (now table)) ⌝ }
-    ensures { λ r. ⌜ (let x = showingOf showing in
-        let card = acceptedCard (figuresFrom figures (now (sizes .entry)) (now (times .entry)) (now (table .entry))) in
-        (r ≡ verdictAnswer (planned x card (now (positions .entry)) (now (leads .entry)) .verdict))
-        × (now (plan .exit) ≡ planFilled (now (plan .entry)) (planned x card (now (positions .entry)) (now (leads .entry))))
-        × (now (positions .exit) ≡ positionsAfter x card (now (positions .entry)) (now (leads .entry)))
-        × (now (leads .exit) ≡ leadsAfter x card (now (positions .entry)) (now (leads .entry)))) ⌝ }
+    ensures { λ r. ⌜ (let card = acceptedCard (figuresFrom figures (now (sizes .entry)) (now (times .entry)) (now (table .entry))) in
+        ReadCall listed (showingOf showing) card (now (plan .entry)) (now (positions .entry)) (now (leads .entry))
+        r (now (plan .exit)) (now (positions .exit)) (now (leads .exit))) ⌝ }
 {
-    let made = plan_legal(figures, sizes, times, table, showing, positions, leads);
+    let made = plan_legal(
+        figures,
+        sizes,
+        times,
+        table,
+        showing,
+        positions,
+        leads,
+        listed,
+    );
     let answer = verdict_answer(Verdict {
         number: made.number,
         place: 0,
@@ -90,18 +99,17 @@ fn plan_into<'a>(
     answer
 }
 
-// Plans a card in a showing: 1 to 11, 25 and 26, then 13, then 12.
+// Plans a card in a showing, with a lead list or with a scratch in its place: 1 to 11, 25 and 26, then 13, then 12.
 fn plan_showing(
     showing: u32,
     card: &[u8],
     plan: &mut [u8],
     positions: &mut [u8],
     leads: &mut [u8],
+    listed: bool,
 ) -> FilmdiskAnswer
-    ensures { λ r. ⌜ (r ≡ planAnswer (showingOf showing) (now (card .entry)) (now (plan .entry)) (now (positions .entry)) (now (leads .entry)))
-        × (now (plan .exit) ≡ planString (showingOf showing) (now (card .entry)) (now (plan .entry)) (now (positions .entry)) (now (leads .entry)))
-        × (now (positions .exit) ≡ positionsString (showingOf showing) (now (card .entry)) (now (plan .entry)) (now (positions .entry)) (now (leads .entry)))
-        × (now (leads .exit) ≡ leadsString (showingOf showing) (now (card .entry)) (now (plan .entry)) (now (positions .entry)) (now (leads .entry))) ⌝ }
+    ensures { λ r. ⌜ PlanCall listed (showingOf showing) (now (card .entry)) (now (plan .entry)) (now (positions .entry)) (now (leads .entry))
+        r (now (plan .exit)) (now (positions .exit)) (now (leads .exit)) ⌝ }
 {
     if plan.len() != PLAN_BYTES {
         return unwritten(card);
@@ -127,6 +135,7 @@ fn plan_showing(
             plan,
             positions,
             leads,
+            listed,
         ),
     }
 }
@@ -138,7 +147,7 @@ pub fn plan(card: &[u8], plan: &mut [u8], positions: &mut [u8], leads: &mut [u8]
         × (now (positions .exit) ≡ positionsString one (now (card .entry)) (now (plan .entry)) (now (positions .entry)) (now (leads .entry)))
         × (now (leads .exit) ≡ leadsString one (now (card .entry)) (now (plan .entry)) (now (positions .entry)) (now (leads .entry))) ⌝ }
 {
-    plan_showing(ONCE, card, plan, positions, leads)
+    plan_showing(ONCE, card, plan, positions, leads, true)
 }
 
 // Plans a card as a loop.
@@ -153,5 +162,35 @@ pub fn plan_loop(
         × (now (positions .exit) ≡ positionsString loop (now (card .entry)) (now (plan .entry)) (now (positions .entry)) (now (leads .entry)))
         × (now (leads .exit) ≡ leadsString loop (now (card .entry)) (now (plan .entry)) (now (positions .entry)) (now (leads .entry))) ⌝ }
 {
-    plan_showing(LOOP, card, plan, positions, leads)
+    plan_showing(LOOP, card, plan, positions, leads, true)
+}
+
+// Plans a card for one showing with a scratch in place of the lead list; the scratch stays as it was.
+pub fn plan_scratch(
+    card: &[u8],
+    plan: &mut [u8],
+    positions: &mut [u8],
+    scratch: &mut [u8],
+) -> FilmdiskAnswer
+    ensures { λ r. ⌜ (r ≡ planScratchAnswer one (now (card .entry)) (now (plan .entry)) (now (positions .entry)) (now (scratch .entry)))
+        × (now (plan .exit) ≡ planScratchString one (now (card .entry)) (now (plan .entry)) (now (positions .entry)) (now (scratch .entry)))
+        × (now (positions .exit) ≡ positionsScratchString one (now (card .entry)) (now (plan .entry)) (now (positions .entry)) (now (scratch .entry)))
+        × (now (scratch .exit) ≡ now (scratch .entry)) ⌝ }
+{
+    plan_showing(ONCE, card, plan, positions, scratch, false)
+}
+
+// Plans a card as a loop with a scratch in place of the lead list; the scratch stays as it was.
+pub fn plan_loop_scratch(
+    card: &[u8],
+    plan: &mut [u8],
+    positions: &mut [u8],
+    scratch: &mut [u8],
+) -> FilmdiskAnswer
+    ensures { λ r. ⌜ (r ≡ planScratchAnswer loop (now (card .entry)) (now (plan .entry)) (now (positions .entry)) (now (scratch .entry)))
+        × (now (plan .exit) ≡ planScratchString loop (now (card .entry)) (now (plan .entry)) (now (positions .entry)) (now (scratch .entry)))
+        × (now (positions .exit) ≡ positionsScratchString loop (now (card .entry)) (now (plan .entry)) (now (positions .entry)) (now (scratch .entry)))
+        × (now (scratch .exit) ≡ now (scratch .entry)) ⌝ }
+{
+    plan_showing(LOOP, card, plan, positions, scratch, false)
 }

@@ -13,7 +13,8 @@ ghost use mathlib.Core.Path.{_≡_};
 ghost use Rattle.card.specs.Card.{Legal};
 ghost use Rattle.card.specs.Read.{accepted};
 ghost use Rattle.plan.specs.Plan.{showingOf, planFrom};
-ghost use Rattle.plan.specs.Answer.{refusal, planned, positionsAfter, leadsAfter};
+ghost use Rattle.plan.specs.Answer.{refusal, planned, positionsAfter};
+ghost use Rattle.plan.specs.Scratch.{leadsLent, lentAfter};
 
 // A refusal.
 fn refused(number: u32, place: usize) -> Planned
@@ -49,12 +50,19 @@ fn planned_with(figures: Figures, own: Numbers) -> Planned
     }
 }
 
-// Plans figures that were read or judged, in a showing: their refusal, else 13, then 12.
-pub fn plan_figures(read: CardRead, showing: u32, positions: &mut [u8], leads: &mut [u8]) -> Planned
+// Plans figures that were read or judged, in a showing: their refusal, else 13, then 12. Where it is not `listed`, `leads` is a scratch, which
+// stays as it was.
+pub fn plan_figures(
+    read: CardRead,
+    showing: u32,
+    positions: &mut [u8],
+    leads: &mut [u8],
+    listed: bool,
+) -> Planned
     requires { ⌜ (read .verdict .number ≡ 0 → Legal (read .figures)) ⌝ }
-    ensures { λ r. ⌜ (r ≡ planned (showingOf showing) read (now (positions .entry)) (now (leads .entry)))
-        × (now (positions .exit) ≡ positionsAfter (showingOf showing) read (now (positions .entry)) (now (leads .entry)))
-        × (now (leads .exit) ≡ leadsAfter (showingOf showing) read (now (positions .entry)) (now (leads .entry))) ⌝ }
+    ensures { λ r. ⌜ (let x = showingOf showing in let lent = leadsLent listed x (read .figures) (now (leads .entry)) in
+        (r ≡ planned x read (now (positions .entry)) lent) × (now (positions .exit) ≡ positionsAfter x read (now (positions .entry)) lent)
+        × (now (leads .exit) ≡ lentAfter listed x read (now (positions .entry)) (now (leads .entry)))) ⌝ }
 {
     let verdict = read.verdict;
     if verdict.number != ACCEPTED {
@@ -74,6 +82,7 @@ pub fn plan_figures(read: CardRead, showing: u32, positions: &mut [u8], leads: &
         showing,
         positions,
         leads,
+        listed,
     );
     if made.number != ACCEPTED {
         return refused(made.number, 0);

@@ -6,10 +6,9 @@ use Rattle.rules.specs.Scheduler.{bound, mostDrawn}
 use Rattle.numbers.specs.Slots.{sweeping}
 use Rattle.numbers.specs.Units.{micros}
 use Rattle.desk.specs.declared.Desk.{Desk}
-use Rattle.desk.specs.declared.Gathered.{Gathered}
+use Rattle.desk.specs.Shown.{Gathered, Gathers}
 use Rattle.desk.specs.Desk.{supplyOf, slotsIn, viewOf}
 use Rattle.desk.specs.View.{Wide}
-use Rattle.desk.specs.Shown.{Gathers}
 use Rattle.desk.specs.Ready.{Ready, ready-slots, room-left}
 use Rattle.fetches.specs.Told.{Timed}
 use Rattle.draws.specs.Draws.{Sweeps}

@@ -11,17 +11,19 @@ use lib.ListN.{getD}
 use Rattle.numbers.specs.Limits.{maxPositions, maxTime, maxStreams}
 use Rattle.numbers.specs.Slots.{waiting, playing}
 use Rattle.placement.specs.Zones.{timeAt}
-use Rattle.plan.specs.Plan.{showingIn, positionOf, timeOf}
+use Rattle.plan.specs.Plan.{showingIn, positionOf, timeOf, leadOf}
 use Rattle.plan.specs.Answer.{isPlan}
 use Rattle.plan.specs.Disk.{Zoned}
 use Rattle.plan.specs.Check.{checked}
-use Rattle.plan.specs.Legal.{total-is, legal-zoned, position-below, time-small}
+use Rattle.plan.specs.Legal.{total-is, legal-zoned, position-below, time-small, lead-is, lead-small}
+use Rattle.plan.specs.Ways.{plan-worst2}
 use Rattle.desk.specs.declared.Desk.{Desk}
-use Rattle.desk.specs.declared.Gathered.{Gathered}
+use Rattle.desk.specs.Shown.{Gathered, Gathers, InRange}
 use Rattle.desk.specs.Desk.{supplyOf}
 use Rattle.desk.specs.View.{Wide}
-use Rattle.desk.specs.Shown.{Gathers, InRange}
-use Rattle.desk.specs.Ready.{Ready, streams-are}
+use Rattle.desk.specs.Ready.{Ready, streams-are, ready-slots}
+use Rattle.floor.specs.Floor.{mostLead, Added}
+use Rattle.floor.specs.Sources.{leadsIn, Timely, Leads}
 use Rattle.soundness.specs.Tests.{sound-tidy}
 use Rattle.gather.specs.declared.Block.{Block}
 use Rattle.gather.specs.Gather.{Reach, Reached, NextFound, blockAt, Collected}
@@ -88,3 +90,42 @@ module _ (d : Desk) (w : Wide d) (r : Ready d) (ps ls : List ℕ) (e : isPlan (d
 
     pub in-range : InRange g
     in-range = record { times = λ i. small i .0; positions = λ i. small i .1 }
+
+    -- ---- the leads, by these times
+
+    -- the lead of the next block of slot i
+    own-lead : (i : ℕ) → i < maxStreams → waiting ≤ getD (d .kinds) i 0 → getD (d .kinds) i 0 ≤ playing
+        → leadsIn (g .times) (d .plan .worst2) i ≡ leadOf (showingIn (d .plan)) (d .plan .figures) (getD (d .next) i 0)
+    own-lead i l u v = omega (
+      arith,
+      own i l u v .time,
+      lead-is (showingIn (d .plan)) (d .plan .figures) (r .legal) _ (next-below i l u v),
+      plan-worst2 (showingIn (d .plan)) (d .plan .figures) (d .plan) (r .planned),
+    )
+
+    lead-range : (i : ℕ) → i < maxStreams → waiting ≤ getD (d .kinds) i 0 → getD (d .kinds) i 0 ≤ playing
+        → leadsIn (g .times) (d .plan .worst2) i ≤ mostLead
+    lead-range i l u v = omega (arith, own-lead i l u v, lead-small (showingIn (d .plan)) (d .plan .figures) (r .legal) _ (next-below i l u v))
+
+    pub timely : Timely (g .times) (d .plan .worst2) (d .plan .streams)
+    timely = record { quick = λ i. small i .0; small = within }
+      where
+        within : (i : ℕ) → i < d .plan .streams → leadsIn (g .times) (d .plan .worst2) i ≤ mostLead
+        within i l =
+            let m : i < maxStreams = omega (arith, streams-are d r) in
+            by-cases (decLe waiting (getD (d .kinds) i 0))
+            (λ u. by-cases (decLe (getD (d .kinds) i 0) playing)
+            (λ v. lead-range i m u v)
+            (λ v. omega (arith, c .found i l .other (λ _ y. v y))))
+            (λ u. omega (arith, c .found i l .other (λ x _. u x)))
+
+    -- what was added up are the leads of the supply
+    pub lead-sum : (sum : ℕ) → Added (leadsIn (g .times) (d .plan .worst2)) (d .kinds) (d .next) (d .plan .streams) sum
+        → Leads (supplyOf (d .plan)) (d .plan .streams) (d .kinds) (d .next) (d .held) (g .times) (d .plan .worst2) sum
+    unfolding supplyOf
+    lead-sum sum a = record {
+      each = own-lead;
+      timely = timely;
+      sums = a .sums (supplyOf (d .plan)) (d .held) (ready-slots d w r) (λ i l u v. own-lead i (omega (arith, streams-are d r)) u v);
+      most = a .most;
+    }

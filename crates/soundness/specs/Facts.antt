@@ -5,20 +5,20 @@ use mathlib.Core.Path.{_≡_}
 use mathlib.Core.Logic.{_≢_}
 use mathlib.Core.Bool.{Bool, true, false, _&&_}
 use mathlib.Core.List.{List}
-use lib.ListN.{length, getD}
+use lib.ListN.{getD}
 use Rattle.numbers.specs.Limits.{maxStreams}
 use Rattle.numbers.specs.Slots.{free, waiting, playing, draining}
 use Rattle.numbers.specs.Showings.{loopWord}
 use Rattle.numbers.specs.Units.{parts}
-use Rattle.card.specs.declared.Figures.{Figures}
-use Rattle.words.specs.Words.{wordsOf}
-use Rattle.placement.specs.Showing.{Showing}
-use Rattle.plan.specs.Plan.{leadOf}
+use Rattle.plan.specs.declared.Plan.{Plan}
+use Rattle.plan.specs.Plan.{showingIn, leadOf}
 use Rattle.plan.specs.Answer.{isPlan}
+use Rattle.plan.specs.Scratch.{leadsBy}
 use Rattle.rules.specs.Sound.{sound}
 use Rattle.desk.specs.declared.Desk.{Desk}
 use Rattle.desk.specs.Desk.{supplyOf, orderOf, viewOf}
 use Rattle.floor.specs.Floor.{mostLead}
+use Rattle.floor.specs.Sources.{Sourced, leadFrom}
 
 -- the phase and the slots are sound
 abbrev pub slotsSound : Desk → Bool
@@ -59,12 +59,24 @@ pub record SlotsTidy (w N buffer n : ℕ) (ks xs hs : List ℕ) : Type 0 where
 abbrev pub AllTidy : Desk → Type 0
 AllTidy d = SlotsTidy (d .plan .showing) (d .plan .figures .blocks) (d .plan .buffer) (d .plan .streams) (d .kinds) (d .next) (d .held)
 
--- a list of leads that begins with the film's: long enough, each entry the lead of its block and in its range
-pub record LeadList (x : Showing) (f : Figures) (ls : List ℕ) : Type 0 where
-  pub long : f .blocks ≤ length (wordsOf ls)
-  pub here : (b : ℕ) → b < f .blocks → getD (wordsOf ls) b 0 ≡ leadOf x f b
-  pub small : (b : ℕ) → b < f .blocks → leadOf x f b ≤ mostLead
+-- a source of leads, with a list or without one, has those of plan p: each block, its lead, and that in its range
+pub record LeadSource (listed : Bool) (p : Plan) (ps ls : List ℕ) : Type 0 where
+  pub here : (b : ℕ) → b < p .figures .blocks → Sourced listed (p .figures .positions) (p .figures .times) ps ls b
+  pub says : (b : ℕ) → b < p .figures .blocks
+      → leadFrom listed (p .figures .positions) (p .figures .times) (p .worst2) ps ls b ≡ leadOf (showingIn p) (p .figures) b
+  pub small : (b : ℕ) → b < p .figures .blocks → leadOf (showingIn p) (p .figures) b ≤ mostLead
+
+-- the zones of a record as they were read
+abbrev pub ZonesRead : Desk → List ℕ → List ℕ → Type 0
+ZonesRead d sizes times = (sizes ≡ d .plan .figures .positions) × (times ≡ d .plan .figures .times)
 
 -- `each playing slot holds at least the floor` among the first n, x being the floor in two-millionths of a byte
 abbrev pub PlayersHold : ℕ → List ℕ → List ℕ → ℕ → Type 0
 PlayersHold n ks hs x = (i : ℕ) → i < n → getD ks i 0 ≡ playing → x ≤ parts * getD hs i 0
+
+-- a tidy record whose plan passes, with the zones and n as they were read: its leads can be added up
+pub record Summable (listed : Bool) (d : Desk) (n : ℕ) (sizes times ps ls : List ℕ) : Type 0 where
+  pub streams : n ≡ d .plan .streams
+  pub zones : ZonesRead d sizes times
+  pub plan : isPlan (d .plan) ps (leadsBy listed (d .plan) ls) ≡ true
+  pub tidy : AllTidy d

@@ -1,34 +1,63 @@
 -- What a caller learns where the test of a record passes.
 -- Assumes nothing.
-use Prim.Native.Nat.{ℕ, _≤_}
-use mathlib.Core.Path.{_≡_, ap}
-use mathlib.Core.Bool.{true}
+use Prim.Native.Nat.{ℕ, _≤_, _<_}
+use mathlib.Core.Path.{_≡_, refl, ap}
+use mathlib.Core.Bool.{Bool, true, false}
 use mathlib.Core.List.{List}
 use native.Mathlib.Omega.{arith}
-use Rattle.laws.specs.Bools.{and-left, and-right}
+use lib.ListN.{getD}
+use Rattle.laws.specs.Bools.{clash, and-left, and-right}
 use Rattle.numbers.specs.Limits.{maxStreams}
 use Rattle.legality.specs.Legality as legality
 use Rattle.words.specs.Words.{wordsOf}
 use Rattle.plan.specs.declared.Plan.{Plan}
-use Rattle.plan.specs.Plan.{showingIn, streamsOf, planOf}
+use Rattle.placement.specs.Zones.{total}
+use Rattle.plan.specs.Plan.{showingIn, timeOn, positionOf, timeOf, streamsOf, planOf}
 use Rattle.plan.specs.Answer.{isPlan}
 use Rattle.plan.specs.Check.{checked, checked-legal}
-use Rattle.plan.specs.Legal.{lead-small, streams-few}
+use Rattle.plan.specs.Legal.{total-is, legal-zoned, time-small, position-below, lead-is, lead-small, streams-few}
+use Rattle.plan.specs.Scratch.{ownLeads, leadsBy}
+use Rattle.plan.specs.Ways.{plan-worst2}
 use Rattle.turns.specs.Facts.{sound-says}
 use Rattle.desk.specs.declared.Desk.{Desk}
 use Rattle.desk.specs.Desk.{supplyOf, orderOf, viewOf}
-use Rattle.desk.specs.View.{Wide}
 use Rattle.desk.specs.Promise.{supply-named}
 use Rattle.desk.specs.Ready.{Ready}
-use Rattle.floor.specs.Floor.{Listed, Added, Taken, Leads}
-use Rattle.soundness.specs.Facts.{soundDesk, AllTidy, LeadList}
-use Rattle.soundness.specs.Tests.{sound-tidy, tidy-listed, tidy-taken}
+use Rattle.soundness.specs.Facts.{soundDesk, LeadSource}
 
--- the lent leads of a plan
-pub plan-leads : (p : Plan) (ps ls : List ℕ) → legality.Wide (p .figures) → isPlan p ps ls ≡ true → LeadList (showingIn p) (p .figures) ls
-plan-leads p ps ls w e =
+-- the source of leads of a plan: a list that passes the check, or the zones and the list of positions
+pub plan-source : (listed : Bool) (p : Plan) (ps ls : List ℕ) → legality.Wide (p .figures) → isPlan p ps (leadsBy listed p ls) ≡ true
+    → LeadSource listed p ps ls
+plan-source true p ps ls w e =
     let h = checked p ps ls e in
-    record { long = h .long .1; here = h .lead-at; small = lead-small (showingIn p) (p .figures) (checked-legal p ps ls w e) }
+    record {
+      here = λ b u. record { list = λ _. omega (arith, h .long .1); place = λ z. clash refl z };
+      says = h .lead-at;
+      small = lead-small (showingIn p) (p .figures) (checked-legal p ps ls w e);
+    }
+plan-source false p ps ls w e =
+    let own = ownLeads (showingIn p) (p .figures) in
+    let h = checked p ps own e in
+    let ok = checked-legal p ps own w e in
+    let x = showingIn p in
+    let f = p .figures in
+    let below : (b : ℕ) → b < f .blocks → getD (wordsOf ps) b 0 < total (f .positions) =
+    λ b u. omega (arith, h .position-at b u, position-below x f ok b u, total-is f ok)
+    in
+    let time : (b : ℕ) → b < f .blocks → timeOn f (getD (wordsOf ps) b 0) ≡ timeOf x f b = λ b u. ap (timeOn f) (h .position-at b u) in
+    record {
+      here = λ b u. record {
+        list = λ z. clash z refl;
+        place = λ _. record {
+          zoned = legal-zoned f ok;
+          here = omega (arith, h .long .0);
+          within = below b u;
+          quick = omega (arith, time b u, time-small f ok (positionOf x f b) (position-below x f ok b u));
+        };
+      };
+      says = λ b u. omega (arith, time b u, lead-is x f ok b u, plan-worst2 x f p (h .plan));
+      small = lead-small x f ok;
+    }
 
 -- its streams are at most the slots
 pub plan-streams : (p : Plan) (ps ls : List ℕ) → legality.Wide (p .figures) → isPlan p ps ls ≡ true → p .streams ≤ maxStreams
@@ -53,20 +82,3 @@ sound-ready d ps ls w e =
       planned = h .plan;
       sound = sound-says (supplyOf p) (supply-named p) (orderOf p) (viewOf d) (and-right (isPlan p ps ls) _ e);
     }
-
--- its next blocks are in the lent leads
-module _ (d : Desk) (w : Wide d) (ps ls : List ℕ) (v : legality.Wide (d .plan .figures)) (e : soundDesk d ps ls ≡ true) where
-  abbrev fits : isPlan (d .plan) ps ls ≡ true
-  fits = sound-plan d ps ls e
-
-  abbrev tidy : AllTidy d
-  tidy = sound-tidy d w (sound-ready d ps ls v e .sound)
-
-  pub sound-listed : Listed (wordsOf ls) (d .kinds) (d .next) (d .plan .streams)
-  sound-listed = tidy-listed d w tidy (plan-streams (d .plan) ps ls v fits) ls (plan-leads (d .plan) ps ls v fits)
-
-  -- and what is taken and added up there are their leads and the sum of these
-  pub sound-taken : (vs : List ℕ) → Taken (wordsOf ls) (d .kinds) (d .next) (d .plan .streams) vs
-      → (sum : ℕ) → Added (wordsOf ls) (d .kinds) (d .next) (d .plan .streams) sum
-      → Leads (supplyOf (d .plan)) (d .plan .streams) (d .kinds) (d .next) (d .held) vs sum
-  sound-taken = tidy-taken d w tidy (plan-streams (d .plan) ps ls v fits) ls (plan-leads (d .plan) ps ls v fits)

@@ -6,15 +6,14 @@ use mathlib.Core.Bool.{Bool, true, false}
 use mathlib.Core.List.{List}
 use mathlib.Core.Logic.{by-cases}
 use native.Mathlib.Omega.{arith}
-use native.Mathlib.Decide.{decLe, decLt}
+use native.Mathlib.Decide.{decLt}
 use lib.ListN.{getD, List·getD-eq-default}
 use borrow.Author.Tests.{ltb-true, lt-ltb}
 use Rattle.numbers.specs.Limits.{maxStreams}
 use Rattle.numbers.specs.Slots.{waiting, playing, sweeping}
 use Rattle.numbers.specs.Units.{parts}
-use Rattle.words.specs.Words.{wordsOf}
 use Rattle.plan.specs.declared.Plan.{Plan}
-use Rattle.plan.specs.Plan.{showingIn}
+use Rattle.plan.specs.Plan.{showingIn, leadOf}
 use Rattle.rules.specs.Scheduler.{leads, lowWater}
 use Rattle.rules.specs.Order.{bySlot}
 use Rattle.rules.specs.Arrays.{slotOf}
@@ -23,12 +22,13 @@ use Rattle.turns.specs.Turns.{sound-yes, sound-no, sound-at}
 use Rattle.desk.specs.declared.Desk.{Desk}
 use Rattle.desk.specs.Desk.{supplyOf, orderOf, slotsIn, viewOf}
 use Rattle.desk.specs.View.{Wide, same-length}
-use Rattle.desk.specs.Shown.{Slots, OfNext}
+use Rattle.desk.specs.Shown.{Slots}
 use Rattle.desk.specs.FilmEnd.{end-says, end-at}
 use Rattle.desk.specs.Promise.{supply-named}
 use Rattle.desk.specs.Slots.{length-in, slot-in, kind-in}
-use Rattle.floor.specs.Floor.{mostLead, leadSum, Listed, LeadsOf, Added, Taken, Leads, mark-is}
-use Rattle.soundness.specs.Facts.{slotsSound, Tells, Tidy, AllTidy, PlayersHold, LeadList}
+use Rattle.floor.specs.Floor.{leadSum, Added, mark-is}
+use Rattle.floor.specs.Sources.{leadsNext, Found}
+use Rattle.soundness.specs.Facts.{slotsSound, Tells, Tidy, AllTidy, PlayersHold, LeadSource, ZonesRead}
 
 -- ---- one slot
 
@@ -94,46 +94,30 @@ module _ (d : Desk) (w : Wide d) where
         (λ b. List·getD-eq-default (d .kinds) 0 {n = i} (omega (arith, w .kinds)));
   }
 
-  -- its next blocks are in the list of leads ls, and what is taken from there are their leads
-  module _ (t : AllTidy d) (n : d .plan .streams ≤ maxStreams) (ls : List ℕ) (q : LeadList (showingIn (d .plan)) (d .plan .figures) ls) where
+  -- its next blocks are in the source of leads, and what is added up there is the sum of its leads
+  module _ (t : AllTidy d) (n : d .plan .streams ≤ maxStreams) (listed : Bool) (ps ls : List ℕ) (q : LeadSource listed (d .plan) ps ls) where
     -- the next block of slot i is one of the film
     block : (i : ℕ) → i < d .plan .streams → waiting ≤ getD (d .kinds) i 0 → getD (d .kinds) i 0 ≤ playing → getD (d .next) i 0 < d .plan .figures .blocks
     block i l a b = t .slots i (omega arith) .named a b
 
-    pub tidy-listed : Listed (wordsOf ls) (d .kinds) (d .next) (d .plan .streams)
-    tidy-listed = record {
-      here = λ i l a b. omega (arith, block i l a b, q .long);
-      small = λ i l a b. omega (arith, q .here _ (block i l a b), q .small _ (block i l a b));
-    }
+    -- of the zones as they were read, and n
+    module _ (sizes times : List ℕ) (z : ZonesRead d sizes times) (m : ℕ) (e : m ≡ d .plan .streams) where
+      abbrev lead : ℕ → ℕ
+      lead = leadsNext listed sizes times (d .plan .worst2) ps ls (d .next)
 
-    pub tidy-leads : LeadsOf (supplyOf (d .plan)) (wordsOf ls) (d .kinds) (d .next) (d .plan .streams)
-    unfolding supplyOf
-    tidy-leads i l a b = q .here _ (block i l a b)
+      lead-says : (i : ℕ) → i < m → waiting ≤ getD (d .kinds) i 0 → getD (d .kinds) i 0 ≤ playing
+          → lead i ≡ leadOf (showingIn (d .plan)) (d .plan .figures) (getD (d .next) i 0)
+      lead-says i l a b = rw (z .0, z .1) (q .says _ (block i (omega arith) a b))
 
-    module _ (vs : List ℕ) (k : Taken (wordsOf ls) (d .kinds) (d .next) (d .plan .streams) vs) where
-      below : (i : ℕ) → i < maxStreams → waiting ≤ getD (d .kinds) i 0 → i < d .plan .streams
-      below i l a = by-cases (decLt i (d .plan .streams)) (λ h. h) (λ h. absurd (omega (arith, t .unused i l (omega arith))))
-
-      each : OfNext (supplyOf (d .plan)) (supplyOf (d .plan) .lead) (d .kinds) (d .next) vs
-      unfolding supplyOf
-      each i l a b = k .block i (below i l a) a b ∙ tidy-leads i (below i l a) a b
-
-      small : (i : ℕ) → i < d .plan .streams → getD vs i 0 ≤ mostLead
-      small i l =
-          by-cases (decLe waiting (getD (d .kinds) i 0))
-          (λ a. by-cases (decLe (getD (d .kinds) i 0) playing)
-          (λ b. omega (arith, k .block i l a b, tidy-listed .small i l a b))
-          (λ b. omega (arith, k .none i l (λ _ c. b c))))
-          (λ a. omega (arith, k .none i l (λ c _. a c)))
-
-      pub tidy-taken : (sum : ℕ) → Added (wordsOf ls) (d .kinds) (d .next) (d .plan .streams) sum
-          → Leads (supplyOf (d .plan)) (d .plan .streams) (d .kinds) (d .next) (d .held) vs sum
-      tidy-taken sum a = record {
-        each = each;
-        small = small;
-        sums = a .sums (supplyOf (d .plan)) (d .held) (tidy-slots t) tidy-leads;
-        most = a .most;
+      pub tidy-found : Found listed sizes times (d .plan .worst2) ps ls (d .kinds) (d .next) m
+      tidy-found = record {
+        here = λ i l a b. rw (z .0, z .1) (q .here _ (block i (omega arith) a b));
+        small = λ i l a b. omega (arith, lead-says i l a b, q .small _ (block i (omega arith) a b));
       }
+
+      pub tidy-sum : (sum : ℕ) → Added lead (d .kinds) (d .next) m sum → sum ≡ leadSum d
+      unfolding supplyOf
+      tidy-sum sum a = a .sums (supplyOf (d .plan)) (d .held) (rw e (tidy-slots t)) lead-says
 
   sound-players : IsSound → PlayersHold (d .plan .streams) (d .kinds) (d .held) mark
   sound-players h i l k = good-at h i .floored k

@@ -1,6 +1,8 @@
 // A desk tested where it lies.
+mod leads; // the leads of its slots, added up
 mod slots; // the test of its slots
 
+use crate::leads::sum_next;
 use crate::slots::all_tidy;
 use crate::slots::players_hold;
 use desk_columns::bytes_in;
@@ -11,7 +13,6 @@ use desk_columns::streams_in;
 use desk_columns::zone_sizes;
 use desk_columns::zone_times;
 use floor::low_water;
-use floor::sum_leads;
 use numbers::slots::SWEEPING;
 use plan_layout::numbers_at;
 use plan_layout::scalars_at;
@@ -20,34 +21,46 @@ ghost use Prim.Native.Nat.{_≤_};
 ghost use lib.ListN.{length};
 ghost use Rattle.words.specs.Words.{wordsOf};
 ghost use Rattle.plan.specs.Answer.{isPlan};
+ghost use Rattle.plan.specs.Scratch.{leadsBy};
 ghost use Rattle.desk_layout.specs.Layout.{deskIn, deskSize};
-ghost use Rattle.soundness.specs.Facts.{soundDesk};
+ghost use Rattle.soundness.specs.Facts.{soundDesk, ZonesRead};
 
-// Is the plan of a desk the plan of its figures, and do both lists begin with its entries?
-fn has_plan(desk: &[u8], positions: &[u8], leads: &[u8]) -> bool
-    requires { ⌜ deskSize ≤ length (now desk) ⌝ }
-    ensures { λ r. ⌜ r ≡ isPlan (deskIn (wordsOf (now (desk .entry))) .plan) (now (positions .entry)) (now (leads .entry)) ⌝ }
+// Is the plan of a desk, whose zones are lent, the plan of its figures, and do both lists begin with its entries? A scratch, not `listed`, is
+// asked nothing.
+fn has_plan<'a>(
+    desk: &[u8],
+    sizes: &'a [u32; 64],
+    times: &'a [u32; 64],
+    positions: &[u8],
+    leads: &[u8],
+    listed: bool,
+) -> bool
+    requires { ⌜ (deskSize ≤ length (now desk)) × ZonesRead (deskIn (wordsOf (now desk))) (now sizes) (now times) ⌝ }
+    ensures { λ r. ⌜ (let p = deskIn (wordsOf (now (desk .entry))) .plan in
+        r ≡ isPlan p (now (positions .entry)) (leadsBy listed p (now (leads .entry)))) ⌝ }
 {
-    let sizes = zone_sizes(desk);
-    let times = zone_times(desk);
     let table = overheads(desk);
     plan_check::is_plan_of(
         scalars_at(desk),
-        &sizes,
-        &times,
+        sizes,
+        times,
         &table,
         numbers_at(desk),
         positions,
         leads,
+        listed,
     )
 }
 
-// Is the desk in a lent string sound with the lent lists?
-pub fn is_sound(desk: &[u8], positions: &[u8], leads: &[u8]) -> bool
+// Is the desk in a lent string sound with the lent lists, or with a scratch in the lead list's place?
+pub fn is_sound(desk: &[u8], positions: &[u8], leads: &[u8], listed: bool) -> bool
     requires { ⌜ deskSize ≤ length (now desk) ⌝ }
-    ensures { λ r. ⌜ r ≡ soundDesk (deskIn (wordsOf (now (desk .entry)))) (now (positions .entry)) (now (leads .entry)) ⌝ }
+    ensures { λ r. ⌜ (let d = deskIn (wordsOf (now (desk .entry))) in
+        r ≡ soundDesk d (now (positions .entry)) (leadsBy listed (d .plan) (now (leads .entry)))) ⌝ }
 {
-    if !has_plan(desk, positions, leads) {
+    let sizes = zone_sizes(desk);
+    let times = zone_times(desk);
+    if !has_plan(desk, &sizes, &times, positions, leads, listed) {
         return false;
     }
     if phase_in(desk) > SWEEPING {
@@ -57,7 +70,7 @@ pub fn is_sound(desk: &[u8], positions: &[u8], leads: &[u8]) -> bool
     if !all_tidy(desk, streams) {
         return false;
     }
-    let sum = sum_leads(desk, streams, leads);
+    let sum = sum_next(desk, streams, &sizes, &times, positions, leads, listed);
     let mark = low_water(bytes_in(desk), rate_in(desk), sum);
     players_hold(desk, streams, mark)
 }

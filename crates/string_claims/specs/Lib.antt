@@ -6,5 +6,6 @@ pub mod Limits
 pub mod ListLaws
 pub mod Lists
 pub mod Plans
+pub mod ScratchLaws
 pub mod Unfilled
 pub mod UnfilledLaws

@@ -3,21 +3,23 @@
 use Prim.Native.Nat.{ℕ}
 use mathlib.Core.Path.{_≡_, refl, sym, ap, _∙_, subst}
 use mathlib.Core.List.{List, [], _∷_, map}
+use mathlib.Core.Bool.{Bool, true, false}
 use mathlib.Core.Logic.{by-cases}
 use native.Mathlib.Decide.{ℕ-discrete}
 use lib.ListN.{length}
+use Rattle.numbers.specs.Refusals.{tooShort}
 use Rattle.words.specs.Words.{Bytes, wordsOf}
 use Rattle.words.specs.Laws.{withWords-length, withWords-bytes}
 use Rattle.plan.specs.declared.Plan.{Plan}
-use Rattle.plan.specs.Answer.{isPlan}
+use Rattle.plan.specs.Scratch.{scratchShort}
 use Rattle.rules.specs.Scheduler.{Entry, Call, join, leave, begin, end}
 use Rattle.rules.specs.Ledger.{openedLedger, recorded}
 use Rattle.rules.specs.Calls.{isAccepted}
 use Rattle.desk.specs.declared.Desk.{Desk}
 use Rattle.desk.specs.Desk.{deskOf, freshDesk, answerOf, answered, joinDesk, leaveDesk, endDesk, beginDesk}
-use Rattle.trace.specs.List.{Request, joins, leaves, begins, ends, Lent, moveOf, roomOf, World, Answered, answerTo, called, turn, after, opened}
+use Rattle.trace.specs.List.{Request, joins, leaves, begins, ends, Lent, moveOf, roomOf, World, Answered, answerTo, called, fairTo, turn, after, opened}
 use Rattle.trace.specs.Safe.{Seen, Safe, worldAfter, onRecord}
-use Rattle.trace.specs.SafeLists.{list-safe, seenAs, safe-as}
+use Rattle.trace.specs.SafeLists.{list-safe, seenAs, safe-as, long-answer, short-answer}
 use Rattle.trace.specs.Opening.{checked-lawful}
 use Rattle.layout.specs.declared.FilmdiskAnswer.{FilmdiskAnswer}
 use Rattle.layout.specs.Answers.{verdictAnswer}
@@ -25,13 +27,15 @@ use Rattle.plan_layout.specs.Layout.{planIn}
 use Rattle.desk_layout.specs.Layout.{deskWords, deskSize}
 use Rattle.desk_strings.specs.ByLength.{said-wide, right-answer, right-string}
 use Rattle.desk_strings.specs.Calls.{openAnswer, openString, openedFrom, said, answerBy, stringBy, joinAnswer, joinString, leaveAnswer, leaveString}
-use Rattle.desk_strings.specs.Calls.{endAnswer, endString, roomIn, begunAnswer, beginAnswer, beginString}
+use Rattle.desk_strings.specs.Calls.{endAnswer, endString, roomIn, begunAnswer, beginAnswer, beginString, refusedBy, leadsOfDesk}
+use Rattle.desk_strings.specs.Calls.{joinScratchAnswer, joinScratchString, leaveScratchAnswer, leaveScratchString, beginScratchAnswer}
+use Rattle.desk_strings.specs.Calls.{beginScratchString, fetchScratchString, endScratchAnswer, endScratchString}
 use Rattle.admission.specs.Refused.{refused-desk}
 use Rattle.string_claims.specs.Kept.{call-kept, open-right}
 use Rattle.string_claims.specs.Back.{call-back, opened-right, opened-plan, opened-wide, open-back}
 use Rattle.string_claims.specs.EntryLaws.{begin-reads}
 use Rattle.string_claims.specs.Lists.{StringRequest, joinSlot, leaveSlot, beginSweep, endSweep, StringCall, moveIn, roomAsked, answerIn, stringIn}
-use Rattle.string_claims.specs.Lists.{entriesIn, Strings, stringTurn, stringsFrom, stringsAfter, onString}
+use Rattle.string_claims.specs.Lists.{entriesIn, entriesRead, answerOn, stringOn, entriesOn, Strings, stringTurn, stringsFrom, stringsAfter, onString}
 
 -- ---- the same call on the record that the string says
 
@@ -42,7 +46,7 @@ requestOf (beginSweep F) = begins (roomIn F)
 requestOf (endSweep draws) = ends draws
 
 abbrev lentOf : StringCall → Lent
-lentOf x = record { request = requestOf (x .request); positions = x .positions; leads = x .leads }
+lentOf x = record { request = requestOf (x .request); positions = x .positions; leads = x .leads; listed = x .listed }
 
 move-same : (r : StringRequest) → moveIn r ≡ moveOf (requestOf r)
 move-same (joinSlot slot block) = refl
@@ -88,13 +92,48 @@ module _ (D : List ℕ) (y : Bytes D) (l : length D ≡ deskSize) where
     long = ap length (right-string D l d) ∙ withWords-length D 0 (deskWords d) ∙ l;
   }
 
-  same-call : (x : StringCall) (r : StringRequest) → SameCall (stringIn D x r) (answerIn D x r) (entriesIn D x r) (answerTo (said D) (lentOf x) (requestOf r))
+  -- the call on the string and the one on the record, made alike
+  abbrev Same : Bool → List ℕ → List ℕ → StringRequest → Type 0
+  Same listed ps ls r =
+      SameCall (stringIn D listed ps ls r) (answerIn D listed ps ls r) (entriesIn D listed ps ls r) (answerTo (said D) listed ps ls (requestOf r))
+
+  same-listed : (ps ls : List ℕ) (r : StringRequest) → Same true ps ls r
   unfolding joinAnswer leaveAnswer beginAnswer endAnswer joinString leaveString beginString endString answerTo joinDesk leaveDesk beginDesk endDesk answered verdictAnswer begunAnswer
-  same-call x (joinSlot slot block) = same-by _ _ _ _ (says (x .positions) (x .leads) 0 (join slot block)) refl refl refl
-  same-call x (leaveSlot slot) = same-by _ _ _ _ (says (x .positions) (x .leads) 0 (leave slot)) refl refl refl
-  same-call x (beginSweep F) =
-      same-by _ _ _ _ (says (x .positions) (x .leads) (roomIn F) begin) refl refl (begin-reads D (x .positions) (x .leads) F l)
-  same-call x (endSweep draws) = same-by _ _ _ _ (says (x .positions) (x .leads) 0 (end (wordsOf draws))) refl refl refl
+  same-listed ps ls (joinSlot slot block) = same-by _ _ _ _ (says ps ls 0 (join slot block)) refl refl refl
+  same-listed ps ls (leaveSlot slot) = same-by _ _ _ _ (says ps ls 0 (leave slot)) refl refl refl
+  same-listed ps ls (beginSweep F) = same-by _ _ _ _ (says ps ls (roomIn F) begin) refl refl (begin-reads D ps ls F l)
+  same-listed ps ls (endSweep draws) = same-by _ _ _ _ (says ps ls 0 (end (wordsOf draws))) refl refl refl
+
+  -- a scratch that is long enough stands for the film's own leads
+  same-long : (ps s : List ℕ) → scratchShort s ≡ false → (r : StringRequest) → Same false ps s r
+  unfolding joinScratchAnswer leaveScratchAnswer beginScratchAnswer endScratchAnswer joinScratchString leaveScratchString beginScratchString fetchScratchString endScratchString
+  same-long ps s e (joinSlot slot block) = rw (e, ← long-answer (said D) ps s (joins slot block) e) (same-listed ps (leadsOfDesk D) (joinSlot slot block))
+  same-long ps s e (leaveSlot slot) = rw (e, ← long-answer (said D) ps s (leaves slot) e) (same-listed ps (leadsOfDesk D) (leaveSlot slot))
+  same-long ps s e (beginSweep F) = rw (e, ← long-answer (said D) ps s (begins (roomIn F)) e) (same-listed ps (leadsOfDesk D) (beginSweep F))
+  same-long ps s e (endSweep draws) = rw (e, ← long-answer (said D) ps s (ends draws) e) (same-listed ps (leadsOfDesk D) (endSweep draws))
+
+  -- one that is too short changes nothing
+  none : SameCall D (refusedBy tooShort) [] (record { number = tooShort; desk = said D; entries = []; bound = 0 })
+  unfolding verdictAnswer
+  none = record { desk = refl; number = refl; bound = refl; entries = refl; bytes = y; long = l }
+
+  same-short : (ps s : List ℕ) → scratchShort s ≡ true → (r : StringRequest) → Same false ps s r
+  unfolding joinScratchAnswer leaveScratchAnswer beginScratchAnswer endScratchAnswer joinScratchString leaveScratchString beginScratchString fetchScratchString endScratchString entriesRead verdictAnswer
+  same-short ps s e (joinSlot slot block) = rw (e, short-answer (said D) ps s (joins slot block) e) none
+  same-short ps s e (leaveSlot slot) = rw (e, short-answer (said D) ps s (leaves slot) e) none
+  same-short ps s e (beginSweep F) = rw (e, short-answer (said D) ps s (begins (roomIn F)) e) none
+  same-short ps s e (endSweep draws) = rw (e, short-answer (said D) ps s (ends draws) e) none
+
+  same-made : (listed : Bool) (ps ls : List ℕ) (r : StringRequest) → Same listed ps ls r
+  same-made true ps ls r = same-listed ps ls r
+  same-made false ps ls r = go (scratchShort ls) refl
+    where
+      go : (t : Bool) → scratchShort ls ≡ t → Same false ps ls r
+      go true e = same-short ps ls e r
+      go false e = same-long ps ls e r
+
+  same-call : (x : StringCall) → SameCall (stringOn D x) (answerOn D x) (entriesOn D x) (called (said D) (lentOf x))
+  same-call x = same-made (x .listed) (x .positions) (x .leads) (x .request)
 
 -- ---- the same list
 
@@ -109,7 +148,7 @@ module _ (B : ℕ) where
   turn-in-step : (v : Strings) (u : World) (x : StringCall) → InStep v u → InStep (stringTurn B v x) (turn B u (lentOf x))
   unfolding stringTurn turn
   turn-in-step v u x s =
-      let c = same-call (v .desk) (s .bytes) (s .long) x (x .request) in
+      let c = same-call (v .desk) (s .bytes) (s .long) x in
       let number = c .number ∙ ap (λ (d : Desk). called d (lentOf x) .number) (s .desk) in
       let entries = c .entries ∙ ap (λ (d : Desk). called d (lentOf x) .entries) (s .desk) in
       let move = move-same (x .request) in
@@ -156,16 +195,16 @@ module _ (P ps ls D : List ℕ) (y : Bytes D) (n : openAnswer P ps ls D .number 
     number = λ xs x. number xs x t;
     bound = λ xs x. bound xs x t;
     move = λ x. move-same (x .request) t;
-    fair = λ x. isPlan plan (x .positions) (x .leads);
+    fair = λ x. fairTo plan (x .listed) (x .positions) (x .leads);
     room = λ x. room-same (x .request) t;
   }
     where
       number : (xs : List StringCall) (x : StringCall) → onString P first .number xs x ≡ onRecord plan .number (map lentOf xs) (lentOf x)
-      number xs x = same-call _ (in-step xs .bytes) (in-step xs .long) x (x .request) .number
+      number xs x = same-call _ (in-step xs .bytes) (in-step xs .long) x .number
           ∙ ap (λ (d : Desk). called d (lentOf x) .number) (in-step xs .desk)
 
       bound : (xs : List StringCall) (x : StringCall) → onString P first .bound xs x ≡ onRecord plan .bound (map lentOf xs) (lentOf x)
-      bound xs x = same-call _ (in-step xs .bytes) (in-step xs .long) x (x .request) .bound ∙ ap (λ (d : Desk). called d (lentOf x) .bound) (in-step xs .desk)
+      bound xs x = same-call _ (in-step xs .bytes) (in-step xs .long) x .bound ∙ ap (λ (d : Desk). called d (lentOf x) .bound) (in-step xs .desk)
 
   pub strings-safe : (xs : List StringCall) → (length (stringsAfter P first xs .desk) ≡ deskSize) × Safe plan (onString P first) xs
   strings-safe xs =

@@ -1,9 +1,10 @@
 // What the calls leave in their byte strings, as claims about the definitions that their contracts name.
 ghost use mathlib.Core.Path.{_≡_};
-ghost use Prim.Native.Nat.{ℕ, _*_};
-ghost use mathlib.Core.Bool.{cond};
+ghost use Prim.Native.Nat.{ℕ, _*_, _≤_, _<_};
+ghost use mathlib.Core.Bool.{true, cond};
 ghost use mathlib.Core.List.{List};
 ghost use lib.ListN.{length};
+ghost use Rattle.numbers.specs.Limits.{scratchLength};
 ghost use Rattle.numbers.specs.Refusals.{tooShort, wrongWindow};
 ghost use Rattle.words.specs.Words.{Bytes, wordsOf};
 ghost use Rattle.card.specs.declared.Figures.{Figures};
@@ -12,7 +13,7 @@ ghost use Rattle.card.specs.Card.{writtenCard, bufferAfter};
 ghost use Rattle.card.specs.Read.{readCard};
 ghost use Rattle.placement.specs.Showing.{Showing};
 ghost use Rattle.plan.specs.Plan.{planOf};
-ghost use Rattle.plan.specs.Answer.{positionsAfter, leadsAfter};
+ghost use Rattle.plan.specs.Answer.{positionsAfter, leadsAfter, hasLeads};
 ghost use Rattle.desk.specs.Desk.{freshDesk, joinDesk, leaveDesk, endDesk, beginDesk};
 ghost use Rattle.trace.specs.Safe.{Safe};
 ghost use Rattle.plan_layout.specs.Layout.{planIn, planSize, zeroBytes};
@@ -20,10 +21,13 @@ ghost use Rattle.desk_layout.specs.Layout.{deskSize};
 ghost use Rattle.window.specs.Window.{isOutside};
 ghost use Rattle.window_strings.specs.Calls.{windowCall};
 ghost use Rattle.plan_strings.specs.Calls.{planAnswer, planString, positionsString, leadsString};
+ghost use Rattle.plan_strings.specs.Calls.{planScratchAnswer, planScratchString, positionsScratchString};
 ghost use Rattle.desk_strings.specs.Calls.{openAnswer, openString, said, joinAnswer, joinString, leaveAnswer, leaveString, endAnswer, endString};
 ghost use Rattle.desk_strings.specs.Calls.{roomIn, beginAnswer, beginString, fetchString, drawLimitOf};
 ghost use Rattle.string_claims.specs.Limits.{sweepBound, ReachesDraws, JudgedBy};
 ghost use Rattle.string_claims.specs.Lists.{StringCall, stringsAfter, onString};
+ghost use Rattle.desk_strings.specs.Calls.{refusedBy, openScratchAnswer, openScratchString};
+ghost use Rattle.string_claims.specs.ScratchLaws.{PlansAs, EqualStrings, RefusedStrings};
 ghost use Rattle.string_claims.specs.Unfilled.{SameFrom};
 
 // A refused join, leave, begin or end leaves every string as it was: desk (D), fetch list (F). The lists are only read.
@@ -112,4 +116,24 @@ pub fn end_judges_by_draw_limit()
     ensures begun { λ _. ⌜ ((D ps ls F : List ℕ) → beginAnswer D ps ls F .number ≡ 0 → (qs ms draws : List ℕ)
         → ReachesDraws (endAnswer (beginString D ps ls F) qs ms draws .number)
         → JudgedBy (λ i. drawLimitOf (beginString D ps ls F) i (beginAnswer D ps ls F .bound)) draws (endAnswer (beginString D ps ls F) qs ms draws)) ⌝ }
+{}
+
+// A scratch of 512 numbers or more (ticket 10 of document 02): each call answers, and leaves in every string, what it does with the full list of
+// leads. The planner's list has room for N entries, the desk's begins with the film's N leads.
+pub fn scratch_strings_equal_lists()
+    ensures plans { λ _. ⌜ ((x : Showing) (s p ps t ls : List ℕ) → scratchLength ≤ length (wordsOf t) → readCard s .figures .blocks ≤ length (wordsOf ls)
+        → PlansAs x s p ps t ls) ⌝ }
+    ensures opens { λ _. ⌜ ((P ps ls s D : List ℕ) → hasLeads (planIn (wordsOf P)) ls ≡ true → scratchLength ≤ length (wordsOf s)
+        → (openScratchAnswer P ps s D ≡ openAnswer P ps ls D) × (openScratchString P ps s D ≡ openString P ps ls D)) ⌝ }
+    ensures desk { λ _. ⌜ ((D ps ls : List ℕ) → hasLeads (said D .plan) ls ≡ true → (s : List ℕ) → scratchLength ≤ length (wordsOf s)
+        → EqualStrings D ps ls s) ⌝ }
+{}
+
+// A scratch below 512 is 13: of a plan call where 13 stands, after the card's own refusals and before 12; of the desk ahead of all else. It leaves
+// every string.
+pub fn short_scratch_keeps_strings()
+    ensures plans { λ _. ⌜ ((x : Showing) (s p ps t : List ℕ) → length (wordsOf t) < scratchLength → 0 < readCard s .figures .blocks
+        → readCard s .verdict .number ≡ 0 → (planScratchAnswer x s p ps t ≡ refusedBy tooShort) × (planScratchString x s p ps t ≡ p)
+        × (positionsScratchString x s p ps t ≡ ps)) ⌝ }
+    ensures desk { λ _. ⌜ ((D ps s : List ℕ) → length (wordsOf s) < scratchLength → RefusedStrings D ps s) ⌝ }
 {}

@@ -20,13 +20,13 @@ use Rattle.rules.specs.Arrays.{slotsOf}
 use Rattle.turns.specs.ArrayLaws.{length-slots, slot-at, kinds-of-slots}
 use Rattle.desk.specs.declared.Desk.{Desk}
 use Rattle.desk.specs.declared.Fetches.{Fetches}
-use Rattle.desk.specs.declared.Gathered.{Gathered}
+use Rattle.desk.specs.Shown.{Gathered, Slots, OfNext, Gathers}
 use Rattle.desk.specs.Desk.{supplyOf, slotsIn, viewOf, deskOf, verdict, fetchesOf}
 use Rattle.desk.specs.View.{Wide}
-use Rattle.desk.specs.Shown.{Slots, OfNext, Gathers}
 use Rattle.desk.specs.Ready.{Ready, room-left}
 use Rattle.desk.specs.Slots.{length-in, slot-in}
-use Rattle.floor.specs.Floor.{ample, Leads, mark-is}
+use Rattle.floor.specs.Floor.{ample, mark-is}
+use Rattle.floor.specs.Sources.{leadsIn, Leads}
 use Rattle.grants.specs.Grants.{Asks}
 use Rattle.fetches.specs.Told.{Timed, Positioned}
 use Rattle.sweep.specs.Steps.{begunDesk, sweptOf}
@@ -72,18 +72,21 @@ module _ (d : Desk) (w : Wide d) (r : Ready d) (x : ℕ) (ks : List ℕ)
   pub slots-started : Slots (supplyOf (d .plan)) (d .plan .streams) ks (d .next) (d .held)
   slots-started = slots-kept d w r ks _ q (started-kept (supplyOf (d .plan)) x (slotsIn d))
 
-  pub asks-started : (ls : List ℕ) (sum level : ℕ) → Leads (supplyOf (d .plan)) (d .plan .streams) (d .kinds) (d .next) (d .held) ls sum
+  -- the times ts give the leads, v being worst2 as it was read
+  pub asks-started : (ts : List ℕ) (v sum level : ℕ) → v ≡ d .plan .worst2
+      → Leads (supplyOf (d .plan)) (d .plan .streams) (d .kinds) (d .next) (d .held) ts (d .plan .worst2) sum
       → level ≡ parts * leastHeld (supplyOf (d .plan)) ample (slotsOf (supplyOf (d .plan)) ks (d .next) (d .held))
-      → Asks (supplyOf (d .plan)) (d .plan .figures .bytes) (d .plan .figures .rate) sum level ls ks (d .next) (d .held)
+      → Asks (supplyOf (d .plan)) (d .plan .figures .bytes) (d .plan .figures .rate) sum level (leadsIn ts v) ks (d .next) (d .held)
   unfolding supplyOf
-  asks-started ls sum level f l =
+  asks-started ts v sum level e f l =
       let p = supplyOf (d .plan) in
       record {
         bytes = refl;
         rate = refl;
         leads = f .sums ∙ sym (started-leads p x (slotsIn d)) ∙ ap (leads p) (sym q);
         least = l;
-        own = λ i h k. gathered-kept d w r ks _ q (started-kept p x (slotsIn d)) (p .lead) ls (f .each) i h (omega arith) (omega arith);
+        own = λ i h k. let b = before d w r ks _ q (started-kept p x (slotsIn d)) i (omega arith) (omega arith) in
+            ap (λ (m : ℕ). leadsIn ts m i) e ∙ f .each i h (b .0) (b .1);
       }
 
   -- then asked slots were granted, and the kinds are js

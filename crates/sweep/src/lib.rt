@@ -11,6 +11,7 @@ use desk_columns::bytes_in;
 use desk_columns::overheads;
 use desk_columns::rate_in;
 use desk_columns::streams_in;
+use desk_columns::worst2_in;
 use desk_record::string_of;
 use ends::end_slots;
 use fetches::list_fetches;
@@ -55,22 +56,22 @@ pub fn not_swept(kinds: [u32; 256], number: u32) -> Swept
 }
 
 // A begin of the desk in a lent string: filling slots start to play, asked slots are granted, and the sweep's fetches are listed. The arrays
-// are what was gathered for the slots: times and positions of their next blocks, and their leads; `sum` is what those of filling and playing
-// slots add up to.
+// are what was gathered for the slots: times and positions of their next blocks; `sum` is what the leads of filling and playing slots add
+// up to.
 pub fn begin_sweep<'a>(
     desk: &[u8],
     times: &'a [u32; 256],
     positions: &'a [u32; 256],
-    leads: &'a [u32; 256],
     sum: u32,
 ) -> Swept
-    requires { ⌜ (deskSize ≤ length (now desk)) × Begins (deskIn (wordsOf (now desk))) (now times) (now positions) (now leads) sum ⌝ }
+    requires { ⌜ (deskSize ≤ length (now desk)) × Begins (deskIn (wordsOf (now desk))) (now times) (now positions) sum ⌝ }
     ensures { λ r. ⌜ r ≡ sweptOf (begunDesk (deskIn (wordsOf (now (desk .entry))))) ⌝ }
 {
     let bytes = bytes_in(desk);
     let rate = rate_in(desk);
     let streams = streams_in(desk) as usize;
     let room = buffer_in(desk) - bytes;
+    let worst2 = worst2_in(desk);
     let table = overheads(desk);
     let next = all_next(desk);
     let held = all_held(desk);
@@ -78,7 +79,7 @@ pub fn begin_sweep<'a>(
     let mark = low_water(bytes, rate, sum);
     start_playing(&mut kinds, &held, streams, mark);
     let level = least_level(&kinds, &held, streams);
-    grant_asked(&mut kinds, leads, streams, bytes, rate, sum, level);
+    grant_asked(&mut kinds, times, worst2, streams, bytes, rate, sum, level);
     let bound = sweep_bound(&kinds, &held, times, streams, room, &table);
     let fetches = list_fetches(&kinds, &next, &held, positions, streams, room);
     Swept {

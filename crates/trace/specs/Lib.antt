@@ -6,4 +6,5 @@ pub mod Opening
 pub mod PlannedLaws
 pub mod Safe
 pub mod SafeLists
+pub mod ScratchLaws
 pub mod SlotLaws

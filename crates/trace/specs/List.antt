@@ -1,7 +1,11 @@
 -- The list and the book of document 01's demand 3, over the calls of the desk as their contracts say them.
 use Prim.Native.Nat.{ℕ}
 use mathlib.Core.List.{List, [], _∷_}
+use mathlib.Core.Bool.{Bool, cond, not, _&&_}
 use Rattle.words.specs.Words.{wordsOf}
+use Rattle.plan.specs.declared.Plan.{Plan}
+use Rattle.plan.specs.Answer.{isPlan}
+use Rattle.plan.specs.Scratch.{scratchShort}
 use Rattle.rules.specs.Scheduler.{Entry, Call, join, leave, begin, end}
 use Rattle.rules.specs.Ledger.{Line, openedLedger, recorded}
 use Rattle.rules.specs.Calls.{isAccepted}
@@ -9,6 +13,7 @@ use Rattle.desk.specs.declared.Desk.{Desk}
 use Rattle.desk.specs.declared.Answer.{Answer}
 use Rattle.desk.specs.declared.Begun.{Begun}
 use Rattle.desk.specs.Desk.{joinDesk, leaveDesk, beginDesk, endDesk}
+use Rattle.desk.specs.Scratch.{planLeads, joinScratch, leaveScratch, beginScratch, endScratch}
 use Rattle.desk.specs.Entries.{entriesIn}
 
 -- a call of the playout process. Slots, blocks, draws and the room of the fetch list may be anything
@@ -20,11 +25,13 @@ pub data Request : Type 0 where
   -- with a lent byte string of draws
   ends : List ℕ → Request
 
--- a request with the two lists that are lent to it, which may be anything too
+-- a request with the two lists that are lent to it, which may be anything too. It is made with the lead list or, not listed, with a scratch in
+-- its place (T10.1)
 pub record Lent : Type 0 where
   pub request : Request
   pub positions : List ℕ
   pub leads : List ℕ
+  pub listed : Bool
 
 -- the move that the book is told of
 abbrev pub moveOf : Request → Call ℕ
@@ -54,14 +61,18 @@ plainly a = record { number = a .verdict .number; desk = a .desk; entries = []; 
 abbrev pub begunly : Begun → Answered
 begunly b = record { number = b .verdict .number; desk = b .desk; entries = entriesIn (b .fetches); bound = b .bound }
 
-unfoldable pub answerTo : Desk → Lent → Request → Answered
-answerTo d x (joins slot block) = plainly (joinDesk d (x .positions) (x .leads) slot block)
-answerTo d x (leaves slot) = plainly (leaveDesk d (x .positions) (x .leads) slot)
-answerTo d x (begins room) = begunly (beginDesk d (x .positions) (x .leads) room)
-answerTo d x (ends draws) = plainly (endDesk d (x .positions) (x .leads) draws)
+unfoldable pub answerTo : Desk → Bool → List ℕ → List ℕ → Request → Answered
+answerTo d listed ps ls (joins slot block) = plainly (cond listed (joinDesk d ps ls slot block) (joinScratch d ps ls slot block))
+answerTo d listed ps ls (leaves slot) = plainly (cond listed (leaveDesk d ps ls slot) (leaveScratch d ps ls slot))
+answerTo d listed ps ls (begins room) = begunly (cond listed (beginDesk d ps ls room) (beginScratch d ps ls room))
+answerTo d listed ps ls (ends draws) = plainly (cond listed (endDesk d ps ls draws) (endScratch d ps ls draws))
 
 abbrev pub called : Desk → Lent → Answered
-called d x = answerTo d x (x .request)
+called d x = answerTo d (x .listed) (x .positions) (x .leads) (x .request)
+
+-- what is lent is fair: both lists are those of plan p, or the scratch is not too short and the positions are p's
+abbrev pub fairTo : Plan → Bool → List ℕ → List ℕ → Bool
+fairTo p listed ps ls = cond listed (isPlan p ps ls) (not (scratchShort ls) && isPlan p ps (planLeads p))
 
 -- ---- the list, with the book beside the desk
 

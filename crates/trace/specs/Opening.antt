@@ -2,14 +2,16 @@
 -- Assumes nothing.
 use Prim.Native.Nat.{ℕ}
 use mathlib.Core.Path.{_≡_, refl, sym, ap, _∙_, subst}
-use mathlib.Core.Bool.{Bool, true, false}
+use mathlib.Core.Bool.{Bool, true, false, not}
 use mathlib.Core.List.{List}
 use native.Mathlib.Omega.{arith}
+use Rattle.laws.specs.Bools.{and-right}
 use Rattle.legality.specs.Legality.{Wide}
 use Rattle.plan.specs.declared.Plan.{Plan}
 use Rattle.plan.specs.Plan.{showingIn}
 use Rattle.plan.specs.Answer.{isPlan}
 use Rattle.plan.specs.Check.{checked, checked-legal}
+use Rattle.plan.specs.Scratch.{scratchShort}
 use Rattle.rules.specs.Supply.{Lawful}
 use Rattle.rules.specs.Order.{Scheduler}
 use Rattle.rules.specs.Sound.{sound}
@@ -21,8 +23,9 @@ use Rattle.turns.specs.Answers.{verdict-zero}
 use Rattle.safety.specs.Claim as K
 use Rattle.desk.specs.declared.Desk.{Desk}
 use Rattle.desk.specs.Desk.{supplyOf, rulesOf, orderOf, Queue, viewOf, openBy, openDesk, freshDesk}
+use Rattle.desk.specs.Scratch.{planLeads}
 use Rattle.desk.specs.Promise.{order-orderly, supply-named, plan-lawful}
-use Rattle.trace.specs.List.{Lent, called}
+use Rattle.trace.specs.List.{Lent, called, fairTo}
 use Rattle.trace.specs.Safe.{Safe, onRecord}
 use Rattle.trace.specs.SafeLists.{list-safe, givenOf, called-ruled}
 
@@ -51,15 +54,19 @@ fair-of p s g e = go (g .fair) e
     go true e = refl
     go false e = absurd (omega (arith, ap (λ (v : Verdict). v .number) (row-unfair (supplyOf p) (orderOf p) s (g .room) (g .call))))
 
+-- and then the plan is one
+fair-lawful : (p : Plan) (listed : Bool) (ps ls : List ℕ) → Wide (p .figures) → fairTo p listed ps ls ≡ true → Lawful (supplyOf p)
+fair-lawful p true ps ls w f = checked-lawful p ps ls w f
+fair-lawful p false ps ls w f = checked-lawful p ps (planLeads p) w (and-right (not (scratchShort ls)) _ f)
+
 -- ANY RECORD: an accepted call leaves a sound one
 pub accepted-sound : (d : Desk) (x : Lent) → Wide (d .plan .figures) → called d x .number ≡ 0
     → sound (supplyOf (d .plan)) (orderOf (d .plan)) (viewOf (called d x .desk)) ≡ true
 accepted-sound d x w e =
     let p = supplyOf (d .plan) in
     let g : Given ℕ = givenOf (d .plan) x in
-    let r = called-ruled d x in
-    let n = sym (r .0) ∙ e in
+    let (n, r) = called-ruled d x e in
     let f = fair-of (d .plan) (viewOf d) g (verdict-zero p (orderOf (d .plan)) (rulesOf (d .plan)) (viewOf d) g n) in
-    ap (sound p (orderOf (d .plan))) (r .1)
-    ∙ K.accepted-stays-sound p (checked-lawful (d .plan) (x .positions) (x .leads) w f) (supply-named (d .plan)) (orderOf (d .plan))
+    ap (sound p (orderOf (d .plan))) r
+    ∙ K.accepted-stays-sound p (fair-lawful (d .plan) (x .listed) (x .positions) (x .leads) w f) (supply-named (d .plan)) (orderOf (d .plan))
     (order-orderly (d .plan)) (viewOf d) g n

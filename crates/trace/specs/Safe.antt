@@ -11,7 +11,6 @@ use Rattle.numbers.specs.Slots.{waiting, playing, draining}
 use Rattle.numbers.specs.Showings.{loopWord}
 use Rattle.numbers.specs.Units.{micros}
 use Rattle.plan.specs.declared.Plan.{Plan}
-use Rattle.plan.specs.Answer.{isPlan}
 use Rattle.rules.specs.Scheduler.{Call, begin}
 use Rattle.rules.specs.Sound.{sound}
 use Rattle.rules.specs.Kinds.{kindAfter}
@@ -20,7 +19,7 @@ use Rattle.rules.specs.Calls.{Given, isAccepted}
 use Rattle.rules.specs.Calls as C
 use Rattle.desk.specs.declared.Desk.{Desk}
 use Rattle.desk.specs.Desk.{supplyOf, orderOf, rulesOf, viewOf, deskOf, freshDesk}
-use Rattle.trace.specs.List.{Lent, moveOf, roomOf, called, World, after, opened}
+use Rattle.trace.specs.List.{Lent, moveOf, roomOf, called, fairTo, World, after, opened}
 
 -- B1: a list of calls of type X as their caller sees it
 pub record Seen (X : Type 0) : Type 0 where
@@ -30,7 +29,7 @@ pub record Seen (X : Type 0) : Type 0 where
   -- the number and the bound that one more call is answered
   pub number : List X → X → ℕ
   pub bound : List X → X → ℕ
-  -- a call's move, whether the lists that are lent to it are the plan's, and its room for fetch entries
+  -- a call's move, whether the lists that are lent to it are the plan's (with a scratch, the positions), and its room for fetch entries
   pub move : X → Call ℕ
   pub fair : X → Bool
   pub room : X → ℕ
@@ -47,7 +46,7 @@ module _ (p : Plan) where
     number = λ xs x. called (worldAfter xs .desk) x .number;
     bound = λ xs x. called (worldAfter xs .desk) x .bound;
     move = λ x. moveOf (x .request);
-    fair = λ x. isPlan p (x .positions) (x .leads);
+    fair = λ x. fairTo p (x .listed) (x .positions) (x .leads);
     room = λ x. roomOf (x .request);
   }
 

@@ -1,20 +1,23 @@
 // Demand 3 of the customer: one claim about every list of calls from an accepted opening, and one about any record. And what the desk's
 // calls answer, in document 01's words.
 ghost use mathlib.Core.Path.{_≡_};
-ghost use Prim.Native.Nat.{ℕ};
+ghost use Prim.Native.Nat.{ℕ, _≤_, _<_};
 ghost use mathlib.Core.Bool.{true};
 ghost use mathlib.Core.List.{List, []};
-ghost use lib.ListN.{getD};
-ghost use Rattle.numbers.specs.Refusals.{drawAboveLimit, drawAboveHeld};
-ghost use Rattle.words.specs.Words.{Bytes};
+ghost use lib.ListN.{length, getD};
+ghost use Rattle.numbers.specs.Limits.{scratchLength};
+ghost use Rattle.numbers.specs.Refusals.{tooShort, drawAboveLimit, drawAboveHeld};
+ghost use Rattle.words.specs.Words.{Bytes, wordsOf};
 ghost use Rattle.card.specs.declared.Figures.{Figures};
 ghost use Rattle.card.specs.declared.CardRead.{CardRead};
+ghost use Rattle.card.specs.Card.{Legal};
 ghost use Rattle.card.specs.Read.{readCard};
 ghost use Rattle.legality.specs.Legality.{Wide};
 ghost use Rattle.placement.specs.Showing.{Showing};
 ghost use Rattle.pacing.specs.Film.{Film, Paced};
 ghost use Rattle.plan.specs.declared.Plan.{Plan};
-ghost use Rattle.plan.specs.Answer.{planned, positionsAfter, leadsAfter, judged};
+ghost use Rattle.plan.specs.Answer.{refusal, planned, positionsAfter, leadsAfter, judged, hasLeads};
+ghost use Rattle.plan.specs.Scratch.{plannedScratch, positionsScratch};
 ghost use Rattle.rules.specs.Supply.{Lawful, Named};
 ghost use Rattle.rules.specs.Order.{bySlot};
 ghost use Rattle.rules.specs.Kinds.{kindAfter};
@@ -24,11 +27,13 @@ ghost use Rattle.safety.specs.Claim.{Safe as RuledSafe};
 ghost use Rattle.desk.specs.Supply.{Rates, supplied, Rated};
 ghost use Rattle.desk.specs.declared.Desk.{Desk};
 ghost use Rattle.desk.specs.Desk.{supplyOf, orderOf, viewOf, freshDesk, openDesk, beginDesk, endDesk, fetchListAfter};
+ghost use Rattle.desk.specs.Scratch.{openScratch, beginScratch, fetchListScratch};
 ghost use Rattle.desk.specs.Entries.{entriesIn};
 ghost use Rattle.desk.specs.View.{Wide as WideDesk};
 ghost use Rattle.trace.specs.Answers.{Opens, Fetched, drawAt, mayDraw, LowestAbove};
 ghost use Rattle.trace.specs.List.{Lent, called};
 ghost use Rattle.trace.specs.Safe.{Safe, onRecord};
+ghost use Rattle.trace.specs.ScratchLaws.{EqualTo, RefusedFor};
 
 // From an accepted opening of either showing's plan every list of joins, leaves, begins and ends is safe, refused calls included. (Wide: the
 // record has 64 zone entries, as a value of its type has.)
@@ -52,12 +57,15 @@ pub fn accepted_call_stays_sound()
         → sound (supplyOf (d .plan)) (orderOf (d .plan)) (viewOf (called d x .desk)) ≡ true) ⌝ }
 {}
 
-// What the planner leaves can be opened, in either showing: of an accepted card, and of an accepted record.
+// What the planner leaves can be opened, in either showing: of an accepted card, and of an accepted record. With a scratch, opened with one.
 pub fn planned_film_opens()
     ensures card { λ _. ⌜ ((x : Showing) (s ps ls : List ℕ) → Bytes s → planned x (readCard s) ps ls .verdict .number ≡ 0
         → Opens (planned x (readCard s) ps ls .plan) (positionsAfter x (readCard s) ps ls) (leadsAfter x (readCard s) ps ls)) ⌝ }
     ensures record { λ _. ⌜ ((x : Showing) (f : Figures) (ps ls : List ℕ) → Wide f → planned x (judged f) ps ls .verdict .number ≡ 0
         → Opens (planned x (judged f) ps ls .plan) (positionsAfter x (judged f) ps ls) (leadsAfter x (judged f) ps ls)) ⌝ }
+    ensures scratch { λ _. ⌜ ((x : Showing) (r : CardRead) (ps s t : List ℕ) → (r .verdict .number ≡ 0 → Legal (r .figures))
+        → plannedScratch x r ps s .verdict .number ≡ 0 → scratchLength ≤ length (wordsOf t) → (let p = plannedScratch x r ps s .plan in
+        let a = openScratch p (positionsScratch x r ps s) t in (a .verdict .number ≡ 0) × (a .desk ≡ freshDesk p))) ⌝ }
 {}
 
 // An accepted begin fetches one block for each filling or playing slot with room and no other, by rising position, then slot.
@@ -75,11 +83,34 @@ pub fn refused_draw_is_the_lowest()
 {}
 
 // A refused call leaves all that it was given. A join, leave, begin or end answers the very desk, and no entries; a begin leaves the byte
-// string that is lent for its fetches (a list of entries: crate fetch_list); a planner call leaves both lists, in either showing.
+// string that is lent for its fetches (a list of entries: crate fetch_list); a planner call leaves both lists, in either showing. With a
+// scratch the same.
 pub fn refused_call_leaves_all()
     ensures desk { λ _. ⌜ ((d : Desk) (x : Lent) → WideDesk d → (called d x .number ≡ 0 → ⊥) → (called d x .desk ≡ d) × (called d x .entries ≡ [])) ⌝ }
     ensures fetches { λ _. ⌜ ((d : Desk) (ps ls : List ℕ) (room : ℕ) (F : List ℕ) → (beginDesk d ps ls room .verdict .number ≡ 0 → ⊥)
         → fetchListAfter d ps ls room F ≡ F) ⌝ }
     ensures planner { λ _. ⌜ ((x : Showing) (r : CardRead) (ps ls : List ℕ) → (planned x r ps ls .verdict .number ≡ 0 → ⊥)
         → (positionsAfter x r ps ls ≡ ps) × (leadsAfter x r ps ls ≡ ls)) ⌝ }
+    ensures scratch { λ _. ⌜ ((x : Showing) (r : CardRead) (ps s : List ℕ) → (plannedScratch x r ps s .verdict .number ≡ 0 → ⊥)
+        → positionsScratch x r ps s ≡ ps) ⌝ }
+    ensures scratched { λ _. ⌜ ((d : Desk) (ps s : List ℕ) (room : ℕ) (F : List ℕ) → (beginScratch d ps s room .verdict .number ≡ 0 → ⊥)
+        → fetchListScratch d ps s room F ≡ F) ⌝ }
+{}
+
+// A scratch of 512 numbers or more (ticket 10 of document 02): each call answers, and leaves, what it does with the full list of leads. The
+// planner's list has room for N entries, the desk's begins with the film's N leads.
+pub fn scratch_equals_list()
+    ensures planner { λ _. ⌜ ((x : Showing) (r : CardRead) (ps s ls : List ℕ) → scratchLength ≤ length (wordsOf s) → r .figures .blocks ≤ length (wordsOf ls)
+        → (plannedScratch x r ps s ≡ planned x r ps ls) × (positionsScratch x r ps s ≡ positionsAfter x r ps ls)) ⌝ }
+    ensures opens { λ _. ⌜ ((p : Plan) (ps ls s : List ℕ) → Wide (p .figures) → scratchLength ≤ length (wordsOf s) → hasLeads p ls ≡ true
+        → openScratch p ps s ≡ openDesk p ps ls) ⌝ }
+    ensures desk { λ _. ⌜ ((d : Desk) (ps ls s : List ℕ) → Wide (d .plan .figures) → scratchLength ≤ length (wordsOf s) → hasLeads (d .plan) ls ≡ true
+        → EqualTo d ps ls s) ⌝ }
+{}
+
+// A scratch below 512 is 13: of the planner where 13 stands, after the refusals of the figures and before 12; of the desk ahead of all else.
+pub fn short_scratch_is_refused()
+    ensures planner { λ _. ⌜ ((x : Showing) (r : CardRead) (ps s : List ℕ) → length (wordsOf s) < scratchLength → 0 < r .figures .blocks
+        → r .verdict .number ≡ 0 → (plannedScratch x r ps s ≡ refusal tooShort 0) × (positionsScratch x r ps s ≡ ps)) ⌝ }
+    ensures desk { λ _. ⌜ ((d : Desk) (ps s : List ℕ) → length (wordsOf s) < scratchLength → RefusedFor d ps s) ⌝ }
 {}

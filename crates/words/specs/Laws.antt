@@ -296,3 +296,14 @@ withWords-overwrite s start (v ∷ vs) h =
     let e : 4 * (start + 1) ≡ 4 * start + 4 = omega arith in
     withWords-overwrite (withWord s start v) (start + 1) vs (omega (arith, withWord-entries s start v))
     ∙ rw (e, withWord-overwrite s start v (omega arith)) (overwrite-more s (4 * start) (bytesOf (v ∷ [])) (bytesOf vs) (omega (arith, words-length s)))
+
+-- bytes of numbers have an entry for each, which says the number where it has 32 bits
+pub bytes-entries : (vs : List ℕ) → length (wordsOf (bytesOf vs)) ≡ length vs
+unfolding wordsOf bytesOf
+bytes-entries [] = refl
+bytes-entries (v ∷ vs) = ap suc (bytes-entries vs)
+
+pub words-bytes : (vs : List ℕ) → Words vs → wordsOf (bytesOf vs) ≡ vs
+unfolding wordsOf bytesOf
+words-bytes [] h = refl
+words-bytes (v ∷ vs) h = rw (low v, whole v (h zero), words-bytes vs (λ i. h (suc i)))

@@ -4,6 +4,7 @@ use crate::desk::{
     begin, drawn_in, end, join, leave, Begun, Desk, Entry, FREE, PLAYING, SLOTS, TAIL,
 };
 use crate::refusal::Refusal;
+use crate::scratch::answer_scratch;
 
 /// A call of a list. Begin has the length of the lent fetch list.
 #[derive(Clone, Debug, PartialEq, Eq)]
@@ -40,7 +41,7 @@ impl Answer {
     }
 }
 
-fn refused_answer(desk: &Desk, refusal: Refusal) -> Answer {
+pub(crate) fn refused_answer(desk: &Desk, refusal: Refusal) -> Answer {
     let Refusal { number, place } = refusal;
     Answer { number, place, desk: desk.clone(), count: 0, bound: 0, entries: Vec::new() }
 }
@@ -228,8 +229,18 @@ impl Run {
     /// Makes a call by the model's rules, feeds the book and checks the claim after it.
     pub fn call(&mut self, step: &Step) -> Result<Answer, String> {
         let answer = answer(&self.desk, &step.positions, &step.leads, &step.call);
-        self.book.feed(&step.call, answer.accepted(), &answer.entries)?;
-        let begun = answer.accepted() && matches!(step.call, Call::Begin { .. });
+        self.checked(&step.call, answer)
+    }
+
+    /// The same with a scratch in place of the step's leads.
+    pub fn call_scratch(&mut self, step: &Step, scratch: &[u32]) -> Result<Answer, String> {
+        let answer = answer_scratch(&self.desk, &step.positions, scratch, &step.call);
+        self.checked(&step.call, answer)
+    }
+
+    fn checked(&mut self, call: &Call, answer: Answer) -> Result<Answer, String> {
+        self.book.feed(call, answer.accepted(), &answer.entries)?;
+        let begun = answer.accepted() && matches!(call, Call::Begin { .. });
         let last_bound = if begun { Some(answer.bound) } else { None };
         check_claim(&self.book, &answer.desk, &answer.desk, last_bound)?;
         self.desk = answer.desk.clone();

@@ -7,6 +7,7 @@
 //!   loop.
 //! - `desk`: soundness and the calls open, join, leave, begin and end.
 //! - `book`: lists of calls, the book of demand 3 and the checker of its claim.
+//! - `scratch`: the same calls with a scratch in place of the lead list.
 //! - `window`: the worst time of several successive blocks, and the text of the windows program.
 //! - `try_all`: the second planner, which tries every laying, and all small cards.
 //! - `listing`: the text of the listing program. `text`: the card of a text of figures. `maker`: the
@@ -27,6 +28,7 @@ pub mod plan;
 pub mod programs;
 pub mod refusal;
 pub mod rng;
+pub mod scratch;
 pub mod text;
 pub mod try_all;
 pub mod window;
@@ -41,5 +43,6 @@ pub use plan::{
 };
 pub use refusal::{cause, Refusal};
 pub use rng::Rng;
+pub use scratch::{answer_scratch, open_scratch, plan_card_scratch, plan_record_scratch};
 pub use text::{card_of_text, mkcard, TextRefusal};
 pub use window::{window, windows_with, Window};

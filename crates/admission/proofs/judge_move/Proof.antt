@@ -1,10 +1,12 @@
 use mathlib.Core.Path.{_≡_, sym, ap, ap₂, _∙_}
 use mathlib.Core.Bool.{true}
 use Prim.Native.Nat.{ℕ}
+use mathlib.Core.List.{List}
 use native.Mathlib.Omega.{arith}
 use borrow.Author.Needs.{needs}
 use borrow.Author.Tests.{not-true, not-false}
 use Rattle.words.specs.Words.{wordsOf}
+use Rattle.plan.specs.Scratch.{leadsBy}
 use Rattle.desk.specs.declared.Desk.{Desk}
 use Rattle.desk.specs.declared.Answer.{Answer}
 use Rattle.desk_layout.specs.Layout.{deskIn}
@@ -19,6 +21,10 @@ use Rattle.admission.proofs.judge_move.Tie as tie
 -- the desk that is judged
 abbrev given : tie.Start → Desk
 given c = deskIn (wordsOf (c .args .desk .now))
+
+-- the lead list that it goes by
+abbrev leads : tie.Start → List ℕ
+leads c = leadsBy (c .args .listed) (given c .plan) (c .args .leads .now)
 
 -- the verdict of an answer
 told : {a b : Answer} → a ≡ b → a .verdict ≡ b .verdict
@@ -37,7 +43,7 @@ first c = between c .before .before
 
 -- ---- what is known there
 
-passed : (c : tie.Else1) → (let s = start (c .before) in soundDesk (given s) (s .args .positions .now) (s .args .leads .now) ≡ true)
+passed : (c : tie.Else1) → (let s = start (c .before) in soundDesk (given s) (s .args .positions .now) (leads s) ≡ true)
 passed c = sym (c .before .is-sound .ensures) ∙ not-false _ (c .if1 .left)
 
 -- ---- the needs

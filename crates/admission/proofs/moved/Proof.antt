@@ -4,6 +4,7 @@ use native.Mathlib.Omega.{arith}
 use borrow.Author.Needs.{needs}
 use Rattle.legality.specs.Legality as legality
 use Rattle.card.specs.declared.Verdict.{Verdict}
+use Rattle.plan.specs.Scratch.{leadsBy}
 use Rattle.desk.specs.declared.Desk.{Desk}
 use Rattle.desk.specs.View.{Wide}
 use Rattle.desk.specs.Records.{answers, withSlot}
@@ -24,12 +25,14 @@ start c = c .before .before .before .before .before
 
 -- what is judged of the string is the desk's
 judged : (c : tie.After-judge-move) → (let a = start c .args in
-    c .judge-move .result ≡ moveDesk (a .desk) (a .positions .now) (a .leads .now) (a .step) .verdict)
+    c .judge-move .result ≡ moveDesk (a .desk) (a .positions .now) (leadsBy (a .listed) (a .desk .plan) (a .leads .now)) (a .step) .verdict)
 judged c = let a = start c .args in
-    c .judge-move .ensures ∙ ap (λ (d : Desk). moveDesk d (a .positions .now) (a .leads .now) (a .step) .verdict) (c .before .before .string-of .ensures .0)
+    c .judge-move .ensures ∙
+    ap (λ (d : Desk). moveDesk d (a .positions .now) (leadsBy (a .listed) (d .plan) (a .leads .now)) (a .step) .verdict)
+    (c .before .before .string-of .ensures .0)
 
 number : (c : tie.After-judge-move) → (let a = start c .args in
-    c .judge-move .result .number ≡ moveDesk (a .desk) (a .positions .now) (a .leads .now) (a .step) .verdict .number)
+    c .judge-move .result .number ≡ moveDesk (a .desk) (a .positions .now) (leadsBy (a .listed) (a .desk .plan) (a .leads .now)) (a .step) .verdict .number)
 number c = ap (λ (v : Verdict). v .number) (judged c)
 
 returns : tie.Need-returns

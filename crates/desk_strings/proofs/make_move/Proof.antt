@@ -1,7 +1,8 @@
 use borrow.Author.Needs.{needs}
 use Rattle.desk.specs.declared.Desk.{Desk}
 use Rattle.admission.specs.Moves.{moveDesk}
-use Rattle.desk_strings.specs.Inner.{moveAnswer, moveString}
+use Rattle.desk_strings.specs.Calls.{said}
+use Rattle.desk_strings.specs.Inner.{moveAnswer, moveString, deskBy}
 use Rattle.desk_strings.proofs.Judged.{other-call, Judged, move-left, move-room, move-put}
 use Rattle.desk_strings.proofs.make_move.Statement.{statement}
 use Rattle.desk_strings.proofs.make_move.Tie as tie
@@ -20,8 +21,10 @@ accepted c = c .before .before .before .before
 
 -- ---- what is known there
 
-judged : (c : tie.After-judge-move) → (let a = start c .args in Judged (λ (d : Desk). moveDesk d (a .positions .now) (a .leads .now) (a .step))
-    (a .desk .now) (c .judge-move .result))
+judged : (c : tie.After-judge-move) → (let a = start c .args in
+    let ls = deskBy (a .listed) (a .desk .now) (a .leads .now) in
+    Judged (λ (d : Desk). moveDesk d (a .positions .now) ls (a .step)) (a .desk .now) (c .judge-move .result))
+unfolding said
 judged c = record { right = right c .if1 .left; verdict = c .judge-move .ensures; bytes = right c .before .before .before .slice-known .given }
 
 -- ---- the needs

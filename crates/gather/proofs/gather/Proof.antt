@@ -9,23 +9,24 @@ use Rattle.words.specs.Words.{wordsOf}
 use Rattle.plan.specs.Disk.{Zoned}
 use Rattle.desk.specs.declared.Desk.{Desk}
 use Rattle.desk_layout.specs.Layout.{deskIn}
-use Rattle.gather.specs.Gather.{Reach, NextFound}
+use Rattle.gather.specs.Gather.{Reach, NextFound, gathered}
 use Rattle.gather.proofs.Collecting.{Collecting, collecting-none, collecting-next}
 use Rattle.gather.proofs.gather.Statement.{statement}
 use Rattle.gather.proofs.gather.Tie as tie
 
 -- the next blocks of the first i slots are collected
 abbrev Inv-loop : tie.InvT-loop
-Inv-loop desk positions streams sizes times g₀ i₀ g i =
-    (let d = deskIn (wordsOf desk) in let f = d .plan .figures in Collecting (f .positions) (f .times) positions (d .kinds) (d .next) streams g i)
+Inv-loop desk positions streams found₀ places₀ sizes times i₀ found places i = (let d = deskIn (wordsOf desk) in
+    let f = d .plan .figures in
+    Collecting (f .positions) (f .times) positions (d .kinds) (d .next) streams (gathered found places) i)
 
 abbrev μ-loop : tie.MeasureT-loop
-μ-loop desk positions streams sizes times g₀ i₀ g i = streams - i
+μ-loop desk positions streams found₀ places₀ sizes times i₀ found places i = streams - i
 
 -- ---- the places, each from a later one
 
 abbrev timed : tie.At-loop Inv-loop μ-loop → tie.After-zone-times Inv-loop μ-loop
-timed c = c .before .before .before
+timed c = c .before
 
 abbrev start : tie.At-loop Inv-loop μ-loop → tie.Start Inv-loop μ-loop
 start c = timed c .before .before .before .before
@@ -42,6 +43,9 @@ asked-same : {sizes zs : List ℕ} (ps : List ℕ) {k j x y : ℕ} → sizes ≡
 asked-same ps a b c z r = rw (a, b, c) (z, r)
 
 -- ---- the needs
+
+loop-holds : tie.Need-loop-holds Inv-loop μ-loop
+loop-holds c = let s = c .before .before .before .before in collecting-none _ _ _ _ _ _ _ (s .pre .4) (s .pre .5)
 
 next-block-requires : tie.Need-next-block-requires Inv-loop μ-loop
 next-block-requires c κs =
@@ -69,7 +73,7 @@ loop-again c =
     let t = turn (c .before .before) in
     let l = t .before .loop in
     let h : l .i < 256 = omega (arith, t .loop-test .taken, start (t .before) .pre .1) in
-    collecting-next _ _ _ _ _ _ (l .g) (l .i) (c .next-block .result) (l .inv) (t .loop-test .taken) h (finds c)
+    collecting-next _ _ _ _ _ _ (gathered (l .found) (l .places)) (l .i) (c .next-block .result) (l .inv) (t .loop-test .taken) h (finds c)
 
 returns : tie.Need-returns Inv-loop μ-loop
 returns c =
@@ -85,9 +89,7 @@ gather-spec =
     μ-loop
     (λ c κs. omega arith)
     (λ c κs. omega arith)
-    (λ c κs. search needs)
-    (λ c κs. search needs)
-    (λ c. collecting-none _ _ _ _ _ _ _ (c .before .zeros .ensures) (c .zeros2 .ensures))
+    loop-holds
     (λ c κs. omega arith)
     (λ c κs. omega arith)
     next-block-requires

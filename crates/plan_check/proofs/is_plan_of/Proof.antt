@@ -1,4 +1,6 @@
-use Rattle.plan.specs.Answer.{isPlan}
+use mathlib.Core.Path.{_∙_}
+use Rattle.plan.specs.Plan.{lentPlan}
+use Rattle.plan.specs.ScratchLaws.{checked-by}
 use Rattle.plan_check.proofs.is_plan_of.Statement.{statement}
 use Rattle.plan_check.proofs.is_plan_of.Tie as tie
 
@@ -6,8 +8,10 @@ is-plan-with-requires : tie.Need-is-plan-with-requires
 is-plan-with-requires c κs = c .before .before .pre
 
 returns : tie.Need-returns
-unfolding isPlan
-returns c = c .is-plan-with .ensures
+returns c = let s = c .before .before .before in
+    let a = s .args in
+    c .is-plan-with .ensures
+    ∙ checked-by (lentPlan (a .figures) (a .sizes .now) (a .times .now) (a .table .now) (a .plan)) (s .pre) (a .listed) (a .positions .now) (a .leads .now)
 
 pub is-plan-of-spec : {M : Type 1} → statement M
 is-plan-of-spec = tie.close (tie.spec is-plan-with-requires returns)

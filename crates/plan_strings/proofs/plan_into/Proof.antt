@@ -28,7 +28,7 @@ returns c =
     let k = c .before in
     let m = made k .plan-legal .ensures in
     let s = start k in
-    plan-kept (showing s) (figures s) _ _ _ (s .pre .0) _ (m .0) _ (k .before .verdict-answer .ensures) _ _ (m .2) (m .3) (c .if1 .taken)
+    plan-kept (s .args .listed) (showing s) (figures s) _ _ _ (s .pre .0) _ (m .0) _ (k .before .verdict-answer .ensures) _ _ (m .2) (m .3) (c .if1 .taken)
 
 returns-2 : tie.Need-returns-2
 returns-2 c =
@@ -38,8 +38,8 @@ returns-2 c =
     let k = e .before in
     let m = made k .plan-legal .ensures in
     let s = start k in
-    plan-cleared (showing s) (figures s) _ _ _ (s .pre .0) _ (m .0) _ (w .refused .ensures .0) _ _ (m .2) (m .3) (e .if1 .left) (t .if2 .taken) _
-    (w .refused .ensures .1)
+    plan-cleared (s .args .listed) (showing s) (figures s) _ _ _ (s .pre .0) _ (m .0) _ (w .refused .ensures .0) _ _ (m .2) (m .3) (e .if1 .left)
+    (t .if2 .taken) _ (w .refused .ensures .1)
 
 returns-3 : tie.Need-returns-3
 returns-3 c =
@@ -49,8 +49,8 @@ returns-3 c =
     let k = e .before in
     let m = made k .plan-legal .ensures in
     let s = start k in
-    plan-written (showing s) (figures s) _ _ _ (s .pre .0) _ (m .0) _ (k .before .verdict-answer .ensures) _ _ (m .2) (m .3) (t .if2 .left) _
-    (m .1 (t .if2 .left)) _ (w .write-parts .ensures .0)
+    plan-written (s .args .listed) (showing s) (figures s) _ _ _ (s .pre .0) _ (m .0) _ (k .before .verdict-answer .ensures) _ _ (m .2) (m .3)
+    (t .if2 .left) _ (m .1 (t .if2 .left)) _ (w .write-parts .ensures .0)
 
 pub plan-into-spec : {M : Type 1} → statement M
 plan-into-spec =

@@ -21,7 +21,8 @@ abbrev sized : tie.After-read-into → tie.Else1
 sized c = c .before .before .before .before
 
 returns : tie.Need-returns
-returns c = other-length _ _ _ _ _ (c .before .if1 .taken) _ (c .unwritten .ensures _)
+returns c = let a = c .before .before .before .before .before .before .args in
+    other-length (a .listed) _ _ _ _ _ (c .before .if1 .taken) _ (c .unwritten .ensures _)
 
 read-into-requires : tie.Need-read-into-requires
 unfolding blankZones blankTable
@@ -40,8 +41,8 @@ returns-2 c =
     let t = w .before .before .before in
     let r = t .before .before in
     let z = sized r in
-    refused-card _ _ _ _ _ (z .if1 .left) (bytes z) _ _ (told-refused _ _ _ (t .told .given .1) ∙ r .read-into .ensures) _ (w .refused .ensures .0) _
-    (w .refused .ensures .1)
+    refused-card (start z .args .listed) _ _ _ _ _ (z .if1 .left) (bytes z) _ _ (told-refused _ _ _ (t .told .given .1) ∙ r .read-into .ensures) _
+    (w .refused .ensures .0) _ (w .refused .ensures .1)
 
 returns-3 : tie.Need-returns-3
 returns-3 c =
@@ -49,7 +50,10 @@ returns-3 c =
     let lent = p .before .before .before .before in
     let t = lent .before .before .before .before in
     let r = t .before .before in
-    planned-card _ _ _ _ _ (sized r .if1 .left) _ (told-figures _ _ _ (t .told2 .given .1) ∙ r .read-into .ensures) _ _ _ _ (p .plan-into .ensures)
+    let z = sized r in
+    let a = start z .args in
+    planned-card (a .listed) _ _ _ _ (a .leads .now) (z .if1 .left) _ (told-figures _ _ _ (t .told2 .given .1) ∙ r .read-into .ensures) _ _ _ _
+    (p .plan-into .ensures)
 
 pub plan-showing-spec : {M : Type 1} → statement M
 plan-showing-spec =

@@ -1,3 +1,4 @@
+use mathlib.Core.Bool.{true}
 use Rattle.placement.specs.Showing.{loop}
 use Rattle.words.specs.Laws.{bytes-fit}
 use Rattle.plan.specs.Check.{showing-back}
@@ -16,7 +17,7 @@ returns : tie.Need-returns
 returns c = let p = c .before .before .before .before in
     let r = p .before .before .before in
     let a = r .before .before .before .before .args in
-    outcome-same (a .positions .now) (a .leads .now) _ _ _ (showing-back loop) (r .read-card .ensures) (p .plan-figures .ensures)
+    outcome-same true (a .positions .now) (a .leads .now) _ _ _ (showing-back loop) (r .read-card .ensures) (p .plan-figures .ensures)
 
 pub plan-loop-card-spec : {M : Type 1} → statement M
 plan-loop-card-spec =

@@ -1,3 +1,4 @@
+use mathlib.Core.Bool.{true}
 use Rattle.placement.specs.Showing.{one}
 use Rattle.legality.specs.Legality.{Wide}
 use Rattle.plan.specs.Check.{showing-back}
@@ -18,7 +19,7 @@ returns : tie.Need-returns
 returns c = let p = c .before .before .before .before in
     let r = p .before .before .before in
     let a = r .before .before .before .args in
-    outcome-same (a .positions .now) (a .leads .now) _ _ _ (showing-back one) (r .judged-figures .ensures) (p .plan-figures .ensures)
+    outcome-same true (a .positions .now) (a .leads .now) _ _ _ (showing-back one) (r .judged-figures .ensures) (p .plan-figures .ensures)
 
 pub plan-record-spec : {M : Type 1} → statement M
 plan-record-spec =

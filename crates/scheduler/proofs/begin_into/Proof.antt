@@ -1,16 +1,13 @@
 use Prim.Native.Nat.{ℕ, _/_}
-use mathlib.Core.Path.{_≡_, ap, _∙_}
-use native.Mathlib.Omega.{arith}
+use mathlib.Core.Path.{_≡_, sym, ap, _∙_, subst}
+use borrow.Author.Needs.{needs}
 use lib.ListN.{length}
 use Rattle.legality.specs.Legality as legality
-use Rattle.words.specs.Words.{wordsOf, withWords}
-use Rattle.desk.specs.declared.Fetches.{Fetches}
+use Rattle.words.specs.Words.{wordsOf}
 use Rattle.desk.specs.declared.Begun.{Begun}
-use Rattle.desk.specs.Desk.{beginDesk, entriesOf, fetchListAfter}
+use Rattle.desk.specs.Desk.{beginDesk}
 use Rattle.desk.specs.View.{Wide}
-use Rattle.scheduler.specs.Count.{begin-few}
-use Rattle.entry_layout.specs.Entries.{rows, rows-of}
-use borrow.Author.Needs.{needs}
+use Rattle.scheduler.proofs.Fetching.{Fit, fetched, begun-fits, begun-list}
 use Rattle.scheduler.proofs.begin_into.Statement.{statement}
 use Rattle.scheduler.proofs.begin_into.Tie as tie
 
@@ -20,52 +17,36 @@ wide c = record { kinds = search needs; next = search needs; held = search needs
 slim : (c : tie.Start) → legality.Wide (c .args .desk .plan .figures)
 slim c = (search needs, search needs, search needs)
 
-entries-requires : tie.Need-entries-requires
-entries-requires c κs = search needs
+abbrev start : tie.After-begin → tie.Start
+start c = c .before .before .before .before .before .before
 
-begin-requires : tie.Need-begin-requires
-begin-requires c κs = search needs
+-- the answer, with the room that the string has
+begun : (c : tie.After-begin) → (let a = start c .args in
+    c .begin .result ≡ beginDesk (a .desk) (a .positions .now) (a .leads .now) (length (wordsOf (a .fetches .now)) / 3))
+begun c = let a = start c .args in
+    c .begin .ensures
+    ∙ ap (λ (k : ℕ). beginDesk (a .desk) (a .positions .now) (a .leads .now) (k / 3)) (c .before .entries .ensures)
 
-cast-write-entries : tie.Need-cast-write-entries
-cast-write-entries c = search needs
-
-write-entries-requires : tie.Need-write-entries-requires
-write-entries-requires c κs =
-    let b = c .before .before .before .before .before .before in
-    let s = b .before .before .before .before .before .before in
-    let n = b .before .entries .ensures in
-    let f = begin-few (s .args .desk) (wide s) (slim s) (s .args .positions .now) (s .args .leads .now) (b .before .entries .result / 3) in
-    let k = ap (λ (x : Begun). x .fetches .count) (b .begin .ensures) in
-    omega arith
-
-same-length : tie.Need-same-length
-same-length c = search needs
+put-fetches-requires : tie.Need-put-fetches-requires
+put-fetches-requires c κs =
+    let b = c .before in
+    let s = start b in
+    subst (λ (x : Begun). Fit x (s .args .fetches .now)) (sym (begun b)) (begun-fits (s .args .desk) (wide s) (slim s) _ _ _)
 
 returns : tie.Need-returns
-unfolding beginDesk fetchListAfter
 returns c =
-    let w = c .before .before .before in
-    let j = w .before .before .before .before .before .before in
-    let s = j .before .before .before .before .before .before in
-    let d = s .args .desk in
-    let ps = s .args .positions .now in
-    let ls = s .args .leads .now in
-    let out = s .args .fetches .now in
-    let b : j .begin .result ≡ beginDesk d ps ls (length (wordsOf out) / 3) = j .begin .ensures
-    ∙ ap (λ (k : ℕ). beginDesk d ps ls (k / 3)) (j .before .entries .ensures) in (
-      b,
-      c .before .before .write-entries .ensures
-          ∙ ap (λ (f : Fetches). withWords out 0 (rows 0 (f .count) f)) (ap (λ (x : Begun). x .fetches) b)
-          ∙ ap (withWords out 0) (rows-of (entriesOf d ps ls (length (wordsOf out) / 3))),
-    )
+    let p = c .before .before in
+    let b = p .before .before in
+    let s = start b in
+    let F = s .args .fetches .now in
+    (begun b, p .put-fetches .ensures ∙ ap (λ (x : Begun). fetched x F) (begun b) ∙ begun-list (s .args .desk) (wide s) (slim s) _ _ _)
 
 pub begin-into-spec : {M : Type 1} → statement M
 begin-into-spec =
     tie.close
     (tie.spec
-    entries-requires
-    begin-requires
-    cast-write-entries
-    write-entries-requires
-    same-length
+    (λ c κs. search needs)
+    (λ c κs. search needs)
+    put-fetches-requires
+    (λ c. search needs)
     returns)

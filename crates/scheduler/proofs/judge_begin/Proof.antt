@@ -1,25 +1,27 @@
 use Prim.Native.Nat.{ℕ, _≤_}
 use mathlib.Core.Path.{_≡_, sym, ap, subst, _∙_}
 use mathlib.Core.Bool.{true}
+use mathlib.Core.List.{List}
 use native.Mathlib.Omega.{arith}
 use borrow.Author.Needs.{needs}
 use borrow.Author.Tests.{not-true, not-false}
-use lib.ListN.{length}
 use Rattle.numbers.specs.Limits.{maxStreams}
 use Rattle.numbers.specs.Refusals.{tooShort, notSound, wrongPhase}
 use Rattle.legality.specs.Legality as legality
 use Rattle.words.specs.Words.{wordsOf}
+use Rattle.plan.specs.Scratch.{leadsBy}
 use Rattle.desk.specs.declared.Desk.{Desk}
 use Rattle.desk.specs.View.{Wide}
-use Rattle.desk.specs.Slots.{length-zeros}
 use Rattle.desk.specs.Ready.{Ready, streams-are}
 use Rattle.desk_layout.specs.Layout.{deskIn}
 use Rattle.desk_layout.specs.Sized.{wide-in, slim-in}
-use Rattle.floor.specs.Floor.{Listed, Added, Taken}
+use Rattle.floor.specs.Floor.{Added}
+use Rattle.floor.specs.Sources.{leadsIn, Timely}
 use Rattle.soundness.specs.Facts.{soundDesk}
-use Rattle.soundness.specs.Ready.{sound-ready, sound-plan, sound-listed, sound-taken}
-use Rattle.gather.specs.Gather.{Reached, Collected}
-use Rattle.scheduler.specs.Gathered.{zoned, reached, gathers, in-range}
+use Rattle.soundness.specs.Ready.{sound-ready, sound-plan}
+use Rattle.desk.specs.Shown.{Gathered}
+use Rattle.gather.specs.Gather.{Reached, Collected, gathered}
+use Rattle.scheduler.specs.Gathered.{zoned, reached, gathers, in-range, timely, lead-sum}
 use Rattle.sweep.specs.Begins.{Begins}
 use Rattle.sweep.specs.Steps.{sweptOf, notSwept}
 use Rattle.sweep.specs.Kept.{not-swept}
@@ -36,6 +38,10 @@ wide c = wide-in (c .args .desk .now) (c .pre)
 
 slim : (c : tie.Start) → legality.Wide (given c .plan .figures)
 slim c = slim-in (c .args .desk .now) (c .pre)
+
+-- the lead list that it goes by
+abbrev leads : tie.Start → List ℕ
+leads c = leadsBy (c .args .listed) (given c .plan) (c .args .leads .now)
 
 -- ---- the places, each from a later one
 
@@ -54,11 +60,18 @@ counted c = c .before
 abbrev between : tie.After-streams-in → tie.Else2
 between c = c .before
 
-abbrev roomy : tie.After-gather-leads → tie.Else3
-roomy c = c .before .before .before
+abbrev roomy : tie.After-gather → tie.Else3
+roomy c = c .before .before .before .before .before
 
-abbrev gathering : tie.After-found2 → tie.After-gather
-gathering c = c .before .before .before .before
+abbrev gathering : tie.After-sum-times → tie.After-gather
+gathering c = c .before .before
+
+abbrev summed : tie.After-places2 → tie.After-sum-times
+summed c = c .before .before
+
+-- the two arrays after it
+abbrev value : tie.After-gather → Gathered
+value c = gathered (c .gather .last .1 .1 .1 .0) (c .gather .last .1 .1 .1 .1 .0)
 
 -- the place past the test of soundness
 abbrev first : tie.After-streams-in → tie.Else1
@@ -66,7 +79,7 @@ first c = asked (between c .before)
 
 -- ---- what is known there
 
-passed : (c : tie.Else1) → (let s = start (tested c) in soundDesk (given s) (s .args .positions .now) (s .args .leads .now) ≡ true)
+passed : (c : tie.Else1) → (let s = start (tested c) in soundDesk (given s) (s .args .positions .now) (leads s) ≡ true)
 passed c = sym (tested c .is-sound .ensures) ∙ not-false _ (c .if1 .left)
 
 ready : (c : tie.Else1) → Ready (given (start (tested c)))
@@ -76,38 +89,40 @@ ready c = sound-ready _ _ _ (slim (start (tested c))) (passed c)
 few : (c : tie.After-streams-in) → c .streams-in .result ≤ maxStreams
 few c = omega (arith, streams-are _ (ready (first c)), c .streams-in .ensures)
 
-listed : (c : tie.After-streams-in) → (let s = start (tested (first c)) in
+-- where all is gathered, it began
+abbrev begins : tie.After-gather → tie.Start
+begins c = start (tested (first (counted (roomy c))))
+
+-- what was gathered
+collected : (c : tie.After-gather) → (let s = begins c in
     let d = given s in
-    Listed (wordsOf (s .args .leads .now)) (d .kinds) (d .next) (c .streams-in .result))
-listed c = let e = first c in
-    let s = start (tested e) in
-    subst (Listed _ _ _) (sym (c .streams-in .ensures)) (sound-listed (given s) (wide s) _ _ (slim s) (passed e))
+    Collected (d .plan .figures .positions) (d .plan .figures .times) (s .args .positions .now) (d .kinds) (d .next) (d .plan .streams) (value c))
+collected c =
+    let s = begins c in
+    let d = given s in
+    let f = d .plan .figures in
+    subst (λ (n : ℕ). Collected (f .positions) (f .times) (s .args .positions .now) (d .kinds) (d .next) n (value c))
+    (counted (roomy c) .streams-in .ensures) (c .gather .ensures)
 
 -- what the steps of a begin are told
-told : (c : tie.After-gather) → (let m = c .before in
-    let l = m .before in
-    Begins (given (start (tested (first (counted (roomy l)))))) (c .gather .result .times) (c .gather .result .positions)
-    (l .gather-leads .last .1 .1 .1 .0) (m .sum-leads .result))
+told : (c : tie.After-sum-times) → (let g = gathering c in
+    Begins (given (begins g)) (value g .times) (value g .positions) (c .sum-times .result))
 told c =
-    let m = c .before in
-    let l = m .before in
-    let k = counted (roomy l) in
+    let g = gathering c in
+    let k = counted (roomy g) in
     let e = first k in
-    let s = start (tested e) in
-    let a = s .args in
+    let s = begins g in
     let d = given s in
     let p = sound-plan _ _ _ (passed e) in
-    let f = d .plan .figures in
-    let n = k .streams-in .ensures in
-    let g = subst (λ (n : ℕ). Collected (f .positions) (f .times) (a .positions .now) (d .kinds) (d .next) n (c .gather .result)) n (c .gather .ensures) in
+    let v = value g in
     record {
       wide = wide s;
       ready = ready e;
-      gathers = gathers d (wide s) (ready e) _ _ p (c .gather .result) g;
-      range = in-range d (wide s) (ready e) _ _ p (c .gather .result) g;
-      leads = sound-taken d (wide s) _ _ (slim s) (passed e) _
-          (subst (λ (n : ℕ). Taken (wordsOf (a .leads .now)) (d .kinds) (d .next) n (l .gather-leads .last .1 .1 .1 .0)) n (l .gather-leads .ensures)) _
-          (subst (λ (n : ℕ). Added (wordsOf (a .leads .now)) (d .kinds) (d .next) n (m .sum-leads .result)) n (m .sum-leads .ensures));
+      gathers = gathers d (wide s) (ready e) _ _ p v (collected g);
+      range = in-range d (wide s) (ready e) _ _ p v (collected g);
+      leads = lead-sum d (wide s) (ready e) _ _ p v (collected g) _
+          (subst (λ (n : ℕ). Added (leadsIn (v .times) (d .plan .worst2)) (d .kinds) (d .next) n (c .sum-times .result)) (k .streams-in .ensures)
+          (c .sum-times .ensures));
     }
 
 -- ---- the needs
@@ -140,18 +155,10 @@ returns-3 c =
     ∙ ap sweptOf (begin-no-room (given s) (wide s) _ _ _ (passed e) (sym (p .before .phase-in .ensures) ∙ p .if2 .left)
     (omega (arith, k .before .if3 .taken, n .streams-in .ensures)))
 
-gather-leads-requires : tie.Need-gather-leads-requires
-gather-leads-requires c κs =
-    let z = c .before in
-    let k = counted (z .before) in
-    (few k, start (tested (first k)) .pre, listed k, ap length (z .zeros .ensures) ∙ length-zeros)
-
-sum-leads-requires : tie.Need-sum-leads-requires
-sum-leads-requires c κs = let k = counted (roomy c) in (few k, start (tested (first k)) .pre, listed k)
-
 gather-requires : tie.Need-gather-requires
 gather-requires c κs =
-    let k = counted (roomy (c .before)) in
+    let z = c .before .before in
+    let k = counted (z .before .before) in
     let e = first k in
     let s = start (tested e) in
     let d = given s in
@@ -161,14 +168,29 @@ gather-requires c κs =
       zoned d (wide s) (ready e) _ _ p,
       subst (Reached (d .plan .figures .positions) (s .args .positions .now) (d .kinds) (d .next)) (sym (k .streams-in .ensures))
           (reached d (wide s) (ready e) _ _ p),
+      z .before .zeros .ensures,
+      z .zeros2 .ensures,
+    )
+
+sum-times-requires : tie.Need-sum-times-requires
+sum-times-requires c κs =
+    let g = c .before in
+    let k = counted (roomy g) in
+    let e = first k in
+    let s = begins g in
+    let d = given s in (
+      few k,
+      s .pre,
+      subst (Timely (value g .times) (d .plan .worst2)) (sym (k .streams-in .ensures))
+          (timely d (wide s) (ready e) _ _ (sound-plan _ _ _ (passed e)) (value g) (collected g)),
     )
 
 begin-sweep-requires : tie.Need-begin-sweep-requires
-begin-sweep-requires c κs = let g = gathering c in (start (tested (first (counted (roomy (g .before .before))))) .pre, told g)
+begin-sweep-requires c κs = let l = summed c in (begins (gathering l) .pre, told l)
 
 returns-4 : tie.Need-returns-4
 returns-4 c =
-    let o = roomy (gathering (c .before) .before .before) in
+    let o = roomy (gathering (summed (c .before))) in
     let k = counted o in
     let p = between k in
     let e = first k in
@@ -195,8 +217,8 @@ judge-begin-spec =
     (λ c κs. search needs)
     returns-3
     (λ c κs. search needs)
-    gather-leads-requires
-    sum-leads-requires
+    (λ c κs. search needs)
     gather-requires
+    sum-times-requires
     begin-sweep-requires
     returns-4)

@@ -11,6 +11,7 @@ use Rattle.card.specs.CardLaws.{table-range}
 use Rattle.legality.specs.Legality as legality
 use Rattle.words.specs.Words.{wordsOf}
 use Rattle.plan.specs.Disk.{Zoned}
+use Rattle.plan.specs.Scratch.{leadsBy}
 use Rattle.desk.specs.declared.Desk.{Desk}
 use Rattle.desk.specs.declared.Answer.{Answer}
 use Rattle.desk.specs.Desk.{supplyOf, viewOf, endDesk}
@@ -21,7 +22,8 @@ use Rattle.desk_layout.specs.Layout.{deskIn}
 use Rattle.desk_layout.specs.Sized.{wide-in, slim-in}
 use Rattle.soundness.specs.Facts.{soundDesk}
 use Rattle.soundness.specs.Ready.{sound-ready, sound-plan}
-use Rattle.gather.specs.Gather.{Reached, Collected}
+use Rattle.desk.specs.Shown.{Gathered}
+use Rattle.gather.specs.Gather.{Reached, Collected, gathered}
 use Rattle.scheduler.specs.Gathered.{zoned, reached, gathers, in-range}
 use Rattle.scheduler.specs.Answers.{end-unsound, end-between, end-judged}
 use Rattle.scheduler.proofs.Sweeping.{timed, sweeps}
@@ -31,6 +33,10 @@ use Rattle.scheduler.proofs.judge_end.Tie as tie
 -- the desk that is judged
 abbrev given : tie.Start → Desk
 given c = deskIn (wordsOf (c .args .desk .now))
+
+-- the lead list that it goes by
+abbrev leads : tie.Start → List ℕ
+leads c = leadsBy (c .args .listed) (given c .plan) (c .args .leads .now)
 
 -- the verdict of an answer
 told : {a b : Answer} → a ≡ b → a .verdict ≡ b .verdict
@@ -54,12 +60,12 @@ abbrev passing : tie.After-buffer-in → tie.Else1
 passing c = between c .before .before
 
 abbrev bounding : tie.After-sweep-bound → tie.After-gather
-bounding c = c .before .before .before .before .before .before
+bounding c = c .before .before .before .before .before
 
 -- ---- what is known there
 
 -- past the test of soundness
-passed : (c : tie.Else1) → (let s = start (tested c) in soundDesk (given s) (s .args .positions .now) (s .args .leads .now) ≡ true)
+passed : (c : tie.Else1) → (let s = start (tested c) in soundDesk (given s) (s .args .positions .now) (leads s) ≡ true)
 passed c = sym (tested c .is-sound .ensures) ∙ not-false _ (c .if1 .left)
 
 -- what was read of the desk, and that it is the desk
@@ -85,13 +91,13 @@ record Judged (d : Desk) (ps ls : List ℕ) : Type 0 where
   ready : Ready d
   phase : d .phase ≡ sweeping
 
-judged : (c : tie.After-all-kinds) → (let a = start (tested (passing (buffered c))) .args in Judged (desk c) (a .positions .now) (a .leads .now))
+judged : (c : tie.After-all-kinds) → (let s = start (tested (passing (buffered c))) in Judged (desk c) (s .args .positions .now) (leads s))
 judged c =
     let b = buffered c in
     let e = passing b in
     let s = start (tested e) in
     let p = between b in
-    subst (λ (d : Desk). Judged d (s .args .positions .now) (s .args .leads .now)) (sym (desk-is c))
+    subst (λ (d : Desk). Judged d (s .args .positions .now) (leads s)) (sym (desk-is c))
     (record {
       wide = wide-in (s .args .desk .now) (s .pre);
       sound = passed e;
@@ -100,16 +106,23 @@ judged c =
     })
 
 -- what was gathered
-collected : (c : tie.After-gather) → (let k = c .before in
+abbrev value : tie.After-gather → Gathered
+value c = gathered (c .gather .last .1 .1 .1 .0) (c .gather .last .1 .1 .1 .1 .0)
+
+-- where all that is read of the desk is read
+abbrev read : tie.After-gather → tie.After-all-kinds
+read c = c .before .before .before .before .before
+
+collected : (c : tie.After-gather) → (let k = read c in
     let d = desk k in
     let f = d .plan .figures in
     Collected (f .positions) (f .times) (start (tested (passing (buffered k))) .args .positions .now) (d .kinds) (d .next) (d .plan .streams)
-    (c .gather .result))
+    (value c))
 collected c =
-    let k = c .before in
+    let k = read c in
     let s = start (tested (passing (buffered k))) in
     subst (λ (d : Desk). Collected (d .plan .figures .positions) (d .plan .figures .times) (s .args .positions .now) (d .kinds) (d .next)
-    (desk k .plan .streams) (c .gather .result))
+    (desk k .plan .streams) (value c))
     (sym (desk-is k)) (c .gather .ensures)
 
 -- what is asked for the gathering
@@ -140,40 +153,43 @@ sub-room c =
 
 gather-requires : tie.Need-gather-requires
 gather-requires c κs =
-    let s = start (tested (passing (buffered c))) in
-    let j = judged c in
+    let z = c .before .before in
+    let k = z .before .before in
+    let s = start (tested (passing (buffered k))) in
+    let j = judged k in
     let p = sound-plan _ _ _ (j .sound) in
-    let r = subst (λ (d : Desk). Reachable d (desk c .plan .streams) (s .args .positions .now)) (desk-is c)
-    (streams-are (desk c) (j .ready), zoned (desk c) (j .wide) (j .ready) _ _ p, reached (desk c) (j .wide) (j .ready) _ _ p)
+    let r = subst (λ (d : Desk). Reachable d (desk k .plan .streams) (s .args .positions .now)) (desk-is k)
+    (streams-are (desk k) (j .ready), zoned (desk k) (j .wide) (j .ready) _ _ p, reached (desk k) (j .wide) (j .ready) _ _ p)
     in
-    (s .pre, r .0, r .1, r .2)
+    (s .pre, r .0, r .1, r .2, z .before .zeros .ensures, z .zeros2 .ensures)
 
 sweep-bound-requires : tie.Need-sweep-bound-requires
 sweep-bound-requires c κs =
-    let g = c .before .before .before .before .before in
-    let k = g .before in
+    let g = c .before .before .before .before in
+    let k = read g in
     let j = judged k in
-    let i = in-range _ (j .wide) (j .ready) _ _ (sound-plan _ _ _ (j .sound)) (g .gather .result) (collected g) in
+    let i = in-range _ (j .wide) (j .ready) _ _ (sound-plan _ _ _ (j .sound)) (value g) (collected g) in
     (streams-are _ (j .ready), i .times, λ k h. table-range _ (j .ready .legal) k h .1)
 
 judge-draws-requires : tie.Need-judge-draws-requires
-judge-draws-requires c κs = let k = bounding (c .before .before .before) .before in streams-are _ (judged k .ready)
+judge-draws-requires c κs = let k = read (bounding (c .before .before .before)) in streams-are _ (judged k .ready)
 
 returns-3 : tie.Need-returns-3
 returns-3 c =
     let m = c .before in
     let b = m .before .before .before in
     let g = bounding b in
-    let k = g .before in
-    let a = start (tested (passing (buffered k))) .args in
+    let k = read g in
+    let s = start (tested (passing (buffered k))) in
+    let a = s .args in
     let d = desk k in
     let j = judged k in
     let p = supplyOf (d .plan) in
-    let f = gathers d (j .wide) (j .ready) _ _ (sound-plan _ _ _ (j .sound)) (g .gather .result) (collected g) in
-    let t = b .sweep-bound .ensures p (d .next) (timed d (j .wide) (j .ready) (g .gather .result) f) in
+    let f = gathers d (j .wide) (j .ready) _ _ (sound-plan _ _ _ (j .sound)) (value g) (collected g) in
+    let t = b .sweep-bound .ensures p (d .next) (timed d (j .wide) (j .ready) (value g) f) in
     c .judge-draws .ensures p (viewOf d) (d .next) (sweeps d (j .wide) (j .ready) (j .phase) _ _ t (m .most-drawn .ensures))
     ∙ end-judged d (j .wide) _ _ _ (j .sound)
-    ∙ ap (λ (e : Desk). endDesk e (a .positions .now) (a .leads .now) (a .draws .now) .verdict) (desk-is k)
+    ∙ ap (λ (e : Desk). endDesk e (a .positions .now) (leads s) (a .draws .now) .verdict) (desk-is k)
 
 pub judge-end-spec : {M : Type 1} → statement M
 judge-end-spec =
@@ -191,6 +207,8 @@ judge-end-spec =
     (λ c. search needs)
     (λ c κs. search needs)
     sub-room
+    (λ c κs. search needs)
+    (λ c κs. search needs)
     (λ c κs. search needs)
     (λ c κs. search needs)
     (λ c κs. search needs)

@@ -1,6 +1,7 @@
-use Prim.Native.Nat.{_≤_}
+use Prim.Native.Nat.{ℕ, _≤_}
 use mathlib.Core.Path.{_≡_, sym, _∙_}
 use mathlib.Core.Bool.{true}
+use mathlib.Core.List.{List}
 use native.Mathlib.Omega.{arith}
 use borrow.Author.Needs.{needs}
 use borrow.Author.Tests.{not-true, not-false}
@@ -8,17 +9,16 @@ use Rattle.words.specs.Words.{wordsOf}
 use Rattle.words.specs.Laws.{words-length}
 use Rattle.legality.specs.Legality as legality
 use Rattle.card.specs.Card.{Legal}
-use Rattle.plan.specs.Plan.{showingIn}
 use Rattle.plan.specs.Answer.{isPlan}
 use Rattle.plan.specs.Check.{checked-legal}
+use Rattle.plan.specs.Scratch.{leadsBy}
 use Rattle.desk.specs.declared.Desk.{Desk}
-use Rattle.desk.specs.Desk.{supplyOf}
 use Rattle.desk.specs.View.{Wide}
 use Rattle.desk_layout.specs.Layout.{deskIn}
 use Rattle.desk_layout.specs.RoundTrip.{DeskSized, desk-sized}
-use Rattle.soundness.specs.Facts.{AllTidy, LeadList}
-use Rattle.soundness.specs.Tests.{tidy-slots, tidy-listed, tidy-leads, unsound-phase, unsound-slots, sound-told}
-use Rattle.soundness.specs.Ready.{plan-leads, plan-streams}
+use Rattle.soundness.specs.Facts.{ZonesRead, AllTidy}
+use Rattle.soundness.specs.Tests.{unsound-phase, unsound-slots, sound-told}
+use Rattle.soundness.specs.Ready.{plan-streams}
 use Rattle.soundness.proofs.Tells.{fails-first, then-second}
 use Rattle.soundness.proofs.is_sound.Statement.{statement}
 use Rattle.soundness.proofs.is_sound.Tie as tie
@@ -38,8 +38,14 @@ slim c = let z = sized c .plan in (z .positions, z .times, z .table)
 
 -- ---- the places, each from a later one
 
+abbrev read : tie.After-times → tie.After-zone-times
+read c = c .before .before
+
+abbrev first : tie.After-times → tie.Start
+first c = read c .before .before .before .before .before
+
 abbrev start : tie.Else1 → tie.Start
-start c = c .before .before .before .before .before
+start c = first (c .before .before)
 
 abbrev counted : tie.Else3 → tie.After-streams-in
 counted c = c .before .before
@@ -49,8 +55,16 @@ planned c = c .before .before .before
 
 -- ---- what is known there
 
+-- the lead list that it goes by
+abbrev leads : tie.Start → List ℕ
+leads c = leadsBy (c .args .listed) (given c .plan) (c .args .leads .now)
+
+-- the zones
+zones : (c : tie.After-times) → ZonesRead (given (first c)) (read c .before .zone-sizes .result) (read c .zone-times .result)
+zones c = (read c .before .zone-sizes .ensures, read c .zone-times .ensures)
+
 -- past the check of the plan
-passed : (c : tie.Else1) → (let s = start c in isPlan (given s .plan) (s .args .positions .now) (s .args .leads .now) ≡ true)
+passed : (c : tie.Else1) → (let s = start c in isPlan (given s .plan) (s .args .positions .now) (leads s) ≡ true)
 passed c = sym (c .before .has-plan .ensures) ∙ not-false _ (c .if1 .left)
 
 legal : (c : tie.Else1) → Legal (given (start c) .plan .figures)
@@ -58,9 +72,6 @@ legal c = checked-legal _ _ _ (slim (start c)) (passed c)
 
 few : (c : tie.Else1) → given (start c) .plan .streams ≤ 256
 few c = plan-streams _ _ _ (slim (start c)) (passed c)
-
-lent : (c : tie.Else1) → LeadList (showingIn (given (start c) .plan)) (given (start c) .plan .figures) (start c .args .leads .now)
-lent c = plan-leads _ _ _ (slim (start c)) (passed c)
 
 -- past the test of the slots
 tidy : (c : tie.Else3) → AllTidy (given (start (planned (counted c))))
@@ -85,17 +96,21 @@ returns-3 c = let e = planned (c .before .before) in
     let s = start e in
     then-second _ _ _ (passed e) (unsound-slots (given s) (wide s) (c .before .all-tidy .ensures .no (not-true _ (c .if3 .taken))))
 
-sum-leads-requires : tie.Need-sum-leads-requires
-sum-leads-requires c κs = let e = planned (counted c) in
-    let s = start e in
-    rw (counted c .streams-in .ensures) (few e, s .pre, tidy-listed (given s) (wide s) (tidy c) (few e) _ (lent e))
+has-plan-requires : tie.Need-has-plan-requires
+has-plan-requires c κs = (first c .pre, zones c)
+
+sum-next-requires : tie.Need-sum-next-requires
+sum-next-requires c κs = let t = c .before .before in
+    let k = counted t in
+    let e = planned k in
+    (start e .pre, record { streams = k .streams-in .ensures; zones = zones (e .before .before); plan = passed e; tidy = tidy t })
 
 low-water-requires : tie.Need-low-water-requires
-low-water-requires c κs = let h = legal (planned (counted (c .before .before .before))) in
+low-water-requires c κs = let h = legal (planned (counted (c .before .before .before .before .before))) in
     rw (c .before .bytes-in .ensures, c .rate-in .ensures) (h .bytes .1, h .rate .1)
 
 players-hold-requires : tie.Need-players-hold-requires
-players-hold-requires c κs = let k = counted (c .before .before .before .before) in
+players-hold-requires c κs = let k = counted (c .before .before .before .before .before .before) in
     (omega (arith, few (planned k), k .streams-in .ensures), start (planned k) .pre)
 
 returns-4 : tie.Need-returns-4
@@ -103,15 +118,12 @@ returns-4 c =
     let m = c .before in
     let b = m .before .before in
     let l = b .before in
-    let t = l .before in
+    let t = l .before .before .before in
     let k = counted t in
     let e = planned k in
     let s = start e in
-    let d = given s in
-    let f = (rw (k .streams-in .ensures) at (l .sum-leads .ensures)) .sums (supplyOf (d .plan)) (d .held) (tidy-slots d (wide s) (tidy t))
-    (tidy-leads d (wide s) (tidy t) (few e) _ (lent e)) in
     then-second _ _ _ (passed e)
-    (sound-told d (wide s) _ _ _ f (m .low-water .ensures ∙ rw (b .bytes-in .ensures, m .before .rate-in .ensures))
+    (sound-told (given s) (wide s) _ _ _ (l .sum-next .ensures) (m .low-water .ensures ∙ rw (b .bytes-in .ensures, m .before .rate-in .ensures))
     (omega (arith, k .before .if2 .left, k .before .before .phase-in .ensures)) (tidy t)
     (rw (k .streams-in .ensures) at (c .players-hold .ensures)))
 
@@ -120,6 +132,8 @@ is-sound-spec =
     tie.close
     (tie.spec
     (λ c κs. search needs)
+    (λ c κs. search needs)
+    has-plan-requires
     returns
     (λ c κs. search needs)
     returns-2
@@ -127,7 +141,7 @@ is-sound-spec =
     (λ c. search needs)
     all-tidy-requires
     returns-3
-    sum-leads-requires
+    sum-next-requires
     (λ c κs. search needs)
     (λ c κs. search needs)
     low-water-requires

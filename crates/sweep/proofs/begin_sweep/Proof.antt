@@ -1,3 +1,4 @@
+use Prim.Native.Nat.{ℕ}
 use native.Mathlib.Omega.{arith}
 use mathlib.Core.Path.{_≡_, sym, ap, subst, _∙_}
 use borrow.Author.Needs.{needs}
@@ -7,11 +8,12 @@ use Rattle.rules.specs.Scheduler.{started, begun}
 use Rattle.rules.specs.Arrays.{slotsOf}
 use Rattle.desk.specs.declared.Begun.{Begun}
 use Rattle.desk.specs.declared.Desk.{Desk}
-use Rattle.desk.specs.declared.Gathered.{Gathered}
+use Rattle.desk.specs.Shown.{Gathered}
 use Rattle.desk.specs.Desk.{supplyOf, slotsIn}
 use Rattle.desk.specs.Records.{withRead, read-same}
 use Rattle.desk.specs.Ready.{streams-are, buffer-has, ready-slots}
 use Rattle.desk_layout.specs.Layout.{deskIn}
+use Rattle.floor.specs.Sources.{Timely}
 use Rattle.sweep.specs.Begins.{Begins}
 use Rattle.sweep.specs.Steps.{begunDesk, sweptOf}
 use Rattle.sweep.proofs.Beginning.{floor-is, slots-started, asks-started, begun-all, timed-begun, positioned-begun, begun-is}
@@ -24,8 +26,11 @@ use Rattle.sweep.proofs.begin_sweep.Tie as tie
 abbrev read : tie.After-low-water → tie.After-all-kinds
 read c = c .before
 
+abbrev timed : tie.After-all-kinds → tie.After-worst2-in
+timed c = c .before .before .before .before
+
 abbrev buffered : tie.After-all-kinds → tie.After-buffer-in
-buffered c = c .before .before .before .before
+buffered c = timed c .before
 
 abbrev start : tie.After-buffer-in → tie.Start
 start c = c .before .before .before .before .before
@@ -62,10 +67,14 @@ desk-is c =
     read-same (given (start b)) (r .before .bytes-in .ensures) (r .rate-in .ensures) (b .before .streams-in .ensures) (b .buffer-in .ensures)
     (c .before .before .before .overheads .ensures) (c .all-kinds .ensures) (c .before .before .all-next .ensures) (c .before .all-held .ensures)
 
-told : (c : tie.After-all-kinds) → (let a = start (buffered c) .args in Begins (desk c) (a .times .now) (a .positions .now) (a .leads .now) (a .sum))
+told : (c : tie.After-all-kinds) → (let a = start (buffered c) .args in Begins (desk c) (a .times .now) (a .positions .now) (a .sum))
 told c = let s = start (buffered c) in
     let a = s .args in
-    subst (λ (d : Desk). Begins d (a .times .now) (a .positions .now) (a .leads .now) (a .sum)) (sym (desk-is c)) (s .pre .1)
+    subst (λ (d : Desk). Begins d (a .times .now) (a .positions .now) (a .sum)) (sym (desk-is c)) (s .pre .1)
+
+-- worst2 as it was read
+worst2 : (c : tie.After-all-kinds) → timed c .worst2-in .result ≡ desk c .plan .worst2
+worst2 c = timed c .worst2-in .ensures
 
 -- filling slots have started to play
 first : (c : tie.After-start-playing) → (let d = desk (read (marked c)) in
@@ -89,7 +98,7 @@ all c =
     let sum = start (buffered k) .args .sum in
     begun-all d (b .wide) (b .ready) (m .result) _ (first p) _
     (c .grant-asked .ensures (supplyOf (d .plan)) (d .next) (d .held) v
-    (asks-started d (b .wide) (b .ready) (m .result) _ (first p) _ sum (l .result) (b .leads) (l .ensures (supplyOf (d .plan)) (d .next) v)))
+    (asks-started d (b .wide) (b .ready) (m .result) _ (first p) _ _ sum (l .result) (worst2 k) (b .leads) (l .ensures (supplyOf (d .plan)) (d .next) v)))
     (floor-is d (m .result) sum (m .ensures) (b .leads .sums))
 
 -- ---- the needs
@@ -116,7 +125,7 @@ grant-asked-requires c κs =
     let b = told k in (
       streams-are (desk k) (b .ready),
       slots-started (desk k) (b .wide) (b .ready) _ _ (first p) .long,
-      b .leads .small,
+      subst (λ (v : ℕ). Timely (start (buffered k) .args .times .now) v (desk k .plan .streams)) (sym (worst2 k)) (b .leads .timely),
       b .ready .legal .bytes .1,
       b .ready .legal .rate .1,
       b .leads .most,
@@ -156,6 +165,7 @@ begin-sweep-spec =
     (λ c. search needs)
     (λ c κs. search needs)
     sub-room
+    (λ c κs. search needs)
     (λ c κs. search needs)
     (λ c κs. search needs)
     (λ c κs. search needs)

@@ -3,7 +3,7 @@
 use film_disk_model::Showing;
 
 /// The strings of all calls, by name.
-pub type Strings = [Vec<u8>; 7];
+pub type Strings = [Vec<u8>; 8];
 pub const CARD: usize = 0;
 pub const PLAN: usize = 1;
 pub const POSITIONS: usize = 2;
@@ -11,7 +11,26 @@ pub const LEADS: usize = 3;
 pub const DESK: usize = 4;
 pub const FETCHES: usize = 5;
 pub const DRAWS: usize = 6;
-pub const NAMES: [&str; 7] = ["card", "plan", "positions", "leads", "desk", "fetches", "draws"];
+pub const SCRATCH: usize = 7;
+pub const NAMES: [&str; 8] =
+    ["card", "plan", "positions", "leads", "desk", "fetches", "draws", "scratch"];
+
+/// The way in: with the lead list, or with a scratch in its place.
+#[derive(Clone, Copy, Debug, PartialEq, Eq)]
+pub enum Way {
+    List,
+    Scratch,
+}
+
+impl Way {
+    /// The string that is lent.
+    pub fn string(self) -> usize {
+        match self {
+            Way::List => LEADS,
+            Way::Scratch => SCRATCH,
+        }
+    }
+}
 
 #[derive(Clone, Copy, Debug, PartialEq, Eq)]
 pub enum Call {
@@ -26,9 +45,14 @@ pub enum Call {
 }
 
 impl Call {
+    /// Does the call take the lead list, and so a scratch in its place?
+    pub fn takes_leads(&self) -> bool {
+        !matches!(self, Call::Window { .. } | Call::DrawLimit { .. })
+    }
+
     /// The place of the call's sort in a tally.
-    pub fn sort(&self) -> usize {
-        match self {
+    pub fn sort(&self, way: Way) -> usize {
+        let sort = match self {
             Call::Plan(Showing::Once) => 0,
             Call::Plan(Showing::Loop) => 1,
             Call::Open => 2,
@@ -36,29 +60,47 @@ impl Call {
             Call::Leave { .. } => 4,
             Call::Begin => 5,
             Call::End => 6,
-            Call::Window { .. } => 7,
-            Call::DrawLimit { .. } => 8,
-        }
+            Call::Window { .. } => return 14,
+            Call::DrawLimit { .. } => return 15,
+        };
+        sort + 7 * (way == Way::Scratch) as usize
     }
 
-    /// The strings that the call is lent; the true ones it may write.
-    pub fn lent(&self) -> &'static [(usize, bool)] {
+    /// The strings that the call is lent; the true ones it may write. A scratch it never may.
+    pub fn lent(&self, way: Way) -> Vec<(usize, bool)> {
+        let (written, lent) = (way == Way::List, way.string());
         match self {
-            Call::Plan(_) => &[(CARD, false), (PLAN, true), (POSITIONS, true), (LEADS, true)],
-            Call::Open => &[(PLAN, false), (POSITIONS, false), (LEADS, false), (DESK, true)],
+            Call::Plan(_) => vec![(CARD, false), (PLAN, true), (POSITIONS, true), (lent, written)],
+            Call::Open => vec![(PLAN, false), (POSITIONS, false), (lent, false), (DESK, true)],
             Call::Join { .. } | Call::Leave { .. } => {
-                &[(DESK, true), (POSITIONS, false), (LEADS, false)]
+                vec![(DESK, true), (POSITIONS, false), (lent, false)]
             }
-            Call::Begin => &[(DESK, true), (POSITIONS, false), (LEADS, false), (FETCHES, true)],
-            Call::End => &[(DESK, true), (POSITIONS, false), (LEADS, false), (DRAWS, false)],
-            Call::Window { .. } => &[(PLAN, false), (POSITIONS, false)],
-            Call::DrawLimit { .. } => &[(DESK, false)],
+            Call::Begin => vec![(DESK, true), (POSITIONS, false), (lent, false), (FETCHES, true)],
+            Call::End => vec![(DESK, true), (POSITIONS, false), (lent, false), (DRAWS, false)],
+            Call::Window { .. } => vec![(PLAN, false), (POSITIONS, false)],
+            Call::DrawLimit { .. } => vec![(DESK, false)],
         }
     }
 }
 
-pub const SORTS: [&str; 9] =
-    ["plan", "plan_loop", "open", "join", "leave", "begin", "end", "window", "draw_limit"];
+pub const SORTS: [&str; 16] = [
+    "plan",
+    "plan_loop",
+    "open",
+    "join",
+    "leave",
+    "begin",
+    "end",
+    "plan_scratch",
+    "plan_loop_scratch",
+    "open_scratch",
+    "join_scratch",
+    "leave_scratch",
+    "begin_scratch",
+    "end_scratch",
+    "window",
+    "draw_limit",
+];
 
 /// What a call answers; a part that it does not have is 0.
 #[derive(Clone, Copy, Debug, Default, PartialEq, Eq)]
@@ -86,10 +128,17 @@ pub struct Outcome {
 impl Outcome {
     /// What differs from the expected outcome, if anything does.
     pub fn compare(&self, expected: &Outcome) -> Result<(), String> {
+        self.compare_but(expected, &[])
+    }
+
+    /// The same, some strings left out.
+    pub fn compare_but(&self, expected: &Outcome, but: &[usize]) -> Result<(), String> {
         if self.answer != expected.answer {
             return Err(format!("expected {:?}; got {:?}", expected.answer, self.answer));
         }
-        for (name, (got, wanted)) in NAMES.iter().zip(self.strings.iter().zip(&expected.strings)) {
+        for which in (0..NAMES.len()).filter(|which| !but.contains(which)) {
+            let (name, got, wanted) =
+                (NAMES[which], &self.strings[which], &expected.strings[which]);
             if let Some(at) = (0..wanted.len()).find(|&at| got.get(at) != wanted.get(at)) {
                 let (word, wanted, got) = (at / 4, wanted[at], got[at]);
                 return Err(format!(

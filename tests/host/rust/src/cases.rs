@@ -1,8 +1,9 @@
 //! Random and damaged calls. Strings that a call writes hold noise before it, so that a byte that is left or written wrongly shows.
 
-use crate::call::{Call, Strings, CARD, DESK, DRAWS, FETCHES, LEADS, PLAN, POSITIONS};
+use crate::call::{Call, Strings, CARD, DESK, DRAWS, FETCHES, LEADS, PLAN, POSITIONS, SCRATCH};
 use crate::layout::{
     bytes_of, desk_bytes, plan_bytes, DESK_BYTES, ENTRY_BYTES, FETCH_BYTES, PLAN_BYTES,
+    SCRATCH_BYTES,
 };
 use film_disk_model::desk::{floor, sweep_bound, ASKED, BETWEEN, FILLING, PLAYING, SLOTS, TAIL};
 use film_disk_model::plan::TWO_MILLION;
@@ -98,6 +99,23 @@ fn written_list(rng: &mut Rng, blocks: usize) -> Vec<u8> {
     bytes
 }
 
+/// A scratch of 512 words or more.
+pub fn long_scratch(rng: &mut Rng) -> Vec<u8> {
+    let more = rng.below(70_000);
+    let spare = rng.pick(&[0, 0, 0, 1, 3, 4, 2048, more]);
+    noise(rng, SCRATCH_BYTES + spare)
+}
+
+/// A scratch; at times it is short, often by a byte or a word.
+fn some_scratch(rng: &mut Rng) -> Vec<u8> {
+    if !rng.once_in(8) {
+        return long_scratch(rng);
+    }
+    let length = rng.below(SCRATCH_BYTES);
+    let short = rng.pick(&[0, 1, SCRATCH_BYTES - 1, SCRATCH_BYTES - 1, SCRATCH_BYTES - 4, length]);
+    noise(rng, short)
+}
+
 /// Any card, for one showing or as a loop; at times of a film that has its worst pair anywhere.
 pub fn plan_case(rng: &mut Rng) -> (Call, Strings) {
     let showing = rng.pick(&Showing::ALL);
@@ -114,6 +132,7 @@ pub fn plan_case(rng: &mut Rng) -> (Call, Strings) {
     strings[PLAN] = written_string(rng, PLAN_BYTES);
     strings[POSITIONS] = written_list(rng, blocks);
     strings[LEADS] = written_list(rng, blocks);
+    strings[SCRATCH] = some_scratch(rng);
     (Call::Plan(showing), strings)
 }
 
@@ -149,16 +168,18 @@ pub fn open_case(rng: &mut Rng) -> (Call, Strings) {
     strings[PLAN] = read_string(rng, plan_bytes(&plan));
     strings[POSITIONS] = some_list(rng, &planned.positions);
     strings[LEADS] = some_list(rng, &planned.leads);
+    strings[SCRATCH] = some_scratch(rng);
     strings[DESK] = written_string(rng, DESK_BYTES);
     (Call::Open, strings)
 }
 
-/// The strings of a step on the desk in `desk`. Once in `damaged` times a list is spoiled.
+/// The strings of a step on the desk in `desk`. Once in `damaged` times a list is spoiled; where none is, the scratch is not short.
 pub fn step_strings(rng: &mut Rng, desk: Vec<u8>, step: &Step, damaged: usize) -> (Call, Strings) {
     let mut strings = Strings::default();
     strings[DESK] = desk;
     strings[POSITIONS] = read_list(rng, &step.positions, damaged);
     strings[LEADS] = read_list(rng, &step.leads, damaged);
+    strings[SCRATCH] = if damaged == usize::MAX { long_scratch(rng) } else { some_scratch(rng) };
     let call = match &step.call {
         film_disk_model::Call::Join { slot, block } => Call::Join { slot: *slot, block: *block },
         film_disk_model::Call::Leave { slot } => Call::Leave { slot: *slot },

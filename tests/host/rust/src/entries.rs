@@ -1,5 +1,5 @@
 //! The entry points of include/filmdisk.h: those of the static library, and with the feature `earlier` those of an earlier one, whose
-//! names begin with `earlier_`.
+//! names begin with `earlier_`; with `earlier_scratch` it has the calls by scratch too.
 
 pub type Read = *const u8;
 pub type Write = *mut u8;
@@ -37,7 +37,8 @@ type Leaving = unsafe extern "C" fn(Write, usize, Read, usize, Read, usize, u32)
 type Limiting = unsafe extern "C" fn(Read, usize, u32, u32) -> u64;
 type Windowing = unsafe extern "C" fn(Read, usize, Read, usize, u32) -> FilmdiskWindowAnswer;
 
-pub struct Entries {
+/// The calls that are lent leads, or a scratch in their place.
+pub struct Calls {
     pub plan: Planning,
     pub plan_loop: Planning,
     pub open: Opening,
@@ -45,40 +46,60 @@ pub struct Entries {
     pub leave: Leaving,
     pub begin: Beginning,
     pub end: Ending,
+}
+
+pub struct Entries {
+    pub by_list: Calls,
+    /// An earlier library may have none.
+    pub by_scratch: Option<Calls>,
     pub window: Windowing,
     pub draw_limit: Limiting,
 }
 
-/// The entry points whose names begin with a prefix.
-macro_rules! entries {
-    ($prefix:literal) => {{
+/// The calls whose names begin with a prefix and end with a suffix.
+macro_rules! calls {
+    ($prefix:literal, $suffix:literal) => {{
         #[rustfmt::skip]
         extern "C" {
-            #[link_name = concat!($prefix, "plan")]
-            fn plan(card: Read, card_len: usize, plan: Write, plan_len: usize, positions: Write, positions_len: usize, leads: Write, leads_len: usize) -> FilmdiskAnswer;
-            #[link_name = concat!($prefix, "plan_loop")]
-            fn plan_loop(card: Read, card_len: usize, plan: Write, plan_len: usize, positions: Write, positions_len: usize, leads: Write, leads_len: usize) -> FilmdiskAnswer;
-            #[link_name = concat!($prefix, "open")]
-            fn open(plan: Read, plan_len: usize, positions: Read, positions_len: usize, leads: Read, leads_len: usize, desk: Write, desk_len: usize) -> FilmdiskAnswer;
-            #[link_name = concat!($prefix, "join")]
-            fn join(desk: Write, desk_len: usize, positions: Read, positions_len: usize, leads: Read, leads_len: usize, slot: u32, block: u32) -> FilmdiskAnswer;
-            #[link_name = concat!($prefix, "leave")]
-            fn leave(desk: Write, desk_len: usize, positions: Read, positions_len: usize, leads: Read, leads_len: usize, slot: u32) -> FilmdiskAnswer;
-            #[link_name = concat!($prefix, "begin")]
-            fn begin(desk: Write, desk_len: usize, positions: Read, positions_len: usize, leads: Read, leads_len: usize, fetches: Write, fetches_len: usize) -> FilmdiskAnswer;
-            #[link_name = concat!($prefix, "end")]
-            fn end(desk: Write, desk_len: usize, positions: Read, positions_len: usize, leads: Read, leads_len: usize, draws: Read, draws_len: usize) -> FilmdiskAnswer;
+            #[link_name = concat!($prefix, "plan", $suffix)]
+            fn plan(card: Read, card_len: usize, plan: Write, plan_len: usize, positions: Write, positions_len: usize, lent: Write, lent_len: usize) -> FilmdiskAnswer;
+            #[link_name = concat!($prefix, "plan_loop", $suffix)]
+            fn plan_loop(card: Read, card_len: usize, plan: Write, plan_len: usize, positions: Write, positions_len: usize, lent: Write, lent_len: usize) -> FilmdiskAnswer;
+            #[link_name = concat!($prefix, "open", $suffix)]
+            fn open(plan: Read, plan_len: usize, positions: Read, positions_len: usize, lent: Read, lent_len: usize, desk: Write, desk_len: usize) -> FilmdiskAnswer;
+            #[link_name = concat!($prefix, "join", $suffix)]
+            fn join(desk: Write, desk_len: usize, positions: Read, positions_len: usize, lent: Read, lent_len: usize, slot: u32, block: u32) -> FilmdiskAnswer;
+            #[link_name = concat!($prefix, "leave", $suffix)]
+            fn leave(desk: Write, desk_len: usize, positions: Read, positions_len: usize, lent: Read, lent_len: usize, slot: u32) -> FilmdiskAnswer;
+            #[link_name = concat!($prefix, "begin", $suffix)]
+            fn begin(desk: Write, desk_len: usize, positions: Read, positions_len: usize, lent: Read, lent_len: usize, fetches: Write, fetches_len: usize) -> FilmdiskAnswer;
+            #[link_name = concat!($prefix, "end", $suffix)]
+            fn end(desk: Write, desk_len: usize, positions: Read, positions_len: usize, lent: Read, lent_len: usize, draws: Read, draws_len: usize) -> FilmdiskAnswer;
+        }
+        Calls { plan, plan_loop, open, join, leave, begin, end }
+    }};
+}
+
+/// The entry points whose names begin with a prefix.
+macro_rules! entries {
+    ($prefix:literal, $by_scratch:expr) => {{
+        #[rustfmt::skip]
+        extern "C" {
             #[link_name = concat!($prefix, "window")]
             fn window(plan: Read, plan_len: usize, positions: Read, positions_len: usize, blocks: u32) -> FilmdiskWindowAnswer;
             #[link_name = concat!($prefix, "draw_limit")]
             fn draw_limit(desk: Read, desk_len: usize, slot: u32, bound: u32) -> u64;
         }
-        Entries { plan, plan_loop, open, join, leave, begin, end, window, draw_limit }
+        Entries { by_list: calls!($prefix, ""), by_scratch: $by_scratch, window, draw_limit }
     }};
 }
 
-pub const PRESENT: Entries = entries!("filmdisk_");
+pub const PRESENT: Entries = entries!("filmdisk_", Some(calls!("filmdisk_", "_scratch")));
+#[cfg(feature = "earlier_scratch")]
+const EARLIER_BY_SCRATCH: Option<Calls> = Some(calls!("earlier_filmdisk_", "_scratch"));
+#[cfg(all(feature = "earlier", not(feature = "earlier_scratch")))]
+const EARLIER_BY_SCRATCH: Option<Calls> = None;
 #[cfg(feature = "earlier")]
-pub const EARLIER: Option<Entries> = Some(entries!("earlier_filmdisk_"));
+pub const EARLIER: Option<Entries> = Some(entries!("earlier_filmdisk_", EARLIER_BY_SCRATCH));
 #[cfg(not(feature = "earlier"))]
 pub const EARLIER: Option<Entries> = None;

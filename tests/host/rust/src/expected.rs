@@ -1,7 +1,8 @@
 //! The outcome of a call by the model, with docs/LAYOUT.md's lengths and what is left in each string.
 
 use crate::call::{
-    Answer, Call, Outcome, Strings, CARD, DESK, DRAWS, FETCHES, LEADS, PLAN, POSITIONS,
+    Answer, Call, Outcome, Strings, Way, CARD, DESK, DRAWS, FETCHES, LEADS, PLAN, POSITIONS,
+    SCRATCH,
 };
 use crate::layout::{
     bytes_of, desk_bytes, fetch_bytes, plan_bytes, read_desk, read_plan, words_of, DESK_BYTES,
@@ -9,8 +10,10 @@ use crate::layout::{
 };
 use film_disk_model::desk::{draw_limit, SLOTS};
 use film_disk_model::plan::plan_card_for;
+use film_disk_model::scratch::{full_leads, judge_scratch};
 use film_disk_model::{
-    answer, cause, fill_lent, open, read_card, window, Refusal, Showing, Window,
+    answer, answer_scratch, cause, fill_lent, open, open_scratch, plan_card_scratch, read_card,
+    window, Refusal, Showing, Window,
 };
 
 /// An accepted call with nothing more to say.
@@ -32,7 +35,7 @@ fn cleared(strings: &Strings, refusal: Refusal, which: usize, length: usize) -> 
     outcome
 }
 
-fn expected_plan(showing: Showing, strings: &Strings) -> Outcome {
+fn expected_plan(showing: Showing, way: Way, strings: &Strings) -> Outcome {
     let too_short = Refusal { number: cause::TOO_SHORT, place: 0 };
     if let Err(refusal) = read_card(&strings[CARD]) {
         return cleared(strings, refusal, PLAN, PLAN_BYTES);
@@ -41,26 +44,49 @@ fn expected_plan(showing: Showing, strings: &Strings) -> Outcome {
         return refused(strings, too_short);
     }
     let entries = |which: usize| strings[which].len() / ENTRY_BYTES;
-    match plan_card_for(&strings[CARD], showing, entries(POSITIONS), entries(LEADS)) {
+    let (card, positions) = (&strings[CARD], entries(POSITIONS));
+    let planned = match way {
+        Way::List => plan_card_for(card, showing, positions, entries(LEADS)),
+        Way::Scratch => plan_card_scratch(card, showing, positions, entries(SCRATCH)),
+    };
+    match planned {
         Err(refusal) if refusal == too_short => refused(strings, refusal),
         Err(refusal) => cleared(strings, refusal, PLAN, PLAN_BYTES),
         Ok(planned) => {
             let mut after = strings.clone();
             fill_lent(&mut after[PLAN], &plan_bytes(&planned.plan));
             fill_lent(&mut after[POSITIONS], &bytes_of(&planned.positions));
-            fill_lent(&mut after[LEADS], &bytes_of(&planned.leads));
+            if way == Way::List {
+                fill_lent(&mut after[LEADS], &bytes_of(&planned.leads));
+            }
             accepted(after)
         }
     }
 }
 
-fn expected_open(strings: &Strings) -> Outcome {
+/// A call on a desk, an opening too, refuses a short scratch first of all, and nothing is written.
+fn refused_scratch(way: Way, strings: &Strings) -> Option<Outcome> {
+    match (way, judge_scratch(&words_of(&strings[SCRATCH]))) {
+        (Way::Scratch, Err(refusal)) => Some(refused(strings, refusal)),
+        _ => None,
+    }
+}
+
+fn expected_open(way: Way, strings: &Strings) -> Outcome {
+    if let Some(outcome) = refused_scratch(way, strings) {
+        return outcome;
+    }
     let not_sound = Refusal { number: cause::NOT_SOUND, place: 0 };
     if strings[PLAN].len() != PLAN_BYTES {
         return cleared(strings, not_sound, DESK, DESK_BYTES);
     }
-    let (positions, leads) = (words_of(&strings[POSITIONS]), words_of(&strings[LEADS]));
-    match open(&read_plan(&strings[PLAN]), &positions, &leads) {
+    let (plan, positions) = (read_plan(&strings[PLAN]), words_of(&strings[POSITIONS]));
+    let lent = words_of(&strings[way.string()]);
+    let opened = match way {
+        Way::List => open(&plan, &positions, &lent),
+        Way::Scratch => open_scratch(&plan, &positions, &lent),
+    };
+    match opened {
         Err(refusal) => cleared(strings, refusal, DESK, DESK_BYTES),
         Ok(_) if strings[DESK].len() != DESK_BYTES => {
             refused(strings, Refusal { number: cause::TOO_SHORT, place: 0 })
@@ -88,13 +114,20 @@ pub fn model_call(call: Call, strings: &Strings) -> film_disk_model::Call {
     }
 }
 
-fn expected_desk_call(call: Call, strings: &Strings) -> Outcome {
+fn expected_desk_call(call: Call, way: Way, strings: &Strings) -> Outcome {
+    if let Some(outcome) = refused_scratch(way, strings) {
+        return outcome;
+    }
     if strings[DESK].len() != DESK_BYTES {
         return refused(strings, Refusal { number: cause::NOT_SOUND, place: 0 });
     }
     let desk = read_desk(&strings[DESK]);
-    let (positions, leads) = (words_of(&strings[POSITIONS]), words_of(&strings[LEADS]));
-    let answer = answer(&desk, &positions, &leads, &model_call(call, strings));
+    let (positions, lent) = (words_of(&strings[POSITIONS]), words_of(&strings[way.string()]));
+    let made = model_call(call, strings);
+    let answer = match way {
+        Way::List => answer(&desk, &positions, &lent, &made),
+        Way::Scratch => answer_scratch(&desk, &positions, &lent, &made),
+    };
     let mut after = strings.clone();
     fill_lent(&mut after[DESK], &desk_bytes(&answer.desk));
     fill_lent(&mut after[FETCHES], &fetch_bytes(&answer.entries));
@@ -126,12 +159,32 @@ fn expected_limit(strings: &Strings, slot: u32, bound: u32) -> Outcome {
     outcome
 }
 
-pub fn expected(call: Call, strings: &Strings) -> Outcome {
+pub fn expected(call: Call, way: Way, strings: &Strings) -> Outcome {
     match call {
-        Call::Plan(showing) => expected_plan(showing, strings),
-        Call::Open => expected_open(strings),
+        Call::Plan(showing) => expected_plan(showing, way, strings),
+        Call::Open => expected_open(way, strings),
         Call::Window { blocks } => expected_window(strings, blocks),
         Call::DrawLimit { slot, bound } => expected_limit(strings, slot, bound),
-        _ => expected_desk_call(call, strings),
+        _ => expected_desk_call(call, way, strings),
     }
+}
+
+/// Does a call by its scratch answer as by its lead list? So where the scratch is not short and the list is the full one: long enough for a
+/// planner, the film's own for a desk. A refused card, or a string that is no plan or desk, asks nothing of either.
+pub fn is_same_by_scratch(call: Call, strings: &Strings) -> bool {
+    let begins = |plan| words_of(&strings[LEADS]).starts_with(&full_leads(&plan));
+    let is_full = match call {
+        Call::Plan(_) => match read_card(&strings[CARD]) {
+            Ok(figures) => strings[LEADS].len() / ENTRY_BYTES >= figures.blocks as usize,
+            Err(_) => return true,
+        },
+        Call::Open if strings[PLAN].len() == PLAN_BYTES => begins(read_plan(&strings[PLAN])),
+        Call::Join { .. } | Call::Leave { .. } | Call::Begin | Call::End
+            if strings[DESK].len() == DESK_BYTES =>
+        {
+            begins(read_desk(&strings[DESK]).plan)
+        }
+        _ => true,
+    };
+    is_full && judge_scratch(&words_of(&strings[SCRATCH])).is_ok()
 }

@@ -6,6 +6,7 @@ pub const PLAN_BYTES: usize = 1584;
 pub const DESK_BYTES: usize = 4660;
 pub const ENTRY_BYTES: usize = 4;
 pub const FETCH_BYTES: usize = 12;
+pub const SCRATCH_BYTES: usize = 2048;
 
 /// Words of 32 bits, lowest byte first.
 pub fn bytes_of(words: &[u32]) -> Vec<u8> {

@@ -1,9 +1,10 @@
 //! A static library, called over guarded strings.
 
 use crate::call::{
-    Answer, Call, Outcome, Strings, CARD, DESK, DRAWS, FETCHES, LEADS, NAMES, PLAN, POSITIONS,
+    Answer, Call, Outcome, Strings, Way, CARD, DESK, DRAWS, FETCHES, NAMES, PLAN, POSITIONS,
+    SCRATCH,
 };
-use crate::entries::{Entries, FilmdiskAnswer, FilmdiskWindowAnswer};
+use crate::entries::{Calls, Entries, FilmdiskAnswer, FilmdiskWindowAnswer};
 use film_disk_model::Showing;
 use std::ffi::{c_char, c_int, CString};
 
@@ -36,7 +37,7 @@ struct Guarded {
 extern "C" {
     fn guarded_make(string: *mut Guarded, most: usize);
     fn guarded_lend(string: *mut Guarded, from: *const u8, length: usize, edge: c_int) -> *mut u8;
-    fn guarded_seal(string: *const Guarded, sealed: c_int);
+    fn guarded_seal(string: *const Guarded, sealing: c_int);
     fn guarded_beside_kept(string: *const Guarded) -> c_int;
     fn guarded_watch();
     fn guarded_scene(words: *const c_char);
@@ -52,8 +53,8 @@ pub struct Lending {
 /// The library with room for each string. One at a time: the strings are its own.
 pub struct Library {
     entries: Entries,
-    lent: [Guarded; 7],
-    pointers: [*mut u8; 7],
+    lent: [Guarded; 8],
+    pointers: [*mut u8; 8],
 }
 
 /// What is said if the library touches a byte that it was not lent.
@@ -61,6 +62,14 @@ pub fn set_scene(words: &str) {
     let words = CString::new(words).expect("words without a zero byte");
     // SAFETY: the words are copied.
     unsafe { guarded_scene(words.as_ptr()) }
+}
+
+/// guarded.h: what a call may write is open, the rest may be read. A scratch may not be touched: nothing but its length is asked.
+fn sealing(which: usize, is_written: bool) -> c_int {
+    match which {
+        SCRATCH => 2,
+        _ => !is_written as c_int,
+    }
 }
 
 impl Library {
@@ -74,7 +83,7 @@ impl Library {
             unsafe { guarded_make(&mut string, MOST_BYTES) };
             string
         });
-        Library { entries, lent, pointers: [std::ptr::null_mut(); 7] }
+        Library { entries, lent, pointers: [std::ptr::null_mut(); 8] }
     }
 
     fn lend(&mut self, which: usize, bytes: &[u8], is_written: bool, lending: Lending) {
@@ -83,7 +92,7 @@ impl Library {
         // SAFETY: the contents have that length; guarded_lend ends the program if there is no room.
         self.pointers[which] = unsafe {
             let pointer = guarded_lend(string, bytes.as_ptr(), bytes.len(), edge);
-            guarded_seal(string, !is_written as c_int);
+            guarded_seal(string, sealing(which, is_written));
             pointer
         };
         if bytes.is_empty() && lending.empty_is_null {
@@ -106,22 +115,36 @@ impl Library {
         Ok(bytes)
     }
 
+    /// The calls of a way in, if the library has it.
+    fn calls(&self, way: Way) -> Option<&Calls> {
+        match way {
+            Way::List => Some(&self.entries.by_list),
+            Way::Scratch => self.entries.by_scratch.as_ref(),
+        }
+    }
+
+    /// Does the library have this way in?
+    pub fn has(&self, way: Way) -> bool {
+        self.calls(way).is_some()
+    }
+
     /// SAFETY: the strings of the call are lent.
     #[rustfmt::skip]
-    unsafe fn make(&self, call: Call) -> Answer {
-        let e = &self.entries;
+    unsafe fn make(&self, call: Call, way: Way) -> Answer {
+        let e = self.calls(way).expect("a library with this way in");
         let p = |which: usize| self.pointers[which];
         let n = |which: usize| self.lent[which].length;
+        let lent = way.string();
         match call {
-            Call::Plan(Showing::Once) => (e.plan)(p(CARD), n(CARD), p(PLAN), n(PLAN), p(POSITIONS), n(POSITIONS), p(LEADS), n(LEADS)).into(),
-            Call::Plan(Showing::Loop) => (e.plan_loop)(p(CARD), n(CARD), p(PLAN), n(PLAN), p(POSITIONS), n(POSITIONS), p(LEADS), n(LEADS)).into(),
-            Call::Open => (e.open)(p(PLAN), n(PLAN), p(POSITIONS), n(POSITIONS), p(LEADS), n(LEADS), p(DESK), n(DESK)).into(),
-            Call::Join { slot, block } => (e.join)(p(DESK), n(DESK), p(POSITIONS), n(POSITIONS), p(LEADS), n(LEADS), slot, block).into(),
-            Call::Leave { slot } => (e.leave)(p(DESK), n(DESK), p(POSITIONS), n(POSITIONS), p(LEADS), n(LEADS), slot).into(),
-            Call::Begin => (e.begin)(p(DESK), n(DESK), p(POSITIONS), n(POSITIONS), p(LEADS), n(LEADS), p(FETCHES), n(FETCHES)).into(),
-            Call::End => (e.end)(p(DESK), n(DESK), p(POSITIONS), n(POSITIONS), p(LEADS), n(LEADS), p(DRAWS), n(DRAWS)).into(),
-            Call::Window { blocks } => (e.window)(p(PLAN), n(PLAN), p(POSITIONS), n(POSITIONS), blocks).into(),
-            Call::DrawLimit { slot, bound } => Answer { limit: (e.draw_limit)(p(DESK), n(DESK), slot, bound), ..Answer::default() },
+            Call::Plan(Showing::Once) => (e.plan)(p(CARD), n(CARD), p(PLAN), n(PLAN), p(POSITIONS), n(POSITIONS), p(lent), n(lent)).into(),
+            Call::Plan(Showing::Loop) => (e.plan_loop)(p(CARD), n(CARD), p(PLAN), n(PLAN), p(POSITIONS), n(POSITIONS), p(lent), n(lent)).into(),
+            Call::Open => (e.open)(p(PLAN), n(PLAN), p(POSITIONS), n(POSITIONS), p(lent), n(lent), p(DESK), n(DESK)).into(),
+            Call::Join { slot, block } => (e.join)(p(DESK), n(DESK), p(POSITIONS), n(POSITIONS), p(lent), n(lent), slot, block).into(),
+            Call::Leave { slot } => (e.leave)(p(DESK), n(DESK), p(POSITIONS), n(POSITIONS), p(lent), n(lent), slot).into(),
+            Call::Begin => (e.begin)(p(DESK), n(DESK), p(POSITIONS), n(POSITIONS), p(lent), n(lent), p(FETCHES), n(FETCHES)).into(),
+            Call::End => (e.end)(p(DESK), n(DESK), p(POSITIONS), n(POSITIONS), p(lent), n(lent), p(DRAWS), n(DRAWS)).into(),
+            Call::Window { blocks } => (self.entries.window)(p(PLAN), n(PLAN), p(POSITIONS), n(POSITIONS), blocks).into(),
+            Call::DrawLimit { slot, bound } => Answer { limit: (self.entries.draw_limit)(p(DESK), n(DESK), slot, bound), ..Answer::default() },
         }
     }
 
@@ -129,16 +152,17 @@ impl Library {
     pub fn call(
         &mut self,
         call: Call,
+        way: Way,
         strings: &Strings,
         lending: Lending,
     ) -> Result<Outcome, String> {
-        for &(which, is_written) in call.lent() {
+        for (which, is_written) in call.lent(way) {
             self.lend(which, &strings[which], is_written, lending);
         }
         // SAFETY: just lent.
-        let answer = unsafe { self.make(call) };
+        let answer = unsafe { self.make(call, way) };
         let mut after = strings.clone();
-        for &(which, _) in call.lent() {
+        for (which, _) in call.lent(way) {
             after[which] = self.take_back(which)?;
         }
         Ok(Outcome { answer, strings: after })

@@ -1,16 +1,27 @@
 //! Long lists of calls from an accepted opening: the library's desk goes from call to call as bytes, and the book's claim is
-//! checked after each.
+//! checked after each. Each call is made with the lead list and with a scratch, and the desk goes on as one of the two left it: by lists
+//! alone, by scratch alone, or by either in turn.
 
-use crate::call::{Call, Outcome, Strings, CARD, DESK, FETCHES, LEADS, PLAN, POSITIONS};
-use crate::cases::{noise, some_plan, step_strings};
+use crate::call::{
+    Call, Outcome, Strings, Way, CARD, DESK, FETCHES, LEADS, PLAN, POSITIONS, SCRATCH,
+};
+use crate::cases::{long_scratch, noise, some_plan, step_strings};
 use crate::expected::model_call;
-use crate::layout::{read_desk, read_fetches, DESK_BYTES, ENTRY_BYTES, PLAN_BYTES};
+use crate::layout::{bytes_of, read_desk, read_fetches, DESK_BYTES, ENTRY_BYTES, PLAN_BYTES};
 use crate::trial::Trial;
 use film_disk_model::rng::desks::{next_step, temper};
 use film_disk_model::{card_bytes, check_claim, Book, Desk, Planned, Rng, Showing, Step};
 
+/// The ways in of a list's calls: one, or both at random.
+const WAYS: [&[Way]; 3] = [&[Way::List], &[Way::Scratch], &[Way::List, Way::Scratch]];
+
 /// A desk that the library opened, of a card that it planned.
-fn open_desk(rng: &mut Rng, trial: &mut Trial, planned: &Planned) -> Result<Vec<u8>, String> {
+fn open_desk(
+    rng: &mut Rng,
+    trial: &mut Trial,
+    planned: &Planned,
+    ways: &[Way],
+) -> Result<Vec<u8>, String> {
     let list_bytes = planned.positions.len() * ENTRY_BYTES;
     let mut strings = Strings::default();
     strings[CARD] = card_bytes(&planned.plan.figures);
@@ -18,10 +29,15 @@ fn open_desk(rng: &mut Rng, trial: &mut Trial, planned: &Planned) -> Result<Vec<
     strings[POSITIONS] = noise(rng, list_bytes);
     strings[LEADS] = noise(rng, list_bytes);
     strings[DESK] = noise(rng, DESK_BYTES);
+    strings[SCRATCH] = long_scratch(rng);
     let showing = Showing::of(planned.plan.showing).expect("the word of a plan");
-    let mut strings = trial.accepted(rng, Call::Plan(showing), &strings)?.strings;
+    let way = rng.pick(ways);
+    let mut strings = trial.accepted(rng, Call::Plan(showing), way, &strings)?.strings;
     strings[CARD].clear();
-    Ok(trial.accepted(rng, Call::Open, &strings)?.strings[DESK].clone())
+    // By scratch no call has written them.
+    strings[LEADS] = bytes_of(&planned.leads);
+    let way = rng.pick(ways);
+    Ok(trial.accepted(rng, Call::Open, way, &strings)?.strings[DESK].clone())
 }
 
 /// Feeds the book what the playout process sees of a call.
@@ -38,6 +54,7 @@ fn begun(call: Call, got: &Outcome) -> Option<u32> {
 /// One list of calls from one opening.
 pub struct List<'a> {
     planned: &'a Planned,
+    ways: &'static [Way],
     /// The library's desk, and the one by the model's rules.
     desk: Vec<u8>,
     pub rules: Desk,
@@ -47,9 +64,10 @@ pub struct List<'a> {
 
 impl<'a> List<'a> {
     pub fn open(rng: &mut Rng, trial: &mut Trial, planned: &'a Planned) -> Result<Self, String> {
-        let desk = open_desk(rng, trial, planned)?;
+        let ways = rng.pick(&WAYS);
+        let desk = open_desk(rng, trial, planned, ways)?;
         let book = Book::new(planned.plan.figures.block_bytes);
-        Ok(List { planned, desk, rules: Desk::all_free(&planned.plan), book, number: 0 })
+        Ok(List { planned, ways, desk, rules: Desk::all_free(&planned.plan), book, number: 0 })
     }
 
     /// Makes a call; once in `damaged` times a list that it is lent is spoiled.
@@ -73,14 +91,15 @@ impl<'a> List<'a> {
         damaged: usize,
     ) -> Result<Outcome, String> {
         let (call, before) = step_strings(rng, self.desk.clone(), step, damaged);
-        let (got, expected) = trial.both(rng, call, &before)?;
+        let way = rng.pick(self.ways);
+        let (got, expected) = trial.both(rng, call, way, &before)?;
         feed(&mut self.book, call, &before, &got)?;
         self.desk = got.strings[DESK].clone();
         self.rules = read_desk(&expected.strings[DESK]);
         trial.note_rounds(self.rounds());
         if let Some(bound) = begun(call, &got) {
             let slot = rng.below(self.planned.plan.streams as usize) as u32;
-            trial.both(rng, Call::DrawLimit { slot, bound }, &got.strings)?;
+            trial.both(rng, Call::DrawLimit { slot, bound }, Way::List, &got.strings)?;
         }
         check_claim(&self.book, &read_desk(&self.desk), &self.rules, begun(call, &got))?;
         Ok(got)

@@ -1,4 +1,5 @@
-//! Compares the static library with the model, call by call: the answer, and every byte of every lent string.
+//! Compares the static library with the model, call by call: the answer, and every byte of every lent string. Each call that takes the
+//! lead list is made twice, with it and with a scratch in its place.
 //!
 //! Built with the feature `earlier` it compares the library with an earlier one instead (`tests/alike`).
 //!
@@ -17,6 +18,7 @@ mod lists;
 mod trial;
 mod windows;
 
+use call::Way;
 use cases::{
     desk_case, edge_case, limit_case, open_case, overhead_case, plan_case, showing_case,
     worst_pair_case,
@@ -48,7 +50,7 @@ fn run_case(trial: &mut Trial, seed: u64) -> Result<(), String> {
         15 => limit_case(&mut rng),
         _ => return list_case(&mut rng, trial),
     };
-    trial.both(&mut rng, call, &strings).map(|_| ())
+    trial.both(&mut rng, call, Way::List, &strings).map(|_| ())
 }
 
 /// How many cases passed and how many failed.

@@ -1,8 +1,8 @@
 //! A call made of the library and of the model, or of an earlier library in its place, and the tally of what was answered.
 
-use crate::call::{Call, Outcome, Strings, NAMES, PLAN, SORTS};
+use crate::call::{Call, Outcome, Strings, Way, LEADS, NAMES, PLAN, SORTS};
 use crate::entries::{EARLIER, PRESENT};
-use crate::expected::expected;
+use crate::expected::{expected, is_same_by_scratch};
 use crate::layout::read_plan;
 use crate::library::{Lending, Library};
 use film_disk_model::{Plan, Rng};
@@ -19,6 +19,8 @@ const KINDS: [&str; 2] = ["of kind 1", "of kind 2"];
 const WINDOWS: [&str; 3] = ["at block 0", "in mid film", "past the last block"];
 /// Sizes of a draw limit.
 const LIMITS: [&str; 3] = ["of 0", "of 32 bits", "of more"];
+/// Calls made in both ways.
+const ALIKE: [&str; 2] = ["with another list or a short scratch", "alike"];
 
 pub struct Trial {
     library: Library,
@@ -36,6 +38,8 @@ pub struct Trial {
     windows: [u64; WINDOWS.len()],
     /// For each size, how many draw limits have it.
     limits: [u64; LIMITS.len()],
+    /// Calls that answered the same by list and by scratch, and those where the list was not the film's or the scratch short.
+    alike: [u64; ALIKE.len()],
 }
 
 /// The place of the worst pair.
@@ -65,11 +69,10 @@ fn limit_size(limit: u64) -> usize {
 }
 
 /// The call and the lengths of what it was lent.
-fn describe(call: Call, strings: &Strings) -> String {
-    let lent = call.lent().iter();
-    let lengths: Vec<String> = lent
-        .map(|&(which, _)| format!("{} {} bytes", NAMES[which], strings[which].len()))
-        .collect();
+fn describe(call: Call, way: Way, strings: &Strings) -> String {
+    let lent = call.lent(way).into_iter();
+    let lengths: Vec<String> =
+        lent.map(|(which, _)| format!("{} {} bytes", NAMES[which], strings[which].len())).collect();
     format!("{call:?} with {}", lengths.join(", "))
 }
 
@@ -90,31 +93,58 @@ impl Trial {
             kinds: [0; KINDS.len()],
             windows: [0; WINDOWS.len()],
             limits: [0; LIMITS.len()],
+            alike: [0; ALIKE.len()],
         }
     }
 
     /// Makes the call of both and compares the answer and every byte of every string.
-    pub fn both(
+    fn by(
         &mut self,
         rng: &mut Rng,
         call: Call,
+        way: Way,
         strings: &Strings,
     ) -> Result<(Outcome, Outcome), String> {
         let lending = Lending { at_start: rng.once_in(2), empty_is_null: rng.once_in(2) };
         let wanted = match &mut self.earlier {
-            Some(earlier) => earlier.call(call, strings, lending)?,
-            None => expected(call, strings),
+            Some(earlier) if earlier.has(way) => earlier.call(call, way, strings, lending)?,
+            _ => expected(call, way, strings),
         };
-        self.note(call, &wanted);
-        let got = self.library.call(call, strings, lending);
-        let got = got.map_err(|words| format!("{}: {words}", describe(call, strings)))?;
-        got.compare(&wanted).map_err(|words| format!("{}: {words}", describe(call, strings)))?;
+        self.note(call, way, &wanted);
+        let named = |words| format!("{}: {words}", describe(call, way, strings));
+        let got = self.library.call(call, way, strings, lending).map_err(named)?;
+        got.compare(&wanted).map_err(named)?;
         Ok((got, wanted))
     }
 
-    fn note(&mut self, call: Call, wanted: &Outcome) {
+    /// Makes the call with its lead list and then with a scratch, where it takes these: each as it is to be, and the two alike where the list
+    /// is the film's own. Answers what came of the given way.
+    pub fn both(
+        &mut self,
+        rng: &mut Rng,
+        call: Call,
+        way: Way,
+        strings: &Strings,
+    ) -> Result<(Outcome, Outcome), String> {
+        let listed = self.by(rng, call, Way::List, strings)?;
+        if !call.takes_leads() {
+            return Ok(listed);
+        }
+        let scratched = self.by(rng, call, Way::Scratch, strings)?;
+        let is_same = is_same_by_scratch(call, strings);
+        self.alike[is_same as usize] += 1;
+        if is_same {
+            let differs = scratched.0.compare_but(&listed.0, &[LEADS]);
+            let named =
+                |words| format!("{} and by list: {words}", describe(call, Way::Scratch, strings));
+            differs.map_err(named)?;
+        }
+        Ok(if way == Way::List { listed } else { scratched })
+    }
+
+    fn note(&mut self, call: Call, way: Way, wanted: &Outcome) {
         let number = wanted.answer.number;
-        self.tally[call.sort()][number as usize] += 1;
+        self.tally[call.sort(way)][number as usize] += 1;
         if number != 0 {
             return;
         }
@@ -133,16 +163,17 @@ impl Trial {
         }
     }
 
-    /// A call that both accept.
+    /// A call that both accept, in either way.
     pub fn accepted(
         &mut self,
         rng: &mut Rng,
         call: Call,
+        way: Way,
         strings: &Strings,
     ) -> Result<Outcome, String> {
-        let (got, _) = self.both(rng, call, strings)?;
+        let (got, _) = self.both(rng, call, way, strings)?;
         if got.answer.number != 0 {
-            return Err(format!("{}: refused {}", describe(call, strings), got.answer.number));
+            return Err(format!("{}: refused {}", describe(call, way, strings), got.answer.number));
         }
         Ok(got)
     }
@@ -163,6 +194,7 @@ impl Trial {
         println!("worst windows: {}", tallied(&WINDOWS, &self.windows));
         println!("draw limits: {}", tallied(&LIMITS, &self.limits));
         println!("plans: {}", tallied(&KINDS, &self.kinds));
+        println!("by list and by scratch: {}", tallied(&ALIKE, &self.alike));
         println!("loops: a slot went round {} times", self.rounds);
     }
 
@@ -178,6 +210,13 @@ impl Trial {
             &[0, 14, 15, 16, 17],
             &[0, 13, 14, 15],
             &[0, 14, 15, 19, 20, 21],
+            &plan,
+            &plan,
+            &[0, 13, 14],
+            &[0, 13, 14, 15, 16, 17, 18],
+            &[0, 13, 14, 15, 16, 17],
+            &[0, 13, 14, 15],
+            &[0, 13, 14, 15, 19, 20, 21],
             &[0, 14, 27],
             &[0],
         ];
@@ -198,6 +237,9 @@ impl Trial {
         }
         for (size, _) in LIMITS.iter().zip(self.limits).filter(|&(_, count)| count == 0) {
             missing.push(format!("a draw limit {size}"));
+        }
+        for (how, _) in ALIKE.iter().zip(self.alike).filter(|&(_, count)| count == 0) {
+            missing.push(format!("a call in both ways, {how}"));
         }
         if self.rounds < MANY_ROUNDS {
             missing.push(format!("a loop gone round {MANY_ROUNDS} times"));

@@ -1,6 +1,6 @@
 //! Windows of every number of blocks, on plans and lists that are good, damaged or another film's.
 
-use crate::call::{Call, Strings, PLAN, POSITIONS};
+use crate::call::{Call, Strings, Way, PLAN, POSITIONS};
 use crate::cases::{read_string, some_list, some_plan};
 use crate::layout::{bytes_of, plan_bytes};
 use crate::trial::Trial;
@@ -68,7 +68,7 @@ pub fn film_windows(rng: &mut Rng, trial: &mut Trial, planned: &Planned) -> Resu
     strings[PLAN] = plan_bytes(&planned.plan);
     strings[POSITIONS] = bytes_of(&planned.positions);
     for blocks in all_blocks(film) {
-        let (got, _) = trial.both(rng, Call::Window { blocks }, &strings)?;
+        let (got, _) = trial.both(rng, Call::Window { blocks }, Way::List, &strings)?;
         let is_window = (1..=film.min(MAX_WINDOW)).contains(&blocks);
         let expected = if is_window { 0 } else { 27 };
         if got.answer.number != expected {
