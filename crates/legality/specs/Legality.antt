@@ -158,7 +158,7 @@ zones-legal-fault (suc left) i f total before w k l =
 -- ---- the unused zones
 
 -- the entries from the z-th on are zero
-abbrev zeros : ℕ → List ℕ → Bool
+abbrev pub zeros : ℕ → List ℕ → Bool
 zeros z xs = allBy (λ (v : ℕ). eqb v 0) (drop z xs)
 
 -- a test that holds at each index holds of the list
@@ -168,7 +168,7 @@ all-by g [] h = refl
 all-by g (x ∷ xs) h = and-both (h 0 (omega arith)) (all-by g xs (λ i l. h (suc i) (omega arith)))
 
 -- the test on the unused entries says that each of them is zero, and back
-zeros-at : (z : ℕ) (xs : List ℕ) → zeros z xs ≡ true → (i : ℕ) → z ≤ i → getD xs i 0 ≡ 0
+pub zeros-at : (z : ℕ) (xs : List ℕ) → zeros z xs ≡ true → (i : ℕ) → z ≤ i → getD xs i 0 ≡ 0
 zeros-at z xs e i l = by-cases (decLt i (length xs)) inside (λ h. List·getD-eq-default xs 0 (omega arith))
   where
     inside : i < length xs → getD xs i 0 ≡ 0
@@ -177,7 +177,7 @@ zeros-at z xs e i l = by-cases (decLt i (length xs)) inside (λ h. List·getD-eq
         let zero-here = all-at 0 (λ (v : ℕ). eqb v 0) (drop z xs) (i - z) e (omega (arith, length-drop z xs)) in
         rw index at (sym (getD-drop z xs (i - z) 0) ∙ eqb-true (getD (drop z xs) (i - z) 0) 0 zero-here)
 
-at-zeros : (z : ℕ) (xs : List ℕ) → ((i : ℕ) → z ≤ i → getD xs i 0 ≡ 0) → zeros z xs ≡ true
+pub at-zeros : (z : ℕ) (xs : List ℕ) → ((i : ℕ) → z ≤ i → getD xs i 0 ≡ 0) → zeros z xs ≡ true
 at-zeros z xs h = all-by (λ (v : ℕ). eqb v 0) (drop z xs) (λ i l. eq-eqb (getD (drop z xs) i 0) 0 (getD-drop z xs i 0 ∙ h (z + i) (omega arith)))
 
 -- ---- the record

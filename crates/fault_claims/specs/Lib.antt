@@ -1,0 +1,11 @@
+pub mod Rules
+pub mod CardFault
+pub mod RecordFault
+pub mod Says
+pub mod FigureRules
+pub mod Forms
+pub mod Reading
+pub mod CardRun
+pub mod CardRefused
+pub mod CardNamed
+pub mod RecordNamed

@@ -1,0 +1,92 @@
+-- The figures of a card in their order, and the rules of each in theirs: document 01's tables of ranges and of refusals, with document 02's
+-- tickets 3 and 8. A card and a record go by the same rules.
+use Prim.Native.Nat.{ℕ, zero, suc, _+_, _*_, _≤_}
+use mathlib.Core.Path.{_≡_}
+use mathlib.Core.Logic.{_⊎_}
+use mathlib.Core.List.{List, [], _∷_, _++_}
+use mathlib.Core.Bool.{cond}
+use lib.Dec.{eqb}
+use Rattle.numbers.specs.Limits.{straightKind, measuredKind, maxZones, maxPositions, maxTime, timesAsFast, minBlocks, maxBlocks}
+use Rattle.numbers.specs.Limits.{maxBytes, maxRate, maxMove, tableLength, maxOverhead}
+use Rattle.numbers.specs.Refusals.{wrongKind, wrongZones, wrongPositions, wrongTime, risingTime}
+use Rattle.numbers.specs.Refusals.{wrongBlocks, blocksAbovePositions, wrongMeasure, wrongOverhead, halfDeadTime}
+
+-- ---- the figures in their order (K3; T3.1)
+
+-- zones are counted from 0, and so are the entries of the table
+pub data Figure : Type 0 where
+  Kind Zones : Figure
+  Positions Time : ℕ → Figure
+  Blocks Bytes Rate Hop Return : Figure
+  Overhead : ℕ → Figure
+
+-- `left` zones from the i-th on, innermost first
+unfoldable pub zoneFigures : ℕ → ℕ → List Figure
+zoneFigures zero i = []
+zoneFigures (suc left) i = Positions i ∷ Time i ∷ zoneFigures left (suc i)
+
+-- `left` entries of the table from the j-th on
+unfoldable pub entryFigures : ℕ → ℕ → List Figure
+entryFigures zero j = []
+entryFigures (suc left) j = Overhead j ∷ entryFigures left (suc j)
+
+-- hop and return of kind 1, the whole table of kind 2
+unfoldable pub overheadFigures : ℕ → List Figure
+overheadFigures kind = cond (eqb kind straightKind) (Hop ∷ Return ∷ []) (entryFigures tableLength 0)
+
+unfoldable pub figuresInOrder : ℕ → ℕ → List Figure
+figuresInOrder kind zones = Kind ∷ Zones ∷ (zoneFigures zones 0 ++ (Blocks ∷ Bytes ∷ Rate ∷ overheadFigures kind))
+
+-- ---- rules in a row
+
+-- a fact that is asked for, and the refusal where it does not hold
+pub record Rule : Type 1 where
+  pub refusal : ℕ
+  pub fact : Type 0
+
+infix 70 _unless_
+abbrev pub _unless_ : ℕ → Type 0 → Rule
+k unless P = record { refusal = k; fact = P }
+
+abbrev pub Holds : List Rule → Type 0
+Holds [] = Unit {0}
+Holds (r ∷ rs) = r .fact × Holds rs
+
+-- k is the refusal of the first rule that does not hold
+abbrev pub Breaks : List Rule → ℕ → Type 0
+Breaks [] k = ⊥
+Breaks (r ∷ rs) k = ((k ≡ r .refusal) × (r .fact → ⊥)) ⊎ (r .fact × Breaks rs k)
+
+-- ---- the rules of each figure (K4, R3 to R10; T3.7, T8.3)
+
+abbrev pub Values : Type 0
+Values = Figure → ℕ
+
+abbrev pub Within : ℕ → ℕ → ℕ → Type 0
+Within least most x = (least ≤ x) × (x ≤ most)
+
+-- the positions of the first n zones together
+unfoldable pub positionsOf : Values → ℕ → ℕ
+positionsOf v zero = 0
+positionsOf v (suc n) = positionsOf v n + v (Positions n)
+
+unfoldable pub rules : Values → Figure → List Rule
+rules v Kind = wrongKind unless ((v Kind ≡ straightKind) ⊎ (v Kind ≡ measuredKind)) ∷ []
+rules v Zones = wrongZones unless Within 1 maxZones (v Zones) ∷ []
+rules v (Positions i) = wrongPositions unless (1 ≤ v (Positions i)) ∷ wrongPositions unless (positionsOf v (suc i) ≤ maxPositions) ∷ []
+rules v (Time zero) = wrongTime unless Within 1 maxTime (v (Time 0)) ∷ []
+rules v (Time (suc i)) =
+    wrongTime unless Within 1 maxTime (v (Time (suc i)))
+    ∷ risingTime unless (v (Time (suc i)) ≤ v (Time i))
+    ∷ halfDeadTime unless (v (Time 0) ≤ timesAsFast * v (Time (suc i)))
+    ∷ []
+rules v Blocks = wrongBlocks unless Within minBlocks maxBlocks (v Blocks) ∷ blocksAbovePositions unless (v Blocks ≤ positionsOf v (v Zones)) ∷ []
+rules v Bytes = wrongMeasure unless Within 1 maxBytes (v Bytes) ∷ []
+rules v Rate = wrongMeasure unless Within 1 maxRate (v Rate) ∷ []
+rules v Hop = wrongMeasure unless Within 1 maxMove (v Hop) ∷ []
+rules v Return = wrongMeasure unless Within 1 maxMove (v Return) ∷ []
+rules v (Overhead zero) = wrongOverhead unless Within 1 maxOverhead (v (Overhead 0)) ∷ []
+rules v (Overhead (suc j)) =
+    wrongOverhead unless Within 1 maxOverhead (v (Overhead (suc j)))
+    ∷ wrongOverhead unless (v (Overhead j) ≤ v (Overhead (suc j)))
+    ∷ []
