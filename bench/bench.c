@@ -95,12 +95,36 @@ static bool same_answer(filmdisk_answer a, filmdisk_answer b)
     return a.number == b.number && a.place == b.place && a.count == b.count && a.bound == b.bound;
 }
 
+/* Does the implementation have places in its desk? An earlier library from before 0.10.0 has not, and serves by slot. */
+static bool has_places(int twin)
+{
+    return twins[twin][0].desk_len == FILMDISK_DESK_BYTES;
+}
+
+static void clear_places(struct strings *s)
+{
+    for (size_t i = 0; i < DESKS; i++)
+        memset(s->desks[i] + FILMDISK_DESK_PLACES * FILMDISK_WORD_BYTES, 0, FILMDISK_MAX_STREAMS * FILMDISK_WORD_BYTES);
+}
+
+/* What the two wrote; where one of them has no places, all but these. */
+static bool same_strings(int one, int other)
+{
+    static struct strings a, b;
+    if (has_places(PLAIN_C))
+        return memcmp(&strings[one], &strings[other], sizeof strings[one]) == 0;
+    a = strings[one];
+    b = strings[other];
+    clear_places(&a);
+    clear_places(&b);
+    return memcmp(&a, &b, sizeof a) == 0;
+}
+
 /* Ends the run where the two differ, or do not answer as they should. */
 static void compare(const char *name, int library, const filmdisk_answer answers[SERIES], uint32_t expected)
 {
     int other = library + PLAIN_C;
-    if (answers[other].number == expected && same_answer(answers[library], answers[other]) &&
-        memcmp(&strings[library], &strings[other], sizeof strings[library]) == 0)
+    if (answers[other].number == expected && same_answer(answers[library], answers[other]) && same_strings(library, other))
         return;
     fprintf(stderr, "bench: %s: the library answers %u, %s %u, expected %u; or they write other bytes\n", name,
             answers[library].number, other_name, answers[other].number, expected);
@@ -266,6 +290,43 @@ static void measure_joins(void)
     }
 }
 
+/* Rows with requests are named by how many there are and by what becomes of them. */
+static const uint32_t request_counts[] = { 1, 40, 255 };
+
+/* A desk of 256 slots on which so many ask: the last ones, or with one free slot after them; the others play, or are free but for slot 0. */
+static void make_line(uint32_t count, bool one_free, bool others_play)
+{
+    uint32_t first = FILMDISK_MAX_STREAMS - count - one_free;
+    make_players(&input, FILMDISK_BETWEEN, others_play ? first : first > 0);
+    make_requests(&input, first, count);
+}
+
+/* A join behind so many, a leave of the eldest of so many, a begin that grants all and one that grants none. */
+static void measure_line(uint32_t blocks, uint32_t zones, uint32_t count, const char *way, call *join, call *leave, call *begin)
+{
+    make_film(&input, blocks, zones, FILMDISK_MAX_STREAMS);
+    make_line(count, true, true);
+    measure(join, true, FILMDISK_ACCEPTED, "join%s, N %u, %u zones, %u waiting", way, blocks, zones, count);
+    make_film(&input, blocks, zones, FILMDISK_MAX_STREAMS);
+    make_line(count, false, true);
+    measure(leave, true, FILMDISK_ACCEPTED, "leave of the eldest%s, N %u, %u zones, %u waiting", way, blocks, zones, count);
+    measure(begin, true, FILMDISK_ACCEPTED, "begin%s, N %u, %u zones, %u waiting, all granted", way, blocks, zones, count);
+    make_low(&input);
+    measure(begin, true, FILMDISK_ACCEPTED, "begin%s, N %u, %u zones, %u waiting, none granted", way, blocks, zones, count);
+}
+
+static void measure_requests(void)
+{
+    if (!has_places(PLAIN_C))
+        return;
+    head("Slots that ask (256 streams), the others playing: join, leave, begin");
+    EACH(count, request_counts) {
+        measure_line(6, 7, *count, "", call_join, call_leave, call_begin);
+        measure_line(1000, 7, *count, "", call_join, call_leave, call_begin);
+        measure_line(1000, 64, *count, " by scratch", call_join_scratch, call_leave_scratch, call_begin_scratch);
+    }
+}
+
 /* A begin or an end of the film that was made. */
 static void measure_half(const char *text, call *c, uint32_t phase, uint32_t blocks, uint32_t zones, uint32_t streams)
 {
@@ -407,6 +468,19 @@ static void measure_scratch(void)
                films[i].streams, worst[i], films[i].bar, worst[i] > films[i].bar ? ", above it" : "");
 }
 
+/* A begin at which so many wait on: one slot plays and holds the floor, the others are free. */
+static void measure_growing_line(void)
+{
+    static const uint32_t growing_lines[] = { 1, 2, 4, 8, 16, 32, 64, 128, 255 };
+    head("Growth with the slots that wait on (N 6, 7 zones, 256 streams), one slot playing");
+    EACH(count, growing_lines) {
+        make_film(&input, 6, 7, FILMDISK_MAX_STREAMS);
+        make_line(*count, false, false);
+        make_low(&input);
+        measure(call_begin, true, FILMDISK_ACCEPTED, "begin, %u waiting", *count);
+    }
+}
+
 /* How cost grows with one of N, zones and streams, the others fixed. */
 static void measure_growth(void)
 {
@@ -427,6 +501,8 @@ static void measure_growth(void)
         measure_sweep("begin", call_begin, FILMDISK_BETWEEN, 1000, 7, *streams);
         measure_sweep("end", call_end, FILMDISK_SWEEPING, 1000, 7, *streams);
     }
+    if (has_places(PLAIN_C))
+        measure_growing_line();
 }
 
 /* What runs on the painted stack, which is given no words. */
@@ -438,10 +514,12 @@ static void run_painted(void)
     painted_call(&twins[painted_twin][0], &input, &strings[painted_twin], 0);
 }
 
-static void print_stack(const char *name, call *c, uint32_t phase, uint32_t first_free)
+/* The slots from `first_free` on are free, so many before them ask, the others play. */
+static void print_stack_of(const char *name, call *c, uint32_t phase, uint32_t first_free, uint32_t asked)
 {
     make_film(&input, 1000, 64, 256);
-    make_players(&input, phase, first_free);
+    make_players(&input, phase, first_free - asked);
+    make_requests(&input, first_free - asked, asked);
     make_draws(&input, 1000);
     painted_call = c;
     printf("| %s |", name);
@@ -450,6 +528,11 @@ static void print_stack(const char *name, call *c, uint32_t phase, uint32_t firs
         printf(" %zu |", stack_of(run_painted));
     }
     printf("\n");
+}
+
+static void print_stack(const char *name, call *c, uint32_t phase, uint32_t first_free)
+{
+    print_stack_of(name, c, phase, first_free, 0);
 }
 
 static void print_scratch_stacks(void)
@@ -475,14 +558,30 @@ static void print_stacks(void)
     print_stack("begin", call_begin, FILMDISK_BETWEEN, 256);
     print_stack("end", call_end, FILMDISK_SWEEPING, 256);
     print_stack("window", call_window, FILMDISK_BETWEEN, 0);
+    if (has_places(PLAIN_C)) {
+        print_stack_of("leave, 128 waiting", call_leave, FILMDISK_BETWEEN, 256, 128);
+        print_stack_of("begin, 128 waiting", call_begin, FILMDISK_BETWEEN, 256, 128);
+    }
     if (has_scratch(PLAIN_C))
         print_scratch_stacks();
+}
+
+/* The length of an earlier library's desk string is the one that its opening accepts: 4,660 bytes before 0.10.0. */
+static void find_desk_length(void)
+{
+    filmdisk_answer a;
+    make_film(&input, 6, 7, 16);
+    a = call_open(&twins[PLAIN_C][0], &input, &strings[PLAIN_C], 0);
+    for (int copy = 0; copy < COPIES; copy++)
+        if (a.number == FILMDISK_REFUSED_TOO_SHORT)
+            twins[PLAIN_C][copy].desk_len = FILMDISK_DESK_PLACES * FILMDISK_WORD_BYTES;
 }
 
 int main(int argc, char **argv)
 {
     if (argc > 1)
         other_name = argv[1];
+    find_desk_length();
     printf("Median nanoseconds a call, and ratios (median, quartiles) of %d repetitions, all in turn in each.\n", REPETITIONS);
     printf("Each implementation stands at three places in memory; times are of its best one.\n");
     printf("Strings are not cleared between calls; each in-place call gets a fresh desk, copied outside the time.\n");
@@ -490,6 +589,7 @@ int main(int argc, char **argv)
     measure_plans();
     measure_checks();
     measure_joins();
+    measure_requests();
     measure_sweeps();
     measure_loops();
     measure_measured();

@@ -89,19 +89,49 @@ void make_loop(struct input *in, uint32_t blocks, uint32_t zones, uint32_t strea
     make(in, FILMDISK_STRAIGHT, FILMDISK_LOOP, blocks, zones, streams);
 }
 
+static void put_slot(struct input *in, uint32_t slot, uint32_t kind, uint32_t next, uint32_t held, uint32_t place)
+{
+    filmdisk_put_word(in->desk, FILMDISK_DESK_KINDS + slot, kind);
+    filmdisk_put_word(in->desk, FILMDISK_DESK_NEXT + slot, next);
+    filmdisk_put_word(in->desk, FILMDISK_DESK_HELD + slot, held);
+    filmdisk_put_word(in->desk, FILMDISK_DESK_PLACES + slot, place);
+}
+
+/* Some block of the film; the seed goes on. */
+static uint32_t some_block(const struct input *in, uint32_t *seed)
+{
+    *seed = *seed * 1664525 + 1013904223;
+    return (*seed >> 8) % filmdisk_word(in->plan, FILMDISK_PLAN_BLOCKS);
+}
+
 /* What a slot holds is the most with which a block is fetched for it; that is never below the floor. */
 void make_players(struct input *in, uint32_t phase, uint32_t first_free)
 {
-    uint32_t blocks = filmdisk_word(in->plan, FILMDISK_PLAN_BLOCKS);
     uint32_t held = filmdisk_word(in->plan, FILMDISK_PLAN_BUFFER) - BLOCK_BYTES;
     uint32_t seed = 1;
     filmdisk_put_word(in->desk, FILMDISK_DESK_PHASE, phase);
-    for (uint32_t i = 0; i < first_free; i++) {
-        seed = seed * 1664525 + 1013904223;
-        filmdisk_put_word(in->desk, FILMDISK_DESK_KINDS + i, FILMDISK_PLAYING);
-        filmdisk_put_word(in->desk, FILMDISK_DESK_NEXT + i, (seed >> 8) % blocks);
-        filmdisk_put_word(in->desk, FILMDISK_DESK_HELD + i, held);
+    for (uint32_t i = 0; i < first_free; i++)
+        put_slot(in, i, FILMDISK_PLAYING, some_block(in, &seed), held, 0);
+}
+
+/* Steps of seven go through all places, for no count here is a multiple of it. */
+void make_requests(struct input *in, uint32_t first, uint32_t count)
+{
+    uint32_t seed = 2;
+    for (uint32_t i = 0; i < count; i++) {
+        uint32_t place = 7 * (count - 1 - i) % count + 1, block = some_block(in, &seed);
+        put_slot(in, first + i, FILMDISK_ASKED, place == 1 ? 0 : block, 0, place);
     }
+}
+
+void make_low(struct input *in)
+{
+    uint64_t leads = 0;
+    for (uint32_t i = 0; i < FILMDISK_MAX_STREAMS; i++)
+        if (filmdisk_slot_kind(in->desk, i) == FILMDISK_PLAYING)
+            leads += filmdisk_word(in->leads, filmdisk_slot_next(in->desk, i));
+    uint64_t shares = filmdisk_word(in->plan, FILMDISK_PLAN_RATE) * leads;
+    filmdisk_put_word(in->desk, FILMDISK_DESK_HELD, BLOCK_BYTES + (uint32_t)((shares + 1999999) / 2000000));
 }
 
 void make_draws(struct input *in, uint32_t draw)

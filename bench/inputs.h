@@ -1,4 +1,4 @@
-/* Inputs of the benchmark: cards of films of any size, and desks with all slots occupied. */
+/* Inputs of the benchmark: cards of films of any size, and desks with all slots occupied or some that ask. */
 #ifndef INPUTS_H
 #define INPUTS_H
 
@@ -29,6 +29,15 @@ void make_loop(struct input *in, uint32_t blocks, uint32_t zones, uint32_t strea
 
 /* A desk in a phase on which the slots from `first_free` on are free and the others play, each with room for a block. */
 void make_players(struct input *in, uint32_t phase, uint32_t first_free);
+
+/*
+ * So many slots from `first` on ask, in no order of their slots: the last of them is the eldest, and asks for block 0, which has the greatest
+ * lead.
+ */
+void make_requests(struct input *in, uint32_t first, uint32_t count);
+
+/* Slot 0, which plays, holds just the floor, so that no request is granted. */
+void make_low(struct input *in);
 
 /* The draws of a sweep: each slot draws a little. */
 void make_draws(struct input *in, uint32_t draw);

@@ -14,14 +14,14 @@ DECLARE_TWIN(plain2)
 #define SCRATCHED(prefix) \
     prefix##_plan_scratch, prefix##_plan_loop_scratch, prefix##_open_scratch, prefix##_join_scratch, prefix##_leave_scratch, \
         prefix##_begin_scratch, prefix##_end_scratch
-#define TWIN(prefix) { LISTED(prefix), SCRATCHED(prefix) }
+#define TWIN(prefix) { FILMDISK_DESK_BYTES, LISTED(prefix), SCRATCHED(prefix) }
 #ifdef OTHER_WITHOUT_SCRATCH /* an earlier library from before 0.9.0 */
-#define OTHER(prefix) { LISTED(prefix), NULL, NULL, NULL, NULL, NULL, NULL, NULL }
+#define OTHER(prefix) { FILMDISK_DESK_BYTES, LISTED(prefix), NULL, NULL, NULL, NULL, NULL, NULL, NULL }
 #else
 #define OTHER(prefix) TWIN(prefix)
 #endif
 
-const struct twin twins[TWINS][COPIES] = {
+struct twin twins[TWINS][COPIES] = {
     { TWIN(library0), TWIN(library1), TWIN(library2) },
     { OTHER(plain0), OTHER(plain1), OTHER(plain2) },
 };

@@ -13,6 +13,7 @@ enum { LIBRARY, PLAIN_C, TWINS };
 enum { COPIES = 3 };
 
 struct twin {
+    size_t desk_len; /* of its desk string */
     filmdisk_answer (*plan)(const uint8_t *, size_t, uint8_t *, size_t, uint8_t *, size_t, uint8_t *, size_t);
     filmdisk_answer (*plan_loop)(const uint8_t *, size_t, uint8_t *, size_t, uint8_t *, size_t, uint8_t *, size_t);
     filmdisk_answer (*open)(const uint8_t *, size_t, const uint8_t *, size_t, const uint8_t *, size_t, uint8_t *, size_t);
@@ -31,6 +32,6 @@ struct twin {
     filmdisk_answer (*end_scratch)(uint8_t *, size_t, const uint8_t *, size_t, const uint8_t *, size_t, const uint8_t *, size_t);
 };
 
-extern const struct twin twins[TWINS][COPIES];
+extern struct twin twins[TWINS][COPIES];
 
 #endif

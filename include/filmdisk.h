@@ -4,6 +4,9 @@
  * Strings: plans, desks, lists and entries are byte strings, each lent as a pointer and a length. Words have 32 bits, lowest byte
  * first. Strings lent to one call share no byte: that is the caller's duty, and nothing tests it. NULL with length 0 is an empty string.
  *
+ * Order: slots that have asked are served in the order they asked, eldest first and none behind one that has to wait. The eldest waits for
+ * one finished sweep at most, where the margin is 0 for none: it is granted at the first begin after it.
+ *
  * Films: a plan is for one showing or for a loop, by its planner call; a word of the plan says which, and all calls on its desk go by it.
  *
  * Scratch: each call that takes the lead list has a second way in, by its name with _scratch, that takes a scratch in its place, for boards
@@ -32,9 +35,9 @@
 extern "C" {
 #endif
 
-#define FILMDISK_VERSION "0.9.0"
+#define FILMDISK_VERSION "0.10.0"
 #define FILMDISK_VERSION_MAJOR 0
-#define FILMDISK_VERSION_MINOR 9
+#define FILMDISK_VERSION_MINOR 10
 #define FILMDISK_VERSION_PATCH 0
 
 /* Limits. */
@@ -71,7 +74,8 @@ enum filmdisk_desk_word {
     FILMDISK_DESK_KINDS, /* a word for each slot */
     FILMDISK_DESK_NEXT = FILMDISK_DESK_KINDS + FILMDISK_MAX_STREAMS, /* a word for each slot */
     FILMDISK_DESK_HELD = FILMDISK_DESK_NEXT + FILMDISK_MAX_STREAMS, /* a word for each slot */
-    FILMDISK_DESK_WORDS = FILMDISK_DESK_HELD + FILMDISK_MAX_STREAMS
+    FILMDISK_DESK_PLACES = FILMDISK_DESK_HELD + FILMDISK_MAX_STREAMS, /* a word for each slot: of those that have asked 1 for the eldest */
+    FILMDISK_DESK_WORDS = FILMDISK_DESK_PLACES + FILMDISK_MAX_STREAMS
 };
 
 /* The words of a fetch entry. */
@@ -80,7 +84,7 @@ enum filmdisk_fetch_word { FILMDISK_FETCH_POSITION, FILMDISK_FETCH_SLOT, FILMDIS
 /* Sizes in bytes. */
 #define FILMDISK_WORD_BYTES 4
 #define FILMDISK_PLAN_BYTES (FILMDISK_PLAN_WORDS * FILMDISK_WORD_BYTES)       /* 1,584 */
-#define FILMDISK_DESK_BYTES (FILMDISK_DESK_WORDS * FILMDISK_WORD_BYTES)       /* 4,660 */
+#define FILMDISK_DESK_BYTES (FILMDISK_DESK_WORDS * FILMDISK_WORD_BYTES)       /* 5,684 */
 #define FILMDISK_ENTRY_BYTES FILMDISK_WORD_BYTES                              /* an entry of positions, leads or draws */
 #define FILMDISK_FETCH_BYTES (FILMDISK_FETCH_WORDS * FILMDISK_WORD_BYTES)     /* an entry of the fetch list */
 #define FILMDISK_SCRATCH_BYTES (FILMDISK_SCRATCH_WORDS * FILMDISK_WORD_BYTES) /* 2,048, a scratch */
@@ -90,17 +94,17 @@ enum filmdisk_fetch_word { FILMDISK_FETCH_POSITION, FILMDISK_FETCH_SLOT, FILMDIS
 #define FILMDISK_STACK_PLAN_LOOP 3900
 #define FILMDISK_STACK_WINDOW 2600
 #define FILMDISK_STACK_OPEN 2600
-#define FILMDISK_STACK_JOIN 2600
-#define FILMDISK_STACK_LEAVE 2600
-#define FILMDISK_STACK_BEGIN 13000
+#define FILMDISK_STACK_JOIN 2700
+#define FILMDISK_STACK_LEAVE 2700
+#define FILMDISK_STACK_BEGIN 14200
 #define FILMDISK_STACK_DRAW_LIMIT 16
 #define FILMDISK_STACK_END 7400
 #define FILMDISK_STACK_PLAN_SCRATCH 3900
 #define FILMDISK_STACK_PLAN_LOOP_SCRATCH 3900
 #define FILMDISK_STACK_OPEN_SCRATCH 2600
-#define FILMDISK_STACK_JOIN_SCRATCH 2600
-#define FILMDISK_STACK_LEAVE_SCRATCH 2600
-#define FILMDISK_STACK_BEGIN_SCRATCH 13000
+#define FILMDISK_STACK_JOIN_SCRATCH 2700
+#define FILMDISK_STACK_LEAVE_SCRATCH 2700
+#define FILMDISK_STACK_BEGIN_SCRATCH 14200
 #define FILMDISK_STACK_END_SCRATCH 7400
 
 /* The kind of a card: overheads by hop and return, or measured for each number of blocks. */
@@ -239,7 +243,7 @@ static inline filmdisk_pair filmdisk_worst_pair(const uint8_t *plan)
 }
 
 /*
- * The kind of a slot. This function and the next two take any slot of a desk, 0 to FILMDISK_MAX_STREAMS - 1, and do not test it: with a
+ * The kind of a slot. This function and the next three take any slot of a desk, 0 to FILMDISK_MAX_STREAMS - 1, and do not test it: with a
  * greater one they read other bytes. Slots from the plan's streams on are free.
  */
 static inline uint32_t filmdisk_slot_kind(const uint8_t *desk, uint32_t slot)
@@ -257,6 +261,21 @@ static inline uint32_t filmdisk_slot_next(const uint8_t *desk, uint32_t slot)
 static inline uint32_t filmdisk_slot_held(const uint8_t *desk, uint32_t slot)
 {
     return filmdisk_word(desk, (size_t)FILMDISK_DESK_HELD + slot);
+}
+
+/* The place of an asked slot: 1 for the eldest, who is granted first; 0 for every other slot. */
+static inline uint32_t filmdisk_slot_place(const uint8_t *desk, uint32_t slot)
+{
+    return filmdisk_word(desk, (size_t)FILMDISK_DESK_PLACES + slot);
+}
+
+/* How many slots have asked and wait: the place of the youngest. */
+static inline uint32_t filmdisk_waiting(const uint8_t *desk)
+{
+    uint32_t waiting = 0;
+    for (uint32_t slot = 0; slot < FILMDISK_MAX_STREAMS; slot++)
+        waiting += filmdisk_slot_kind(desk, slot) == FILMDISK_ASKED;
+    return waiting;
 }
 
 /* An entry of the fetch list: read the block at this position into the slot's buffer. */
@@ -306,19 +325,29 @@ filmdisk_answer filmdisk_open(const uint8_t *plan, size_t plan_len,
                               const uint8_t *leads, size_t leads_len,
                               uint8_t *desk, size_t desk_len);
 
-/* A free slot asks to watch from a start block: alters the desk in place. Refusals 14 to 18. */
+/*
+ * A free slot asks to watch from a start block: alters the desk in place, its slot alone. Its place is behind all that wait. Refusals 14 to
+ * 18.
+ */
 filmdisk_answer filmdisk_join(uint8_t *desk, size_t desk_len,
                               const uint8_t *positions, size_t positions_len,
                               const uint8_t *leads, size_t leads_len,
                               uint32_t slot, uint32_t block);
 
-/* An occupied slot becomes free: alters the desk in place. Refusals 14 to 17. */
+/*
+ * An occupied slot becomes free: alters the desk in place, its slot and, if it had asked, the places behind its own, which drop by one.
+ * Refusals 14 to 17.
+ */
 filmdisk_answer filmdisk_leave(uint8_t *desk, size_t desk_len,
                                const uint8_t *positions, size_t positions_len,
                                const uint8_t *leads, size_t leads_len,
                                uint32_t slot);
 
-/* Begins a sweep: alters the desk in place, writes the answer's `count` fetches, and answers its `bound`. Refusals 14, 15, 13. */
+/*
+ * Begins a sweep: alters the phase, kinds and places of the desk in place, writes the answer's `count` fetches, and answers its `bound`.
+ * Slots that hold enough start to play; requests are granted eldest first as long as all playing slots hold enough, and the places of those
+ * that wait on drop by as many. Refusals 14, 15, 13.
+ */
 filmdisk_answer filmdisk_begin(uint8_t *desk, size_t desk_len,
                                const uint8_t *positions, size_t positions_len,
                                const uint8_t *leads, size_t leads_len,
@@ -332,8 +361,8 @@ filmdisk_answer filmdisk_begin(uint8_t *desk, size_t desk_len,
 uint64_t filmdisk_draw_limit(const uint8_t *desk, size_t desk_len, uint32_t slot, uint32_t bound);
 
 /*
- * Ends a sweep, with the bytes that each of the n slots drew: alters the desk in place. Refusals 14, 15, 19, 20, 21. After the last block
- * of a film shown once a slot is tail, and free when it holds no more; in a loop its next block is 0, and it is free only by a leave.
+ * Ends a sweep, with the bytes that each of the n slots drew: alters the desk in place, no place. Refusals 14, 15, 19, 20, 21. After the last
+ * block of a film shown once a slot is tail, and free when it holds no more; in a loop its next block is 0, and it is free only by a leave.
  */
 filmdisk_answer filmdisk_end(uint8_t *desk, size_t desk_len,
                              const uint8_t *positions, size_t positions_len,

@@ -1,4 +1,4 @@
-/* The five pictures; each is drawn from calls of the library alone. */
+/* The five pictures; each is drawn from calls of the library, the evening beside them from its rules as they were. */
 #ifndef PICTURES_PICTURES_H
 #define PICTURES_PICTURES_H
 

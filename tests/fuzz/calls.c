@@ -370,7 +370,7 @@ static void damage(void)
 {
     uint32_t choice = take();
     enum lent which = choice < 240 ? choice % SCRATCH : SCRATCH;
-    size_t at = take() * 16 + take();
+    size_t at = take() * 24 + take();
     uint8_t change = (uint8_t)take();
     if (change % 4 == 0)
         resize(which, at);
@@ -416,12 +416,39 @@ static void set_tail(void)
 /* Sets a word of a slot. */
 static void set_slot(void)
 {
-    static const size_t fields[] = {FILMDISK_DESK_KINDS, FILMDISK_DESK_NEXT, FILMDISK_DESK_HELD};
-    size_t field = fields[take() % 3] + take();
+    static const size_t fields[] = {FILMDISK_DESK_KINDS, FILMDISK_DESK_NEXT, FILMDISK_DESK_HELD, FILMDISK_DESK_PLACES};
+    size_t field = fields[take() % 4], slot = take();
     uint32_t value = take_number();
-    if (field >= FILMDISK_DESK_HELD)
+    if (field == FILMDISK_DESK_HELD)
         value *= word(DESK, FILMDISK_PLAN_BLOCK_BYTES) / 16;
-    filmdisk_put_word(contents[DESK], field, value);
+    filmdisk_put_word(contents[DESK], field + slot, value);
+}
+
+/* Makes free slots ask, in any order, behind those that ask already; at times one of them gets another place. */
+static void set_crowd(void)
+{
+    uint32_t first = take(), count = take() + 1, step = 2 * take() + 1, odd = take(), block = take();
+    uint32_t streams = word(DESK, FILMDISK_PLAN_STREAMS), blocks = word(DESK, FILMDISK_PLAN_BLOCKS);
+    uint32_t waiting = filmdisk_waiting(contents[DESK]), slot = first;
+    for (uint32_t i = 0; i < count; i++) {
+        slot = (first + i * step) % FILMDISK_MAX_STREAMS;
+        if (slot >= streams || filmdisk_slot_kind(contents[DESK], slot) != FILMDISK_FREE)
+            continue;
+        filmdisk_put_word(contents[DESK], FILMDISK_DESK_KINDS + slot, FILMDISK_ASKED);
+        filmdisk_put_word(contents[DESK], FILMDISK_DESK_NEXT + slot, blocks == 0 ? 0 : (block + i) % blocks);
+        filmdisk_put_word(contents[DESK], FILMDISK_DESK_PLACES + slot, ++waiting);
+    }
+    if (odd % 8 == 0)
+        filmdisk_put_word(contents[DESK], FILMDISK_DESK_PLACES + slot, odd / 8);
+}
+
+/* Two slots change places, or one takes the other's. */
+static void set_place(void)
+{
+    uint32_t one = take(), other = take(), its = word(DESK, FILMDISK_DESK_PLACES + one);
+    filmdisk_put_word(contents[DESK], FILMDISK_DESK_PLACES + one, word(DESK, FILMDISK_DESK_PLACES + other));
+    if (take() % 4 != 0)
+        filmdisk_put_word(contents[DESK], FILMDISK_DESK_PLACES + other, its);
 }
 
 static void take_call(void)
@@ -434,6 +461,13 @@ static void take_call(void)
     }
     if (choice >= 232) {
         set_overhead(DESK);
+        return;
+    }
+    if (choice >= 224) {
+        if (choice % 8 < 6)
+            set_crowd();
+        else
+            set_place();
         return;
     }
     switch (choice % 12) {

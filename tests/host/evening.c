@@ -119,27 +119,46 @@ static void opening(void)
         check(word(DESK, i) == 0, "word %zu is 0", i);
 }
 
-/* The scope's worked desk. */
+/* The scope's worked desk, with slot 1 served at the second begin: slot 0 does not hold the floor with its lead, and fills on. */
 static void worked_desk(void)
 {
+    static const uint32_t slots[] = {0, 1}, first[] = {1, 0}, second[] = {0, 1}, none[] = {0, 0};
     bench_desk();
     expect(host_join(0, 0), 0, 0);
     expect_slot(0, FILMDISK_ASKED, 0, 0);
+    expect_places(slots, first, 2);
     expect_begun(host_begin(), 1, 49940);
     expect_fetch(0, 0, 0, 0);
     expect_slot(0, FILMDISK_FILLING, 0, 0);
+    expect_places(slots, none, 2);
     expect(host_end(), 0, 0);
     expect_slot(0, FILMDISK_FILLING, 1, 262144);
     expect(host_join(1, 0), 0, 0);
+    expect_places(slots, second, 2);
+    expect_begun(host_begin(), 2, 78330);
+    expect_fetch(0, 0, 1, 0);
+    expect_fetch(1, 5, 0, 1);
+    expect_slot(0, FILMDISK_FILLING, 1, 262144);
+    expect_slot(1, FILMDISK_FILLING, 0, 0);
+    expect_places(slots, none, 2);
+}
+
+/* The scope's draws, of slot 0 alone: it plays from the second begin on. */
+static void worked_draws(void)
+{
+    bench_desk();
+    expect(host_join(0, 0), 0, 0);
+    expect_begun(host_begin(), 1, 49940);
+    expect(host_end(), 0, 0);
     expect_begun(host_begin(), 1, 43390);
     expect_fetch(0, 5, 0, 1);
     expect_slot(0, FILMDISK_PLAYING, 1, 262144);
-    expect_slot(1, FILMDISK_ASKED, 0, 0);
     put(DRAWS, 0, 21696);
     expect(host_end(), FILMDISK_REFUSED_DRAW_ABOVE_LIMIT, 0);
     put(DRAWS, 0, 21695);
     expect(host_end(), 0, 0);
     expect_slot(0, FILMDISK_PLAYING, 2, 502593);
+    expect(host_join(1, 0), 0, 0);
     expect_begun(host_begin(), 2, 20550 + 22270 + 2 * 12670 + RETURN);
     expect_fetch(0, 0, 1, 0);
     expect_fetch(1, 1, 0, 2);
@@ -162,22 +181,95 @@ static void floor_to_the_half_byte(void)
     expect_slot(1, FILMDISK_PLAYING, 2, BLOCK_BYTES + 778);
 }
 
-/* Each of two asked slots lifts the floor by 1637.5 bytes; a slot that waits does not stop a later one without a lead. */
-static void grants_in_slot_order(void)
+/*
+ * Slots 6, 4 and 5 asked in this order, the last without a lead; each of the others lifts the floor by 1637.5 bytes. They are served eldest
+ * first, and slot 5 with the one before it, never ahead of it.
+ */
+static void grants_in_the_order_they_asked(void)
 {
     static const uint32_t held[] = {BLOCK_BYTES + 1637, BLOCK_BYTES + 1638, BLOCK_BYTES + 3274, BLOCK_BYTES + 3275};
-    static const uint32_t granted[] = {0, 1, 1, 2};
+    static const uint32_t granted[] = {0, 1, 1, 3};
+    static const uint32_t slots[] = {6, 4, 5};
     for (size_t i = 0; i < COUNT(held); i++) {
+        uint32_t places[COUNT(slots)];
         bench_desk();
         put_slot(0, FILMDISK_PLAYING, 1, held[i]);
+        put_slot(6, FILMDISK_ASKED, 0, 0);
         put_slot(4, FILMDISK_ASKED, 0, 0);
-        put_slot(5, FILMDISK_ASKED, 0, 0);
-        put_slot(6, FILMDISK_ASKED, 3, 0);
+        put_slot(5, FILMDISK_ASKED, 3, 0);
         expect(host_begin(), 0, 0);
-        check(kind(4) == (granted[i] > 0 ? FILMDISK_FILLING : FILMDISK_ASKED), "slot 4 with %u held", held[i]);
-        check(kind(5) == (granted[i] > 1 ? FILMDISK_FILLING : FILMDISK_ASKED), "slot 5 with %u held", held[i]);
-        check(kind(6) == FILMDISK_FILLING, "slot 6 is granted");
+        for (uint32_t k = 0; k < COUNT(slots); k++) {
+            expect_slot(slots[k], k < granted[i] ? FILMDISK_FILLING : FILMDISK_ASKED, k == 2 ? 3 : 0, 0);
+            places[k] = k < granted[i] ? 0 : k + 1 - granted[i];
+        }
+        expect_places(slots, places, COUNT(slots));
     }
+}
+
+/* While one waits, slot 0 plays only with the eldest's lead added to the floor, whoever else asks: 1637.5 bytes of 6550, 777.5 of 3110. */
+static void play_with_the_eldests_lead(void)
+{
+    static const uint32_t blocks[] = {0, 2, 4, 5}, lifted[] = {1638, 778, 48, 0};
+    for (size_t i = 0; i < 2 * COUNT(blocks); i++) {
+        const uint32_t its_held = BLOCK_BYTES + lifted[i / 2] - i % 2;
+        bench_desk();
+        put_slot(0, FILMDISK_FILLING, 1, its_held);
+        put_slot(3, FILMDISK_ASKED, blocks[i / 2], 0);
+        put_slot(1, FILMDISK_ASKED, 0, 0);
+        put_slot(2, FILMDISK_ASKED, 1, 0);
+        expect(host_begin(), 0, 0);
+        expect_slot(0, i % 2 == 0 ? FILMDISK_PLAYING : FILMDISK_FILLING, 1, its_held);
+        expect_slot(3, FILMDISK_FILLING, blocks[i / 2], 0);
+    }
+    /* So too where the eldest has to wait on, for slot 4 plays and holds too little. */
+    bench_desk();
+    put_slot(4, FILMDISK_PLAYING, 1, BLOCK_BYTES);
+    put_slot(0, FILMDISK_FILLING, 3, BLOCK_BYTES);
+    put_slot(3, FILMDISK_ASKED, 0, 0);
+    expect(host_begin(), 0, 0);
+    expect_slot(0, FILMDISK_FILLING, 3, BLOCK_BYTES);
+    expect_slot(3, FILMDISK_ASKED, 0, 0);
+}
+
+/* A join is behind all that wait and changes its slot alone; a leave of one that waits moves up those behind it. */
+static void places_of_joins_and_leaves(void)
+{
+    static const uint32_t slots[] = {2, 5, 9, 15};
+    static const uint32_t joined[] = {4, 1, 3, 2}, left[4][4] = {{0, 1, 3, 2}, {3, 0, 2, 1}, {3, 1, 0, 2}, {3, 1, 2, 0}};
+    static const uint32_t order[] = {5, 15, 9, 2};
+    for (size_t i = 0; i < COUNT(slots); i++) {
+        uint32_t back[COUNT(slots)];
+        bench_desk();
+        put_slot(1, FILMDISK_PLAYING, 1, BLOCK_BYTES);
+        for (size_t k = 0; k < COUNT(order); k++)
+            expect(host_join(order[k], 0), 0, 0);
+        expect_places(slots, joined, COUNT(slots));
+        check(filmdisk_waiting(bytes_of(DESK)) == 4, "four wait, not %u", filmdisk_waiting(bytes_of(DESK)));
+        expect(host_leave(slots[i]), 0, 0);
+        expect_places(slots, left[i], COUNT(slots));
+        expect_slot(slots[i], FILMDISK_FREE, 0, 0);
+        expect(host_leave(1), 0, 0);
+        expect_places(slots, left[i], COUNT(slots));
+        expect(host_join(slots[i], 3), 0, 0);
+        memcpy(back, left[i], sizeof back);
+        back[i] = 4;
+        expect_places(slots, back, COUNT(slots));
+    }
+}
+
+/* An end moves nobody in the line, though a slot becomes free in it. */
+static void places_of_an_end(void)
+{
+    static const uint32_t slots[] = {3, 4}, places[] = {2, 1};
+    bench_desk();
+    put(DESK, FILMDISK_DESK_PHASE, FILMDISK_SWEEPING);
+    put_slot(4, FILMDISK_ASKED, 0, 0);
+    put_slot(3, FILMDISK_ASKED, 0, 0);
+    put_slot(2, FILMDISK_TAIL, BLOCKS, 5);
+    put(DRAWS, 2, 5);
+    expect(host_end(), 0, 0);
+    expect_slot(2, FILMDISK_FREE, 0, 0);
+    expect_places(slots, places, COUNT(slots));
 }
 
 /* A block is fetched where held + B is at most the buffer. */
@@ -627,6 +719,16 @@ static const struct unsound unsound[] = {
     {FILMDISK_DESK_HELD + 1, BUFFER + 1},    /* none above the buffer */
     {FILMDISK_DESK_HELD + 2, BLOCK_BYTES - 1}, /* playing holds the floor */
     {FILMDISK_DESK_NEXT + 1, 4},             /* a floor of 47.5 bytes more */
+    {FILMDISK_DESK_PLACES + 0, 0},           /* asked has a place */
+    {FILMDISK_DESK_PLACES + 0, 2},           /* 1 for the eldest */
+    {FILMDISK_DESK_PLACES + 0, 0x101},       /* the same */
+    {FILMDISK_DESK_PLACES + 0, 0xFFFFFFFFu}, /* the same */
+    {FILMDISK_DESK_PLACES + 1, 1},           /* filling has none */
+    {FILMDISK_DESK_PLACES + 2, 2},           /* playing has none */
+    {FILMDISK_DESK_PLACES + 3, 1},           /* a tail has none */
+    {FILMDISK_DESK_PLACES + 4, 2},           /* a free slot has none */
+    {FILMDISK_DESK_PLACES + STREAMS, 2},     /* slots from n on have none */
+    {FILMDISK_DESK_PLACES + 255, 1},         /* the same */
 };
 
 static void refusal_14_of_desks(void)
@@ -638,6 +740,53 @@ static void refusal_14_of_desks(void)
         put(DESK, unsound[i].word, unsound[i].value);
         expect_calls_refused(FILMDISK_REFUSED_NOT_SOUND);
     }
+}
+
+/* Places of three that wait: 1, 2 and 3, each once, in whatever order. */
+static void refusal_14_of_places(void)
+{
+    static const uint32_t values[] = {0, 1, 2, 3, 4, 0x102, 0xFFFFFFFFu};
+    bench_desk();
+    for (uint32_t slot = 0; slot < 3; slot++)
+        put_slot(slot, FILMDISK_ASKED, 0, 0);
+    for (size_t i = 0; i < COUNT(values) * COUNT(values) * COUNT(values); i++) {
+        const uint32_t places[] = {values[i % 7], values[i / 7 % 7], values[i / 49]};
+        unsigned met = 0;
+        for (uint32_t slot = 0; slot < 3; slot++) {
+            put(DESK, FILMDISK_DESK_PLACES + slot, places[slot]);
+            met |= places[slot] <= 4 ? 1u << places[slot] : 0;
+        }
+        if (met == 0xE)
+            expect(host_leave(3), FILMDISK_REFUSED_SLOT_STATE, 3);
+        else
+            expect_calls_refused(FILMDISK_REFUSED_NOT_SOUND);
+    }
+}
+
+/* All slots of a house wait, the last one the eldest: a place twice, or one too high, is found. */
+static void refusal_14_of_a_crowd(void)
+{
+    static const uint32_t house[] = {1, 2, 20, 3000, 20, 2000, 40, 1768000, 1000000, 500, 1000000};
+    open_desk(host_plan, house, COUNT(house));
+    for (uint32_t slot = FILMDISK_MAX_STREAMS; slot > 0; slot--)
+        put_slot(slot - 1, FILMDISK_ASKED, 0, 0);
+    check(filmdisk_waiting(bytes_of(DESK)) == 256 && place(0) == 256 && place(255) == 1, "256 wait");
+    for (uint32_t slot = 0; slot < FILMDISK_MAX_STREAMS; slot += 51) {
+        const uint32_t right = place(slot), others[] = {0, right + 1, right - 1, 257, 128};
+        for (size_t i = 0; i < COUNT(others); i++) {
+            put(DESK, FILMDISK_DESK_PLACES + slot, others[i]);
+            if (others[i] != right)
+                expect_calls_refused(FILMDISK_REFUSED_NOT_SOUND);
+        }
+        put(DESK, FILMDISK_DESK_PLACES + slot, right);
+    }
+    expect(host_leave(255), 0, 0);
+    check(place(254) == 1 && place(0) == 255, "those behind the eldest move up");
+    expect(host_join(255, 0), 0, 0);
+    check(place(255) == 256, "who comes back is the last");
+    filmdisk_answer begun = host_begin();
+    expect(begun, 0, 0);
+    check(begun.count == 256 && filmdisk_waiting(bytes_of(DESK)) == 0, "all are granted where none plays");
 }
 
 /* A record names the earliest worst pair: neither another pair as bad nor any other block makes a plan. */
@@ -675,6 +824,10 @@ static void refusal_14_of_desk_strings(void)
     }
     mixed_desk(FILMDISK_SWEEPING);
     resize(DESK, FILMDISK_DESK_BYTES + 1);
+    expect_calls_refused(FILMDISK_REFUSED_NOT_SOUND);
+    /* Versions 0.7.0 to 0.9.0 had no places. */
+    bench_desk();
+    resize(DESK, 4660);
     expect_calls_refused(FILMDISK_REFUSED_NOT_SOUND);
 }
 
@@ -810,8 +963,8 @@ static void sizes_and_offsets(void)
         {FILMDISK_PLAN_BUFFER, 391}, {FILMDISK_PLAN_WORST2, 392},      {FILMDISK_PLAN_MARGIN, 393},
         {FILMDISK_PLAN_SHOWING, 394}, {FILMDISK_PLAN_WORSTAT, 395},    {FILMDISK_PLAN_WORDS, 396},
         {FILMDISK_PLAN_BYTES, 1584}, {FILMDISK_DESK_PHASE, 396},       {FILMDISK_DESK_KINDS, 397},
-        {FILMDISK_DESK_NEXT, 653},   {FILMDISK_DESK_HELD, 909},        {FILMDISK_DESK_WORDS, 1165},
-        {FILMDISK_DESK_BYTES, 4660}, {FILMDISK_MAX_CARD_BYTES, 1489},
+        {FILMDISK_DESK_NEXT, 653},   {FILMDISK_DESK_HELD, 909},        {FILMDISK_DESK_PLACES, 1165},
+        {FILMDISK_DESK_WORDS, 1421}, {FILMDISK_DESK_BYTES, 5684},      {FILMDISK_MAX_CARD_BYTES, 1489},
         {FILMDISK_FETCH_POSITION, 0}, {FILMDISK_FETCH_SLOT, 1},        {FILMDISK_FETCH_BLOCK, 2},
         {FILMDISK_FETCH_BYTES, 12},  {FILMDISK_ENTRY_BYTES, 4},        {FILMDISK_ONCE, 0},
         {FILMDISK_LOOP, 1},
@@ -838,9 +991,11 @@ static void slots_and_fetches_by_the_header(void)
         put_bytes(DESK, 1588 + 4 * slot, 0x10);
         put_bytes(DESK, 2612 + 4 * slot, 0x20);
         put_bytes(DESK, 3636 + 4 * slot, 0x30);
+        put_bytes(DESK, 4660 + 4 * slot, 0x70);
         check(filmdisk_slot_kind(bytes_of(DESK), slot) == 0x13121110, "kind of slot %u", slot);
         check(filmdisk_slot_next(bytes_of(DESK), slot) == 0x23222120, "next of slot %u", slot);
         check(filmdisk_slot_held(bytes_of(DESK), slot) == 0x33323130, "held of slot %u", slot);
+        check(filmdisk_slot_place(bytes_of(DESK), slot) == 0x73727170, "place of slot %u", slot);
         put_bytes(FETCHES, 12 * slot, 0x40);
         put_bytes(FETCHES, 12 * slot + 4, 0x50);
         put_bytes(FETCHES, 12 * slot + 8, 0x60);
@@ -848,6 +1003,22 @@ static void slots_and_fetches_by_the_header(void)
         check(got.position == 0x43424140 && got.slot == 0x53525150 && got.block == 0x63626160, "fetch %u: %x, %x, %x", slot,
               got.position, got.slot, got.block);
     }
+}
+
+/* How many wait, of any desk: the slots of kind 1. */
+static void waiting_by_the_header(void)
+{
+    static const uint32_t slots[] = {0, 77, 255};
+    bench_desk();
+    for (uint32_t i = 0; i < COUNT(slots); i++) {
+        check(filmdisk_waiting(bytes_of(DESK)) == i, "expected %u, got %u", i, filmdisk_waiting(bytes_of(DESK)));
+        put(DESK, FILMDISK_DESK_KINDS + slots[i], FILMDISK_ASKED);
+        put(DESK, FILMDISK_DESK_NEXT + i, FILMDISK_ASKED);
+        put(DESK, FILMDISK_DESK_PLACES + i, FILMDISK_ASKED);
+    }
+    for (uint32_t slot = 0; slot < FILMDISK_MAX_STREAMS; slot++)
+        put(DESK, FILMDISK_DESK_KINDS + slot, FILMDISK_ASKED);
+    check(filmdisk_waiting(bytes_of(DESK)) == 256, "expected 256, got %u", filmdisk_waiting(bytes_of(DESK)));
 }
 
 /* c x bound / 1,000,000 rounded down for playing and tail slots, 0 for the others and for other strings; the products go beyond 32 bits. */
@@ -922,8 +1093,12 @@ static const test tests[] = {
     TEST(worst_pairs),
     TEST(opening),
     TEST(worked_desk),
+    TEST(worked_draws),
     TEST(floor_to_the_half_byte),
-    TEST(grants_in_slot_order),
+    TEST(grants_in_the_order_they_asked),
+    TEST(play_with_the_eldests_lead),
+    TEST(places_of_joins_and_leaves),
+    TEST(places_of_an_end),
     TEST(fetched_while_it_fits),
     TEST(an_evening),
     TEST(refusal_1),
@@ -946,6 +1121,8 @@ static const test tests[] = {
     TEST(refusal_14_of_lengths),
     TEST(refusal_14_of_half_dead_zone),
     TEST(refusal_14_of_desks),
+    TEST(refusal_14_of_places),
+    TEST(refusal_14_of_a_crowd),
     TEST(refusal_14_of_worst_pairs),
     TEST(refusal_14_of_desk_strings),
     TEST(refusal_15),
@@ -958,6 +1135,7 @@ static const test tests[] = {
     TEST(spare_bytes),
     TEST(sizes_and_offsets),
     TEST(slots_and_fetches_by_the_header),
+    TEST(waiting_by_the_header),
     TEST(draw_limits),
     TEST(draw_limits_of_a_sweep),
     TEST(a_meaning_for_each_number),

@@ -159,6 +159,11 @@ uint32_t held(uint32_t slot)
     return filmdisk_slot_held(bytes_of(DESK), slot);
 }
 
+uint32_t place(uint32_t slot)
+{
+    return filmdisk_slot_place(bytes_of(DESK), slot);
+}
+
 uint64_t draw_limit(uint32_t slot, uint32_t bound)
 {
     return filmdisk_draw_limit(LENT(DESK), slot, bound);
@@ -454,6 +459,7 @@ void expect_slot(uint32_t slot, uint32_t its_kind, uint32_t its_next, uint32_t i
     check(kind(slot) == its_kind && next(slot) == its_next && held(slot) == its_held,
           "slot %u: expected kind %u, next %u, held %u; got %u, %u, %u", slot, its_kind, its_next, its_held, kind(slot), next(slot),
           held(slot));
+    check((place(slot) != 0) == (its_kind == FILMDISK_ASKED), "slot %u: kind %u, place %u", slot, its_kind, place(slot));
 }
 
 void put_slot(uint32_t slot, uint32_t its_kind, uint32_t its_next, uint32_t its_held)
@@ -461,6 +467,19 @@ void put_slot(uint32_t slot, uint32_t its_kind, uint32_t its_next, uint32_t its_
     put(DESK, FILMDISK_DESK_KINDS + slot, its_kind);
     put(DESK, FILMDISK_DESK_NEXT + slot, its_next);
     put(DESK, FILMDISK_DESK_HELD + slot, its_held);
+    put(DESK, FILMDISK_DESK_PLACES + slot, its_kind == FILMDISK_ASKED ? filmdisk_waiting(bytes_of(DESK)) : 0);
+}
+
+void expect_places(const uint32_t *slots, const uint32_t *places, size_t count)
+{
+    uint32_t with_place = 0;
+    for (size_t i = 0; i < count; i++)
+        check(place(slots[i]) == places[i], "slot %u: expected place %u, got %u", slots[i], places[i], place(slots[i]));
+    for (uint32_t slot = 0; slot < FILMDISK_MAX_STREAMS; slot++)
+        with_place += place(slot) != 0;
+    for (size_t i = 0; i < count; i++)
+        with_place -= places[i] != 0;
+    check(with_place == 0, "%u other slots have a place", with_place);
 }
 
 void expect_begun(filmdisk_answer answer, uint32_t count, uint32_t bound)

@@ -45,6 +45,7 @@ uint8_t *lent_bytes(enum lent which);
 uint32_t kind(uint32_t slot);
 uint32_t next(uint32_t slot);
 uint32_t held(uint32_t slot);
+uint32_t place(uint32_t slot);
 uint64_t draw_limit(uint32_t slot, uint32_t bound);
 filmdisk_fetch fetch(size_t entry);
 
@@ -81,10 +82,16 @@ void expect(filmdisk_answer answer, uint32_t number, size_t place);
 void expect_window(filmdisk_window_answer answer, uint32_t time, uint32_t first, uint32_t bytes);
 void expect_no_window(filmdisk_window_answer answer, uint32_t number);
 
-/* Words of a string from its word `first` on; the words of a slot, and setting them. */
+/*
+ * Words of a string from its word `first` on; the words of a slot, and setting them. A slot has a place only if it asks: it is put behind
+ * all that do.
+ */
 void expect_words(enum lent which, size_t first, const uint32_t *words, size_t count);
 void expect_slot(uint32_t slot, uint32_t its_kind, uint32_t its_next, uint32_t its_held);
 void put_slot(uint32_t slot, uint32_t its_kind, uint32_t its_next, uint32_t its_held);
+
+/* The places of these slots, in the order of the slots; no other slot has one. */
+void expect_places(const uint32_t *slots, const uint32_t *places, size_t count);
 
 /* An accepted begin, and an entry of its fetches. */
 void expect_begun(filmdisk_answer answer, uint32_t count, uint32_t bound);

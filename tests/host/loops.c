@@ -188,6 +188,31 @@ static void floor_of_the_first_block(void)
     expect_begun(host_begin(), 1, 22270 + HOP + RETURN);
 }
 
+/* Screens of a loop are served in the order they asked; lead(0) and lead(2), of 5570 and 2130, lift the floor by 1392.5 and 532.5 bytes. */
+static void served_in_the_order_they_asked(void)
+{
+    static const uint32_t slots[] = {3, 7, 14};
+    static const struct {
+        uint32_t held, granted;
+    } cases[] = {{532, 0}, {533, 1}, {1924, 1}, {1925, 2}, {3317, 2}, {3318, 3}};
+    for (size_t i = 0; i < COUNT(cases); i++) {
+        uint32_t places[COUNT(slots)];
+        bench_loop();
+        put_slot(0, FILMDISK_PLAYING, 5, BLOCK_BYTES + cases[i].held);
+        expect(host_join(14, 2), 0, 0);
+        expect(host_join(3, 0), 0, 0);
+        expect(host_join(7, 0), 0, 0);
+        for (size_t k = 0; k < COUNT(slots); k++) {
+            const uint32_t asked = place(slots[k]);
+            places[k] = asked > cases[i].granted ? asked - cases[i].granted : 0;
+        }
+        expect(host_begin(), 0, 0);
+        expect_places(slots, places, COUNT(slots));
+        for (size_t k = 0; k < COUNT(slots); k++)
+            expect_slot(slots[k], places[k] == 0 ? FILMDISK_FILLING : FILMDISK_ASKED, slots[k] == 14 ? 2 : 0, 0);
+    }
+}
+
 /* Begins a sweep with so many fetches; afterwards both screens draw what they may. */
 static void begin_two(uint32_t count, uint32_t bound)
 {
@@ -346,6 +371,7 @@ static const test tests[] = {
     TEST(past_the_last_block),
     TEST(every_kind_goes_round),
     TEST(floor_of_the_first_block),
+    TEST(served_in_the_order_they_asked),
     TEST(loop_of_two_blocks),
     TEST(no_tail),
     TEST(no_block_after_the_last),

@@ -100,19 +100,27 @@ static void worked_desk(void)
     expect(host_end_scratch(), 0, 0);
     expect_slot(0, FILMDISK_FILLING, 1, 262144);
     expect(host_join_scratch(1, 0), 0, 0);
+    expect_begun(host_begin_scratch(), 2, 78330);
+    expect_fetch(0, 0, 1, 0);
+    expect_fetch(1, 5, 0, 1);
+    expect_slot(0, FILMDISK_FILLING, 1, 262144);
+    expect_slot(1, FILMDISK_FILLING, 0, 0);
+}
+
+/* The scope's draws, of slot 0 alone. */
+static void worked_draws(void)
+{
+    bench_desk();
+    expect(host_join_scratch(0, 0), 0, 0);
+    expect_begun(host_begin_scratch(), 1, 49940);
+    expect(host_end_scratch(), 0, 0);
     expect_begun(host_begin_scratch(), 1, 43390);
-    expect_fetch(0, 5, 0, 1);
     expect_slot(0, FILMDISK_PLAYING, 1, 262144);
-    expect_slot(1, FILMDISK_ASKED, 0, 0);
     put(DRAWS, 0, 21696);
     expect(host_end_scratch(), FILMDISK_REFUSED_DRAW_ABOVE_LIMIT, 0);
     put(DRAWS, 0, 21695);
     expect(host_end_scratch(), 0, 0);
     expect_slot(0, FILMDISK_PLAYING, 2, 502593);
-    expect_begun(host_begin_scratch(), 2, 20550 + 22270 + 2 * HOP + RETURN);
-    expect_fetch(0, 0, 1, 0);
-    expect_fetch(1, 1, 0, 2);
-    expect_slot(1, FILMDISK_FILLING, 0, 0);
 }
 
 /* The leads count, though no list has them: lead(2) of 3110 lifts the floor by 777.5 bytes. */
@@ -131,22 +139,51 @@ static void floor_to_the_half_byte(void)
     expect_slot(1, FILMDISK_PLAYING, 2, BLOCK_BYTES + 778);
 }
 
-/* Each of two asked slots lifts the floor by 1637.5 bytes; one without a lead is granted. */
+/* Slots 6, 4 and 5 asked in this order: the first two lift the floor by 1637.5 bytes each, the third has no lead and is never ahead. */
 static void grants_by_the_leads(void)
 {
     static const uint32_t held[] = {BLOCK_BYTES + 1637, BLOCK_BYTES + 1638, BLOCK_BYTES + 3274, BLOCK_BYTES + 3275};
-    static const uint32_t granted[] = {0, 1, 1, 2};
+    static const uint32_t granted[] = {0, 1, 1, 3};
+    static const uint32_t slots[] = {6, 4, 5};
     for (size_t i = 0; i < COUNT(held); i++) {
+        uint32_t places[COUNT(slots)];
         bench_desk();
         put_slot(0, FILMDISK_PLAYING, 1, held[i]);
-        put_slot(4, FILMDISK_ASKED, 0, 0);
-        put_slot(5, FILMDISK_ASKED, 0, 0);
-        put_slot(6, FILMDISK_ASKED, 3, 0);
+        for (uint32_t k = 0; k < COUNT(slots); k++) {
+            expect(host_join_scratch(slots[k], k == 2 ? 3 : 0), 0, 0);
+            places[k] = k < granted[i] ? 0 : k + 1 - granted[i];
+        }
         expect(host_begin_scratch(), 0, 0);
-        check(kind(4) == (granted[i] > 0 ? FILMDISK_FILLING : FILMDISK_ASKED), "slot 4 with %u held", held[i]);
-        check(kind(5) == (granted[i] > 1 ? FILMDISK_FILLING : FILMDISK_ASKED), "slot 5 with %u held", held[i]);
-        check(kind(6) == FILMDISK_FILLING, "slot 6 is granted");
+        expect_places(slots, places, COUNT(slots));
     }
+}
+
+/* A slot plays only with the eldest's lead added to the floor: 777.5 bytes of lead(2), though no list has it. */
+static void play_with_the_eldests_lead(void)
+{
+    for (uint32_t more = 777; more <= 778; more++) {
+        bench_desk();
+        put_slot(0, FILMDISK_FILLING, 1, BLOCK_BYTES + more);
+        put_slot(2, FILMDISK_ASKED, 2, 0);
+        put_slot(1, FILMDISK_ASKED, 0, 0);
+        expect(host_begin_scratch(), 0, 0);
+        expect_slot(0, more == 778 ? FILMDISK_PLAYING : FILMDISK_FILLING, 1, BLOCK_BYTES + more);
+    }
+}
+
+/* A leave moves up those behind it, and who comes back is the last. */
+static void places_of_joins_and_leaves(void)
+{
+    static const uint32_t slots[] = {1, 8, 12}, asked[] = {3, 1, 2}, left[] = {2, 0, 1}, back[] = {2, 3, 1};
+    bench_desk();
+    expect(host_join_scratch(8, 0), 0, 0);
+    expect(host_join_scratch(12, 0), 0, 0);
+    expect(host_join_scratch(1, 0), 0, 0);
+    expect_places(slots, asked, COUNT(slots));
+    expect(host_leave_scratch(8), 0, 0);
+    expect_places(slots, left, COUNT(slots));
+    expect(host_join_scratch(8, 5), 0, 0);
+    expect_places(slots, back, COUNT(slots));
 }
 
 /* Every screen draws all it may in a sweep with this bound. */
@@ -305,10 +342,10 @@ static void both_ways_on_one_desk(void)
     expect_begun(host_begin_scratch(), 1, 49940);
     expect(host_end(), 0, 0);
     expect(host_join_scratch(1, 0), 0, 0);
-    expect_begun(host_begin(), 1, 43390);
-    put(DRAWS, 0, 21695);
+    expect_begun(host_begin(), 2, 78330);
     expect(host_end_scratch(), 0, 0);
-    expect_slot(0, FILMDISK_PLAYING, 2, 502593);
+    expect_slot(0, FILMDISK_FILLING, 2, 2 * BLOCK_BYTES);
+    expect_slot(1, FILMDISK_FILLING, 1, BLOCK_BYTES);
     /* Leads that are another film's are 14 by list, and not asked for by scratch. */
     put(LEADS, 2, 3111);
     expect(host_leave(1), FILMDISK_REFUSED_NOT_SOUND, 0);
@@ -464,6 +501,7 @@ static void refusal_14(void)
         {FILMDISK_PLAN_WORST2, 37989},        {FILMDISK_PLAN_MARGIN, 6551},        {FILMDISK_PLAN_SHOWING, FILMDISK_LOOP},
         {FILMDISK_PLAN_SHOWING, 2},           {FILMDISK_PLAN_WORSTAT, 1},          {FILMDISK_DESK_PHASE, 2},
         {FILMDISK_DESK_KINDS, 5},             {FILMDISK_DESK_NEXT, 1},             {FILMDISK_DESK_HELD + 255, 1},
+        {FILMDISK_DESK_KINDS, FILMDISK_ASKED}, {FILMDISK_DESK_PLACES, 1},          {FILMDISK_DESK_PLACES + 255, 1},
     };
     for (size_t i = 0; i < COUNT(unsound); i++) {
         bench_desk();
@@ -527,8 +565,11 @@ static const test tests[] = {
     TEST(plan_of_the_bench_film),
     TEST(plans_as_with_the_list),
     TEST(worked_desk),
+    TEST(worked_draws),
     TEST(floor_to_the_half_byte),
     TEST(grants_by_the_leads),
+    TEST(play_with_the_eldests_lead),
+    TEST(places_of_joins_and_leaves),
     TEST(an_evening),
     TEST(a_lobby),
     TEST(calls_as_with_the_list),

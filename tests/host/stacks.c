@@ -124,6 +124,7 @@ static void stack_of_open(void)
     }
 }
 
+/* The slot that leaves has asked, and another is behind it. */
 static void stack_of_join_and_leave(void)
 {
     for (size_t i = 0; i < COUNT(planners); i++) {
@@ -131,10 +132,12 @@ static void stack_of_join_and_leave(void)
         expect(host_join(0, 0), 0, 0);
         expect(host_leave(0), 0, 0);
         expect_stack(call_join, FILMDISK_STACK_JOIN);
+        expect(host_join(1, 0), 0, 0);
         expect_stack(call_leave, FILMDISK_STACK_LEAVE);
     }
 }
 
+/* A slot fills and another asks. */
 static void stack_of_begin_and_end(void)
 {
     for (size_t i = 0; i < COUNT(planners); i++) {
@@ -142,6 +145,7 @@ static void stack_of_begin_and_end(void)
         expect(host_join(0, 0), 0, 0);
         expect(host_begin(), 0, 0);
         expect(host_end(), 0, 0);
+        expect(host_join(1, 0), 0, 0);
         expect_stack(call_begin, FILMDISK_STACK_BEGIN);
         expect_stack(call_end, FILMDISK_STACK_END);
     }
@@ -164,10 +168,11 @@ static void stack_of_desk_calls_by_scratch(void)
         expect(host_join_scratch(0, 0), 0, 0);
         expect(host_leave_scratch(0), 0, 0);
         expect_stack(call_join_scratch, FILMDISK_STACK_JOIN_SCRATCH);
+        expect(host_join_scratch(1, 0), 0, 0);
         expect_stack(call_leave_scratch, FILMDISK_STACK_LEAVE_SCRATCH);
-        expect(host_join_scratch(0, 0), 0, 0);
         expect(host_begin_scratch(), 0, 0);
         expect(host_end_scratch(), 0, 0);
+        expect(host_join_scratch(0, 0), 0, 0);
         expect_stack(call_begin_scratch, FILMDISK_STACK_BEGIN_SCRATCH);
         expect_stack(call_end_scratch, FILMDISK_STACK_END_SCRATCH);
     }

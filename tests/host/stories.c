@@ -58,12 +58,12 @@ static void leaves_in_mid_film(void)
     join_slot(3, 2);
     join_slot(4, 5);
     sweep(DRAW_ALL);
-    join_slot(1, 0);
-    join_slot(2, 0);
     sweep(DRAW_ALL);
     expect_kind(0, FILMDISK_PLAYING);
-    expect_kind(1, FILMDISK_ASKED);
     expect_kind(4, FILMDISK_TAIL);
+    join_slot(1, 0);
+    join_slot(2, 0);
+    expect_kind(1, FILMDISK_ASKED);
     leave_slot(1);
     leave_slot(0);
     leave_slot(4);
@@ -139,6 +139,106 @@ static void house_of_256_streams(void)
         if (kind(slot) == FILMDISK_FREE)
             join_slot(slot, slot % 40);
     sweep_to_the_end(DRAW_ALL, 1000);
+}
+
+/* Who waits. */
+
+/* All slots of the greatest house in step: after the third sweep each holds a block and the first slow one is two ahead. */
+static void fill_house(void)
+{
+    check(streams() == 256, "%u streams", streams());
+    for (uint32_t slot = 0; slot < 256; slot++)
+        join_slot(slot, 0);
+    for (unsigned i = 0; i < 3; i++)
+        check(sweep(DRAW_ALL) == 256, "sweep %u fetches for all", i);
+    for (uint32_t slot = 0; slot < 256; slot++)
+        expect_kind(slot, FILMDISK_PLAYING);
+}
+
+/* In a full house three leave and ask again in the same gap: the players have no room for the eldest, and none is served before it. */
+static void a_request_waits_one_sweep(void)
+{
+    static const uint32_t slots[] = {7, 31, 200}, places[] = {3, 2, 1}, none[] = {0, 0, 0};
+    for (unsigned looped = 0; looped < 2; looped++) {
+        (looped ? start_loop_story : start_story)(house, COUNT(house));
+        fill_house();
+        for (size_t i = 0; i < COUNT(slots); i++)
+            leave_slot(slots[i]);
+        for (size_t i = COUNT(slots); i > 0; i--)
+            join_slot(slots[i - 1], i == 2 ? 1 : 0);
+        expect_places(slots, places, COUNT(slots));
+        check(sweep(DRAW_ALL) == 253 && waiting() == 3, "three wait: %u", waiting());
+        expect_places(slots, places, COUNT(slots));
+        check(sweep(DRAW_ALL) == 256 && waiting() == 0, "all are granted: %u wait", waiting());
+        expect_places(slots, none, COUNT(slots));
+        check(longest_wait() == 1, "the eldest waited %u sweeps", longest_wait());
+    }
+}
+
+/* The eldest leaves while it waits: who asked next is the eldest from then on, and last is who comes back. */
+static void the_eldest_leaves(void)
+{
+    static const uint32_t slots[] = {0, 99, 255};
+    static const uint32_t asked[] = {3, 2, 1}, after[] = {2, 1, 0}, back[] = {2, 1, 3};
+    start_story(house, COUNT(house));
+    fill_house();
+    for (size_t i = COUNT(slots); i > 0; i--) {
+        leave_slot(slots[i - 1]);
+        join_slot(slots[i - 1], 0);
+    }
+    expect_places(slots, asked, COUNT(slots));
+    sweep(DRAW_ALL);
+    expect_places(slots, asked, COUNT(slots));
+    leave_slot(255);
+    expect_places(slots, after, COUNT(slots));
+    join_slot(255, 0);
+    expect_places(slots, back, COUNT(slots));
+    sweep(DRAW_ALL);
+    check(waiting() == 0, "%u wait", waiting());
+}
+
+/* A film whose first block alone is slow. */
+static const uint32_t slow_start[] = {1, 2, 1, 30000, 5, 20000, 6, BENCH_BYTES, 500000, 12670, 15000};
+
+/* Two low slots come and go at the quick blocks, one of them in each gap; a guest in the highest slot does not wait for them. */
+static void lower_slots_come_and_go(void)
+{
+    for (unsigned looped = 0; looped < 2; looped++) {
+        (looped ? start_loop_story : start_story)(slow_start, COUNT(slow_start));
+        uint32_t guest = streams() - 1;
+        join_slot(0, 1);
+        join_slot(1, 1);
+        sweep(DRAW_ALL);
+        join_slot(guest, 0);
+        for (uint32_t i = 0; i < 6; i++) {
+            leave_slot(i % 2);
+            join_slot(i % 2, 1);
+            sweep(DRAW_ALL);
+            check(kind(guest) != FILMDISK_ASKED, "sweep %u: the guest waits", i);
+        }
+        check(longest_wait() == 0, "the eldest waited %u sweeps", longest_wait());
+    }
+}
+
+/* Full houses in which many leave and ask again in each gap, once shown and looped. */
+static void zapping(void)
+{
+    for (unsigned looped = 0; looped < 2; looped++) {
+        (looped ? start_loop_story : start_story)(house, COUNT(house));
+        fill_house();
+        for (unsigned i = 0; i < 60; i++) {
+            for (uint32_t some = below(12); some > 0; some--) {
+                uint32_t slot = below(256);
+                if (kind(slot) != FILMDISK_FREE)
+                    leave_slot(slot);
+            }
+            for (uint32_t k = 0, first = below(256); k < 256; k++)
+                if (kind((first + k) % 256) == FILMDISK_FREE)
+                    join_slot((first + k) % 256, below(40));
+            sweep(i % 8 == 7 ? DRAW_SOME : DRAW_ALL);
+        }
+        check(longest_wait() == 1, "the eldest waited %u sweeps", longest_wait());
+    }
 }
 
 /* Loops. */
@@ -249,6 +349,7 @@ static void lobby_of_256_streams(void)
 static const test tests[] = {
     TEST(film_watched_to_its_end), TEST(end_of_a_long_film),      TEST(leaves_in_mid_film),
     TEST(full_buffers_without_fetch), TEST(film_ends_while_filling), TEST(house_of_256_streams),
+    TEST(a_request_waits_one_sweep), TEST(the_eldest_leaves), TEST(lower_slots_come_and_go), TEST(zapping),
     TEST(three_times_round), TEST(a_lobby), TEST(short_loops), TEST(round_a_long_film), TEST(lobby_of_256_streams),
 };
 

@@ -12,6 +12,10 @@ struct row {
 };
 
 static struct row book[SLOTS];
+
+/* The slots that have asked, eldest first; sweeps finished since the eldest became so, and the most of them before a grant. */
+static uint32_t line[SLOTS], line_length, finished, longest;
+
 /* The desk before a call, changed to what the rules make of it. */
 static uint8_t foreseen_desk[FILMDISK_DESK_BYTES];
 /* What the rules give: each slot's kind in the sweep, and whether a block is fetched for it. */
@@ -43,6 +47,16 @@ uint64_t drawn(uint32_t slot)
     return book[slot].drawn;
 }
 
+uint32_t waiting(void)
+{
+    return line_length;
+}
+
+uint32_t longest_wait(void)
+{
+    return longest;
+}
+
 unsigned audience(void)
 {
     unsigned count = 0;
@@ -51,16 +65,58 @@ unsigned audience(void)
     return count;
 }
 
-void start_story(const uint32_t *numbers, size_t count)
+static void start(planner *plan, const uint32_t *numbers, size_t count)
 {
     memset(book, 0, sizeof book);
-    open_desk(host_plan, numbers, count);
+    line_length = finished = longest = 0;
+    open_desk(plan, numbers, count);
+}
+
+void start_story(const uint32_t *numbers, size_t count)
+{
+    start(host_plan, numbers, count);
 }
 
 void start_loop_story(const uint32_t *numbers, size_t count)
 {
-    memset(book, 0, sizeof book);
-    open_desk(host_plan_loop, numbers, count);
+    start(host_plan_loop, numbers, count);
+}
+
+/* The line. */
+
+static void stand_in_line(uint32_t slot)
+{
+    if (line_length == 0)
+        finished = 0;
+    line[line_length++] = slot;
+}
+
+/* The slots of the line from `first` on move up by one. */
+static void move_up(uint32_t first)
+{
+    if (first == 0)
+        finished = 0;
+    line_length--;
+    for (uint32_t i = first; i < line_length; i++)
+        line[i] = line[i + 1];
+}
+
+static void leave_line(uint32_t slot)
+{
+    for (uint32_t i = 0; i < line_length; i++)
+        if (line[i] == slot)
+            move_up(i);
+}
+
+/* The most finished sweeps for which the eldest waits: the least number that, times what a sweep without it gains, covers the margin. */
+static uint32_t most_sweeps(void)
+{
+    uint32_t step = figure(FILMDISK_PLAN_TABLE + streams()) - figure(FILMDISK_PLAN_TABLE + streams() - 1);
+    uint64_t gain = figure(FILMDISK_PLAN_WORST2) + 2ull * step;
+    uint32_t sweeps = 0;
+    while (sweeps * gain < figure(FILMDISK_PLAN_MARGIN))
+        sweeps++;
+    return sweeps;
 }
 
 /* Joins and leaves. */
@@ -82,10 +138,20 @@ static void foresee_slot(uint32_t slot, uint32_t its_kind, uint32_t its_next, ui
     filmdisk_put_word(foreseen_desk, FILMDISK_DESK_HELD + slot, its_held);
 }
 
-/* The desk is the one before, but for the slot, which holds nothing and has these words. */
+/* Places are those of the line. */
+static void foresee_places(void)
+{
+    for (uint32_t slot = 0; slot < SLOTS; slot++)
+        filmdisk_put_word(foreseen_desk, FILMDISK_DESK_PLACES + slot, 0);
+    for (uint32_t i = 0; i < line_length; i++)
+        filmdisk_put_word(foreseen_desk, FILMDISK_DESK_PLACES + line[i], i + 1);
+}
+
+/* The desk is the one before, but for the slot, which holds nothing and has these words, and for the places of the line. */
 static void check_slot_alone(uint32_t slot, uint32_t its_kind, uint32_t its_next)
 {
     foresee_slot(slot, its_kind, its_next, 0);
+    foresee_places();
     check(is_foreseen(), "slot %u alone changes, to kind %u, next %u", slot, its_kind, its_next);
 }
 
@@ -93,6 +159,7 @@ void join_slot(uint32_t slot, uint32_t block)
 {
     save_desk();
     expect(host_join(slot, block), 0, 0);
+    stand_in_line(slot);
     check_slot_alone(slot, FILMDISK_ASKED, block);
     book[slot] = (struct row){.open = 1};
 }
@@ -101,6 +168,7 @@ void leave_slot(uint32_t slot)
 {
     save_desk();
     expect(host_leave(slot), 0, 0);
+    leave_line(slot);
     check_slot_alone(slot, FILMDISK_FREE, 0);
     book[slot].open = 0;
 }
@@ -129,17 +197,34 @@ static int all_playing_hold(uint64_t shares)
     return 1;
 }
 
+/* The floor with the lead of the eldest, if one waits. */
+static uint64_t floor_with_eldest(void)
+{
+    return floor_shares() + (line_length == 0 ? 0 : figure(FILMDISK_PLAN_RATE) * lead(line[0]));
+}
+
+/* Eldest first, none behind one that has to wait; who was the eldest for long enough does not. */
+static void foresee_grants(void)
+{
+    int is_due = line_length > 0 && finished >= most_sweeps();
+    uint32_t before = line_length;
+    while (line_length > 0 && all_playing_hold(floor_with_eldest())) {
+        kinds[line[0]] = FILMDISK_FILLING;
+        longest = finished > longest ? finished : longest;
+        move_up(0);
+    }
+    check(!is_due || line_length < before, "slot %u waits, the eldest for %u sweeps", line[0], finished);
+}
+
 static void foresee_kinds(void)
 {
     for (uint32_t slot = 0; slot < streams(); slot++)
         kinds[slot] = kind(slot);
-    uint64_t shares = floor_shares();
+    uint64_t shares = floor_with_eldest();
     for (uint32_t slot = 0; slot < streams(); slot++)
         if (kinds[slot] == FILMDISK_FILLING && SHARES * held(slot) >= shares)
             kinds[slot] = FILMDISK_PLAYING;
-    for (uint32_t slot = 0; slot < streams(); slot++)
-        if (kinds[slot] == FILMDISK_ASKED && all_playing_hold(floor_shares() + figure(FILMDISK_PLAN_RATE) * lead(slot)))
-            kinds[slot] = FILMDISK_FILLING;
+    foresee_grants();
 }
 
 static uint32_t time_at(uint32_t position)
@@ -181,10 +266,11 @@ static void check_entries(uint32_t count)
     }
 }
 
-/* The phase rises, kinds go by the rules, all else of the desk stays. */
+/* The phase rises, kinds and places go by the rules, all else of the desk stays. */
 static void check_begun_desk(void)
 {
     filmdisk_put_word(foreseen_desk, FILMDISK_DESK_PHASE, FILMDISK_SWEEPING);
+    foresee_places();
     for (uint32_t slot = 0; slot < streams(); slot++)
         filmdisk_put_word(foreseen_desk, FILMDISK_DESK_KINDS + slot, kinds[slot]);
     check(is_foreseen(), "the desk of the begin is the one by the rules");
@@ -274,6 +360,7 @@ static void end_sweep(void)
         foresee_end(slot);
     expect(host_end(), 0, 0);
     check(is_foreseen(), "the desk of the end is the one by the rules");
+    finished++;
     enter_end();
     check_book();
 }

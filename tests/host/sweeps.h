@@ -1,6 +1,6 @@
 /*
- * Sweeps of a desk with the scope's promises checked from the outside: what begin and end do by the rules, and a book of what each
- * slot was given and drew, which reads nothing of the desk.
+ * Sweeps of a desk with the scope's promises checked from the outside: what begin and end do by the rules, a book of what each slot was
+ * given and drew, and the line of those that wait; neither reads anything of the desk.
  */
 #ifndef SWEEPS_H
 #define SWEEPS_H
@@ -14,7 +14,7 @@ enum draw { DRAW_NOTHING, DRAW_ALL, DRAW_SOME };
 void start_story(const uint32_t *numbers, size_t count);
 void start_loop_story(const uint32_t *numbers, size_t count);
 
-/* A join or leave that is accepted; it changes its slot alone. */
+/* A join or leave that is accepted; it changes its slot alone, and a leave of one that asks the places behind it. */
 void join_slot(uint32_t slot, uint32_t block);
 void leave_slot(uint32_t slot);
 
@@ -33,5 +33,9 @@ uint32_t blocks(void);
 /* What the book has of a slot since it joined: blocks fetched, bytes drawn. */
 uint32_t fetched(uint32_t slot);
 uint64_t drawn(uint32_t slot);
+
+/* Slots that wait now, and the most finished sweeps for which any has waited as the eldest. */
+uint32_t waiting(void);
+uint32_t longest_wait(void);
 
 #endif

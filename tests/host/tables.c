@@ -172,9 +172,7 @@ static void bounds_by_the_table(void)
         expect(host_end(), 0, 0);
         for (uint32_t slot = 1; slot < 4; slot++)
             expect(host_join(slot, 1), 0, 0);
-        put(DESK, FILMDISK_DESK_KINDS, FILMDISK_ASKED);
-        put(DESK, FILMDISK_DESK_NEXT, 1);
-        put(DESK, FILMDISK_DESK_HELD, 0);
+        put_slot(0, FILMDISK_ASKED, 1, 0);
         expect_begun(host_begin(), 4, 4 * 15720 + 9016);
     }
 }
@@ -207,6 +205,50 @@ static void entries_above_the_streams(void)
     expect(host_join(0, 0), 0, 0);
     put(DESK, FILMDISK_PLAN_TABLE + 1, HOP + RETURN + 5);
     expect_begun(host_begin(), 1, 22270 + HOP + RETURN + 5);
+}
+
+/* A film of two blocks with three streams that just fit by its table: 3 x 50000 + 2 x 50000 half microseconds, at a byte in each. */
+static void open_tight(planner *plan)
+{
+    uint32_t numbers[9 + FILMDISK_OVERHEADS] = {2, 2, 1, 30000, 1, 20000, 2, 125000, 1000000};
+    for (uint32_t count = 0; count < FILMDISK_OVERHEADS; count++)
+        numbers[9 + count] = count < 3 ? 1000 * (count + 1) : 47000 + 1000 * count;
+    open_desk(plan, numbers, COUNT(numbers));
+    check(word(PLAN, FILMDISK_PLAN_STREAMS) == 3 && word(PLAN, FILMDISK_PLAN_MARGIN) == 10000, "three streams, not %u",
+          word(PLAN, FILMDISK_PLAN_STREAMS));
+}
+
+/* A sweep of so many blocks in which all draw what they may. */
+static void sweep_all(uint32_t count)
+{
+    filmdisk_answer begun = host_begin();
+    expect(begun, 0, 0);
+    check(begun.count == count, "expected %u blocks, got %u", count, begun.count);
+    for (uint32_t slot = 0; slot < 3; slot++) {
+        const uint64_t limit = draw_limit(slot, begun.bound);
+        put(DRAWS, slot, held(slot) < limit ? held(slot) : (uint32_t)limit);
+    }
+    expect(host_end(), 0, 0);
+}
+
+/* A full house, looped: after a third sweep for all three slots each holds just a block, and who leaves and asks again waits for one sweep. */
+static void waits_by_the_table(void)
+{
+    static const uint32_t slots[] = {0, 1, 2}, one[] = {1, 0, 0}, none[] = {0, 0, 0};
+    open_tight(host_plan_loop);
+    for (uint32_t slot = 0; slot < 3; slot++)
+        expect(host_join(slot, 0), 0, 0);
+    for (unsigned i = 0; i < 3; i++)
+        sweep_all(3);
+    expect_slot(1, FILMDISK_PLAYING, 1, 125000);
+    expect(host_leave(0), 0, 0);
+    expect(host_join(0, 0), 0, 0);
+    expect_places(slots, one, COUNT(slots));
+    sweep_all(2);
+    expect_places(slots, one, COUNT(slots));
+    sweep_all(3);
+    expect_places(slots, none, COUNT(slots));
+    expect_slot(0, FILMDISK_FILLING, 1, 125000);
 }
 
 /* Refusals of cards. */
@@ -416,6 +458,7 @@ static const test tests[] = {
     TEST(bounds_by_the_table),
     TEST(draws_by_the_table),
     TEST(entries_above_the_streams),
+    TEST(waits_by_the_table),
     TEST(refusal_25),
     TEST(order_of_the_faults),
     TEST(form_of_entries),

@@ -1,23 +1,28 @@
 -- The answers of an opening and of a move, a law for each way that their code can take: the rows of 01's table, then what an accepted call makes.
 -- Assumes nothing.
-use Prim.Native.Nat.{ℕ, _≤_, _<_}
+use Prim.Native.Nat.{ℕ, _+_, _≤_, _<_}
 use mathlib.Core.Path.{_≡_, refl, sym, ap, _∙_}
 use mathlib.Core.Logic.{_≢_, by-cases}
 use mathlib.Core.Bool.{Bool, true, false, cond}
-use mathlib.Core.List.{List}
+use mathlib.Core.List.{List, map}
 use native.Mathlib.Omega.{arith}
 use native.Mathlib.Decide.{decLt, ℕ-discrete}
-use lib.ListN.{getD, set, length-set}
+use lib.ListN.{length, getD, set, take, length-set}
 use lib.Dec.{eqb}
 use borrow.Author.Tests.{lt-ltb, le-ltb, eq-eqb, ne-eqb}
+use Rattle.laws.specs.Bools.{and-right}
+use Rattle.numbers.specs.Limits.{maxStreams}
 use Rattle.numbers.specs.Refusals.{notSound, wrongPhase, noSuchSlot, slotState, noSuchBlock}
 use Rattle.numbers.specs.Slots.{free, waiting, between}
 use Rattle.card.specs.declared.Verdict.{Verdict}
+use Rattle.legality.specs.Legality as legality
 use Rattle.plan.specs.declared.Plan.{Plan}
 use Rattle.plan.specs.Answer.{isPlan}
 use Rattle.rules.specs.Scheduler.{Call, join, leave, joined, left}
-use Rattle.rules.specs.Order.{bySlot}
+use Rattle.rules.specs.Order.{dropped, waitingCount, byPlace}
 use Rattle.turns.specs.ArrayLaws.{slots-set}
+use Rattle.turns.specs.Facts.{Sound, sound-says}
+use Rattle.turns.specs.Places.{places-say}
 use Rattle.rules.specs.Refusals as refusals
 use Rattle.rules.specs.Calls as calls
 use Rattle.turns.specs.Answers.{answer-accepted, answer-refused}
@@ -27,10 +32,14 @@ use Rattle.desk.specs.declared.Answer.{Answer}
 use Rattle.desk.specs.Desk.{supplyOf, rulesOf, orderOf, slotsIn, viewOf, deskOf, freshDesk, blankDesk, verdict, openDesk, answerOf, answered}
 use Rattle.desk.specs.View.{Wide, same-length, desk-of-view}
 use Rattle.desk.specs.Slots.{kind-in}
+use Rattle.desk.specs.Promise.{supply-named}
+use Rattle.desk.specs.Asked.{askedCount, asked-slots, asked-first}
 use Rattle.desk.specs.Records.{answers, withSlot}
 use Rattle.soundness.specs.Facts.{soundDesk}
+use Rattle.soundness.specs.Ready.{plan-streams, sound-plan}
 use Rattle.admission.specs.declared.Move.{Move}
 use Rattle.admission.specs.Moves.{callOf, moveDesk, kindAfter, nextAfter, stateVerdict, state-clear}
+use Rattle.admission.specs.Places.{placeAfter, placesWith, placesAfter, Placeless, Movable, with-unplaced, with-left, with-length}
 use Rattle.admission.specs.Refused.{refused-desk}
 
 -- ---- open
@@ -59,22 +68,24 @@ module _ (d : Desk) (w : Wide d) (ps ls : List ℕ) where
       ∙ λ t. record { verdict = verdict k i; desk = desk-of-view d w t }
 
   -- the record with a slot set, and its view
-  set-wide : (i k x : ℕ) → Wide (withSlot d i k x)
+  set-wide : (i k x : ℕ) (qs : List ℕ) → length qs ≡ maxStreams → Wide (withSlot d i k x qs)
   unfolding withSlot
-  set-wide i k x = record {
+  set-wide i k x qs l = record {
     kinds = length-set (d .kinds) i k ∙ w .kinds;
     next = length-set (d .next) i x ∙ w .next;
     held = length-set (d .held) i 0 ∙ w .held;
+    places = l;
   }
 
-  set-slots : (i k x : ℕ) → d .phase ≡ between
-      → deskOf (d .plan) (record { phase = between; slots = set (slotsIn d) i (record { kind = k; next = x; buffered = 0 }); queue = tt }) ≡ withSlot d i k x
+  set-slots : (i k x : ℕ) {qs rs : List ℕ} → qs ≡ rs → length qs ≡ maxStreams → d .phase ≡ between
+      → deskOf (d .plan) (record { phase = between; slots = set (slotsIn d) i (record { kind = k; next = x; buffered = 0 }); queue = rs })
+      ≡ withSlot d i k x qs
   unfolding withSlot viewOf
-  set-slots i k x e =
+  set-slots i k x {qs} q l e =
       let p = supplyOf (d .plan) in
       (λ t. deskOf (d .plan)
-      (record { phase = sym e t; slots = sym (slots-set p (d .kinds) (d .next) (d .held) (same-length d w) i k x 0) t; queue = tt }))
-      ∙ desk-of-view (withSlot d i k x) (set-wide i k x)
+      (record { phase = sym e t; slots = sym (slots-set p (d .kinds) (d .next) (d .held) (same-length d w) i k x 0) t; queue = sym q t }))
+      ∙ desk-of-view (withSlot d i k x qs) (set-wide i k x qs l)
 
   -- ---- 14
 
@@ -130,6 +141,31 @@ module _ (d : Desk) (w : Wide d) (ps ls : List ℕ) where
             go true = join-slot (supplyOf (d .plan)) (viewOf d) 0 (m .slot) (m .block) h l
             go false = leave-slot (supplyOf (d .plan)) (viewOf d) 0 (m .slot) h l
 
+  -- ---- the places of a sound record
+
+  module _ (s : soundDesk d ps ls ≡ true) where
+    is-sound : Sound (supplyOf (d .plan)) (orderOf (d .plan)) (viewOf d)
+    is-sound = let p = d .plan in sound-says (supplyOf p) (supply-named p) (orderOf p) (viewOf d) (and-right (isPlan p ps ls) _ s)
+
+    -- who does not ask has none
+    unplaced : (i : ℕ) → getD (d .kinds) i 0 ≢ waiting → getD (d .places) i 0 ≡ 0
+    unfolding viewOf byPlace
+    unplaced i n = places-say (supplyOf (d .plan)) (slotsIn d) (d .places) (is-sound .queue) .idle i (λ e. n (sym (kind-in d w i) ∙ e))
+
+    rest-unplaced : Placeless (d .plan .streams) (d .places)
+    unfolding viewOf supplyOf
+    rest-unplaced j l = unplaced j (λ e. omega (arith, kind-in d w j, is-sound .unused j l))
+
+    pub sound-movable : legality.Wide (d .plan .figures) → (m : Move) → m .slot < d .plan .streams → Movable d m
+    sound-movable z m l = record { few = plan-streams (d .plan) ps ls z (sound-plan d ps ls s); inside = l; rest = rest-unplaced }
+
+    -- how many ask
+    sound-count : askedCount (take (d .plan .streams) (d .kinds)) ≡ waitingCount (supplyOf (d .plan)) (slotsIn d)
+    unfolding viewOf supplyOf
+    sound-count =
+        let p = supplyOf (d .plan) in
+        asked-first p (d .plan .streams) (d .kinds) (d .next) (d .held) (is-sound .unused) ∙ sym (asked-slots p (d .kinds) (d .next) (d .held))
+
   -- past 14 to 16: 17, 18 or none of them
   module _ (s : soundDesk d ps ls ≡ true) (h : d .phase ≡ between) where
     abbrev state : Move → Verdict
@@ -137,7 +173,7 @@ module _ (d : Desk) (w : Wide d) (ps ls : List ℕ) where
 
     -- the desk that it leaves
     abbrev landed : Move → Desk
-    landed m = cond (eqb (state m .number) 0) (withSlot d (m .slot) (kindAfter m) (nextAfter m)) d
+    landed m = cond (eqb (state m .number) 0) (withSlot d (m .slot) (kindAfter m) (nextAfter m) (placesAfter d m)) d
 
     module _ (slot block : ℕ) (l : slot < d .plan .streams) where
       abbrev joins : Move
@@ -159,24 +195,31 @@ module _ (d : Desk) (w : Wide d) (ps ls : List ℕ) where
           row-refused joins noSuchBlock slot (omega arith) s
           (join-fault (supplyOf (d .plan)) (viewOf d) 0 slot block h l (kind-in d w slot ∙ k) (λ z. omega arith) ∙ ap (λ (n : ℕ). refuse n slot) f)
 
-      join-done : getD (d .kinds) slot 0 ≡ free → block < d .plan .figures .blocks → answers (withSlot d slot waiting block) 0 0 ≡ moveDesk d ps ls joins
-      unfolding moveDesk viewOf supplyOf answered calls.accepted joined bySlot
+      join-done : getD (d .kinds) slot 0 ≡ free → block < d .plan .figures .blocks
+          → answers (withSlot d slot waiting block (placesAfter d joins)) 0 0 ≡ moveDesk d ps ls joins
+      unfolding moveDesk viewOf supplyOf answered calls.accepted joined byPlace placeAfter
       join-done k b =
           let p = supplyOf (d .plan) in
           let f : p .fault block ≡ 0 = ap (λ (t : Bool). cond t 0 noSuchBlock) (lt-ltb block (d .plan .figures .blocks) b) in
           sym (ap (answered d) (accepted-is (join slot block) s (join-accepted p (viewOf d) 0 slot block h l (kind-in d w slot ∙ k) f))
-          ∙ λ t. record { verdict = verdict 0 0; desk = set-slots slot waiting block h t })
+          ∙ λ t. record { verdict = verdict 0 0; desk = set-slots slot waiting block placed (with-length (d .places) slot _ ∙ w .places) h t })
+        where
+          placed : placesWith (d .places) slot (askedCount (take (d .plan .streams) (d .kinds)) + 1)
+              ≡ set (d .places) slot (waitingCount (supplyOf (d .plan)) (slotsIn d) + 1)
+          placed =
+              with-unplaced (d .places) slot _ (unplaced s slot (λ e. omega arith))
+              ∙ ap (λ (n : ℕ). set (d .places) slot (n + 1)) (sound-count s)
 
       leave-vacant : getD (d .kinds) slot 0 ≡ free → answers d slotState slot ≡ moveDesk d ps ls leaves
       unfolding viewOf supplyOf
       leave-vacant k = row-refused leaves slotState slot (omega arith) s (leave-free (supplyOf (d .plan)) (viewOf d) 0 slot h l (kind-in d w slot ∙ k))
 
-      leave-done : getD (d .kinds) slot 0 ≢ free → answers (withSlot d slot free 0) 0 0 ≡ moveDesk d ps ls leaves
-      unfolding moveDesk viewOf supplyOf answered calls.accepted left bySlot
+      leave-done : getD (d .kinds) slot 0 ≢ free → answers (withSlot d slot free 0 (placesAfter d leaves)) 0 0 ≡ moveDesk d ps ls leaves
+      unfolding moveDesk viewOf supplyOf answered calls.accepted left byPlace placeAfter
       leave-done k =
           let p = supplyOf (d .plan) in
           sym (ap (answered d) (accepted-is (leave slot) s (leave-accepted p (viewOf d) 0 slot h l (λ e. k (sym (kind-in d w slot) ∙ e))))
-          ∙ λ t. record { verdict = verdict 0 0; desk = set-slots slot free 0 h t })
+          ∙ λ t. record { verdict = verdict 0 0; desk = set-slots slot free 0 (with-left (d .places) slot) (with-length (d .places) slot 0 ∙ w .places) h t })
 
       state-is : (t : Bool) → (let m : Move = record { joins = t; slot = slot; block = block } in
           answers (landed m) (state m .number) (state m .place) ≡ moveDesk d ps ls m)
@@ -203,11 +246,13 @@ module _ (d : Desk) (w : Wide d) (ps ls : List ℕ) where
     move-refused n = refused-desk d ps ls 0 (callOf m) w n
 
     pub move-made : moveDesk d ps ls m .verdict .number ≡ 0
-        → (soundDesk d ps ls ≡ true) × (m .slot < d .plan .streams) × (answers (withSlot d (m .slot) (kindAfter m) (nextAfter m)) 0 0 ≡ moveDesk d ps ls m)
+        → (soundDesk d ps ls ≡ true) × (m .slot < d .plan .streams)
+        × (answers (withSlot d (m .slot) (kindAfter m) (nextAfter m) (placesAfter d m)) 0 0 ≡ moveDesk d ps ls m)
     move-made z = go (soundDesk d ps ls) refl
       where
         Made : Type 0
-        Made = (soundDesk d ps ls ≡ true) × (m .slot < d .plan .streams) × (answers (withSlot d (m .slot) (kindAfter m) (nextAfter m)) 0 0 ≡ moveDesk d ps ls m)
+        Made = (soundDesk d ps ls ≡ true) × (m .slot < d .plan .streams)
+            × (answers (withSlot d (m .slot) (kindAfter m) (nextAfter m) (placesAfter d m)) 0 0 ≡ moveDesk d ps ls m)
 
         -- no row refuses it
         not : (k i : ℕ) → 0 < k → answers d k i ≡ moveDesk d ps ls m → Made

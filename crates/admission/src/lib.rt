@@ -7,6 +7,8 @@ use desk::blank_desk;
 use desk::fresh_desk;
 use desk::verdict;
 use desk::with_slot;
+use desk_columns::all_places;
+use desk_columns::asked_in;
 use desk_columns::blocks_in;
 use desk_columns::kind_in;
 use desk_columns::phase_in;
@@ -26,14 +28,18 @@ use plan::Plan;
 use plan::is_short;
 use soundness::is_sound;
 ghost use mathlib.Core.Path.{_≡_};
-ghost use Prim.Native.Nat.{_≤_};
+ghost use mathlib.Core.List.{map};
+ghost use Prim.Native.Nat.{_≤_, _<_};
 ghost use lib.ListN.{length};
+ghost use Rattle.numbers.specs.Limits.{maxStreams};
+ghost use Rattle.rules.specs.Order.{dropped};
 ghost use Rattle.plan.specs.Scratch.{leadsBy};
 ghost use Rattle.desk.specs.Desk.{openDesk, joinDesk, leaveDesk};
 ghost use Rattle.desk.specs.Scratch.{openScratch, joinScratch, leaveScratch};
 ghost use Rattle.words.specs.Words.{wordsOf};
 ghost use Rattle.desk_layout.specs.Layout.{deskIn, deskSize};
 ghost use Rattle.admission.specs.Moves.{joinOf, leaveOf, moveDesk, moveScratch, stateVerdict, kindAfter, nextAfter};
+ghost use Rattle.admission.specs.Places.{placeAfter, placesAfter, Placeless, Movable};
 
 // Opens a desk with its lists, or with a scratch in the lead list's place.
 fn opened(plan: Plan, positions: &[u8], leads: &[u8], listed: bool) -> Answer
@@ -111,6 +117,59 @@ pub fn next_after(step: Move) -> u32
     0
 }
 
+// The place that an accepted move gives its slot: a join stands behind all that ask, and who leaves has none.
+pub fn place_after(desk: &[u8], step: Move) -> u32
+    requires { ⌜ (deskSize ≤ length (now desk)) × (deskIn (wordsOf (now desk)) .plan .streams ≤ maxStreams) ⌝ }
+    ensures { λ r. ⌜ r ≡ placeAfter (deskIn (wordsOf (now (desk .entry)))) step ⌝ }
+{
+    if step.joins {
+        let asked = asked_in(desk, streams_in(desk) as usize);
+        return asked + 1;
+    }
+    0
+}
+
+// A place when the one at place `gone` no longer asks.
+pub fn lowered(place: u32, gone: u32) -> u32
+    ensures { λ r. ⌜ r ≡ dropped gone place ⌝ }
+{
+    if place == gone {
+        return 0;
+    }
+    if place > gone {
+        return place - 1;
+    }
+    place
+}
+
+// Lowers all places so, in place. The slots from `streams` on have none.
+fn lower_places(places: &mut [u32; 256], streams: usize, gone: u32)
+    requires { ⌜ (length (now places) ≡ maxStreams) × (streams ≤ maxStreams) × (0 < gone) × Placeless streams (now places) ⌝ }
+    ensures { λ _. ⌜ now (places .exit) ≡ map (dropped gone) (now (places .entry)) ⌝ }
+{
+    let mut i: usize = 0;
+    while i < streams {
+        places[i] = lowered(places[i], gone);
+        i += 1;
+    }
+}
+
+// The places of a desk after an accepted move: where the slot had one, later ones drop by one.
+pub fn places_after(desk: &[u8], step: Move) -> [u32; 256]
+    requires { ⌜ (deskSize ≤ length (now desk)) × Movable (deskIn (wordsOf (now desk))) step ⌝ }
+    ensures { λ r. ⌜ r ≡ placesAfter (deskIn (wordsOf (now (desk .entry)))) step ⌝ }
+{
+    let slot = step.slot as usize;
+    let mut places = all_places(desk);
+    let gone = places[slot];
+    places[slot] = place_after(desk, step);
+    if gone == 0 {
+        return places;
+    }
+    lower_places(&mut places, streams_in(desk) as usize, gone);
+    places
+}
+
 // What a move is refused for by the kind of its slot and by its block, of a film of so many: 17, 18, or 0.
 fn judge_state(kind: u32, blocks: u32, step: Move) -> Verdict
     ensures { λ r. ⌜ r ≡ stateVerdict kind blocks step ⌝ }
@@ -163,8 +222,9 @@ fn moved(desk: Desk, positions: &[u8], leads: &[u8], listed: bool, step: Move) -
         };
     }
     let slot = step.slot as usize;
+    let places = places_after(&string, step);
     answer_with(
-        with_slot(desk, slot, kind_after(step), next_after(step)),
+        with_slot(desk, slot, kind_after(step), next_after(step), places),
         ACCEPTED,
         0,
     )

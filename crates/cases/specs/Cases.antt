@@ -30,6 +30,7 @@ use Rattle.plan.specs.Answer.{planFault, refusal, planned}
 use Rattle.small_cards.specs.Cards.{smallCards}
 use Rattle.small_cards.specs.Computed.{how-many}
 use Rattle.cases.specs.Story.{Story, story}
+use Rattle.cases.specs.Asking.{Asking, asking}
 use Rattle.cases.specs.Bench.{entries, film, sixOnes, bench, alike, measured, late, level}
 
 -- what a listing prints of a refused card: the number and the offset
@@ -113,8 +114,9 @@ pub record Cases : Type 0 where
   pub level-last : streamsOf one (measured (level 268289) (film (2 ∷ []) (1000 ∷ []) 2 262144)) ≡ 255
   -- document 02: there are 1511 small cards (T13.4)
   pub small-cards : length smallCards ≡ 1511
-  -- the desk case
+  -- the desk case, and requests in the order they asked
   pub desk : Story
+  pub asking : Asking
 
 pub cases : Cases
 unfolding groupsFrom groups continuing joined judged numberIn numberAt first below above outside thenAbove thenBelow faultOf timeFault blocksFault onFault onNumber fieldAt blankZones blankTable blankFigures refusedCard thenField cardEnd rowFrom movesFrom entriesFrom tableFrom filmFrom zonesFrom readCard straightFrom straight tableNumbers filmNumbers zoneNumbers numbersOf bytesOf cardOf entries film late level totalPositions sumBy greatestOf greatest wordsOf zigzag worstTime round falls rank ring worstRound timeAt run span lead overhead load streams bufferOf slowest margin firstReaching earliestOf worstAt worst2Of worstAtOf streamsOf marginOf bufferSize planOf blankPlan row positionsOf leadsOf planFault refusal planned
@@ -154,4 +156,5 @@ cases = record {
   level-last = refl;
   small-cards = how-many;
   desk = story;
+  asking = asking;
 }

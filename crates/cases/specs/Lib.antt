@@ -1,3 +1,4 @@
 pub mod Bench
 pub mod Cases
 pub mod Story
+pub mod Asking

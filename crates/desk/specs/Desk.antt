@@ -14,7 +14,7 @@ use Rattle.plan.specs.Plan.{showingIn, worst2Of, overOf, filmOf, blankPlan}
 use Rattle.plan.specs.Answer.{isPlan}
 use Rattle.rules.specs.Supply.{Supply}
 use Rattle.rules.specs.Scheduler.{Slot, Entry, Call, join, leave, begin, end}
-use Rattle.rules.specs.Order.{Scheduler, Order, bySlot}
+use Rattle.rules.specs.Order.{Scheduler, Order, byPlace}
 use Rattle.rules.specs.Calls as C
 use Rattle.rules.specs.Arrays.{slotsOf}
 use Rattle.desk.specs.Supply.{Rates, supplied}
@@ -41,13 +41,13 @@ supplyOf p = supplied (filmOf (showingIn p) (p .figures)) (worst2Of (showingIn p
 
 -- ---- the order of granting, and the rules
 
--- what the desk keeps beside its slots for the order of granting: nothing
+-- what the desk keeps beside its slots for the order of granting: their places (document 02, ticket 5)
 abbrev pub Queue : Type 0
-Queue = Unit {0}
+Queue = List ℕ
 
--- `in slot order`
+-- `granted eldest first`
 abbrev pub orderOf : Plan → Order ℕ Queue
-orderOf p = bySlot (supplyOf p)
+orderOf p = byPlace (supplyOf p)
 
 -- the table of refusals
 abbrev pub rulesOf : Plan → C.Rules ℕ Queue (C.Given ℕ)
@@ -60,9 +60,9 @@ abbrev pub slotsIn : Desk → List (Slot ℕ)
 slotsIn d = slotsOf (supplyOf (d .plan)) (d .kinds) (d .next) (d .held)
 
 unfoldable pub viewOf : Desk → Scheduler ℕ Queue
-viewOf d = record { phase = d .phase; slots = slotsIn d; queue = tt }
+viewOf d = record { phase = d .phase; slots = slotsIn d; queue = d .places }
 
--- the record of a plan with the phase and the slots that the rules give
+-- the record of a plan with the phase, the slots and the places that the rules give
 unfoldable pub deskOf : Plan → Scheduler ℕ Queue → Desk
 deskOf p s = record {
   plan = p;
@@ -70,6 +70,7 @@ deskOf p s = record {
   kinds = map (λ x. x .kind) (s .slots);
   next = map (λ x. x .next) (s .slots);
   held = map (λ x. x .buffered) (s .slots);
+  places = s .queue;
 }
 
 -- ---- open
@@ -80,7 +81,7 @@ zeros = replicate maxStreams 0
 
 -- a desk of a plan, between sweeps, all slots free
 unfoldable pub freshDesk : Plan → Desk
-freshDesk p = record { plan = p; phase = 0; kinds = zeros; next = zeros; held = zeros }
+freshDesk p = record { plan = p; phase = 0; kinds = zeros; next = zeros; held = zeros; places = zeros }
 
 -- `the new desk all zero when refused`
 unfoldable pub blankDesk : Desk

@@ -1,3 +1,4 @@
+pub mod Asked
 pub mod Desk
 pub mod Entries
 pub mod FilmEnd

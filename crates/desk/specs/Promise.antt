@@ -17,7 +17,7 @@ use Rattle.plan.specs.Check.{showing-back}
 use Rattle.plan.specs.Promise.{promise}
 use Rattle.rules.specs.Supply.{Lawful, Named}
 use Rattle.turns.specs.Orderly.{Orderly}
-use Rattle.turns.specs.BySlot.{bySlot-orderly}
+use Rattle.turns.specs.ByPlace.{byPlace-orderly}
 use Rattle.desk.specs.Supply.{paced-lawful}
 use Rattle.desk.specs.Desk.{ratesOf, supplyOf, orderOf}
 
@@ -41,7 +41,7 @@ supply-named p = record {
 
 -- the order of granting is one that safety allows
 pub order-orderly : (p : Plan) → Orderly (supplyOf p) (orderOf p)
-order-orderly p = bySlot-orderly (supplyOf p)
+order-orderly p = byPlace-orderly (supplyOf p)
 
 -- THE PLANNER'S PROMISE: the supply of the plan of legal figures is lawful, in either showing (T7.9)
 pub plan-lawful : (x : Showing) (f : Figures) → Legal f → 0 < streamsOf x f → Lawful (supplyOf (planOf x f))

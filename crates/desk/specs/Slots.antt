@@ -1,4 +1,4 @@
--- A record's three arrays as its slots: loads and stores.
+-- A record's kinds, next blocks and held bytes as its slots: loads and stores.
 -- Assumes nothing.
 use Prim.Native.Nat.{ℕ, zero, suc}
 use mathlib.Core.Path.{_≡_, refl, sym, ap, _∙_}
@@ -11,14 +11,15 @@ use Rattle.turns.specs.ArrayLaws.{length-slots, slot-at}
 use Rattle.desk.specs.declared.Desk.{Desk}
 use Rattle.desk.specs.Desk.{supplyOf, slotsIn, viewOf, deskOf, zeros}
 use Rattle.desk.specs.View.{Wide, same-length, desk-of-view}
+use Rattle.desk.specs.Records.{recordOf}
 
 pub length-zeros : length zeros ≡ maxStreams
 unfolding zeros
 length-zeros = length-replicate {A = ℕ} maxStreams 0
 
--- the record with other slots
+-- the record with other slots, and its places
 abbrev pub withSlots : Desk → List (Slot ℕ) → Desk
-withSlots d ss = deskOf (d .plan) (record { phase = d .phase; slots = ss; queue = tt })
+withSlots d ss = deskOf (d .plan) (record { phase = d .phase; slots = ss; queue = d .places })
 
 pub length-in : (d : Desk) → Wide d → length (slotsIn d) ≡ maxStreams
 length-in d w = length-slots (supplyOf (d .plan)) (d .kinds) (d .next) (d .held) ∙ w .kinds
@@ -60,7 +61,7 @@ module _ (d : Desk) (ts : List (Slot ℕ)) (e : Desk) (q : e ≡ withSlots d ts)
 
   -- a store of all three
   pub store-slot : (v : Slot ℕ)
-      → record { plan = e .plan; phase = e .phase; kinds = set (e .kinds) i (v .kind); next = set (e .next) i (v .next); held = set (e .held) i (v .buffered) }
+      → recordOf (e .plan) (e .phase) (set (e .kinds) i (v .kind)) (set (e .next) i (v .next)) (set (e .held) i (v .buffered)) (e .places)
       ≡ withSlots d (set ts i v)
   unfolding deskOf
   store-slot v =
@@ -71,4 +72,5 @@ module _ (d : Desk) (ts : List (Slot ℕ)) (e : Desk) (q : e ≡ withSlots d ts)
         kinds = sym (map-set (λ s. s .kind) ts i v) j;
         next = sym (map-set (λ s. s .next) ts i v) j;
         held = sym (map-set (λ s. s .buffered) ts i v) j;
+        places = d .places;
       })

@@ -10,11 +10,12 @@ use Rattle.turns.specs.ArrayLaws.{SameLength, slots-back, kinds-of-slots, nexts
 use Rattle.desk.specs.declared.Desk.{Desk}
 use Rattle.desk.specs.Desk.{supplyOf, Queue, viewOf, deskOf}
 
--- a record's three arrays have 256 entries
+-- a record's arrays have 256 entries
 pub record Wide (d : Desk) : Type 0 where
   pub kinds : length (d .kinds) ≡ maxStreams
   pub next : length (d .next) ≡ maxStreams
   pub held : length (d .held) ≡ maxStreams
+  pub places : length (d .places) ≡ maxStreams
 
 pub same-length : (d : Desk) → Wide d → SameLength (supplyOf (d .plan)) (d .kinds) (d .next) (d .held)
 same-length d w = record { nexts = w .next ∙ sym (w .kinds); helds = w .held ∙ sym (w .kinds) }
@@ -31,6 +32,7 @@ desk-of-view d w =
       kinds = kinds-of-slots p (d .kinds) (d .next) (d .held) i;
       next = nexts-of-slots p (d .kinds) (d .next) (d .held) (l .nexts) i;
       held = helds-of-slots p (d .kinds) (d .next) (d .held) (l .helds) i;
+      places = d .places;
     }
 
 -- the next call sees what this one left

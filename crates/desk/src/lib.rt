@@ -18,6 +18,8 @@ pub struct Desk {
     pub next: [u32; 256],
     // The bytes that each slot holds.
     pub held: [u32; 256],
+    // The place of each asked slot, 1 for the eldest; of others 0.
+    pub places: [u32; 256],
 }
 
 // The answer of an opening, a join, a leave and an end.
@@ -66,6 +68,7 @@ pub fn fresh_desk(plan: Plan) -> Desk
         kinds: zeros(),
         next: zeros(),
         held: zeros(),
+        places: zeros(),
     }
 }
 
@@ -99,15 +102,16 @@ pub fn answer_with(desk: Desk, number: u32, place: usize) -> Answer
     }
 }
 
-// The desk in which slot i has a kind and a next block and holds nothing.
-pub fn with_slot(desk: Desk, i: usize, kind: u32, next: u32) -> Desk
+// The desk in which slot i has a kind and a next block and holds nothing, with these places.
+pub fn with_slot(desk: Desk, i: usize, kind: u32, next: u32, places: [u32; 256]) -> Desk
     requires { ⌜ i < 256 ⌝ }
-    ensures { λ r. ⌜ r ≡ withSlot desk i kind next ⌝ }
+    ensures { λ r. ⌜ r ≡ withSlot desk i kind next places ⌝ }
 {
     let mut d = desk;
     d.kinds[i] = kind;
     d.next[i] = next;
     d.held[i] = 0;
+    d.places = places;
     d
 }
 

@@ -1,5 +1,6 @@
-// A desk where it lies in a lent byte string: one reader for each number, and for each array one of an entry or of all.
+// A desk where it lies in a lent byte string: one reader for each number, and for each array one of an entry or of all; how many slots ask.
 use desk_layout::offsets;
+use numbers::slots::WAITING;
 use plan_layout::offsets as plan_offsets;
 use words::read_64;
 use words::read_256;
@@ -7,9 +8,13 @@ use words::read_257;
 use words::word_at;
 ghost use mathlib.Core.Path.{_≡_};
 ghost use Prim.Native.Nat.{_≤_, _<_};
-ghost use lib.ListN.{length, getD};
+ghost use lib.ListN.{length, getD, take};
+ghost use lib.Dec.{eqb};
+ghost use Rattle.laws.specs.Bools.{bit};
 ghost use Rattle.numbers.specs.Limits.{maxStreams};
+ghost use Rattle.numbers.specs.Slots.{waiting};
 ghost use Rattle.words.specs.Words.{wordsOf};
+ghost use Rattle.desk.specs.Asked.{askedCount};
 ghost use Rattle.desk_layout.specs.Layout.{deskIn, deskSize};
 
 // The zones of the disk.
@@ -108,6 +113,14 @@ pub fn held_in(desk: &[u8], i: usize) -> u32
     word_at(desk, offsets::HELD + i)
 }
 
+// The place of slot i.
+pub fn place_in(desk: &[u8], i: usize) -> u32
+    requires { ⌜ (i < maxStreams) × (deskSize ≤ length (now desk)) ⌝ }
+    ensures { λ r. ⌜ r ≡ getD (deskIn (wordsOf (now (desk .entry))) .places) i 0 ⌝ }
+{
+    word_at(desk, offsets::PLACES + i)
+}
+
 // The kinds of all slots.
 pub fn all_kinds(desk: &[u8]) -> [u32; 256]
     requires { ⌜ deskSize ≤ length (now desk) ⌝ }
@@ -130,6 +143,38 @@ pub fn all_held(desk: &[u8]) -> [u32; 256]
     ensures { λ r. ⌜ r ≡ deskIn (wordsOf (now (desk .entry))) .held ⌝ }
 {
     read_256(desk, offsets::HELD)
+}
+
+// The places of all slots.
+pub fn all_places(desk: &[u8]) -> [u32; 256]
+    requires { ⌜ deskSize ≤ length (now desk) ⌝ }
+    ensures { λ r. ⌜ r ≡ deskIn (wordsOf (now (desk .entry))) .places ⌝ }
+{
+    read_256(desk, offsets::PLACES)
+}
+
+// What a slot of this kind adds to the number that ask.
+fn asking(kind: u32) -> u32
+    ensures { λ r. ⌜ (r ≡ bit (eqb kind waiting)) × (r ≤ 1) ⌝ }
+{
+    if kind == WAITING {
+        return 1;
+    }
+    0
+}
+
+// How many of the first `streams` slots ask.
+pub fn asked_in(desk: &[u8], streams: usize) -> u32
+    requires { ⌜ (streams ≤ maxStreams) × (deskSize ≤ length (now desk)) ⌝ }
+    ensures { λ r. ⌜ (r ≡ askedCount (take streams (deskIn (wordsOf (now (desk .entry))) .kinds))) × (r ≤ streams) ⌝ }
+{
+    let mut asked: u32 = 0;
+    let mut i: usize = 0;
+    while i < streams {
+        asked += asking(kind_in(desk, i));
+        i += 1;
+    }
+    asked
 }
 
 // The positions of the zones.

@@ -12,18 +12,19 @@ use Rattle.plan_layout.specs.Layout.{planFields, planValues, planOfValues}
 
 abbrev pub slotFields : List Field
 slotFields =
-    -- phase; kinds, next blocks and held bytes
+    -- phase; kinds, next blocks, held bytes and places
     word
+    ∷ array maxStreams
     ∷ array maxStreams
     ∷ array maxStreams
     ∷ array maxStreams
     ∷ []
 
 abbrev pub slotValues : Desk → Values slotFields
-slotValues d = d .phase & d .kinds & d .next & d .held & tt
+slotValues d = d .phase & d .kinds & d .next & d .held & d .places & tt
 
 abbrev pub deskWith : Plan → Values slotFields → Desk
-deskWith p (phase, (kinds, (next, (held, end)))) = record { plan = p; phase = phase; kinds = kinds; next = next; held = held }
+deskWith p (phase, (kinds, (next, (held, (places, end))))) = record { plan = p; phase = phase; kinds = kinds; next = next; held = held; places = places }
 
 abbrev pub deskFields : List Field
 deskFields = planFields ++ slotFields
@@ -49,4 +50,8 @@ deskSize = 4 * deskWordCount
 
 -- with another phase and other kinds
 abbrev pub withKinds : Desk → ℕ → List ℕ → Desk
-withKinds d x ks = record { plan = d .plan; phase = x; kinds = ks; next = d .next; held = d .held }
+withKinds d x ks = record { plan = d .plan; phase = x; kinds = ks; next = d .next; held = d .held; places = d .places }
+
+-- with other places
+abbrev pub withPlaces : Desk → List ℕ → Desk
+withPlaces d qs = record { plan = d .plan; phase = d .phase; kinds = d .kinds; next = d .next; held = d .held; places = qs }

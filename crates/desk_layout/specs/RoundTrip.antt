@@ -29,6 +29,7 @@ pub record DeskSized (d : Desk) : Type 0 where
   pub kinds : length (d .kinds) ≡ maxStreams
   pub next : length (d .next) ≡ maxStreams
   pub held : length (d .held) ≡ maxStreams
+  pub places : length (d .places) ≡ maxStreams
 
 desk-table : (d : Desk) → DeskSized d → Sized deskFields (deskValues d)
 desk-table d z = omega arith

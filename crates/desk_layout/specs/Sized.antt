@@ -16,7 +16,7 @@ module _ (D : List ℕ) (h : deskSize ≤ length D) where
   sized-in = desk-sized (wordsOf D) (omega (arith, words-length D))
 
   pub wide-in : Wide (deskIn (wordsOf D))
-  wide-in = let z = sized-in in record { kinds = z .kinds; next = z .next; held = z .held }
+  wide-in = let z = sized-in in record { kinds = z .kinds; next = z .next; held = z .held; places = z .places }
 
   pub slim-in : legality.Wide (deskIn (wordsOf D) .plan .figures)
   slim-in = let z = sized-in .plan in (z .positions, z .times, z .table)

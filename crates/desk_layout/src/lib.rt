@@ -9,13 +9,13 @@ use words::write_256;
 use words::write_words;
 ghost use mathlib.Core.Path.{_≡_};
 ghost use Prim.Native.Nat.{_≤_, _<_};
-ghost use lib.ListN.{length};
+ghost use lib.ListN.{length, set};
 ghost use Rattle.numbers.specs.Limits.{maxStreams};
 ghost use Rattle.words.specs.Words.{wordsOf, withWords};
 ghost use Rattle.plan.specs.Plan.{lentPlan};
 ghost use Rattle.desk.specs.Desk.{freshDesk, blankDesk};
 ghost use Rattle.desk.specs.Records.{recordOf, withSlot};
-ghost use Rattle.desk_layout.specs.Layout.{deskWords, deskIn, deskSize, withKinds};
+ghost use Rattle.desk_layout.specs.Layout.{deskWords, deskIn, deskSize, withKinds, withPlaces};
 
 // Bytes of a desk.
 pub const DESK_BYTES: usize = 4 * offsets::DESK_WORDS;
@@ -45,14 +45,16 @@ pub fn clear_desk(list: &mut [u8])
     clear_words(list, 0, offsets::DESK_WORDS);
 }
 
-// Writes slot i of the desk at the front of a string: a kind, a next block and nothing held.
-pub fn put_slot(list: &mut [u8], i: usize, kind: u32, next: u32)
+// Writes slot i of the desk at the front of a string: a kind, a next block, nothing held, and a place.
+pub fn put_slot(list: &mut [u8], i: usize, kind: u32, next: u32, place: u32)
     requires { ⌜ (i < maxStreams) × (deskSize ≤ length (now list)) ⌝ }
-    ensures { λ _. ⌜ now (list .exit) ≡ withWords (now (list .entry)) 0 (deskWords (withSlot (deskIn (wordsOf (now (list .entry)))) i kind next)) ⌝ }
+    ensures { λ _. ⌜ (let d = deskIn (wordsOf (now (list .entry))) in
+        now (list .exit) ≡ withWords (now (list .entry)) 0 (deskWords (withSlot d i kind next (set (d .places) i place)))) ⌝ }
 {
     write_words(list, offsets::KINDS + i, &[kind]);
     write_words(list, offsets::NEXT + i, &[next]);
     write_words(list, offsets::HELD + i, &[0]);
+    write_words(list, offsets::PLACES + i, &[place]);
 }
 
 // Writes the phase and the kinds of the desk at the front of a string.
@@ -66,7 +68,7 @@ pub fn put_kinds(list: &mut [u8], phase: u32, kinds: &[u32; 256])
     write_256(list, offsets::KINDS, kinds);
 }
 
-// Writes the phase and all slots of the desk at the front of a string.
+// Writes the phase and all slots of the desk at the front of a string. Their places stay.
 pub fn put_slots<'a>(
     list: &mut [u8],
     phase: u32,
@@ -75,10 +77,20 @@ pub fn put_slots<'a>(
     held: &'a [u32; 256],
 )
     requires { ⌜ deskSize ≤ length (now list) ⌝ }
-    ensures { λ _. ⌜ now (list .exit) ≡ withWords (now (list .entry)) 0
-        (deskWords (recordOf (deskIn (wordsOf (now (list .entry))) .plan) phase (now (kinds .entry)) (now (next .entry)) (now (held .entry)))) ⌝ }
+    ensures { λ _. ⌜ (let d = deskIn (wordsOf (now (list .entry))) in now (list .exit) ≡ withWords (now (list .entry)) 0
+        (deskWords (recordOf (d .plan) phase (now (kinds .entry)) (now (next .entry)) (now (held .entry)) (d .places)))) ⌝ }
 {
     put_kinds(list, phase, kinds);
     write_256(list, offsets::NEXT, next);
     write_256(list, offsets::HELD, held);
+}
+
+// Writes the places of the desk at the front of a string.
+pub fn put_places(list: &mut [u8], places: &[u32; 256])
+    requires { ⌜ deskSize ≤ length (now list) ⌝ }
+    ensures { λ _. ⌜ (now (list .exit) ≡ withWords (now (list .entry)) 0
+        (deskWords (withPlaces (deskIn (wordsOf (now (list .entry)))) (now (places .entry)))))
+        × (length (now (places .entry)) ≡ maxStreams) ⌝ }
+{
+    write_256(list, offsets::PLACES, places);
 }

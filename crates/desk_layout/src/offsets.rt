@@ -10,7 +10,9 @@ pub const NEXT: usize = KINDS + MAX_STREAMS as usize;
 
 pub const HELD: usize = NEXT + MAX_STREAMS as usize;
 
-pub const DESK_WORDS: usize = HELD + MAX_STREAMS as usize;
+pub const PLACES: usize = HELD + MAX_STREAMS as usize;
+
+pub const DESK_WORDS: usize = PLACES + MAX_STREAMS as usize;
 
 // The words behind its plan.
 pub const SLOT_WORDS: usize = DESK_WORDS - PLAN_WORDS;

@@ -1,5 +1,6 @@
 // A desk that is handed over by value, as the byte string in which the calls read it.
 use desk::Desk;
+use desk_layout::put_places;
 use desk_layout::put_slots;
 use plan::numbers_in;
 use plan::scalars_in;
@@ -10,12 +11,12 @@ ghost use Rattle.words.specs.Words.{wordsOf};
 ghost use Rattle.desk_layout.specs.Layout.{deskIn, deskSize};
 
 // Room for a desk.
-fn blank() -> [u8; 4660] {
-    [0u8; 4660]
+fn blank() -> [u8; 5684] {
+    [0u8; 5684]
 }
 
 // The string that says a desk.
-pub fn string_of(desk: Desk) -> [u8; 4660]
+pub fn string_of(desk: Desk) -> [u8; 5684]
     ensures { λ r. ⌜ (deskIn (wordsOf r) ≡ desk) × (length r ≡ deskSize) ⌝ }
 {
     let mut string = blank();
@@ -30,5 +31,6 @@ pub fn string_of(desk: Desk) -> [u8; 4660]
         numbers,
     );
     put_slots(&mut string, desk.phase, &desk.kinds, &desk.next, &desk.held);
+    put_places(&mut string, &desk.places);
     string
 }

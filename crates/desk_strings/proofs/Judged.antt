@@ -9,7 +9,6 @@ use native.Mathlib.Omega.{arith}
 use mir.Syntax.{w8}
 use mir.Val.{Fits}
 use lib.ListN.{length, getD}
-use Rattle.numbers.specs.Limits.{maxStreams}
 use Rattle.numbers.specs.Refusals.{notSound}
 use Rattle.words.specs.Words.{wordsOf, withWords}
 use Rattle.words.specs.Laws.{bytes-fit}
@@ -20,10 +19,10 @@ use Rattle.desk.specs.declared.Answer.{Answer}
 use Rattle.desk.specs.View.{Wide}
 use Rattle.desk.specs.Records.{answers, withSlot}
 use Rattle.soundness.specs.Facts.{soundDesk}
-use Rattle.soundness.specs.Ready.{plan-streams, sound-plan}
 use Rattle.admission.specs.declared.Move.{Move}
 use Rattle.admission.specs.Moves.{moveDesk, kindAfter, nextAfter}
-use Rattle.admission.specs.Answers.{move-refused, move-made}
+use Rattle.admission.specs.Places.{placesAfter, Movable}
+use Rattle.admission.specs.Answers.{move-refused, move-made, sound-movable}
 use Rattle.layout.specs.declared.FilmdiskAnswer.{FilmdiskAnswer}
 use Rattle.layout.specs.Answers.{verdictAnswer}
 use Rattle.desk_layout.specs.Layout.{deskWords, deskIn, deskSize}
@@ -35,7 +34,7 @@ use Rattle.desk_strings.specs.Inner.{moveAnswer, moveString}
 -- ---- sizes
 
 pub wide-of : (d : Desk) → DeskSized d → Wide d
-wide-of d z = record { kinds = z .kinds; next = z .next; held = z .held }
+wide-of d z = record { kinds = z .kinds; next = z .next; held = z .held; places = z .places }
 
 pub slim-of : (d : Desk) → DeskSized d → legality.Wide (d .plan .figures)
 slim-of d z = (z .plan .positions, z .plan .times, z .plan .table)
@@ -88,23 +87,22 @@ module _ (ps ls : List ℕ) (m : Move) (D : List ℕ) (v : Verdict) (h : Judged 
 
   module _ (n : v .number ≡ 0) where
     abbrev made : (soundDesk (said D) ps ls ≡ true) × (m .slot < said D .plan .streams)
-        × (answers (withSlot (said D) (m .slot) (kindAfter m) (nextAfter m)) 0 0 ≡ moveDesk (said D) ps ls m)
+        × (answers (withSlot (said D) (m .slot) (kindAfter m) (nextAfter m) (placesAfter (said D) m)) 0 0 ≡ moveDesk (said D) ps ls m)
     made = move-made (said D) (wide-of (said D) sized) ps ls m (said-number _ D v h ∙ n)
 
-    -- a slot of a sound desk is one of its 256
-    pub move-room : (m .slot < maxStreams) × (deskSize ≤ length D)
-    move-room = (
-      omega (arith, made .1, plan-streams (said D .plan) ps ls (slim-of (said D) sized) (sound-plan (said D) ps ls (made .0))),
+    -- what its writing is told
+    pub move-told : (deskSize ≤ length D) × Movable (deskIn (wordsOf D)) m
+    unfolding said
+    move-told = (
       omega (arith, h .right),
+      sound-movable (said D) (wide-of (said D) sized) ps ls (made .0) (slim-of (said D) sized) m (made .1),
     )
 
-    pub move-put : (r : FilmdiskAnswer) (t : List ℕ) {k x : ℕ} → k ≡ kindAfter m → x ≡ nextAfter m → r ≡ verdictAnswer v
-        → t ≡ withWords D 0 (deskWords (withSlot (deskIn (wordsOf D)) (m .slot) k x)) → (r ≡ moveAnswer D ps ls m) × (t ≡ moveString D ps ls m)
+    pub move-put : (r : FilmdiskAnswer) (t : List ℕ) → r ≡ verdictAnswer v
+        → (let d = deskIn (wordsOf D) in t ≡ withWords D 0 (deskWords (withSlot d (m .slot) (kindAfter m) (nextAfter m) (placesAfter d m))))
+        → (r ≡ moveAnswer D ps ls m) × (t ≡ moveString D ps ls m)
     unfolding moveAnswer moveString said
-    move-put r t a b q e = (
+    move-put r t q e = (
       q ∙ judged-answer _ D v h,
-      written-string _ D v h t
-          (e
-          ∙ (λ i. withWords D 0 (deskWords (withSlot (deskIn (wordsOf D)) (m .slot) (a i) (b i))))
-          ∙ ap (λ (y : Answer). withWords D 0 (deskWords (y .desk))) (made .2)),
+      written-string _ D v h t (e ∙ ap (λ (y : Answer). withWords D 0 (deskWords (y .desk))) (made .2)),
     )

@@ -1,3 +1,5 @@
 pub mod Judged
+pub mod Lowered
 pub mod Opens
 pub mod Sweeps
+pub mod Written

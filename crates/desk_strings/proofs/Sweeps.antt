@@ -28,7 +28,7 @@ use Rattle.scheduler.specs.Count.{begin-few}
 use Rattle.scheduler.specs.Ways.{begin-refused, begin-swept, HasEnded, end-turned-down, end-accepted}
 use Rattle.layout.specs.declared.FilmdiskAnswer.{FilmdiskAnswer}
 use Rattle.layout.specs.Answers.{verdictAnswer}
-use Rattle.desk_layout.specs.Layout.{deskWords, deskIn, deskSize, withKinds}
+use Rattle.desk_layout.specs.Layout.{deskWords, deskIn, deskSize, withKinds, withPlaces}
 use Rattle.entry_layout.specs.Entries.{rows, rows-of}
 use Rattle.desk_layout.specs.RoundTrip.{DeskSized}
 use Rattle.card.specs.declared.Verdict.{Verdict}
@@ -108,7 +108,7 @@ module _ (ps ls D F : List ℕ) where
           ap (begunOf (said D)) swept-said ∙ begin-swept (said D) (wide-of (said D) sized) (slim-of (said D) sized) ps ls room (said-number _ D _ h ∙ n)
 
       pub begin-put : (r : FilmdiskAnswer) (t u : List ℕ)
-          → (r ≡ sweptAnswer s) × (t ≡ withWords D 0 (deskWords (withKinds (deskIn (wordsOf D)) sweeping (s .kinds))))
+          → (r ≡ sweptAnswer s) × (t ≡ withWords D 0 (deskWords (withPlaces (withKinds (deskIn (wordsOf D)) sweeping (s .kinds)) (s .places))))
           × (u ≡ withWords F 0 (rows 0 (s .fetches .count) (s .fetches)))
           → (r ≡ beginAnswer D ps ls F) × (t ≡ beginString D ps ls F) × (u ≡ fetchString D ps ls F)
       unfolding beginAnswer beginString begunAnswer begunOf said sweptOf beginDesk fetchListAfter
@@ -147,8 +147,10 @@ module _ (ps ls draws D : List ℕ) (v : Verdict) (h : Judged (λ (x : Desk). en
     end-told = record { kinds = refl; next = refl; held = refl; wide = wide; ready = ended .ready; drawn = ended .drawn }
 
     pub end-put : (r : FilmdiskAnswer) (t ks xs hs : List ℕ) → r ≡ verdictAnswer v
-        → (let d = deskIn (wordsOf D) in recordOf (d .plan) (d .phase) ks xs hs ≡ withSlots d (S.ended (supplyOf (d .plan)) (slotsIn d) (wordsOf draws)))
-        → t ≡ withWords D 0 (deskWords (recordOf (deskIn (wordsOf D) .plan) between ks xs hs)) → (r ≡ endAnswer D ps ls draws) × (t ≡ endString D ps ls draws)
+        → (let d = deskIn (wordsOf D) in
+        recordOf (d .plan) (d .phase) ks xs hs (d .places) ≡ withSlots d (S.ended (supplyOf (d .plan)) (slotsIn d) (wordsOf draws)))
+        → (let d = deskIn (wordsOf D) in t ≡ withWords D 0 (deskWords (recordOf (d .plan) between ks xs hs (d .places))))
+        → (r ≡ endAnswer D ps ls draws) × (t ≡ endString D ps ls draws)
     unfolding endAnswer endString said
     end-put r t ks xs hs q e w = (
       q ∙ judged-answer _ D v h,

@@ -28,7 +28,7 @@ module _ (D : List ℕ) where
     said-sized = desk-sized (wordsOf D) enough
 
     pub said-wide : Wide (said D)
-    said-wide = let s = said-sized in record { kinds = s .kinds; next = s .next; held = s .held }
+    said-wide = let s = said-sized in record { kinds = s .kinds; next = s .next; held = s .held; places = s .places }
 
     pub right-answer : (a : FilmdiskAnswer) → answerBy D a ≡ a
     unfolding answerBy

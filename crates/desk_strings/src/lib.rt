@@ -6,16 +6,22 @@ use admission::join_of;
 use admission::judge_move;
 use admission::kind_after;
 use admission::leave_of;
+use admission::lowered;
 use admission::next_after;
+use admission::place_after;
 use card::Verdict;
 use desk_columns::all_held;
 use desk_columns::all_kinds;
 use desk_columns::all_next;
 use desk_columns::kind_in;
+use desk_columns::place_in;
 use desk_columns::rate_in;
+use desk_columns::streams_in;
 use desk_layout::DESK_BYTES;
 use desk_layout::clear_desk;
+use desk_layout::offsets;
 use desk_layout::put_kinds;
+use desk_layout::put_places;
 use desk_layout::put_slot;
 use desk_layout::put_slots;
 use desk_layout::write_fresh;
@@ -40,15 +46,22 @@ use plan_layout::times_at;
 use scheduler::judge_begin;
 use scheduler::judge_end;
 use sweep::Swept;
+use words::put_word;
 ghost use mathlib.Core.Path.{_≡_};
-ghost use Prim.Native.Nat.{_≤_};
+ghost use mathlib.Core.List.{map};
+ghost use Prim.Native.Nat.{_≤_, _<_};
 ghost use lib.ListN.{length};
+ghost use Rattle.numbers.specs.Limits.{maxStreams};
 ghost use Rattle.numbers.specs.Refusals.{notSound};
 ghost use Rattle.numbers.specs.Slots.{sweeping};
 ghost use Rattle.words.specs.Words.{wordsOf, withWords};
+ghost use Rattle.rules.specs.Order.{dropped};
 ghost use Rattle.desk.specs.Desk.{blankDesk};
+ghost use Rattle.desk.specs.Records.{withSlot};
+ghost use Rattle.admission.specs.Moves.{kindAfter, nextAfter};
+ghost use Rattle.admission.specs.Places.{placesAfter, Placeless, Movable};
 ghost use Rattle.plan_layout.specs.Layout.{planSize};
-ghost use Rattle.desk_layout.specs.Layout.{deskWords, deskIn, deskSize, withKinds};
+ghost use Rattle.desk_layout.specs.Layout.{deskWords, deskIn, deskSize, withKinds, withPlaces};
 ghost use Rattle.entry_layout.specs.Entries.{rows};
 ghost use Rattle.desk_strings.specs.Calls.{refusedBy, stringBy, openAnswer, openString, joinAnswer, joinString, leaveAnswer, leaveString};
 ghost use Rattle.desk_strings.specs.Calls.{beginAnswer, beginString, fetchString, endAnswer, endString, drawLimitOf};
@@ -138,7 +151,40 @@ pub fn open(plan: &[u8], positions: &[u8], leads: &[u8], desk: &mut [u8]) -> Fil
     open_by(plan, positions, leads, true, desk)
 }
 
-// Makes a move: 14 to 18. A refused one writes nothing, another its slot alone.
+// Lowers the places of a desk string when the one at place `gone` no longer asks. The slots from `streams` on have none.
+fn lower_places(desk: &mut [u8], streams: usize, gone: u32)
+    requires { ⌜ (deskSize ≤ length (now desk)) × (streams ≤ maxStreams) × (0 < gone) × Placeless streams (deskIn (wordsOf (now desk)) .places) ⌝ }
+    ensures { λ _. ⌜ (let d = deskIn (wordsOf (now (desk .entry))) in now (desk .exit) ≡ withWords (now (desk .entry)) 0
+        (deskWords (withPlaces d (map (dropped gone) (d .places))))) ⌝ }
+{
+    let mut i: usize = 0;
+    while i < streams {
+        let place = place_in(desk, i);
+        put_word(desk, offsets::PLACES + i, lowered(place, gone));
+        i += 1;
+    }
+}
+
+// Writes an accepted move: its slot, and all places where one that asked leaves.
+fn write_move(desk: &mut [u8], step: Move)
+    requires { ⌜ (deskSize ≤ length (now desk)) × Movable (deskIn (wordsOf (now desk))) step ⌝ }
+    ensures { λ _. ⌜ (let d = deskIn (wordsOf (now (desk .entry))) in now (desk .exit) ≡ withWords (now (desk .entry)) 0
+        (deskWords (withSlot d (step .slot) (kindAfter step) (nextAfter step) (placesAfter d step)))) ⌝ }
+{
+    let slot = step.slot as usize;
+    let kind = kind_after(step);
+    let next = next_after(step);
+    let streams = streams_in(desk) as usize;
+    let gone = place_in(desk, slot);
+    let place = place_after(desk, step);
+    put_slot(desk, slot, kind, next, place);
+    if gone == 0 {
+        return;
+    }
+    lower_places(desk, streams, gone);
+}
+
+// Makes a move: 14 to 18. A refused one writes nothing.
 pub fn make_move(
     desk: &mut [u8],
     positions: &[u8],
@@ -157,12 +203,11 @@ pub fn make_move(
     if judged.number != ACCEPTED {
         return verdict_answer(judged);
     }
-    let slot = step.slot as usize;
-    put_slot(desk, slot, kind_after(step), next_after(step));
+    write_move(desk, step);
     verdict_answer(judged)
 }
 
-// A free slot becomes asked: 14 to 18. A refused call writes nothing, another its slot alone.
+// A free slot becomes asked, behind all that ask: 14 to 18. A refused call writes nothing, another its slot alone.
 pub fn join(
     desk: &mut [u8],
     positions: &[u8],
@@ -176,7 +221,7 @@ pub fn join(
     make_move(desk, positions, leads, true, join_of(slot, block))
 }
 
-// An occupied slot becomes free: 14 to 17. A refused call writes nothing, another its slot alone.
+// An occupied slot becomes free: 14 to 17. A refused call writes nothing, another its slot, and where that one asked the places of all.
 pub fn leave(desk: &mut [u8], positions: &[u8], leads: &[u8], slot: u32) -> FilmdiskAnswer
     ensures { λ r. ⌜ (r ≡ leaveAnswer (now (desk .entry)) (now (positions .entry)) (now (leads .entry)) slot)
         × (now (desk .exit) ≡ leaveString (now (desk .entry)) (now (positions .entry)) (now (leads .entry)) slot) ⌝ }
@@ -184,11 +229,12 @@ pub fn leave(desk: &mut [u8], positions: &[u8], leads: &[u8], slot: u32) -> Film
     make_move(desk, positions, leads, true, leave_of(slot))
 }
 
-// Writes what an accepted begin changes: the fetches, the phase and the kinds.
+// Writes what an accepted begin changes: the fetches, the phase, the kinds and the places.
 fn write_begun(desk: &mut [u8], fetches: &mut [u8], swept: Swept) -> FilmdiskAnswer
     requires { ⌜ FetchesFit (swept .fetches .count) (now fetches) × (deskSize ≤ length (now desk)) ⌝ }
     ensures { λ r. ⌜ (r ≡ sweptAnswer swept)
-        × (now (desk .exit) ≡ withWords (now (desk .entry)) 0 (deskWords (withKinds (deskIn (wordsOf (now (desk .entry)))) sweeping (swept .kinds))))
+        × (now (desk .exit) ≡ withWords (now (desk .entry)) 0
+        (deskWords (withPlaces (withKinds (deskIn (wordsOf (now (desk .entry)))) sweeping (swept .kinds)) (swept .places))))
         × (now (fetches .exit) ≡ withWords (now (fetches .entry)) 0 (rows 0 (swept .fetches .count) (swept .fetches))) ⌝ }
 {
     let list = swept.fetches;
@@ -200,6 +246,7 @@ fn write_begun(desk: &mut [u8], fetches: &mut [u8], swept: Swept) -> FilmdiskAns
         fetches,
     );
     put_kinds(desk, SWEEPING, &swept.kinds);
+    put_places(desk, &swept.places);
     let verdict = swept.verdict;
     FilmdiskAnswer {
         number: verdict.number,

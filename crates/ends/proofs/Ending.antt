@@ -30,6 +30,7 @@ use Rattle.desk.specs.declared.Desk.{Desk}
 use Rattle.desk.specs.Desk.{supplyOf, slotsIn, viewOf}
 use Rattle.desk.specs.View.{Wide}
 use Rattle.desk.specs.Ready.{Ready, ready-lawful, room-left}
+use Rattle.desk.specs.Records.{recordOf}
 use Rattle.desk.specs.Slots.{withSlots, length-in, load-kind, load-next, load-held, store-slot, with-own}
 use Rattle.ends.specs.declared.Slot.{Slot}
 use Rattle.ends.specs.Ends.{Drawn, Continues, slotIn, Fair}
@@ -173,13 +174,7 @@ module _ (d : Desk) (w : Wide d) (r : Ready d) (ds : List ℕ) (o : Drawn d ds) 
   pub ends-turn : (draw : ℕ) → draw ≡ getD ds i 0 → (after : Slot)
       → ((p : Supply ℕ) → Continues p (showingIn (d .plan)) (d .plan .figures .blocks) (d .plan .figures .bytes) (d .plan .buffer - d .plan .figures .bytes)
       → slotIn after ≡ endedSlot p (slotIn (slotAt e i)) draw)
-      → record {
-        plan = e .plan;
-        phase = e .phase;
-        kinds = set (e .kinds) i (after .kind);
-        next = set (e .next) i (after .next);
-        held = set (e .held) i (after .held);
-      }
+      → recordOf (e .plan) (e .phase) (set (e .kinds) i (after .kind)) (set (e .next) i (after .next)) (set (e .held) i (after .held)) (e .places)
       ≡ endedUpTo d ds (i + 1)
   unfolding endedUpTo
   ends-turn draw g after h =

@@ -126,7 +126,7 @@ pub fn end_slots(
 )
     requires { ⌜ (deskSize ≤ length (now desk)) × Ends (deskIn (wordsOf (now desk))) (now kinds) (now next) (now held) (wordsOf (now draws)) ⌝ }
     ensures { λ _. ⌜ (let d = deskIn (wordsOf (now (desk .entry))) in
-        recordOf (d .plan) (d .phase) (now (kinds .exit)) (now (next .exit)) (now (held .exit))
+        recordOf (d .plan) (d .phase) (now (kinds .exit)) (now (next .exit)) (now (held .exit)) (d .places)
         ≡ withSlots d (ended (supplyOf (d .plan)) (slotsIn d) (wordsOf (now (draws .entry))))) ⌝ }
 {
     let showing = showing_in(desk);

@@ -1,16 +1,17 @@
 -- Laws of records in words, for every table: what is packed is unpacked and what is unpacked is packed; the fields one by one; a part of the
 -- fields that is written alone.
 -- Assumes nothing.
-use Prim.Native.Nat.{ℕ, zero, suc, _+_, _≤_, _<_}
+use Prim.Native.Nat.{ℕ, zero, suc, _+_, _*_, _≤_, _<_}
 use mathlib.Core.Path.{_≡_, refl, sym, ap, ap₂, _∙_}
 use mathlib.Core.List.{List, [], _∷_, _++_, append-assoc, append-nil}
 use native.Mathlib.Omega.{arith}
 use lib.ListN.{length, getD, set, take, drop, length-append, length-take, length-drop, length-set}
-use lib.Seq.{drop-cons, drop-drop, take-add, take-at, drop-at, getD-drop}
+use lib.Seq.{drop-cons, drop-drop, drop-append-add, take-add, take-at, drop-at, getD-drop}
 use Rattle.laws.specs.Each.{Each, each-at}
-use Rattle.laws.specs.Overwrite.{overwrite-front}
-use Rattle.words.specs.Words.{Bytes, Words, wordsOf, withWords}
+use Rattle.laws.specs.Overwrite.{overwrite, overwrite-front}
+use Rattle.words.specs.Words.{Bytes, Words, wordsOf, withWords, bytesOf}
 use Rattle.words.specs.Laws.{withWords-none, withWords-append, row-stored, withWords-bytes, withWords-entries, words-withWords, read-after, written-read}
+use Rattle.words.specs.Laws.{withWords-overwrite}
 use Rattle.fields.specs.Fields.{Field, word, array, Value, width, wordsFor, valueAt, Values, wordCount, packed, unpacked, Sized, joined, Same}
 
 -- ---- packed and unpacked
@@ -143,6 +144,63 @@ module _ (bs ms gs : List Field) (s : List ℕ) (y : Bytes s) (h : wordCount bs 
       (withWords-append s (wordCount bs) (packed ms m) after
       ∙ rw (past, same) (fields-kept gs far t (withWords-bytes s (wordCount bs) (packed ms m) y)
       (omega (arith, withWords-entries s (wordCount bs) (packed ms m))))))
+
+-- ---- a part written over a record that was written before
+
+-- m stands behind a, and n is as long
+over-part : (a m n r : List ℕ) → length m ≡ length n → overwrite (a ++ (m ++ r)) (length a) n ≡ a ++ (n ++ r)
+unfolding overwrite
+over-part a m n r e =
+    ap₂ (λ (x y : List ℕ). x ++ (n ++ y)) (take-at a (m ++ r) (length a) refl) (drop-append-add a (m ++ r) (length n) ∙ drop-at m r (length n) e)
+
+bytes-append : (a b : List ℕ) → bytesOf (a ++ b) ≡ bytesOf a ++ bytesOf b
+unfolding bytesOf
+bytes-append [] b = refl
+bytes-append (v ∷ a) b = rw (bytes-append a b)
+
+bytes-length : (a : List ℕ) → length (bytesOf a) ≡ 4 * length a
+unfolding bytesOf
+bytes-length [] = refl
+bytes-length (v ∷ a) = omega (arith, bytes-length a)
+
+words-again : (s a m n r : List ℕ) → length m ≡ length n → length a + (length m + length r) ≤ length (wordsOf s)
+    → withWords (withWords s 0 (a ++ (m ++ r))) (length a) n ≡ withWords s 0 (a ++ (n ++ r))
+words-again s a m n r e h =
+    withWords-overwrite (withWords s 0 (a ++ (m ++ r))) (length a) n (omega (arith, withWords-entries s 0 (a ++ (m ++ r))))
+    ∙ ap₂ (λ (x : List ℕ) (k : ℕ). overwrite x k (bytesOf n)) (front m refl) (sym (bytes-length a))
+    ∙ over-part (bytesOf a) (bytesOf m) (bytesOf n) _ (omega (arith, bytes-length m, bytes-length n))
+    ∙ sym (front n (sym e))
+  where
+    -- as bytes, x being as long as m
+    front : (x : List ℕ) → length x ≡ length m
+        → withWords s 0 (a ++ (x ++ r)) ≡ bytesOf a ++ (bytesOf x ++ (bytesOf r ++ drop (4 * (length a + (length m + length r))) s))
+    front x l =
+        let w : List ℕ = a ++ (x ++ r) in
+        let rest : List ℕ = drop (4 * (length a + (length m + length r))) s in
+        let long : length w ≡ length a + (length m + length r) = omega (arith, length-append a (x ++ r), length-append x r) in
+        let far : length (bytesOf w) ≡ 4 * (length a + (length m + length r)) = omega (arith, bytes-length w) in
+        withWords-overwrite s 0 w (omega arith)
+        ∙ overwrite-front s (bytesOf w)
+        ∙ ap₂ (λ (b : List ℕ) (k : ℕ). b ++ drop k s) (bytes-append a (x ++ r) ∙ ap (λ (b : List ℕ). bytesOf a ++ b) (bytes-append x r)) far
+        ∙ append-assoc (bytesOf a) (bytesOf x ++ bytesOf r) rest
+        ∙ ap (λ (b : List ℕ). bytesOf a ++ b) (append-assoc (bytesOf x) (bytesOf r) rest)
+
+-- THE PART WRITTEN OVER IT IS THE RECORD WITH IT, WRITTEN; fields bs stand before the part and gs behind it
+pub part-again : (bs ms gs : List Field) (s : List ℕ) (b : Values bs) (m n : Values ms) (g : Values gs) → Sized bs b → Sized ms m → Sized ms n → Sized gs g
+    → wordCount bs + (wordCount ms + wordCount gs) ≤ length (wordsOf s)
+    → withWords (withWords s 0 (packed (bs ++ (ms ++ gs)) (joined bs (ms ++ gs) b (joined ms gs m g)))) (wordCount bs) (packed ms n)
+    ≡ withWords s 0 (packed (bs ++ (ms ++ gs)) (joined bs (ms ++ gs) b (joined ms gs n g)))
+part-again bs ms gs s b m n g zb zm zn zg h =
+    let lb = packed-length bs b zb in
+    let lm = packed-length ms m zm in
+    let ln = packed-length ms n zn in
+    let lg = packed-length gs g zg in
+    ap₂ (λ (w : List ℕ) (k : ℕ). withWords (withWords s 0 w) k (packed ms n)) (apart m) (sym lb)
+    ∙ words-again s (packed bs b) (packed ms m) (packed ms n) (packed gs g) (lm ∙ sym ln) (omega arith)
+    ∙ ap (withWords s 0) (sym (apart n))
+  where
+    apart : (x : Values ms) → packed (bs ++ (ms ++ gs)) (joined bs (ms ++ gs) b (joined ms gs x g)) ≡ packed bs b ++ (packed ms x ++ packed gs g)
+    apart x = packed-joined bs (ms ++ gs) b (joined ms gs x g) ∙ ap (λ (w : List ℕ). packed bs b ++ w) (packed-joined ms gs x g)
 
 -- ---- a column: entry i of arrays of n that stand in a row, one for each of the numbers vs
 

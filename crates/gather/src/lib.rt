@@ -66,13 +66,13 @@ pub fn gather<'a>(
     positions: &[u8],
     streams: usize,
     found: &'a mut [u32; 256],
-    places: &'a mut [u32; 256],
+    spots: &'a mut [u32; 256],
 )
     requires { ⌜ (let d = deskIn (wordsOf (now desk)) in (let f = d .plan .figures in (deskSize ≤ length (now desk)) × (streams ≤ maxStreams)
-        × (Zoned (f .positions)) × (Reached (f .positions) (now positions) (d .kinds) (d .next) streams) × (now found ≡ zeros) × (now places ≡ zeros))) ⌝ }
+        × (Zoned (f .positions)) × (Reached (f .positions) (now positions) (d .kinds) (d .next) streams) × (now found ≡ zeros) × (now spots ≡ zeros))) ⌝ }
     ensures { λ _. ⌜ (let d = deskIn (wordsOf (now (desk .entry))) in (let f = d .plan .figures in
         Collected (f .positions) (f .times) (now (positions .entry)) (d .kinds) (d .next) streams
-        (gathered (now (found .exit)) (now (places .exit))))) ⌝ }
+        (gathered (now (found .exit)) (now (spots .exit))))) ⌝ }
 {
     let sizes = zone_sizes(desk);
     let times = zone_times(desk);
@@ -86,7 +86,7 @@ pub fn gather<'a>(
             next_in(desk, i),
         );
         found[i] = b.time;
-        places[i] = b.position;
+        spots[i] = b.position;
         i += 1;
     }
 }

@@ -1,131 +1,194 @@
--- One turn of the loops that start filling slots and grant asked ones.
+-- Asked slots are granted in the order of their places: the eldest, and one turn of the loop.
 -- Assumes nothing.
-use Prim.Native.Nat.{ℕ, _+_, _*_, _-_, _≤_, _<_}
-use mathlib.Core.Path.{_≡_, refl, sym, ap, ap₂, _∙_}
-use mathlib.Core.Logic.{by-cases}
-use mathlib.Core.Bool.{true, false, _&&_}
-use mathlib.Core.List.{List}
+use Prim.Native.Nat.{ℕ, zero, suc, _+_, _*_, _-_, _≤_, _<_}
+use mathlib.Core.Path.{_≡_, refl, sym, ap, ap₂, subst, _∙_}
+use mathlib.Core.Logic.{_≢_, by-cases}
+use mathlib.Core.Bool.{Bool, true, false, _&&_}
+use mathlib.Core.List.{List, map}
 use native.Mathlib.Omega.{arith}
 use native.Mathlib.Decide.{ℕ-discrete}
-use native.Mathlib.Nat.{mul-le-mul}
+use native.Mathlib.Numerals.{add-one}
 use lib.ListN.{length, getD, set}
 use lib.Dec.{leb, eqb}
-use borrow.Author.Tests.{eqb-true, eq-eqb}
-use Rattle.laws.specs.Bools.{and-left, and-right}
-use Rattle.laws.specs.Map.{store-next}
-use Rattle.rules.specs.Supply.{Supply}
-use Rattle.numbers.specs.Limits.{maxBytes, maxRate}
+use borrow.Author.Tests.{eqb-true, eq-eqb, ne-eqb, le-leb, lt-leb}
+use Rattle.laws.specs.Bools.{is-false, and-left}
 use Rattle.numbers.specs.Slots.{waiting, filling}
 use Rattle.numbers.specs.Units.{parts}
-use Rattle.rules.specs.Scheduler.{Slot, freeSlot, at, leads, lowWater, startedSlot, started, playersHold, fillingSlot, tries}
+use Rattle.rules.specs.Supply.{Supply}
+use Rattle.rules.specs.Scheduler.{Slot, at, leads, lowWater, playersHold, fillingSlot, grantable, granted}
+use Rattle.rules.specs.Order.{Begun, eldest, dropped, eldestLead, served}
 use Rattle.rules.specs.Arrays.{slotOf, slotsOf}
-use Rattle.turns.specs.ArrayLaws.{SameLength, length-slots, slot-at, slots-set-kind}
-use Rattle.turns.specs.Turns.{startedTo, startedTo-none, startedTo-rest, least-holds}
-use Rattle.turns.specs.Turns.{tries-none, tries-past, tries-other, tries-waits, tries-granted, tries-rest}
+use Rattle.turns.specs.ArrayLaws.{SameLength, slot-at, slots-set-kind}
+use Rattle.turns.specs.Turns.{granted-leads, granted-players, least-holds}
+use Rattle.turns.specs.Places.{get-map, eldest-le, Places, places-gone}
+use Rattle.turns.specs.Served.{droppedBy, drop-next, drop-none}
+use Rattle.floor.specs.Floor.{ample}
 use Rattle.desk.specs.Shown.{Slots}
-use Rattle.floor.specs.Floor.{mostLead, ample}
-use Rattle.grants.specs.Grants.{Asks}
+use Rattle.grants.specs.Grants.{Asked, Asks, servedTo}
+use Rattle.grants.specs.Line.{Lined}
+use Rattle.grants.proofs.Starting.{same}
 
-module _ (p : Supply ℕ) (n : ℕ) (ks₀ xs hs : List ℕ) (w : Slots p n ks₀ xs hs) where
-  -- the slots before the loop
-  abbrev ss : List (Slot ℕ)
-  ss = slotsOf p ks₀ xs hs
+module _ (p : Supply ℕ) (ss : List (Slot ℕ)) (qs : List ℕ) (q : Places p ss qs) where
+  -- who has a place asks
+  pub placed-asks : (i : ℕ) → 0 < getD qs i 0 → at p ss i .kind ≡ waiting
+  placed-asks i h = by-cases (ℕ-discrete (at p ss i .kind) waiting) (λ e. e) (λ e. absurd (omega (arith, q .idle i e)))
 
-  -- other kinds, with the same blocks and bytes
-  same : (ks : List ℕ) → length ks ≡ 256 → SameLength p ks xs hs
-  same ks l = record { nexts = w .same .nexts ∙ w .long ∙ sym l; helds = w .same .helds ∙ w .long ∙ sym l }
+  -- the eldest has place 1
+  pub eldest-at : (i : ℕ) → getD qs i 0 ≡ 1 → eldest qs ≡ i
+  eldest-at i e = let f = eldest-le qs i e .1 in q .apart (eldest qs) i (omega arith) (f ∙ sym e)
 
-  inside : (i : ℕ) → i < 256 → i < length ss
-  inside i l = omega (arith, length-slots p ks₀ xs hs, w .long)
+  pub lead-of-eldest : (i : ℕ) → getD qs i 0 ≡ 1 → eldestLead p ss qs ≡ p .lead (at p ss i .next)
+  unfolding eldestLead
+  lead-of-eldest i e = rw (eldest-at i e, eq-eqb (at p ss i .kind) waiting (placed-asks i (omega arith)))
 
-  -- ---- filling slots start to play; x is the mark, and the first i slots are done
+  -- nobody asks where no place is taken
+  idle-eldest : ((i : ℕ) → getD qs i 0 ≡ 0) → at p ss (eldest qs) .kind ≢ waiting
+  idle-eldest h k = omega (arith, q .named (eldest qs) k, h (eldest qs))
 
-  pub started-none : (x : ℕ) → slotsOf p ks₀ xs hs ≡ startedTo p x 0 ss
-  started-none x = sym (startedTo-none p x ss)
+  pub lead-of-none : ((i : ℕ) → getD qs i 0 ≡ 0) → eldestLead p ss qs ≡ 0
+  unfolding eldestLead
+  lead-of-none h = rw (ne-eqb (at p ss (eldest qs) .kind) waiting (idle-eldest h))
 
-  pub started-turn : (x i k : ℕ) (ks : List ℕ) → length ks ≡ 256 → slotsOf p ks xs hs ≡ startedTo p x i ss → i < 256
-      → ((p : Supply ℕ) (b : ℕ) → slotOf p k b (getD hs i 0) ≡ startedSlot p x (slotOf p (getD ks i 0) b (getD hs i 0)))
-      → slotsOf p (set ks i k) xs hs ≡ startedTo p x (i + 1) ss
-  unfolding startedTo
-  started-turn x i k ks long q l o =
-      let ts = slotsOf p ks xs hs in
-      slots-set-kind p ks xs hs (same ks long) i k
-      ∙ ap (λ (s : Slot ℕ). set ts i s) (o p (getD xs i (p .none)) ∙ ap (startedSlot p x) (sym (slot-at p ks xs hs (same ks long) i)))
-      ∙ ap (λ (rs : List (Slot ℕ)). set rs i (startedSlot p x (at p rs i))) q
-      ∙ store-next (λ j s. startedSlot p x s) i ss (freeSlot p) _ (inside i l) refl
+  -- ---- what is served next: nobody, where nobody asks or the eldest has to wait; else the eldest
 
-  -- the slots from n on do not fill
-  pub started-end : (x i : ℕ) (ks : List ℕ) → slotsOf p ks xs hs ≡ startedTo p x i ss → i ≡ n → slotsOf p ks xs hs ≡ started p x ss
-  started-end x i ks q e = q ∙ ap (λ (m : ℕ). startedTo p x m ss) e ∙ startedTo-rest p x n ss (w .unused)
+  served-stays : (k : ℕ) → grantable p ss (eldest qs) ≡ false → served p k ss qs ≡ servedTo ss qs
+  unfolding served
+  served-stays zero e = refl
+  served-stays (suc k) e = rw e
 
-  -- ---- asked slots are granted in slot order
+  pub served-none : (k : ℕ) → ((i : ℕ) → getD qs i 0 ≡ 0) → served p k ss qs ≡ servedTo ss qs
+  unfolding grantable
+  served-none k h = served-stays k (unfold grantable in rw (ne-eqb (at p ss (eldest qs) .kind) waiting (idle-eldest h)))
 
-  -- the first i slots are tried; sum is the leads so far
-  pub record Granted (ks : List ℕ) (sum i : ℕ) : Type 0 where
-    pub slots : slotsOf p ks xs hs ≡ tries p ss 0 i
-    pub leads : sum ≡ leads p (tries p ss 0 i)
+  module _ (i : ℕ) (e : getD qs i 0 ≡ 1) where
+    tested : grantable p ss (eldest qs) ≡ playersHold p (lowWater p (leads p ss + p .lead (at p ss i .next))) ss
+    unfolding grantable
+    tested = rw (eldest-at i e, eq-eqb (at p ss i .kind) waiting (placed-asks i (omega arith)))
 
-  module _ (B c sum₀ level : ℕ) (g : ℕ → ℕ) (a : Asks p B c sum₀ level g ks₀ xs hs) where
-    pub grants-none : Granted ks₀ sum₀ 0
-    grants-none = let q = sym (tries-none p ss) in record { slots = q; leads = a .leads ∙ ap (leads p) q }
+    pub served-waits : (k : ℕ) → playersHold p (lowWater p (leads p ss + p .lead (at p ss i .next))) ss ≡ false → served p k ss qs ≡ servedTo ss qs
+    served-waits k h = served-stays k (tested ∙ h)
 
-    module _ (ks : List ℕ) (long : length ks ≡ 256) (sum i : ℕ) (l : i < 256) (inv : Granted ks sum i)
-        (top : sum + g i ≤ 513 * mostLead) (B-most : B ≤ maxBytes) (c-most : c ≤ maxRate) where
-      -- the sum with the lead of slot i
-      abbrev raised : ℕ
-      raised = sum + g i
+    pub served-next : (k : ℕ) → playersHold p (lowWater p (leads p ss + p .lead (at p ss i .next))) ss ≡ true
+        → served p (suc k) ss qs ≡ served p k (granted p ss i) (map (dropped 1) qs)
+    unfolding served
+    served-next k h = rw (tested ∙ h, eldest-at i e)
 
-      kind-now : getD ks i 0 ≡ at p ss i .kind
-      kind-now =
-          ap (λ (s : Slot ℕ). s .kind)
-          (sym (slot-at p ks xs hs (same ks long) i) ∙ ap (λ (ts : List (Slot ℕ)). at p ts i) (inv .slots) ∙ tries-past p ss i i (omega arith))
+    pub placed-next : Places p (granted p ss i) (map (dropped 1) qs)
+    unfolding granted
+    placed-next = places-gone p ss qs i (fillingSlot p (at p ss i)) 1 q (placed-asks i (omega arith)) (λ z. omega arith) e
 
-      -- of an asked slot it is that of its next block
-      own-lead : at p ss i .kind ≡ waiting → g i ≡ p .lead (at p ss i .next)
-      own-lead k =
-          let s = slot-at p ks₀ xs hs (w .same) i in
-          a .own i l (sym (ap (λ (s : Slot ℕ). s .kind) s) ∙ k) ∙ ap (λ (s : Slot ℕ). p .lead (s .next)) (sym s)
+-- ---- the line
 
-      -- one comparison with the least that a playing slot holds
-      players : playersHold p (lowWater p raised) ss ≡ leb (parts * B + c * raised) level
-      unfolding lowWater
-      players =
-          let most : c * raised ≤ maxRate * (513 * mostLead) = mul-le-mul c-most top in
-          ap₂ (λ (b r : ℕ). playersHold p (parts * b + r * raised) ss) (sym (a .bytes)) (sym (a .rate))
-          ∙ least-holds p ample (parts * B + c * raised) ss (omega arith) ∙ ap (leb (parts * B + c * raised)) (sym (a .least))
+module _ (p : Supply ℕ) (g : ℕ → ℕ) (n : ℕ) (ks xs hs qs line : List ℕ) (count : ℕ) (w : Slots p n ks xs hs) (a : Asked p g ks xs hs qs)
+    (o : Lined qs line count) where
+  abbrev slots : List (Slot ℕ)
+  slots = slotsOf p ks xs hs
 
-      pub grants-yes : (eqb (getD ks i 0) waiting && leb (parts * B + c * raised) level) ≡ true → Granted (set ks i filling) raised (i + 1)
-      grants-yes t =
-          let k : at p ss i .kind ≡ waiting = sym kind-now ∙ eqb-true (getD ks i 0) waiting (and-left (eqb (getD ks i 0) waiting) _ t) in
-          let h = players ∙ and-right (eqb (getD ks i 0) waiting) _ t in
-          let r = tries-granted p ss i sum (inv .leads) k (rw (own-lead k) at h) in
-          let at-i : slotOf p (getD ks i 0) (getD xs i (p .none)) (getD hs i 0) ≡ at p ss i =
-          sym (slot-at p ks xs hs (same ks long) i) ∙ ap (λ (ts : List (Slot ℕ)). at p ts i) (inv .slots) ∙ tries-past p ss i i (omega arith)
-          in
-          record {
-            slots =
-                slots-set-kind p ks xs hs (same ks long) i filling
-                ∙ ap (λ (s : Slot ℕ). set (slotsOf p ks xs hs) i (fillingSlot p s)) at-i
-                ∙ ap (λ (ts : List (Slot ℕ)). set ts i (fillingSlot p (at p ss i))) (inv .slots) ∙ sym (r .0);
-            leads = ap (λ (m : ℕ). sum + m) (own-lead k) ∙ r .1;
-          }
+  -- the lead of the slot at place k
+  own-lead : (k : ℕ) → 0 < k → k ≤ count → getD line k 0 < 256 → g (getD line k 0) ≡ p .lead (at p slots (getD line k 0) .next)
+  own-lead k h m l =
+      let i = getD line k 0 in
+      let s = slot-at p ks xs hs (w .same) i in
+      a .own i l (sym (ap (λ (s : Slot ℕ). s .kind) s) ∙ placed-asks p slots qs (a .places) i (omega (arith, o .slot k h m)))
+      ∙ ap (λ (s : Slot ℕ). p .lead (s .next)) (sym s)
 
-      pub grants-no : (eqb (getD ks i 0) waiting && leb (parts * B + c * raised) level) ≡ false → Granted ks sum (i + 1)
-      grants-no t = by-cases (ℕ-discrete (at p ss i .kind) waiting) asked other
-        where
-          stays : tries p ss 0 (i + 1) ≡ tries p ss 0 i → Granted ks sum (i + 1)
-          stays q = record { slots = inv .slots ∙ sym q; leads = inv .leads ∙ ap (leads p) (sym q) }
+  pub eldest-none : count ≡ 0 → 0 ≡ eldestLead p slots qs
+  eldest-none e = sym (lead-of-none p slots qs (a .places) (λ i. omega (arith, o .all i)))
 
-          asked : at p ss i .kind ≡ waiting → Granted ks sum (i + 1)
-          asked k =
-              let h = players ∙ rw (eq-eqb (getD ks i 0) waiting (kind-now ∙ k)) at t in
-              stays (tries-waits p ss i sum (inv .leads) (rw (own-lead k) at h))
+  pub eldest-first : 0 < count → getD line 1 0 < 256 → g (getD line 1 0) ≡ eldestLead p slots qs
+  eldest-first h l =
+      own-lead 1 (omega arith) (omega arith) l
+      ∙ sym (lead-of-eldest p slots qs (a .places) (getD line 1 0) (o .slot 1 (omega arith) (omega arith)))
 
-          other : (at p ss i .kind ≡ waiting → ⊥) → Granted ks sum (i + 1)
-          other k = stays (tries-other p ss i k)
+-- ---- the loop: the first r of the line are granted, the kinds are ks, and mark is the low-water mark then
 
-  -- the slots from n on do not ask
-  pub grants-end : (ks : List ℕ) (sum i : ℕ) → Granted ks sum i → i ≡ n → n ≤ 256 → slotsOf p ks xs hs ≡ tries p ss 0 256
-  grants-end ks sum i inv e h =
-      let m : n + (256 - n) ≡ 256 = omega arith in
-      inv .slots ∙ ap (tries p ss 0) e ∙ sym (tries-rest p ss n (256 - n) (λ j u z. omega (arith, w .unused j u))) ∙ ap (tries p ss 0) m
+module _ (p : Supply ℕ) (c floor level : ℕ) (g : ℕ → ℕ) (n : ℕ) (ks₀ xs hs qs line : List ℕ) (count : ℕ) (w : Slots p n ks₀ xs hs)
+    (a : Asks p c floor level g ks₀ xs hs qs) (o : Lined qs line count) where
+  abbrev before : List (Slot ℕ)
+  before = slotsOf p ks₀ xs hs
+
+  pub record Granted (ks : List ℕ) (mark r : ℕ) : Type 0 where
+    pub rest : served p (256 - r) (slotsOf p ks xs hs) (droppedBy r qs) ≡ served p 256 before qs
+    pub low : mark ≡ lowWater p (leads p (slotsOf p ks xs hs))
+    pub players : (x : ℕ) → playersHold p x (slotsOf p ks xs hs) ≡ playersHold p x before
+    pub places : Places p (slotsOf p ks xs hs) (droppedBy r qs)
+
+  pub none-granted : Granted ks₀ floor 0
+  none-granted = record {
+    rest = ap (served p 256 before) (drop-none qs);
+    low = a .mark;
+    players = λ x. refl;
+    places = subst (Places p before) (sym (drop-none qs)) (a .asked .places);
+  }
+
+  -- all of the line are granted
+  pub all-granted : (ks : List ℕ) (mark r : ℕ) → Granted ks mark r → r ≡ count → served p 256 before qs ≡ servedTo (slotsOf p ks xs hs) (droppedBy r qs)
+  all-granted ks mark r inv e =
+      sym (inv .rest)
+      ∙ served-none p _ _ (inv .places) (256 - r) (λ i. get-map (λ x. x - r) qs i (omega arith) ∙ omega (arith, o .all i))
+
+  -- the next one, slot i
+  module _ (ks : List ℕ) (long : length ks ≡ 256) (mark r : ℕ) (inv : Granted ks mark r) (h : r < count) (l : getD line (r + 1) 0 < 256)
+      (top : mark + c * g (getD line (r + 1) 0) ≤ parts * ample) where
+    abbrev i : ℕ
+    i = getD line (r + 1) 0
+
+    abbrev ts : List (Slot ℕ)
+    ts = slotsOf p ks xs hs
+
+    -- the mark with its lead
+    abbrev raised : ℕ
+    raised = mark + c * g i
+
+    first : getD (droppedBy r qs) i 0 ≡ 1
+    first = get-map (λ x. x - r) qs i (omega arith) ∙ omega (arith, o .slot (r + 1) (omega arith) (omega arith))
+
+    next-same : at p ts i .next ≡ at p before i .next
+    next-same =
+        ap (λ (s : Slot ℕ). s .next) (slot-at p ks xs hs (same p n ks₀ xs hs w ks long) i)
+        ∙ sym (ap (λ (s : Slot ℕ). s .next) (slot-at p ks₀ xs hs (w .same) i))
+
+    lead-is : g i ≡ p .lead (at p ts i .next)
+    lead-is = own-lead p g n ks₀ xs hs qs line count w (a .asked) o (r + 1) (omega arith) (omega arith) l ∙ ap (p .lead) (sym next-same)
+
+    raised-is : raised ≡ lowWater p (leads p ts + p .lead (at p ts i .next))
+    unfolding lowWater
+    raised-is = rw (inv .low, a .rate, lead-is) (omega arith)
+
+    -- one comparison with the least that a playing slot holds
+    players-hold : playersHold p (lowWater p (leads p ts + p .lead (at p ts i .next))) ts ≡ leb raised level
+    players-hold =
+        ap (λ (x : ℕ). playersHold p x ts) (sym raised-is) ∙ inv .players raised
+        ∙ least-holds p ample raised before top ∙ ap (leb raised) (sym (a .least))
+
+    -- it has to wait
+    pub next-waits : level < raised → served p 256 before qs ≡ servedTo ts (droppedBy r qs)
+    next-waits u = sym (inv .rest) ∙ served-waits p ts (droppedBy r qs) (inv .places) i first (256 - r) (players-hold ∙ lt-leb raised level u)
+
+    -- it is granted
+    asks : at p ts i .kind ≡ waiting
+    asks = placed-asks p ts (droppedBy r qs) (inv .places) i (omega (arith, first))
+
+    now-is : slotsOf p (set ks i filling) xs hs ≡ granted p ts i
+    unfolding granted
+    now-is =
+        slots-set-kind p ks xs hs (same p n ks₀ xs hs w ks long) i filling
+        ∙ ap (λ (s : Slot ℕ). set ts i (fillingSlot p s)) (sym (slot-at p ks xs hs (same p n ks₀ xs hs w ks long) i))
+
+    dropped-is : map (dropped 1) (droppedBy r qs) ≡ droppedBy (r + 1) qs
+    dropped-is = drop-next r qs ∙ ap (λ (m : ℕ). droppedBy m qs) (sym (add-one r))
+
+    pub next-granted : raised ≤ level → Granted (set ks i filling) raised (r + 1)
+    next-granted u = record {
+      rest =
+          ap₂ (served p (256 - (r + 1))) now-is (sym dropped-is)
+          ∙ sym (served-next p ts (droppedBy r qs) (inv .places) i first (256 - (r + 1)) (players-hold ∙ le-leb raised level u))
+          ∙ ap (λ (m : ℕ). served p m ts (droppedBy r qs)) fuel ∙ inv .rest;
+      low = raised-is ∙ ap (lowWater p) (sym (granted-leads p ts i asks)) ∙ ap (λ (rs : List (Slot ℕ)). lowWater p (leads p rs)) (sym now-is);
+      players = λ x. ap (playersHold p x) now-is ∙ granted-players p x ts i asks ∙ inv .players x;
+      places = subst (λ (rs : List (Slot ℕ)). Places p rs (droppedBy (r + 1) qs)) (sym now-is)
+          (subst (Places p (granted p ts i)) dropped-is (placed-next p ts (droppedBy r qs) (inv .places) i first));
+    }
+      where
+        fuel : suc (256 - (r + 1)) ≡ 256 - r
+        fuel = omega (arith, o .few)

@@ -1,1 +1,3 @@
+pub mod Starting
+pub mod Lining
 pub mod Granting

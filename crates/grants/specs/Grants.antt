@@ -1,22 +1,36 @@
--- What the grants are told of the slots of a supply: kinds ks, next blocks xs, held bytes hs.
+-- What the grants are told of the slots of a supply: kinds ks, next blocks xs, held bytes hs, places qs.
 -- Assumes nothing.
-use Prim.Native.Nat.{ℕ, _*_, _<_}
+use Prim.Native.Nat.{ℕ, _+_, _*_, _<_}
 use mathlib.Core.Path.{_≡_}
 use mathlib.Core.List.{List}
 use lib.ListN.{getD}
-use Rattle.numbers.specs.Limits.{maxStreams}
+use Rattle.numbers.specs.Limits.{maxBytes, maxRate, maxStreams}
 use Rattle.rules.specs.Supply.{Supply}
 use Rattle.numbers.specs.Slots.{waiting}
 use Rattle.numbers.specs.Units.{parts}
-use Rattle.rules.specs.Scheduler.{leads}
+use Rattle.rules.specs.Scheduler.{Slot, leads, lowWater}
+use Rattle.rules.specs.Order.{Begun}
 use Rattle.rules.specs.Arrays.{slotsOf}
 use Rattle.turns.specs.Turns.{leastHeld}
-use Rattle.floor.specs.Floor.{ample}
+use Rattle.turns.specs.Places.{Places}
+use Rattle.floor.specs.Floor.{mostLead, ample}
 
--- B and c are the supply's, sum and level those of the slots, and g has the lead of each asked slot's next block, by the slot
-pub record Asks (p : Supply ℕ) (B c sum level : ℕ) (g : ℕ → ℕ) (ks xs hs : List ℕ) : Type 0 where
-  pub bytes : B ≡ p .B
-  pub rate : c ≡ p .c
-  pub leads : sum ≡ leads p (slotsOf p ks xs hs)
-  pub least : level ≡ parts * leastHeld p ample (slotsOf p ks xs hs)
+-- no floor is above it
+abbrev pub mostFloor : ℕ
+mostFloor = parts * maxBytes + maxRate * (maxStreams * mostLead)
+
+-- the places are sound, and g has the lead of each asked slot's next block, by the slot
+pub record Asked (p : Supply ℕ) (g : ℕ → ℕ) (ks xs hs qs : List ℕ) : Type 0 where
+  pub places : Places p (slotsOf p ks xs hs) qs
   pub own : (i : ℕ) → i < maxStreams → getD ks i 0 ≡ waiting → g i ≡ p .lead (getD xs i (p .none))
+
+-- c is the supply's, floor and level those of the slots
+pub record Asks (p : Supply ℕ) (c floor level : ℕ) (g : ℕ → ℕ) (ks xs hs qs : List ℕ) : Type 0 where
+  pub asked : Asked p g ks xs hs qs
+  pub rate : c ≡ p .c
+  pub mark : floor ≡ lowWater p (leads p (slotsOf p ks xs hs))
+  pub least : level ≡ parts * leastHeld p ample (slotsOf p ks xs hs)
+
+-- the slots and the places that a begin leaves
+abbrev pub servedTo : List (Slot ℕ) → List ℕ → Begun ℕ (List ℕ)
+servedTo ss qs = record { slots = ss; queue = qs }

@@ -1,27 +1,23 @@
-// Begin: filling slots start to play, then asked slots are granted in slot order.
-use floor::low_water;
+// Begin: filling slots start to play, then asked slots are granted in the order of asking, none behind one that has to wait.
 use numbers::slots::FILLING;
 use numbers::slots::PLAYING;
-use numbers::slots::WAITING;
 use numbers::units::PARTS;
 use streams::lead;
 use streams::product;
 ghost use mathlib.Core.Path.{_≡_};
-ghost use mathlib.Core.Bool.{_&&_};
 ghost use mathlib.Core.List.{List};
-ghost use Prim.Native.Nat.{ℕ, _+_, _*_, _≤_};
-ghost use lib.ListN.{length};
-ghost use lib.Dec.{leb, eqb};
-ghost use Rattle.numbers.specs.Limits.{maxBytes, maxRate, maxStreams};
-ghost use Rattle.numbers.specs.Slots.{waiting};
-ghost use Rattle.numbers.specs.Units.{parts};
+ghost use Prim.Native.Nat.{ℕ, _-_, _*_, _≤_, _<_};
+ghost use lib.ListN.{length, getD};
+ghost use Rattle.numbers.specs.Limits.{maxRate, maxTime, maxStreams};
 ghost use Rattle.rules.specs.Supply.{Supply};
-ghost use Rattle.rules.specs.Scheduler.{startedSlot, started, tries};
+ghost use Rattle.rules.specs.Scheduler.{startedSlot, started};
+ghost use Rattle.rules.specs.Order.{eldestLead, served};
 ghost use Rattle.rules.specs.Arrays.{slotOf, slotsOf};
+ghost use Rattle.turns.specs.Served.{droppedBy};
 ghost use Rattle.desk.specs.Shown.{Slots};
-ghost use Rattle.floor.specs.Floor.{mostLead};
-ghost use Rattle.floor.specs.Sources.{leadsIn, Timely};
-ghost use Rattle.grants.specs.Grants.{Asks};
+ghost use Rattle.floor.specs.Sources.{leadsIn};
+ghost use Rattle.grants.specs.Grants.{mostFloor, Asked, Asks, servedTo};
+ghost use Rattle.grants.specs.Line.{taken, Queued, Lined};
 
 // The kind of a slot after it was tested against the mark: a filling one that holds it plays.
 fn started_kind(kind: u32, held: u32, mark: u64) -> u32
@@ -51,43 +47,117 @@ pub fn start_playing(kinds: &mut [u32; 256], held: &[u32; 256], streams: usize, 
     }
 }
 
-// A slot is granted: it is asked, and the least level holds the mark of the leads with its own.
-fn is_granted(kind: u32, bytes: u32, rate: u32, leads: u32, level: u64) -> bool
-    requires { ⌜ (bytes ≤ maxBytes) × (rate ≤ maxRate) ⌝ }
-    ensures { λ r. ⌜ r ≡ (eqb kind waiting && leb (parts * bytes + rate * leads) level) ⌝ }
+// A line in which nobody stands.
+pub fn empty_line() -> [u8; 257]
+    ensures { λ r. ⌜ length r ≡ 257 ⌝ }
 {
-    match kind {
-        WAITING => low_water(bytes, rate, leads) <= level,
-        _ => false,
-    }
+    [0u8; 257]
 }
 
-// In slot order, asked slots become filling. A slot's lead is that of the time of its next block; `sum` is the leads before and `level` the
-// least that a playing slot holds. The slots from `streams` on are free.
-pub fn grant_asked(
-    kinds: &mut [u32; 256],
-    times: &[u32; 256],
-    worst2: u32,
-    streams: usize,
-    bytes: u32,
-    rate: u32,
-    sum: u32,
-    level: u64,
-)
-    requires { ⌜ (streams ≤ maxStreams) × (length (now kinds) ≡ 256) × (Timely (now times) worst2 streams) × (bytes ≤ maxBytes)
-        × (rate ≤ maxRate) × (sum ≤ maxStreams * mostLead) ⌝ }
-    ensures { λ _. ⌜ ((p : Supply ℕ) (xs hs : List ℕ) → Slots p streams (now (kinds .entry)) xs hs
-        → Asks p bytes rate sum level (leadsIn (now (times .entry)) worst2) (now (kinds .entry)) xs hs
-        → slotsOf p (now (kinds .exit)) xs hs ≡ tries p (slotsOf p (now (kinds .entry)) xs hs) 0 256) ⌝ }
+// One where a place is taken, and 0 for a slot that does not ask.
+fn asks(place: u32) -> usize
+    ensures { λ r. ⌜ r ≡ taken place ⌝ }
 {
-    let mut total = sum;
+    if place > 0 {
+        return 1;
+    }
+    0
+}
+
+// Puts the slot at each place, from 1 on, into a list, and answers how many ask. Entry 0 is for slots that do not; those from `streams` on are
+// such.
+pub fn line_up(places: &[u32; 256], streams: usize, line: &mut [u8; 257]) -> usize
+    requires { ⌜ (streams ≤ maxStreams) × (Queued (now places) streams) × (length (now line) ≡ 257) ⌝ }
+    ensures { λ r. ⌜ Lined (now (places .entry)) (now (line .exit)) r ⌝ }
+{
+    let mut count: usize = 0;
     let mut i: usize = 0;
     while i < streams {
-        let raised = total + lead(times[i], worst2);
-        if is_granted(kinds[i], bytes, rate, raised, level) {
-            kinds[i] = FILLING;
-            total = raised;
+        let place = places[i];
+        line[place as usize] = i as u8;
+        count += asks(place);
+        i += 1;
+    }
+    count
+}
+
+// A slot as it stands in the line.
+fn wide(slot: u8) -> usize
+    ensures { λ r. ⌜ (r ≡ slot) × (r < maxStreams) ⌝ }
+{
+    slot as usize
+}
+
+// The slot at a place of the line.
+fn slot_at(line: &[u8; 257], place: usize) -> usize
+    requires { ⌜ place ≤ maxStreams ⌝ }
+    ensures { λ r. ⌜ (r ≡ getD (now (line .entry)) place 0) × (r < maxStreams) ⌝ }
+{
+    wide(line[place])
+}
+
+// The lead of the eldest of so many requests, 0 where none asks. A slot's lead is that of the time of its next block.
+pub fn eldest_lead(line: &[u8; 257], count: usize, times: &[u32; 256], worst2: u32) -> u32
+    requires { ⌜ (count ≤ maxStreams) × ((i : ℕ) → getD (now times) i 0 ≤ maxTime) ⌝ }
+    ensures lead { λ r. ⌜ ((p : Supply ℕ) (n : ℕ) (ks xs hs qs : List ℕ) → Slots p n ks xs hs → Asked p (leadsIn (now (times .entry)) worst2) ks xs hs qs
+        → Lined qs (now (line .entry)) count → r ≡ eldestLead p (slotsOf p ks xs hs) qs) ⌝ }
+    ensures most { λ r. ⌜ r ≤ 2 * maxTime ⌝ }
+{
+    if count == 0 {
+        return 0;
+    }
+    lead(times[slot_at(line, 1)], worst2)
+}
+
+// So many asked slots become filling in their line, eldest first, up to the first that has to wait; the answer is how many do. `floor` is the
+// low-water mark of the leads before, and `level` the least that a playing slot holds.
+pub fn grant_asked(
+    kinds: &mut [u32; 256],
+    line: &[u8; 257],
+    count: usize,
+    times: &[u32; 256],
+    worst2: u32,
+    rate: u32,
+    floor: u64,
+    level: u64,
+) -> u32
+    requires { ⌜ (length (now kinds) ≡ 256) × (count ≤ maxStreams) × ((i : ℕ) → getD (now times) i 0 ≤ maxTime) × (rate ≤ maxRate) × (floor ≤ mostFloor) ⌝ }
+    ensures { λ r. ⌜ ((p : Supply ℕ) (n : ℕ) (xs hs qs : List ℕ) → Slots p n (now (kinds .entry)) xs hs
+        → Asks p rate floor level (leadsIn (now (times .entry)) worst2) (now (kinds .entry)) xs hs qs → Lined qs (now (line .entry)) count
+        → served p 256 (slotsOf p (now (kinds .entry)) xs hs) qs ≡ servedTo (slotsOf p (now (kinds .exit)) xs hs) (droppedBy r qs)) ⌝ }
+{
+    let mut mark = floor;
+    let mut granted: usize = 0;
+    while granted < count {
+        let slot = slot_at(line, granted + 1);
+        mark += product(rate, lead(times[slot], worst2));
+        if level < mark {
+            return granted as u32;
         }
+        kinds[slot] = FILLING;
+        granted += 1;
+    }
+    granted as u32
+}
+
+// A place after so many were granted: theirs are 0.
+fn dropped(place: u32, granted: u32) -> u32
+    ensures { λ r. ⌜ r ≡ place - granted ⌝ }
+{
+    if place > granted {
+        return place - granted;
+    }
+    0
+}
+
+// Drops every place by the number of grants. The slots from `streams` on have none.
+pub fn drop_places(places: &mut [u32; 256], streams: usize, granted: u32)
+    requires { ⌜ (streams ≤ maxStreams) × (length (now places) ≡ 256) × ((i : ℕ) → streams ≤ i → getD (now places) i 0 ≡ 0) ⌝ }
+    ensures { λ _. ⌜ now (places .exit) ≡ droppedBy granted (now (places .entry)) ⌝ }
+{
+    let mut i: usize = 0;
+    while i < streams {
+        places[i] = dropped(places[i], granted);
         i += 1;
     }
 }

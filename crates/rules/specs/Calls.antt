@@ -42,6 +42,13 @@ abbrev pub isAccepted : ℕ → Bool
 isAccepted zero = true
 isAccepted (suc k) = false
 
+-- an end; if it is accepted, it finishes a sweep
+abbrev pub isEndCall : {A : Type 0} → Call A → Bool
+isEndCall (join i b) = false
+isEndCall (leave i) = false
+isEndCall begin = false
+isEndCall (end ds) = true
+
 module _ {A Q : Type 0} (p : Supply A) (o : Order A Q) where
   -- 01's rules: the table of refusals
   unfoldable pub refusals : Rules A Q (Given A)

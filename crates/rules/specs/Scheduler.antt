@@ -3,7 +3,7 @@
 use Prim.Native.Nat.{ℕ, zero, suc, _+_, _-_, _*_, _/_}
 use mathlib.Core.Bool.{Bool, true, false, cond, _&&_, _||_}
 use mathlib.Core.List.{List, [], _∷_, _++_, map}
-use lib.ListN.{length, getD, set}
+use lib.ListN.{getD, set}
 use lib.Dec.{leb, ltb, eqb}
 use Rattle.laws.specs.Bools.{bit, implies}
 use Rattle.laws.specs.Map.{mapFrom}
@@ -98,14 +98,14 @@ module _ {A : Type 0} (p : Supply A) where
   startBy true s = playingSlot s
   startBy false s = s
 
-  -- x is the floor
+  -- x is the floor, with the lead of the eldest request added while one asks (T5.5)
   unfoldable pub startedSlot : ℕ → Slot A → Slot A
   startedSlot x s = startBy (eqb (s .kind) filling && holds x s) s
 
   unfoldable pub started : ℕ → List (Slot A) → List (Slot A)
   started x ss = map (startedSlot x) ss
 
-  -- ---- who is granted (D8)
+  -- ---- who may be granted (D8); in which order says Order
 
   -- every playing slot holds at least x
   unfoldable pub playersHold : ℕ → List (Slot A) → Bool
@@ -120,21 +120,6 @@ module _ {A : Type 0} (p : Supply A) where
 
   unfoldable pub granted : List (Slot A) → ℕ → List (Slot A)
   granted ss i = set ss i (fillingSlot (at ss i))
-
-  abbrev pub grantBy : Bool → List (Slot A) → ℕ → List (Slot A)
-  grantBy true ss i = granted ss i
-  grantBy false ss i = ss
-
-  unfoldable pub tried : List (Slot A) → ℕ → List (Slot A)
-  tried ss i = grantBy (grantable ss i) ss i
-
-  -- k slots from i on, each over what the one before left
-  unfoldable pub tries : List (Slot A) → ℕ → ℕ → List (Slot A)
-  tries ss i zero = ss
-  tries ss i (suc k) = tries (tried ss i) (suc i) k
-
-  unfoldable pub begun : List (Slot A) → List (Slot A)
-  begun ss = tries (started (lowWater (leads ss)) ss) 0 (length ss)
 
   -- ---- what is fetched (D9), and the sweep bound (D11)
 

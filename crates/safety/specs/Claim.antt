@@ -16,11 +16,11 @@ use Rattle.numbers.specs.Refusals.{notSound}
 use Rattle.rules.specs.Supply.{Supply, Lawful, Named}
 use Rattle.numbers.specs.Slots.{free, playing}
 use Rattle.rules.specs.Scheduler.{Slot, Call, begin, freeSlot, at, leads}
-use Rattle.rules.specs.Order.{Scheduler, Order, bySlot, opened}
+use Rattle.rules.specs.Order.{Scheduler, Order, byPlace, opened}
 use Rattle.rules.specs.Sound.{sound}
-use Rattle.turns.specs.Facts.{Good, good-free, replicate-free, sound-says, says-sound}
+use Rattle.turns.specs.Facts.{Good, good-free, replicate-free, Sound, sound-says, says-sound}
 use Rattle.turns.specs.Orderly.{Orderly}
-use Rattle.turns.specs.BySlot.{bySlot-orderly}
+use Rattle.turns.specs.ByPlace.{byPlace-orderly}
 use Rattle.rules.specs.Refusals.{verdict}
 use Rattle.rules.specs.Ledger.{Line, blank, lineAt}
 use Rattle.rules.specs.Calls.{Given, Answer, State, isAccepted, refusals, accepted, opening, answerBy, answer, turn, after}
@@ -133,20 +133,21 @@ module _ {A : Type 0} (p : Supply A) (ok : Lawful p) (names : Named p) where
         go (suc m) = refl
 
     follows : (rule : Scheduler A Q → Call A → ℕ → ℕ)
-        → ((d : Scheduler A Q) (c : Call A) (i : ℕ) → i < length (d .slots) → at p (accepted p o d c .scheduler .slots) i .kind ≡ rule d c i)
+        → ((d : Scheduler A Q) (c : Call A) (i : ℕ) → Sound p o d → i < length (d .slots) → at p (accepted p o d c .scheduler .slots) i .kind ≡ rule d c i)
         → (ys : List (Given A)) (x : Given A) → Ruled rule ys x (ys ++ (x ∷ []))
     unfolding turn
     follows rule by-rule ys x i l =
         let d = stateAfter p o ys .scheduler in
-        rw (after-last p o (refusals p o) (opening p o) ys x) (answer-kind d x i (rule d (x .call) i) (by-rule d (x .call) i (omega (arith, kept ys .long))))
+        rw (after-last p o (refusals p o) (opening p o) ys x)
+        (answer-kind d x i (rule d (x .call) i) (by-rule d (x .call) i (kept ys .sound) (omega (arith, kept ys .long))))
 
     opens : (i : ℕ) → slotAfter p o [] i .kind ≡ free
     unfolding after opening opened
     opens i = replicate-free p maxStreams i
 
-    -- in any orderly order, with any rule that accepted calls follow
+    -- in any orderly order, with any rule that accepted calls follow over a sound record
     pub orderly-list-safe : (rule : Scheduler A Q → Call A → ℕ → ℕ)
-        → ((d : Scheduler A Q) (c : Call A) (i : ℕ) → i < length (d .slots) → at p (accepted p o d c .scheduler .slots) i .kind ≡ rule d c i)
+        → ((d : Scheduler A Q) (c : Call A) (i : ℕ) → Sound p o d → i < length (d .slots) → at p (accepted p o d c .scheduler .slots) i .kind ≡ rule d c i)
         → (xs : List (Given A)) → Safe p o rule xs
     orderly-list-safe rule by-rule xs = record {
       all-slots = kept xs .long;
@@ -173,6 +174,6 @@ module _ {A : Type 0} (p : Supply A) (ok : Lawful p) (names : Named p) where
         slot i = let ss = stateAfter p o xs .scheduler .slots in
             each-at (Good p (leads p ss)) ss i (freeSlot p) (kept xs .sound .slots) (good-free p (leads p ss))
 
-  -- every list is safe: document 01's order, and its rules for the kinds
-  pub every-list-safe : (xs : List (Given A)) → Safe p (bySlot p) (kindAfter p) xs
-  every-list-safe = orderly-list-safe (bySlot p) (bySlot-orderly p) (kindAfter p) (kinds-by-rules p)
+  -- every list is safe: the order of asking, and its rules for the kinds
+  pub every-list-safe : (xs : List (Given A)) → Safe p (byPlace p) (kindAfter p) xs
+  every-list-safe = orderly-list-safe (byPlace p) (byPlace-orderly p) (kindAfter p) (kinds-by-rules p)

@@ -11,6 +11,14 @@ use Rattle.numbers.specs.Units.{parts, micros, wholeBytes}
 pub room-of-streams : (c n w O B k o : ℕ) → c * (n * w + 2 * O) ≤ parts * B → k ≤ n → o ≤ O → c * (k * w + 2 * o + 0) ≤ parts * B
 room-of-streams c n w O B k o fit kn less = omega (arith, mul-le-mul-right (c * w) kn, mul-le-mul-left c less)
 
+-- and with a slot to spare, room for a lead E as well; Q is the overhead of n - 1 blocks
+pub room-for-one-more : (c n w O Q B k o E : ℕ) → c * (n * w + 2 * O) ≤ parts * B → k + 1 ≤ n → o ≤ Q → Q ≤ O → E ≤ w + 2 * (O - Q)
+    → c * (k * w + 2 * o + E) ≤ parts * B
+room-for-one-more c n w O Q B k o E fit kn less rises within = omega (arith, mul-le-mul-right (c * w) kn, mul-le-mul-left c less, mul-le-mul-left c le)
+  where
+    le : E + 2 * Q ≤ w + 2 * O
+    le = omega arith
+
 module _ (c w B k o T L M E : ℕ) (room : c * (k * w + 2 * o + E) ≤ parts * B) (leads : 2 * T + M ≤ L + k * w) where
   -- a playing slot that is fetched for
   pub fetched-stays : (buffered draw : ℕ) → parts * B + c * L ≤ parts * buffered → draw ≤ c * (T + o) / micros

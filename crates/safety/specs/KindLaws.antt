@@ -1,27 +1,30 @@
 -- The scheduler gives each slot the kind that the rules give it, told slot by slot (Kinds).
 -- Assumes nothing.
-use Prim.Native.Nat.{ℕ, zero, suc, _+_, _-_, _<_}
+use Prim.Native.Nat.{ℕ, _+_, _-_, _<_}
 use mathlib.Core.Path.{_≡_, refl, sym, ap, _∙_}
+use mathlib.Core.Logic.{by-cases}
 use mathlib.Core.Bool.{Bool, true, false, cond, _&&_}
 use mathlib.Core.List.{List}
 use native.Mathlib.Omega.{arith}
 use native.Mathlib.Decide.{ℕ-discrete}
-use native.Mathlib.Numerals.{add-one}
 use native.Mathlib.Nat.{add-zero}
 use lib.ListN.{length, getD, set}
 use lib.Seq.{getD-set-same, getD-set-other}
-use lib.Dec.{eqb}
-use borrow.Author.Tests.{eqb-true, eq-eqb, ne-eqb}
-use Rattle.laws.specs.Bools.{and-left}
+use lib.Dec.{leb, eqb}
+use borrow.Author.Tests.{leb-true, leb-false, eq-eqb, ne-eqb}
 use Rattle.rules.specs.Supply.{Supply}
 use Rattle.numbers.specs.Slots.{free, waiting, filling, playing, draining}
-use Rattle.rules.specs.Scheduler.{Slot, Call, join, leave, begin, end, freeSlot, waitingSlot, fillingSlot, at}
-use Rattle.rules.specs.Scheduler.{leads, lowWater, holds, joined, left, startBy, startedSlot, grantable, tries, begun, isFetched}
+use Rattle.rules.specs.Scheduler.{Slot, Call, join, leave, begin, end, freeSlot, waitingSlot, at}
+use Rattle.rules.specs.Scheduler.{holds, joined, left, startBy, startedSlot, started, isFetched}
 use Rattle.rules.specs.Scheduler.{sweptBy, releaseBy, released, endedSlot}
-use Rattle.rules.specs.Order.{Scheduler, bySlot}
+use Rattle.rules.specs.Order.{Scheduler, byPlace}
 use Rattle.rules.specs.Calls.{accepted}
-use Rattle.turns.specs.Turns.{started-at, started-length, started-leads, tries-none, tries-next, tries-past, tries-at, tried-leads, grantable-at, ended-at}
-use Rattle.rules.specs.Kinds.{startedAll, isGranted, leadsAt, begunKind, endedKind, kindAfter}
+use Rattle.rules.specs.Kinds.{startMark, grantCount, begunKind, endedKind, kindAfter}
+use Rattle.turns.specs.Facts.{Sound}
+use Rattle.turns.specs.Turns.{started-at, ended-at}
+use Rattle.turns.specs.Places.{Places}
+use Rattle.turns.specs.ByPlace.{queue-places}
+use Rattle.turns.specs.Served.{GrantedTo, begun-is}
 
 module _ {A : Type 0} (p : Supply A) where
   -- ---- begin
@@ -29,63 +32,42 @@ module _ {A : Type 0} (p : Supply A) where
   abbrev kindOf : Slot A → ℕ
   kindOf s = s .kind
 
-  -- starting to play changes neither who asks nor with which block
-  started-asks : (x : ℕ) (s : Slot A) → (eqb (startedSlot p x s .kind) waiting ≡ eqb (s .kind) waiting) × (startedSlot p x s .next ≡ s .next)
+  started-kind : (x : ℕ) (s : Slot A) → startedSlot p x s .kind ≡ cond (eqb (s .kind) filling && holds p x s) playing (s .kind)
   unfolding startedSlot
-  started-asks x s = go (eqb (s .kind) filling && holds p x s) refl
+  started-kind x s = go (eqb (s .kind) filling && holds p x s)
     where
-      go : (t : Bool) → (eqb (s .kind) filling && holds p x s) ≡ t → (eqb (startBy p t s .kind) waiting ≡ eqb (s .kind) waiting)
-          × (startBy p t s .next ≡ s .next)
-      go true e = let k = eqb-true (s .kind) filling (and-left (eqb (s .kind) filling) _ e) in (rw k, refl)
-      go false e = (refl, refl)
+      go : (t : Bool) → startBy p t s .kind ≡ cond t playing (s .kind)
+      go true = refl
+      go false = refl
 
-  granted-same : (ss : List (Slot A)) (i L : ℕ) → L ≡ leads p (tries p (startedAll p ss) 0 i)
-      → isGranted p ss L i ≡ grantable p (tries p (startedAll p ss) 0 i) i
-  unfolding isGranted
-  granted-same ss i L q =
-      let x : ℕ = lowWater p (leads p ss) in
-      let a = started-asks x (at p ss i) in
-      sym (grantable-at p (startedAll p ss) i ∙ rw (started-at p x ss i, a .0, a .1, sym q))
-
-  next-same : (ss : List (Slot A)) (i : ℕ) → at p (tries p (startedAll p ss) 0 i) i .next ≡ at p ss i .next
-  next-same ss i =
-      let x : ℕ = lowWater p (leads p ss) in
-      ap (λ (s : Slot A). s .next) (tries-past p (startedAll p ss) i i (omega arith) ∙ started-at p x ss i) ∙ started-asks x (at p ss i) .1
-
-  -- the running sum is the sum of the slots so far
-  leads-so-far : (ss : List (Slot A)) (i : ℕ) → leadsAt p ss i ≡ leads p (tries p (startedAll p ss) 0 i)
-  unfolding leadsAt
-  leads-so-far ss zero = sym (ap (leads p) (tries-none p (startedAll p ss)) ∙ started-leads p (lowWater p (leads p ss)) ss)
-  leads-so-far ss (suc i) = sym (one-more ∙ rw (next-same ss i, sym (granted-same ss i (leadsAt p ss i) (leads-so-far ss i)), sym (leads-so-far ss i)))
+  begin-kind : (ss : List (Slot A)) (q : List ℕ) (i : ℕ) → Places p ss q → at p (byPlace p .begins q ss .slots) i .kind ≡ begunKind p ss q i
+  unfolding begunKind
+  begin-kind ss q i h =
+      by-cases (ℕ-discrete (s .kind) waiting) (λ k. rw k (asked k (leb (getD q i 0) n) refl))
+      (λ k. still (λ u. absurd (omega (arith, h .idle i k))) ∙ rw (ne-eqb (s .kind) waiting k))
     where
+      s : Slot A
+      s = at p ss i
+
+      x : ℕ
+      x = startMark p ss q
+
+      n : ℕ
+      n = grantCount p ss q
+
       ts : List (Slot A)
-      ts = startedAll p ss
+      ts = byPlace p .begins q ss .slots
 
-      one-more : leads p (tries p ts 0 (suc i)) ≡ leads p (tries p ts 0 i) + cond (grantable p (tries p ts 0 i) i) (p .lead (at p (tries p ts 0 i) i .next)) 0
-      one-more = ap (λ (k : ℕ). leads p (tries p ts 0 k)) (sym (add-one i)) ∙ ap (leads p) (tries-next p ts i) ∙ tried-leads p (tries p ts 0 i) i
+      g : (M : ℕ) × GrantedTo p (started p x ss) q n ts M
+      g = begun-is p ss q h .0
 
-  filling-waits : (ss : List (Slot A)) (L i : ℕ) → at p ss i .kind ≡ filling → isGranted p ss L i ≡ false
-  unfolding isGranted
-  filling-waits ss L i k = rw k
+      -- one that is not granted is as it started
+      still : (0 < getD q i 0 → n < getD q i 0) → at p ts i .kind ≡ cond (eqb (s .kind) filling && holds p x s) playing (s .kind)
+      still u = ap kindOf (g .1 .kept i u ∙ started-at p x ss i) ∙ started-kind x s
 
-  begin-kind : (ss : List (Slot A)) (i : ℕ) → i < length ss → at p (begun p ss) i .kind ≡ begunKind p ss i
-  unfolding begun begunKind startedSlot
-  begin-kind ss i l =
-      let x : ℕ = lowWater p (leads p ss) in
-      let ts = startedAll p ss in
-      ap kindOf (tries-at p ts (length ss) i l (omega (arith, started-length p x ss)))
-      ∙ rw (sym (granted-same ss i (leadsAt p ss i) (leads-so-far ss i)), started-at p x ss i) (go (eqb (at p ss i .kind) filling) refl (holds p x (at p ss i)))
-    where
-      go : (t : Bool) → eqb (at p ss i .kind) filling ≡ t → (u : Bool)
-          → cond (isGranted p ss (leadsAt p ss i) i) (fillingSlot p (startBy p (t && u) (at p ss i))) (startBy p (t && u) (at p ss i)) .kind
-          ≡ cond (t && u) playing (cond (isGranted p ss (leadsAt p ss i) i) filling (at p ss i .kind))
-      go true e true = rw (filling-waits ss (leadsAt p ss i) i (eqb-true (at p ss i .kind) filling e))
-      go true e false = rw (filling-waits ss (leadsAt p ss i) i (eqb-true (at p ss i .kind) filling e))
-      go false e u = either (isGranted p ss (leadsAt p ss i) i)
-        where
-          either : (g : Bool) → cond g (fillingSlot p (at p ss i)) (at p ss i) .kind ≡ cond g filling (at p ss i .kind)
-          either true = refl
-          either false = refl
+      asked : s .kind ≡ waiting → (t : Bool) → leb (getD q i 0) n ≡ t → at p ts i .kind ≡ cond t filling waiting
+      asked k true e = g .1 .done i (h .named i k) (leb-true (getD q i 0) n e)
+      asked k false e = let r = still (λ u. leb-false (getD q i 0) n e) in rw k at r
 
   -- ---- end
 
@@ -118,10 +100,11 @@ module _ {A : Type 0} (p : Supply A) where
       go (yes e) = rw (eq-eqb i j e, sym e) (ap kindOf (getD-set-same ss i a (freeSlot p) l))
       go (no n) = rw (ne-eqb i j n) (ap kindOf (getD-set-other ss j i a (freeSlot p) n))
 
-  pub kinds-by-rules : (d : Scheduler A (Unit {0})) (c : Call A) (i : ℕ) → i < length (d .slots)
-      → at p (accepted p (bySlot p) d c .scheduler .slots) i .kind ≡ kindAfter p d c i
-  unfolding accepted joined left bySlot kindAfter
-  kinds-by-rules d (join j b) i l = set-kind (d .slots) i j (waitingSlot p b) l
-  kinds-by-rules d (leave j) i l = set-kind (d .slots) i j (freeSlot p) l
-  kinds-by-rules d begin i l = begin-kind (d .slots) i l
-  kinds-by-rules d (end ds) i l = ap kindOf (ended-at p (d .slots) ds i l) ∙ end-kind (at p (d .slots) i) (getD ds i 0)
+  -- over a sound record, whose places are 1 up to the number of requests
+  pub kinds-by-rules : (d : Scheduler A (List ℕ)) (c : Call A) (i : ℕ) → Sound p (byPlace p) d → i < length (d .slots)
+      → at p (accepted p (byPlace p) d c .scheduler .slots) i .kind ≡ kindAfter p d c i
+  unfolding accepted joined left kindAfter
+  kinds-by-rules d (join j b) i h l = set-kind (d .slots) i j (waitingSlot p b) l
+  kinds-by-rules d (leave j) i h l = set-kind (d .slots) i j (freeSlot p) l
+  kinds-by-rules d begin i h l = begin-kind (d .slots) (d .queue) i (queue-places p (d .queue) (d .slots) (h .queue))
+  kinds-by-rules d (end ds) i h l = ap kindOf (ended-at p (d .slots) ds i l) ∙ end-kind (at p (d .slots) i) (getD ds i 0)

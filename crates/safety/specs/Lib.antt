@@ -5,3 +5,6 @@ pub mod Tails
 pub mod Lists
 pub mod KindLaws
 pub mod Claim
+pub mod Gain
+pub mod Wait
+pub mod Asking

@@ -43,7 +43,7 @@ module _ {A : Type 0} (p : Supply A) where
       let f : s .kind ≡ playing → lowWater p M ≤ parts * s .buffered = λ k. omega (arith, g .floored k, mul-le-mul-left (p .c) u) in
       search
 
-  leads-set : (ss : List (Slot A)) (i : ℕ) (a : Slot A) → leadOf p a ≡ 0 → leads p (set ss i a) ≤ leads p ss
+  pub leads-set : (ss : List (Slot A)) (i : ℕ) (a : Slot A) → leadOf p a ≡ 0 → leads p (set ss i a) ≤ leads p ss
   unfolding leads sumBy
   leads-set [] i a z = omega arith
   leads-set (s ∷ ss) zero a z = omega arith
@@ -82,7 +82,7 @@ module _ {A : Type 0} (p : Supply A) where
   module _ (ok : Lawful p) where
     -- ---- the sums of a sweep
 
-    lead-le : (L : ℕ) (s : Slot A) → Good p L s → leadOf p s ≤ p .margin
+    pub lead-le : (L : ℕ) (s : Slot A) → Good p L s → leadOf p s ≤ p .margin
     lead-le L s g = go (reads p s) refl
       where
         go : (t : Bool) → reads p s ≡ t → leadOf p s ≤ p .margin

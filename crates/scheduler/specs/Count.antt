@@ -9,20 +9,19 @@ use lib.ListN.{length}
 use Rattle.numbers.specs.Limits.{maxStreams}
 use Rattle.legality.specs.Legality as legality
 use Rattle.plan.specs.declared.Plan.{Plan}
-use Rattle.rules.specs.Scheduler.{Slot, begun, entries, fetchCount}
-use Rattle.rules.specs.Order.{bySlot}
+use Rattle.rules.specs.Scheduler.{Slot, entries, fetchCount}
 use Rattle.rules.specs.Calls.{accepted}
 use Rattle.turns.specs.Sweeps.{kept-free, fetches-le}
 use Rattle.turns.specs.Sorting.{entries-length}
 use Rattle.desk.specs.declared.Desk.{Desk}
 use Rattle.desk.specs.declared.Begun.{Begun}
-use Rattle.desk.specs.Promise.{order-orderly}
-use Rattle.desk.specs.Desk.{supplyOf, viewOf, fetchesOf, beginDesk}
+use Rattle.desk.specs.Desk.{supplyOf, slotsIn, viewOf, fetchesOf, beginDesk}
 use Rattle.desk.specs.View.{Wide}
 use Rattle.desk.specs.Ready as D
 use Rattle.desk.specs.Ready.{Ready, ready-lawful}
 use Rattle.desk.specs.Records.{notBegun}
-use Rattle.sweep.specs.Steps.{begunDesk}
+use Rattle.sweep.specs.Steps.{servedIn, begunDesk}
+use Rattle.sweep.specs.Kept.{begun-kept}
 use Rattle.scheduler.specs.Ways.{NotBegun, HasBegun, begin-ways}
 
 -- a sweep fetches at most n blocks
@@ -37,12 +36,11 @@ unfolding supplyOf
 streams-are p = refl
 
 begun-few : (d : Desk) → Ready d → begunDesk d .fetches .count ≤ d .plan .streams
-unfolding begunDesk fetchesOf accepted bySlot
+unfolding begunDesk fetchesOf accepted viewOf
 begun-few d r =
     let s = supplyOf (d .plan) in
-    let ts : List (Slot ℕ) = begun s (viewOf d .slots) in
-    let b = order-orderly (d .plan) .began tt (viewOf d .slots) (r .sound .slots) in
-    let free = kept-free s (s .n) (viewOf d .slots) ts (b .kept) (r .sound .unused) in
+    let ts : List (Slot ℕ) = servedIn d .slots in
+    let free = kept-free s (s .n) (slotsIn d) ts (begun-kept d r) (r .sound .unused) in
     omega (arith, one-each (d .plan) ts, fetches-le s (s .n) ts free, streams-are (d .plan))
 
 -- a begin answers at most 256 entries, and no more than there is room for

@@ -55,20 +55,20 @@ pub fn judge_begin(desk: &[u8], positions: &[u8], leads: &[u8], listed: bool, ro
         r ≡ sweptOf (beginDesk d (now (positions .entry)) (leadsBy listed (d .plan) (now (leads .entry))) room)) ⌝ }
 {
     if !is_sound(desk, positions, leads, listed) {
-        return not_swept(all_kinds(desk), NOT_SOUND);
+        return not_swept(desk, NOT_SOUND);
     }
     if phase_in(desk) != BETWEEN {
-        return not_swept(all_kinds(desk), WRONG_PHASE);
+        return not_swept(desk, WRONG_PHASE);
     }
     let streams = streams_in(desk) as usize;
     if room < streams {
-        return not_swept(all_kinds(desk), TOO_SHORT);
+        return not_swept(desk, TOO_SHORT);
     }
     let mut times = zeros();
-    let mut places = zeros();
-    gather(desk, positions, streams, &mut times, &mut places);
+    let mut spots = zeros();
+    gather(desk, positions, streams, &mut times, &mut spots);
     let sum = sum_times(desk, streams, &times);
-    begin_sweep(desk, &times, &places, sum)
+    begin_sweep(desk, &times, &spots, sum)
 }
 
 // A begin with its lists, or with a scratch in the lead list's place.
@@ -82,10 +82,12 @@ fn begun(desk: Desk, positions: &[u8], leads: &[u8], listed: bool, room: usize) 
         return not_begun(desk, verdict.number);
     }
     let kinds = swept.kinds;
+    let places = swept.places;
     let fetches = swept.fetches;
     let mut begun = desk;
     begun.phase = SWEEPING;
     begun.kinds = kinds;
+    begun.places = places;
     Begun {
         verdict: verdict,
         desk: begun,
@@ -169,8 +171,8 @@ pub fn judge_end(desk: &[u8], positions: &[u8], leads: &[u8], listed: bool, draw
     let held = all_held(desk);
     let kinds = all_kinds(desk);
     let mut times = zeros();
-    let mut places = zeros();
-    gather(desk, positions, streams, &mut times, &mut places);
+    let mut spots = zeros();
+    gather(desk, positions, streams, &mut times, &mut spots);
     let bound = sweep_bound(&kinds, &held, &times, streams, room, &table);
     judge_draws(&kinds, &held, streams, most_drawn(rate, bound), draws)
 }

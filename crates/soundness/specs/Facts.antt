@@ -48,16 +48,32 @@ pub record Tidy (w N buffer k x h : ℕ) : Type 0 where
 
 -- the slots from n on and below m are zero
 abbrev pub RestZero : Desk → ℕ → ℕ → Type 0
-RestZero d n m = (i : ℕ) → i < m → n ≤ i → (getD (d .kinds) i 0 ≡ free) × (getD (d .next) i 0 ≡ 0) × (getD (d .held) i 0 ≡ 0)
+RestZero d n m = (i : ℕ) → i < m → n ≤ i
+    → (getD (d .kinds) i 0 ≡ free) × (getD (d .next) i 0 ≡ 0) × (getD (d .held) i 0 ≡ 0) × (getD (d .places) i 0 ≡ 0)
 
--- the 256 slots of kinds ks, next blocks xs and held bytes hs are tidy, and `all slots from n on are zero`
-pub record SlotsTidy (w N buffer n : ℕ) (ks xs hs : List ℕ) : Type 0 where
+-- the 256 slots of kinds ks, next blocks xs, held bytes hs and places qs are tidy, and `all slots from n on are zero`
+pub record SlotsTidy (w N buffer n : ℕ) (ks xs hs qs : List ℕ) : Type 0 where
   pub slots : (i : ℕ) → i < maxStreams → Tidy w N buffer (getD ks i 0) (getD xs i 0) (getD hs i 0)
   pub unused : (i : ℕ) → i < maxStreams → n ≤ i → getD ks i 0 ≡ free
+  pub idle : (i : ℕ) → i < maxStreams → n ≤ i → getD qs i 0 ≡ 0
 
 -- and so are those of a record
 abbrev pub AllTidy : Desk → Type 0
-AllTidy d = SlotsTidy (d .plan .showing) (d .plan .figures .blocks) (d .plan .buffer) (d .plan .streams) (d .kinds) (d .next) (d .held)
+AllTidy d = SlotsTidy (d .plan .showing) (d .plan .figures .blocks) (d .plan .buffer) (d .plan .streams) (d .kinds) (d .next) (d .held) (d .places)
+
+-- where c ask, the place x of a slot that asks is one of theirs, and that of a slot of another kind k is 0
+pub record PlacedBy (c k x : ℕ) : Type 0 where
+  pub taken : k ≡ waiting → (0 < x) × (x ≤ c)
+  pub idle : k ≢ waiting → x ≡ 0
+
+-- `the places of asked slots are 1 up to their count, each once, and all others 0` (document 02, ticket 5), among the first n slots
+pub record Placed (c n : ℕ) (ks qs : List ℕ) : Type 0 where
+  pub each : (i : ℕ) → i < n → PlacedBy c (getD ks i 0) (getD qs i 0)
+  pub apart : (i j : ℕ) → i < n → j < n → 0 < getD qs i 0 → getD qs i 0 ≡ getD qs j 0 → i ≡ j
+
+-- its half: `all others 0`
+abbrev pub OthersIdle : ℕ → List ℕ → List ℕ → Type 0
+OthersIdle n ks qs = (i : ℕ) → i < n → getD ks i 0 ≢ waiting → getD qs i 0 ≡ 0
 
 -- a source of leads, with a list or without one, has those of plan p: each block, its lead, and that in its range
 pub record LeadSource (listed : Bool) (p : Plan) (ps ls : List ℕ) : Type 0 where

@@ -15,7 +15,6 @@ use Rattle.numbers.specs.Units.{parts}
 use Rattle.plan.specs.declared.Plan.{Plan}
 use Rattle.plan.specs.Plan.{showingIn, leadOf}
 use Rattle.rules.specs.Scheduler.{leads, lowWater}
-use Rattle.rules.specs.Order.{bySlot}
 use Rattle.rules.specs.Arrays.{slotOf}
 use Rattle.turns.specs.Facts.{Good, Sound, sound-of-good}
 use Rattle.turns.specs.Turns.{sound-yes, sound-no, sound-at}
@@ -29,6 +28,7 @@ use Rattle.desk.specs.Slots.{length-in, slot-in, kind-in}
 use Rattle.floor.specs.Floor.{leadSum, Added, mark-is}
 use Rattle.floor.specs.Sources.{leadsNext, Found}
 use Rattle.soundness.specs.Facts.{slotsSound, Tells, Tidy, AllTidy, PlayersHold, LeadSource, ZonesRead}
+use Rattle.soundness.specs.Places.{AllPlaced, sound-idle, sound-placed, placed-sound}
 
 -- ---- one slot
 
@@ -83,6 +83,7 @@ module _ (d : Desk) (w : Wide d) where
   sound-tidy h = record {
     slots = λ i l. good-tidy (d .plan) _ _ _ _ (good-at h i);
     unused = λ i l u. sym (kind-in d w i) ∙ h .unused i u;
+    idle = λ i l. sound-idle d w h i;
   }
 
   -- the slots of a tidy record, as the steps see them
@@ -131,16 +132,16 @@ module _ (d : Desk) (w : Wide d) where
   sound-phase h = h .phase
 
   -- and a record of which all this holds is sound
-  facts-sound : d .phase ≤ sweeping → AllTidy d → PlayersHold (d .plan .streams) (d .kinds) (d .held) mark → slotsSound d ≡ true
-  unfolding viewOf bySlot supplyOf
-  facts-sound e t h =
+  facts-sound : d .phase ≤ sweeping → AllTidy d → AllPlaced d w → PlayersHold (d .plan .streams) (d .kinds) (d .held) mark → slotsSound d ≡ true
+  unfolding viewOf supplyOf
+  facts-sound e t q h =
       let p = supplyOf (d .plan) in
       sound-yes p (supply-named (d .plan)) (orderOf (d .plan)) (viewOf d) e
       (λ j l. let u : j < maxStreams = omega (arith, length-in d w) in
       sound-of-good p (supply-named (d .plan)) _ _ (subst (Good p (leads p (slotsIn d))) (sym (slot-in d w j))
       (tidy-good (d .plan) _ _ _ _ (t .slots j u) (all-hold t h j u))))
       (λ j n l. kind-in d w j ∙ t .unused j (omega (arith, length-in d w)) n)
-      refl
+      (placed-sound d w t (tidy-slots t .unused) q)
 
   -- the ways of the test
   pub unsound-phase : sweeping < d .phase → false ≡ slotsSound d
@@ -149,13 +150,17 @@ module _ (d : Desk) (w : Wide d) where
   pub unsound-slots : (AllTidy d → ⊥) → false ≡ slotsSound d
   unsound-slots n = sym (sound-no (supplyOf (d .plan)) (supply-named (d .plan)) (orderOf (d .plan)) (viewOf d) (λ h. n (sound-tidy h)))
 
+  pub unsound-places : (AllPlaced d w → ⊥) → false ≡ slotsSound d
+  unsound-places n =
+      sym (sound-no (supplyOf (d .plan)) (supply-named (d .plan)) (orderOf (d .plan)) (viewOf d) (λ h. n (sound-placed d w h)))
+
   -- m is the mark as the code computes it, L the sum of the leads
   pub sound-told : (r : Bool) (m L : ℕ) → L ≡ leadSum d → m ≡ parts * d .plan .figures .bytes + d .plan .figures .rate * L
-      → d .phase ≤ sweeping → AllTidy d → Tells r (PlayersHold (d .plan .streams) (d .kinds) (d .held) m) → r ≡ slotsSound d
-  sound-told r m L a b e t h =
+      → d .phase ≤ sweeping → AllTidy d → AllPlaced d w → Tells r (PlayersHold (d .plan .streams) (d .kinds) (d .held) m) → r ≡ slotsSound d
+  sound-told r m L a b e t q h =
       go r (subst (λ (x : ℕ). Tells r (PlayersHold (d .plan .streams) (d .kinds) (d .held) x))
       (b ∙ sym (mark-is (d .plan) L) ∙ ap (lowWater (supplyOf (d .plan))) a) h)
     where
       go : (r : Bool) → Tells r (PlayersHold (d .plan .streams) (d .kinds) (d .held) mark) → r ≡ slotsSound d
-      go true h = sym (facts-sound e t (h .yes refl))
+      go true h = sym (facts-sound e t q (h .yes refl))
       go false h = sym (sound-no (supplyOf (d .plan)) (supply-named (d .plan)) (orderOf (d .plan)) (viewOf d) (λ s. h .no refl (sound-players s)))

@@ -1,8 +1,10 @@
 // A desk tested where it lies.
 mod leads; // the leads of its slots, added up
+mod places; // the test of their places
 mod slots; // the test of its slots
 
 use crate::leads::sum_next;
+use crate::places::all_placed;
 use crate::slots::all_tidy;
 use crate::slots::players_hold;
 use desk_columns::bytes_in;
@@ -68,6 +70,9 @@ pub fn is_sound(desk: &[u8], positions: &[u8], leads: &[u8], listed: bool) -> bo
     }
     let streams = streams_in(desk) as usize;
     if !all_tidy(desk, streams) {
+        return false;
+    }
+    if !all_placed(desk, streams) {
         return false;
     }
     let sum = sum_next(desk, streams, &sizes, &times, positions, leads, listed);

@@ -4,6 +4,7 @@ use desk_columns::buffer_in;
 use desk_columns::held_in;
 use desk_columns::kind_in;
 use desk_columns::next_in;
+use desk_columns::place_in;
 use desk_columns::showing_in;
 use numbers::showings::LOOP;
 use numbers::slots::DRAINING;
@@ -66,7 +67,7 @@ fn rest_zero(desk: &[u8], streams: usize) -> bool
     let mut bits: u32 = 0;
     let mut i = streams;
     while i < 256 {
-        bits = bits | kind_in(desk, i) | next_in(desk, i) | held_in(desk, i);
+        bits = bits | kind_in(desk, i) | next_in(desk, i) | held_in(desk, i) | place_in(desk, i);
         i += 1;
     }
     bits == 0

@@ -8,9 +8,13 @@ use mathlib.Core.Logic.{by-cases}
 use native.Mathlib.Omega.{arith}
 use native.Mathlib.Decide.{ℕ-discrete}
 use lib.ListN.{length, length-map, length-replicate}
+use lib.Dec.{eqb}
 use borrow.Author.Tests.{eq-eqb, ne-eqb, ltb-true}
 use Rattle.numbers.specs.Limits.{maxStreams, noNumber}
 use Rattle.numbers.specs.Refusals.{notSound}
+use Rattle.numbers.specs.Slots.{waiting}
+use Rattle.laws.specs.Bools.{bit-le}
+use Rattle.laws.specs.Runs.{sumBy}
 use Rattle.laws.specs.Each.{Each, each-replicate}
 use Rattle.words.specs.Words.{Words, wordsOf, withWords}
 use Rattle.words.specs.Laws.{words-length}
@@ -22,8 +26,9 @@ use Rattle.plan.specs.Answer.{isPlan}
 use Rattle.plan.specs.Check.{checked, checked-legal}
 use Rattle.plan.specs.Legal.{buffer-small}
 use Rattle.rules.specs.Scheduler.{Slot, Call, join, leave, begin, end}
-use Rattle.rules.specs.Order.{Scheduler}
+use Rattle.rules.specs.Order.{Scheduler, waitingCount, byPlace}
 use Rattle.turns.specs.Facts.{Good, Sound, sound-says}
+use Rattle.turns.specs.Places.{Places, places-say}
 use Rattle.turns.specs.ArrayLaws.{length-slots}
 use Rattle.rules.specs.Calls as C
 use Rattle.turns.specs.Answers.{verdict-zero, answer-accepted}
@@ -49,6 +54,17 @@ use Rattle.desk_strings.specs.ByLength.{enough, said-sized, said-wide, right-an
 use Rattle.desk_strings.specs.Calls.{openedFrom, openAnswer, openString, said, answerBy, stringBy, joinAnswer, joinString, leaveAnswer, leaveString}
 use Rattle.desk_strings.specs.Calls.{endAnswer, endString, roomIn, begunAnswer, beginAnswer, beginString}
 use Rattle.string_claims.specs.Kept.{open-number, open-right, open-other}
+
+-- ---- places
+
+asked-few : (p : Plan) (ss : List (Slot ℕ)) → waitingCount (supplyOf p) ss ≤ length ss
+unfolding waitingCount sumBy
+asked-few p [] = omega arith
+asked-few p (s ∷ ss) = omega (arith, bit-le (eqb (s .kind) waiting), asked-few p ss)
+
+places-in : (p : Plan) (s : Scheduler ℕ Queue) → Sound (supplyOf p) (orderOf p) s → Places (supplyOf p) (s .slots) (s .queue)
+unfolding byPlace
+places-in p s h = places-say (supplyOf p) (s .slots) (s .queue) (h .queue)
 
 -- ---- numbers of 32 bits
 
@@ -92,25 +108,32 @@ module _ (p : Plan) (ps ls : List ℕ) (w : Wide (p .figures)) (i : isPlan p ps 
     helds-fit [] h = tt
     helds-fit (s ∷ ss) h = (omega (arith, h .0 .fits, buffer-fits), helds-fit ss (h .1))
 
+  -- places are at most as many as ask
+  places-fit : (s : Scheduler ℕ Queue) → Sound (supplyOf p) (orderOf p) s → length (s .slots) ≡ maxStreams → Words (s .queue)
+  places-fit s h l i = omega (arith, places-in p s h .low i, asked-few p (s .slots), l)
+
   -- the record of a sound scheduler
-  pub sound-fits : (s : Scheduler ℕ Queue) → Sound (supplyOf p) (orderOf p) s → Words (deskWords (deskOf p s))
+  pub sound-fits : (s : Scheduler ℕ Queue) → Sound (supplyOf p) (orderOf p) s → length (s .slots) ≡ maxStreams → Words (deskWords (deskOf p s))
   unfolding deskOf
-  sound-fits s h = desk-fit (deskOf p s) plan-fits
+  sound-fits s h l = desk-fit (deskOf p s) plan-fits
       (omega (arith, h .phase)
       & words-each (map (λ x. x .kind) (s .slots)) (kinds-fit _ (s .slots) (h .slots))
       & words-each (map (λ x. x .next) (s .slots)) (nexts-fit _ (s .slots) (h .slots))
       & words-each (map (λ x. x .buffered) (s .slots)) (helds-fit _ (s .slots) (h .slots))
+      & places-fit s h l
       & tt)
 
 -- ---- sizes
 
-desk-of-sized : (p : Plan) (s : Scheduler ℕ Queue) → PlanSized p → length (s .slots) ≡ maxStreams → DeskSized (deskOf p s)
+desk-of-sized : (p : Plan) (s : Scheduler ℕ Queue) → PlanSized p → Sound (supplyOf p) (orderOf p) s → length (s .slots) ≡ maxStreams
+    → DeskSized (deskOf p s)
 unfolding deskOf
-desk-of-sized p s z l = record {
+desk-of-sized p s z h l = record {
   plan = z;
   kinds = length-map (s .slots) (λ x. x .kind) ∙ l;
   next = length-map (s .slots) (λ x. x .next) ∙ l;
   held = length-map (s .slots) (λ x. x .buffered) ∙ l;
+  places = places-in p s h .long ∙ l;
 }
 
 -- ---- an accepted call
@@ -170,8 +193,8 @@ module _ (D ps ls : List ℕ) where
     call-back =
         let s = answerOf d ps ls room call .scheduler in
         ap said (right-string D right (deskOf p s))
-        ∙ (unfold said in desk-written D (deskOf p s) (desk-of-sized p s (said-sized D right .plan) stays-long)
-        (sound-fits p ps ls wide fair s stays-sound) (enough D right))
+        ∙ (unfold said in desk-written D (deskOf p s) (desk-of-sized p s (said-sized D right .plan) stays-sound stays-long)
+        (sound-fits p ps ls wide fair s stays-sound stays-long) (enough D right))
 
   pub join-back : (slot block : ℕ) → joinAnswer D ps ls slot block .number ≡ 0 → said (joinString D ps ls slot block) ≡ joinDesk (said D) ps ls slot block .desk
   unfolding joinAnswer joinString joinDesk answered verdictAnswer
@@ -193,13 +216,13 @@ module _ (D ps ls : List ℕ) where
 
 fresh-sized : (p : Plan) → PlanSized p → DeskSized (freshDesk p)
 unfolding freshDesk zeros
-fresh-sized p z = let l = length-replicate {A = ℕ} maxStreams 0 in record { plan = z; kinds = l; next = l; held = l }
+fresh-sized p z = let l = length-replicate {A = ℕ} maxStreams 0 in record { plan = z; kinds = l; next = l; held = l; places = l }
 
 fresh-fits : (p : Plan) → Words (planWords p) → Words (deskWords (freshDesk p))
 unfolding freshDesk zeros
 fresh-fits p y =
     let z : Words zeros = words-each zeros (each-replicate (λ (v : ℕ). v < noNumber) maxStreams 0 (omega arith)) in
-    desk-fit (freshDesk p) y (omega arith & z & z & z & tt)
+    desk-fit (freshDesk p) y (omega arith & z & z & z & z & tt)
 
 pub opened-wide : (P : List ℕ) → length P ≡ planSize → Wide (planIn (wordsOf P) .figures)
 opened-wide P l = let z = plan-sized (wordsOf P) (omega (arith, words-length P, l)) in (z .positions, z .times, z .table)

@@ -10,7 +10,9 @@ use lib.ListN.{length}
 use Rattle.numbers.specs.Refusals.{tooShort}
 use Rattle.words.specs.Words.{Bytes, wordsOf}
 use Rattle.words.specs.Laws.{withWords-length, withWords-bytes}
+use Rattle.legality.specs.Legality.{Wide}
 use Rattle.plan.specs.declared.Plan.{Plan}
+use Rattle.plan.specs.Answer.{isPlan}
 use Rattle.plan.specs.Scratch.{scratchShort}
 use Rattle.rules.specs.Scheduler.{Entry, Call, join, leave, begin, end}
 use Rattle.rules.specs.Ledger.{openedLedger, recorded}
@@ -21,6 +23,9 @@ use Rattle.trace.specs.List.{Request, joins, leaves, begins, ends, Lent, moveOf
 use Rattle.trace.specs.Safe.{Seen, Safe, worldAfter, onRecord}
 use Rattle.trace.specs.SafeLists.{list-safe, seenAs, safe-as, long-answer, short-answer}
 use Rattle.trace.specs.Opening.{checked-lawful}
+use Rattle.trace.specs.Wait.{IsLeast, InTime, InAskingOrder}
+use Rattle.trace.specs.WaitLaws.{in-time-as, checked-in-time}
+use Rattle.trace.specs.AskingLaws.{ordered-as, checked-ordered}
 use Rattle.layout.specs.declared.FilmdiskAnswer.{FilmdiskAnswer}
 use Rattle.layout.specs.Answers.{verdictAnswer}
 use Rattle.plan_layout.specs.Layout.{planIn}
@@ -206,11 +211,22 @@ module _ (P ps ls D : List ℕ) (y : Bytes D) (n : openAnswer P ps ls D .number 
       bound : (xs : List StringCall) (x : StringCall) → onString P first .bound xs x ≡ onRecord plan .bound (map lentOf xs) (lentOf x)
       bound xs x = same-call _ (in-step xs .bytes) (in-step xs .long) x .bound ∙ ap (λ (d : Desk). called d (lentOf x) .bound) (in-step xs .desk)
 
+  -- the plan is checked, and its record whole
+  passed : Wide (plan .figures) × (isPlan plan ps ls ≡ true)
+  passed = let t = opened-plan P ps ls (opened-right P ps ls D n .1) in (opened-wide P (t .0), t .1)
+
   pub strings-safe : (xs : List StringCall) → (length (stringsAfter P first xs .desk) ≡ deskSize) × Safe plan (onString P first) xs
   strings-safe xs =
-      let t = opened-plan P ps ls (opened-right P ps ls D n .1) in
-      let lawful = checked-lawful plan ps ls (opened-wide P (t .0)) (t .1) in (
+      let lawful = checked-lawful plan ps ls (passed .0) (passed .1) in (
         in-step xs .long,
         subst (λ (v : Seen StringCall). Safe plan v xs) (sym seen-same)
             (safe-as lentOf (onRecord plan) plan xs (list-safe plan lawful (map lentOf xs))),
       )
+
+  -- its requests are in the order of asking and granted in time (document 02, ticket 5)
+  pub strings-ordered : InAskingOrder (onString P first)
+  strings-ordered = subst InAskingOrder (sym seen-same) (ordered-as lentOf (onRecord plan) (checked-ordered plan ps ls (passed .0) (passed .1)))
+
+  pub strings-in-time : (G : ℕ) → IsLeast plan G → InTime (onString P first) G
+  strings-in-time G h =
+      subst (λ (v : Seen StringCall). InTime v G) (sym seen-same) (in-time-as lentOf (onRecord plan) G (checked-in-time plan ps ls (passed .0) (passed .1) G h))

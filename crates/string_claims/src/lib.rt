@@ -16,6 +16,7 @@ ghost use Rattle.plan.specs.Plan.{planOf};
 ghost use Rattle.plan.specs.Answer.{positionsAfter, leadsAfter, hasLeads};
 ghost use Rattle.desk.specs.Desk.{freshDesk, joinDesk, leaveDesk, endDesk, beginDesk};
 ghost use Rattle.trace.specs.Safe.{Safe};
+ghost use Rattle.trace.specs.Wait.{IsLeast, InTime, InAskingOrder};
 ghost use Rattle.plan_layout.specs.Layout.{planIn, planSize, zeroBytes};
 ghost use Rattle.desk_layout.specs.Layout.{deskSize};
 ghost use Rattle.window.specs.Window.{isOutside};
@@ -66,6 +67,14 @@ pub fn accepted_desk_reads_back()
 pub fn every_list_of_strings_safe()
     ensures { λ _. ⌜ ((P ps ls D : List ℕ) → Bytes D → openAnswer P ps ls D .number ≡ 0 → (xs : List StringCall)
         → (length (stringsAfter P (openString P ps ls D) xs .desk) ≡ deskSize) × Safe (planIn (wordsOf P)) (onString P (openString P ps ls D)) xs) ⌝ }
+{}
+
+// Ticket 5 of document 02 for C: in such a list requests are in the order of asking, and one that stays is granted at the latest at the first
+// accepted begin after G finished sweeps since it became the eldest.
+pub fn string_requests_are_granted_in_time()
+    ensures order { λ _. ⌜ ((P ps ls D : List ℕ) → Bytes D → openAnswer P ps ls D .number ≡ 0 → InAskingOrder (onString P (openString P ps ls D))) ⌝ }
+    ensures time { λ _. ⌜ ((P ps ls D : List ℕ) → Bytes D → openAnswer P ps ls D .number ≡ 0 → (G : ℕ) → IsLeast (planIn (wordsOf P)) G
+        → InTime (onString P (openString P ps ls D)) G) ⌝ }
 {}
 
 // What the plan call of either showing leaves in the plan string and the lists: accepted, the plan of the card's figures; after 1 to 12, 25 and 26

@@ -1,41 +1,69 @@
 -- The steps of a begin, one after the other.
 -- Assumes nothing.
 use Prim.Native.Nat.{ℕ, _+_, _*_, _-_, _≤_}
-use mathlib.Core.Path.{_≡_, refl, sym, ap, _∙_}
+use mathlib.Core.Path.{_≡_, refl, sym, ap, subst, _∙_}
 use mathlib.Core.List.{List, map}
 use native.Mathlib.Omega.{arith}
+use native.Mathlib.Nat.{mul-le-mul}
 use lib.ListN.{length, getD}
 use Rattle.laws.specs.Each.{Both, both-at, both-length}
+use Rattle.numbers.specs.Limits.{maxBytes, maxRate, maxStreams}
 use Rattle.numbers.specs.Units.{parts}
-use Rattle.rules.specs.Scheduler.{Slot, freeSlot, at, leads, lowWater, started, tries, begun, entries, bound}
-use Rattle.rules.specs.Order.{bySlot}
+use Rattle.rules.specs.Scheduler.{Slot, freeSlot, at, leads, lowWater, started, entries, bound}
+use Rattle.rules.specs.Order.{Begun, eldestLead, served, byPlace}
+use Rattle.rules.specs.Calls.{accepted}
+use Rattle.rules.specs.Arrays.{slotsOf}
 use Rattle.turns.specs.Orderly.{Kept, kept-refl}
 use Rattle.turns.specs.Facts.{FreeFrom}
 use Rattle.turns.specs.Sweeps.{kept-free}
-use Rattle.turns.specs.BySlot.{started-kept}
-use Rattle.turns.specs.Turns.{started-leads}
-use Rattle.rules.specs.Calls.{accepted}
-use Rattle.turns.specs.Turns.{leastHeld}
-use Rattle.rules.specs.Arrays.{slotsOf}
+use Rattle.turns.specs.Begins.{started-kept}
+use Rattle.turns.specs.ByPlace.{started-waits}
+use Rattle.turns.specs.Places.{Places, places-say, places-same}
+use Rattle.turns.specs.Served.{droppedBy}
+use Rattle.turns.specs.Turns.{leastHeld, started-leads}
 use Rattle.turns.specs.ArrayLaws.{length-slots, slot-at, kinds-of-slots}
 use Rattle.desk.specs.declared.Desk.{Desk}
 use Rattle.desk.specs.declared.Fetches.{Fetches}
 use Rattle.desk.specs.Shown.{Gathered, Slots, OfNext, Gathers}
 use Rattle.desk.specs.Desk.{supplyOf, slotsIn, viewOf, deskOf, verdict, fetchesOf}
 use Rattle.desk.specs.View.{Wide}
-use Rattle.desk.specs.Ready.{Ready, room-left}
+use Rattle.desk.specs.Ready.{Ready, ready-slots, room-left}
 use Rattle.desk.specs.Slots.{length-in, slot-in}
-use Rattle.floor.specs.Floor.{ample, mark-is}
-use Rattle.floor.specs.Sources.{leadsIn, Leads}
-use Rattle.grants.specs.Grants.{Asks}
+use Rattle.floor.specs.Floor.{mostLead, ample, mark-is}
+use Rattle.floor.specs.Sources.{leadsIn}
+use Rattle.grants.specs.Grants.{mostFloor, Asked, Asks, servedTo}
+use Rattle.grants.specs.Laws.{places-queued}
+use Rattle.grants.specs.Line.{Queued}
 use Rattle.fetches.specs.Told.{Timed, Positioned}
-use Rattle.sweep.specs.Steps.{begunDesk, sweptOf}
+use Rattle.sweep.specs.Begins.{LeadsIn, Served}
+use Rattle.sweep.specs.Steps.{servedIn, begunDesk, sweptOf}
 use Rattle.sweep.specs.Kept.{begun-kept}
 
--- the floor
-pub floor-is : (d : Desk) (mark sum : ℕ) → mark ≡ parts * d .plan .figures .bytes + d .plan .figures .rate * sum → sum ≡ leads (supplyOf (d .plan)) (slotsIn d)
-    → mark ≡ lowWater (supplyOf (d .plan)) (leads (supplyOf (d .plan)) (slotsIn d))
-floor-is d mark sum e q = e ∙ sym (mark-is (d .plan) sum) ∙ ap (lowWater (supplyOf (d .plan))) q
+-- the floor, and what a filling slot must hold to play
+pub floor-is : (d : Desk) (mark L M : ℕ) → mark ≡ parts * d .plan .figures .bytes + d .plan .figures .rate * L → L ≡ M → mark ≡ lowWater (supplyOf (d .plan)) M
+floor-is d mark L M e q = e ∙ sym (mark-is (d .plan) L) ∙ ap (lowWater (supplyOf (d .plan))) q
+
+-- it is in its range
+pub floor-most : (B c L mark : ℕ) → mark ≡ parts * B + c * L → B ≤ maxBytes → c ≤ maxRate → L ≤ maxStreams * mostLead → mark ≤ mostFloor
+floor-most B c L mark e b r l = let h : c * L ≤ maxRate * (maxStreams * mostLead) = mul-le-mul r l in omega arith
+
+-- the places of a record that is ready
+module _ (d : Desk) (w : Wide d) (r : Ready d) where
+  pub ready-places : Places (supplyOf (d .plan)) (slotsIn d) (d .places)
+  unfolding viewOf byPlace
+  ready-places = places-say (supplyOf (d .plan)) (slotsIn d) (d .places) (r .sound .queue)
+
+  pub ready-queued : Queued (d .places) (d .plan .streams)
+  ready-queued =
+      places-queued (supplyOf (d .plan)) (d .plan .streams) (slotsIn d) (d .places) (length-in d w) (ready-slots d w r .unused) ready-places
+
+  -- the leads of its requests, v being worst2 as it was read
+  pub ready-asked : (ts : List ℕ) (v sum : ℕ) → v ≡ d .plan .worst2 → LeadsIn d ts sum
+      → Asked (supplyOf (d .plan)) (leadsIn ts v) (d .kinds) (d .next) (d .held) (d .places)
+  ready-asked ts v sum e f = record {
+    places = ready-places;
+    own = λ i h k. ap (λ (m : ℕ). leadsIn ts m i) e ∙ f .each i h (omega arith) (omega arith);
+  }
 
 -- d has other kinds ks, and so the slots ts, which a step of a begin may leave
 module _ (d : Desk) (w : Wide d) (r : Ready d) (ks : List ℕ) (ts : List (Slot ℕ)) (q : slotsOf (supplyOf (d .plan)) ks (d .next) (d .held) ≡ ts)
@@ -72,41 +100,48 @@ module _ (d : Desk) (w : Wide d) (r : Ready d) (x : ℕ) (ks : List ℕ)
   pub slots-started : Slots (supplyOf (d .plan)) (d .plan .streams) ks (d .next) (d .held)
   slots-started = slots-kept d w r ks _ q (started-kept (supplyOf (d .plan)) x (slotsIn d))
 
-  -- the times ts give the leads, v being worst2 as it was read
-  pub asks-started : (ts : List ℕ) (v sum level : ℕ) → v ≡ d .plan .worst2
-      → Leads (supplyOf (d .plan)) (d .plan .streams) (d .kinds) (d .next) (d .held) ts (d .plan .worst2) sum
+  -- what the grants are told: the times ts give the leads, v being worst2 as it was read
+  pub asks-started : (ts : List ℕ) (v sum floor level : ℕ) → v ≡ d .plan .worst2 → LeadsIn d ts sum
+      → floor ≡ parts * d .plan .figures .bytes + d .plan .figures .rate * sum
       → level ≡ parts * leastHeld (supplyOf (d .plan)) ample (slotsOf (supplyOf (d .plan)) ks (d .next) (d .held))
-      → Asks (supplyOf (d .plan)) (d .plan .figures .bytes) (d .plan .figures .rate) sum level (leadsIn ts v) ks (d .next) (d .held)
+      → Asks (supplyOf (d .plan)) (d .plan .figures .rate) floor level (leadsIn ts v) ks (d .next) (d .held) (d .places)
   unfolding supplyOf
-  asks-started ts v sum level e f l =
+  asks-started ts v sum floor level e f m l =
       let p = supplyOf (d .plan) in
       record {
-        bytes = refl;
+        asked = record {
+          places = subst (λ (ss : List (Slot ℕ)). Places p ss (d .places)) (sym q)
+              (places-same p (slotsIn d) _ (d .places) (started-waits p x (slotsIn d)) (ready-places d w r));
+          own = λ i h k. let b = before d w r ks _ q (started-kept p x (slotsIn d)) i (omega arith) (omega arith) in
+              ap (λ (m : ℕ). leadsIn ts m i) e ∙ f .each i h (b .0) (b .1);
+        };
         rate = refl;
-        leads = f .sums ∙ sym (started-leads p x (slotsIn d)) ∙ ap (leads p) (sym q);
+        mark = floor-is d floor sum _ m (f .sums ∙ sym (started-leads p x (slotsIn d)) ∙ ap (leads p) (sym q));
         least = l;
-        own = λ i h k. let b = before d w r ks _ q (started-kept p x (slotsIn d)) i (omega arith) (omega arith) in
-            ap (λ (m : ℕ). leadsIn ts m i) e ∙ f .each i h (b .0) (b .1);
       }
 
-  -- then asked slots were granted, and the kinds are js
-  pub begun-all : (js : List ℕ)
-      → slotsOf (supplyOf (d .plan)) js (d .next) (d .held) ≡ tries (supplyOf (d .plan)) (slotsOf (supplyOf (d .plan)) ks (d .next) (d .held)) 0 256
-      → x ≡ lowWater (supplyOf (d .plan)) (leads (supplyOf (d .plan)) (slotsIn d))
-      → slotsOf (supplyOf (d .plan)) js (d .next) (d .held) ≡ begun (supplyOf (d .plan)) (slotsIn d)
-  unfolding begun
-  begun-all js e m =
-      let p = supplyOf (d .plan) in
-      e
-      ∙ ap (λ (ts : List (Slot ℕ)). tries p ts 0 256) q
-      ∙ ap (λ (n : ℕ). tries p (started p n (slotsIn d)) 0 256) m
-      ∙ ap (λ (n : ℕ). tries p (started p (lowWater p (leads p (slotsIn d))) (slotsIn d)) 0 n) (sym (length-in d w))
+  -- then g asked slots were granted, and the kinds are js
+  pub begun-all : (js : List ℕ) (g : ℕ)
+      → served (supplyOf (d .plan)) 256 (slotsOf (supplyOf (d .plan)) ks (d .next) (d .held)) (d .places)
+      ≡ servedTo (slotsOf (supplyOf (d .plan)) js (d .next) (d .held)) (droppedBy g (d .places))
+      → x ≡ lowWater (supplyOf (d .plan)) (leads (supplyOf (d .plan)) (slotsIn d) + eldestLead (supplyOf (d .plan)) (slotsIn d) (d .places))
+      → Served d js (droppedBy g (d .places))
+  unfolding byPlace
+  begun-all js g e m = record { slots = ap (λ (b : Begun ℕ (List ℕ)). b .slots) all; places = ap (λ (b : Begun ℕ (List ℕ)). b .queue) all }
+    where
+      all : servedTo (slotsOf (supplyOf (d .plan)) js (d .next) (d .held)) (droppedBy g (d .places)) ≡ servedIn d
+      all =
+          let p = supplyOf (d .plan) in
+          sym e
+          ∙ ap (λ (ts : List (Slot ℕ)). served p 256 ts (d .places)) q
+          ∙ ap (λ (n : ℕ). served p 256 (started p n (slotsIn d)) (d .places)) m
+          ∙ ap (λ (n : ℕ). served p n (started p (lowWater p (leads p (slotsIn d) + eldestLead p (slotsIn d) (d .places))) (slotsIn d)) (d .places))
+          (sym (length-in d w))
 
--- both steps are done: d has the kinds ks
-module _ (d : Desk) (w : Wide d) (r : Ready d) (ks : List ℕ)
-    (q : slotsOf (supplyOf (d .plan)) ks (d .next) (d .held) ≡ begun (supplyOf (d .plan)) (slotsIn d)) where
+-- both steps are done: d has the kinds ks and the places qs
+module _ (d : Desk) (w : Wide d) (r : Ready d) (ks qs : List ℕ) (q : Served d ks qs) where
   slots-begun : Slots (supplyOf (d .plan)) (d .plan .streams) ks (d .next) (d .held)
-  slots-begun = slots-kept d w r ks _ q (begun-kept d r)
+  slots-begun = slots-kept d w r ks _ (q .slots) (begun-kept d r)
 
   module _ (g : Gathered) (u : Gathers (supplyOf (d .plan)) (d .kinds) (d .next) g) where
     -- what the sweep bound and the list of fetches are told
@@ -115,7 +150,7 @@ module _ (d : Desk) (w : Wide d) (r : Ready d) (ks : List ℕ)
     unfolding supplyOf
     timed-begun = record {
       slots = slots-begun;
-      times = gathered-kept d w r ks _ q (begun-kept d r) (supplyOf (d .plan) .time) (g .times) (u .times);
+      times = gathered-kept d w r ks _ (q .slots) (begun-kept d r) (supplyOf (d .plan) .time) (g .times) (u .times);
       spare = room-left d r;
       moves = λ k. refl;
     }
@@ -124,7 +159,7 @@ module _ (d : Desk) (w : Wide d) (r : Ready d) (ks : List ℕ)
     unfolding supplyOf
     positioned-begun = record {
       slots = slots-begun;
-      positions = gathered-kept d w r ks _ q (begun-kept d r) (supplyOf (d .plan) .position) (g .positions) (u .positions);
+      positions = gathered-kept d w r ks _ (q .slots) (begun-kept d r) (supplyOf (d .plan) .position) (g .positions) (u .positions);
       spare = room-left d r;
       alone = λ b. refl;
       own = λ b. refl;
@@ -133,13 +168,14 @@ module _ (d : Desk) (w : Wide d) (r : Ready d) (ks : List ℕ)
   -- the answer
   pub begun-is : (b : ℕ) (es : Fetches) → b ≡ bound (supplyOf (d .plan)) (slotsOf (supplyOf (d .plan)) ks (d .next) (d .held))
       → es ≡ fetchesOf (entries (supplyOf (d .plan)) (slotsOf (supplyOf (d .plan)) ks (d .next) (d .held)))
-      → record { verdict = verdict 0 0; kinds = ks; bound = b; fetches = es } ≡ sweptOf (begunDesk d)
-  unfolding deskOf begunDesk sweptOf accepted bySlot viewOf
+      → record { verdict = verdict 0 0; kinds = ks; places = qs; bound = b; fetches = es } ≡ sweptOf (begunDesk d)
+  unfolding deskOf begunDesk sweptOf accepted viewOf
   begun-is b es u v =
       let p = supplyOf (d .plan) in
       λ t. record {
         verdict = verdict 0 0;
-        kinds = (sym (kinds-of-slots p ks (d .next) (d .held)) ∙ ap (λ (ts : List (Slot ℕ)). map (λ s. s .kind) ts) q) t;
-        bound = (u ∙ ap (bound p) q) t;
-        fetches = (v ∙ ap (λ (ts : List (Slot ℕ)). fetchesOf (entries p ts)) q) t;
+        kinds = (sym (kinds-of-slots p ks (d .next) (d .held)) ∙ ap (λ (ts : List (Slot ℕ)). map (λ s. s .kind) ts) (q .slots)) t;
+        places = q .places t;
+        bound = (u ∙ ap (bound p) (q .slots)) t;
+        fetches = (v ∙ ap (λ (ts : List (Slot ℕ)). fetchesOf (entries p ts)) (q .slots)) t;
       }

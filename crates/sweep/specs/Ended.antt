@@ -17,7 +17,7 @@ use Rattle.sweep.specs.Steps.{endedDesk}
 
 -- the slots are those after the sweep, and the phase is that between sweeps
 pub ended-is : (d : Desk) (ds : List ℕ) (e : Desk) → e ≡ withSlots d (ended (supplyOf (d .plan)) (slotsIn d) ds)
-    → recordOf (e .plan) between (e .kinds) (e .next) (e .held) ≡ endedDesk d ds
+    → recordOf (e .plan) between (e .kinds) (e .next) (e .held) (e .places) ≡ endedDesk d ds
 unfolding endedDesk accepted deskOf viewOf
 ended-is d ds e q = rw q
 
@@ -28,9 +28,9 @@ module _ (d e : Desk) (said : e ≡ d) (ds : List ℕ) where
       subst (λ (x : Desk). Ends x (d .kinds) (d .next) (d .held) ds) (sym said)
       (record { kinds = refl; next = refl; held = refl; wide = w; ready = r; drawn = o })
 
-  pub ended-said : (ks xs hs : List ℕ) → recordOf (e .plan) (e .phase) ks xs hs ≡ withSlots e (ended (supplyOf (e .plan)) (slotsIn e) ds)
-      → recordOf (d .plan) between ks xs hs ≡ endedDesk d ds
+  pub ended-said : (ks xs hs : List ℕ) → recordOf (e .plan) (e .phase) ks xs hs (e .places) ≡ withSlots e (ended (supplyOf (e .plan)) (slotsIn e) ds)
+      → recordOf (d .plan) between ks xs hs (d .places) ≡ endedDesk d ds
   ended-said ks xs hs q =
-      ap (λ (x : Desk). recordOf (x .plan) between ks xs hs) (sym said)
+      ap (λ (x : Desk). recordOf (x .plan) between ks xs hs (x .places)) (sym said)
       ∙ ended-is e ds _ q
       ∙ ap (λ (x : Desk). endedDesk x ds) said

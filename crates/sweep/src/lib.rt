@@ -6,6 +6,7 @@ use desk::no_fetches;
 use desk_columns::all_held;
 use desk_columns::all_kinds;
 use desk_columns::all_next;
+use desk_columns::all_places;
 use desk_columns::buffer_in;
 use desk_columns::bytes_in;
 use desk_columns::overheads;
@@ -18,7 +19,11 @@ use fetches::list_fetches;
 use fetches::sweep_bound;
 use floor::least_level;
 use floor::low_water;
+use grants::drop_places;
+use grants::eldest_lead;
+use grants::empty_line;
 use grants::grant_asked;
+use grants::line_up;
 use grants::start_playing;
 use numbers::refusals::ACCEPTED;
 use numbers::slots::BETWEEN;
@@ -30,29 +35,61 @@ ghost use Rattle.desk.specs.Ready.{Ready};
 ghost use Rattle.desk_layout.specs.Layout.{deskIn, deskSize};
 ghost use Rattle.ends.specs.Ends.{Drawn};
 ghost use Rattle.sweep.specs.Steps.{begunDesk, sweptOf, notSwept, endedDesk};
-ghost use Rattle.sweep.specs.Begins.{Begins};
+ghost use Rattle.sweep.specs.Begins.{Serves, Served, Begins};
 
 // What a begin answers of itself and changes of the desk; the rest of the desk stays, but for the phase.
 pub struct Swept {
     pub verdict: Verdict,
     pub kinds: [u32; 256],
+    pub places: [u32; 256],
     pub bound: u32,
     pub fetches: Fetches,
 }
 
-// A refused begin: the kinds it was given, no fetches and no bound.
-pub fn not_swept(kinds: [u32; 256], number: u32) -> Swept
-    ensures { λ r. ⌜ r ≡ notSwept kinds number ⌝ }
+// A refused begin of the desk in a lent string: its kinds and places, no fetches and no bound.
+pub fn not_swept(desk: &[u8], number: u32) -> Swept
+    requires { ⌜ deskSize ≤ length (now desk) ⌝ }
+    ensures { λ r. ⌜ r ≡ notSwept (deskIn (wordsOf (now (desk .entry)))) number ⌝ }
 {
     Swept {
         verdict: Verdict {
             number: number,
             place: 0,
         },
-        kinds: kinds,
+        kinds: all_kinds(desk),
+        places: all_places(desk),
         bound: 0,
         fetches: no_fetches(),
     }
+}
+
+// The kinds and places of the desk in a lent string become those that a begin leaves: while a request waits a filling slot starts to play only
+// with the eldest's lead added to the floor, then asked slots are granted, eldest first. `times` are those of the slots' next blocks; `sum` is what
+// the leads of filling and playing slots add up to.
+fn serve<'a>(
+    desk: &[u8],
+    held: &'a [u32; 256],
+    times: &'a [u32; 256],
+    sum: u32,
+    kinds: &mut [u32; 256],
+    places: &mut [u32; 256],
+)
+    requires { ⌜ (deskSize ≤ length (now desk)) × Serves (deskIn (wordsOf (now desk))) (now held) (now times) sum (now kinds) (now places) ⌝ }
+    ensures { λ _. ⌜ Served (deskIn (wordsOf (now (desk .entry)))) (now (kinds .exit)) (now (places .exit)) ⌝ }
+{
+    let bytes = bytes_in(desk);
+    let rate = rate_in(desk);
+    let streams = streams_in(desk) as usize;
+    let worst2 = worst2_in(desk);
+    let mut line = empty_line();
+    let count = line_up(places, streams, &mut line);
+    let eldest = eldest_lead(&line, count, times, worst2);
+    let mark = low_water(bytes, rate, sum + eldest);
+    start_playing(kinds, held, streams, mark);
+    let level = least_level(kinds, held, streams);
+    let floor = low_water(bytes, rate, sum);
+    let granted = grant_asked(kinds, &line, count, times, worst2, rate, floor, level);
+    drop_places(places, streams, granted);
 }
 
 // A begin of the desk in a lent string: filling slots start to play, asked slots are granted, and the sweep's fetches are listed. The arrays
@@ -67,19 +104,14 @@ pub fn begin_sweep<'a>(
     requires { ⌜ (deskSize ≤ length (now desk)) × Begins (deskIn (wordsOf (now desk))) (now times) (now positions) sum ⌝ }
     ensures { λ r. ⌜ r ≡ sweptOf (begunDesk (deskIn (wordsOf (now (desk .entry))))) ⌝ }
 {
-    let bytes = bytes_in(desk);
-    let rate = rate_in(desk);
     let streams = streams_in(desk) as usize;
-    let room = buffer_in(desk) - bytes;
-    let worst2 = worst2_in(desk);
+    let room = buffer_in(desk) - bytes_in(desk);
     let table = overheads(desk);
     let next = all_next(desk);
     let held = all_held(desk);
     let mut kinds = all_kinds(desk);
-    let mark = low_water(bytes, rate, sum);
-    start_playing(&mut kinds, &held, streams, mark);
-    let level = least_level(&kinds, &held, streams);
-    grant_asked(&mut kinds, times, worst2, streams, bytes, rate, sum, level);
+    let mut places = all_places(desk);
+    serve(desk, &held, times, sum, &mut kinds, &mut places);
     let bound = sweep_bound(&kinds, &held, times, streams, room, &table);
     let fetches = list_fetches(&kinds, &next, &held, positions, streams, room);
     Swept {
@@ -88,6 +120,7 @@ pub fn begin_sweep<'a>(
             place: 0,
         },
         kinds: kinds,
+        places: places,
         bound: bound,
         fetches: fetches,
     }

@@ -8,3 +8,6 @@ pub mod Safe
 pub mod SafeLists
 pub mod ScratchLaws
 pub mod SlotLaws
+pub mod Wait
+pub mod WaitLaws
+pub mod AskingLaws

@@ -35,15 +35,20 @@ checked-lawful p ps ls w e =
     let c = checked p ps ls e in
     subst (λ (q : Plan). Lawful (supplyOf q)) (sym (c .plan)) (plan-lawful (showingIn p) (p .figures) (checked-legal p ps ls w e) (c .fed))
 
+-- an opening is accepted where the check is passed
+pub opened-checked : (p : Plan) (ps ls : List ℕ) → openDesk p ps ls .verdict .number ≡ 0 → isPlan p ps ls ≡ true
+unfolding openDesk
+opened-checked p ps ls e = go (isPlan p ps ls) e
+  where
+    go : (t : Bool) → openBy t p .verdict .number ≡ 0 → t ≡ true
+    go true e = refl
+    go false e = absurd (omega arith)
+
 -- EVERY LIST FROM AN ACCEPTED OPENING
 pub opening-safe : (p : Plan) (ps ls : List ℕ) → Wide (p .figures) → openDesk p ps ls .verdict .number ≡ 0
     → (openDesk p ps ls .desk ≡ freshDesk p) × ((xs : List Lent) → Safe p (onRecord p) xs)
 unfolding openDesk
-opening-safe p ps ls w e = go (isPlan p ps ls) refl e
-  where
-    go : (t : Bool) → isPlan p ps ls ≡ t → openBy t p .verdict .number ≡ 0 → (openBy t p .desk ≡ freshDesk p) × ((xs : List Lent) → Safe p (onRecord p) xs)
-    go true q e = (refl, list-safe p (checked-lawful p ps ls w q))
-    go false q e = absurd (omega arith)
+opening-safe p ps ls w e = let q = opened-checked p ps ls e in (rw q, list-safe p (checked-lawful p ps ls w q))
 
 -- a call is accepted only with the plan's own lists
 pub fair-of : (p : Plan) (s : Scheduler ℕ Queue) (g : Given ℕ) → rulesOf p .verdict s g .number ≡ 0 → g .fair ≡ true

@@ -13,7 +13,7 @@ use Rattle.plan.specs.declared.Plan.{Plan}
 use Rattle.plan.specs.Answer.{isPlan}
 use Rattle.plan.specs.Scratch.{scratchShort}
 use Rattle.rules.specs.Supply.{Lawful}
-use Rattle.rules.specs.Order.{Scheduler, bySlot}
+use Rattle.rules.specs.Order.{Scheduler, byPlace}
 use Rattle.rules.specs.Order as A
 use Rattle.rules.specs.Scheduler.{Entry, begin, leads}
 use Rattle.rules.specs.Sound.{sound}
@@ -84,7 +84,7 @@ module _ {X Y : Type 0} (g : X → Y) (v : Seen Y) where
   }
 
 -- a number that is accepted just where another is
-accepted-zero : (m n : ℕ) → isAccepted m ≡ isAccepted n → m ≡ 0 → n ≡ 0
+pub accepted-zero : (m n : ℕ) → isAccepted m ≡ isAccepted n → m ≡ 0 → n ≡ 0
 accepted-zero m zero e h = refl
 accepted-zero zero (suc n) e h = clash refl e
 accepted-zero (suc m) (suc n) e h = absurd (omega arith)
@@ -262,7 +262,7 @@ module _ (p : Plan) where
   State = C.State ℕ Queue
 
   -- a list of what the rules are given, as a caller would see it
-  abbrev onRules : Seen (Given ℕ)
+  abbrev pub onRules : Seen (Given ℕ)
   onRules = record {
     desk = λ gs. deskOf p (K.stateAfter (supplyOf p) (orderOf p) gs .scheduler);
     book = λ gs. K.stateAfter (supplyOf p) (orderOf p) gs .ledger;
@@ -303,15 +303,20 @@ module _ (p : Plan) where
   after-same (x ∷ xs) v u s = after-same xs (turn (p .figures .bytes) v x) _ (turn-same v u x s)
 
   same : (xs : List Lent) → Same (worldAfter p xs) (K.stateAfter (supplyOf p) (orderOf p) (map (givenOf p) xs))
-  unfolding freshDesk deskOf C.opening A.opened bySlot supplyOf zeros
+  unfolding freshDesk deskOf C.opening A.opened byPlace supplyOf zeros
   same xs = after-same xs (opened (freshDesk p)) (C.opening (supplyOf p) (orderOf p)) (record { desk = refl; book = refl })
 
   answers-same : (xs : List Lent) (x : Lent)
       → RuledBy p (K.stateAfter (supplyOf p) (orderOf p) (map (givenOf p) xs) .scheduler) (called (worldAfter p xs .desk) x) (givenOf p x)
   answers-same xs x = called-same (worldAfter p xs .desk) _ x (same xs .desk)
 
+  -- the same calls are accepted
+  pub accepted-same : (xs : List Lent) (x : Lent)
+      → isAccepted (onRecord p .number xs x) ≡ isAccepted (K.answerAfter (supplyOf p) (orderOf p) (map (givenOf p) xs) (givenOf p x) .number)
+  accepted-same xs x = answers-same xs x .accepted
+
   -- the list as it is seen, but for the rules' numbers
-  abbrev numberedByRules : Seen Lent
+  abbrev pub numberedByRules : Seen Lent
   numberedByRules = record {
     desk = λ xs. worldAfter p xs .desk;
     book = λ xs. worldAfter p xs .book;
@@ -322,7 +327,7 @@ module _ (p : Plan) where
     room = λ x. roomOf (x .request);
   }
 
-  seen-same : numberedByRules ≡ seenAs (givenOf p) onRules
+  pub seen-same : numberedByRules ≡ seenAs (givenOf p) onRules
   seen-same = λ t. record {
     desk = λ xs. same xs .desk t;
     book = λ xs. same xs .book t;
@@ -376,5 +381,5 @@ module _ (p : Plan) where
     -- DEMAND 3
     pub list-safe : (xs : List Lent) → Safe p (onRecord p) xs
     list-safe xs =
-        renumbered p numberedByRules (onRecord p .number) (λ ys x. answers-same ys x .accepted) (λ ys x. answers-same ys x .number) xs
+        renumbered p numberedByRules (onRecord p .number) accepted-same (λ ys x. answers-same ys x .number) xs
         (subst (λ (v : Seen Lent). Safe p v xs) (sym seen-same) (safe-as (givenOf p) onRules p xs (rules-safe (map (givenOf p) xs))))

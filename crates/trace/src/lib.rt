@@ -1,7 +1,7 @@
-// Demand 3 of the customer: one claim about every list of calls from an accepted opening, and one about any record. And what the desk's
-// calls answer, in document 01's words.
+// Demand 3 of the customer: one claim about every list of calls from an accepted opening, and one about any record. How long a request waits in
+// such a list. And what the desk's calls answer, in document 01's words.
 ghost use mathlib.Core.Path.{_≡_};
-ghost use Prim.Native.Nat.{ℕ, _≤_, _<_};
+ghost use Prim.Native.Nat.{ℕ, _≤_, _<_, min};
 ghost use mathlib.Core.Bool.{true};
 ghost use mathlib.Core.List.{List, []};
 ghost use lib.ListN.{length, getD};
@@ -16,10 +16,11 @@ ghost use Rattle.legality.specs.Legality.{Wide};
 ghost use Rattle.placement.specs.Showing.{Showing};
 ghost use Rattle.pacing.specs.Film.{Film, Paced};
 ghost use Rattle.plan.specs.declared.Plan.{Plan};
+ghost use Rattle.plan.specs.Plan.{planOf};
 ghost use Rattle.plan.specs.Answer.{refusal, planned, positionsAfter, leadsAfter, judged, hasLeads};
 ghost use Rattle.plan.specs.Scratch.{plannedScratch, positionsScratch};
 ghost use Rattle.rules.specs.Supply.{Lawful, Named};
-ghost use Rattle.rules.specs.Order.{bySlot};
+ghost use Rattle.rules.specs.Order.{byPlace};
 ghost use Rattle.rules.specs.Kinds.{kindAfter};
 ghost use Rattle.rules.specs.Calls.{Given};
 ghost use Rattle.rules.specs.Sound.{sound};
@@ -33,6 +34,7 @@ ghost use Rattle.desk.specs.View.{Wide as WideDesk};
 ghost use Rattle.trace.specs.Answers.{Opens, Fetched, drawAt, mayDraw, LowestAbove};
 ghost use Rattle.trace.specs.List.{Lent, called};
 ghost use Rattle.trace.specs.Safe.{Safe, onRecord};
+ghost use Rattle.trace.specs.Wait.{IsLeast, InTime, InAskingOrder};
 ghost use Rattle.trace.specs.ScratchLaws.{EqualTo, RefusedFor};
 
 // From an accepted opening of either showing's plan every list of joins, leaves, begins and ends is safe, refused calls included. (Wide: the
@@ -42,13 +44,31 @@ pub fn every_list_safe()
         → (openDesk p positions leads .desk ≡ freshDesk p) × ((xs : List Lent) → Safe p (onRecord p) xs)) ⌝ }
 {}
 
+// Ticket 5 of document 02: places follow the order of asking, in every list from an accepted opening.
+pub fn places_follow_the_asking()
+    ensures { λ _. ⌜ ((p : Plan) (ps ls : List ℕ) → Wide (p .figures) → openDesk p ps ls .verdict .number ≡ 0 → InAskingOrder (onRecord p)) ⌝ }
+{}
+
+// Ticket 5 of document 02: a request that stays is granted at the latest at the first accepted begin after G finished sweeps since it became
+// the eldest, in every list from an accepted opening.
+pub fn request_is_granted_in_time()
+    ensures { λ _. ⌜ ((p : Plan) (ps ls : List ℕ) → Wide (p .figures) → openDesk p ps ls .verdict .number ≡ 0
+        → (G : ℕ) → IsLeast p G → InTime (onRecord p) G) ⌝ }
+{}
+
+// That G is 1, or 0 where there is no margin: in every plan of legal figures, of either showing, and so in every plan that is opened.
+pub fn wait_is_at_most_one_sweep()
+    ensures planned { λ _. ⌜ ((x : Showing) (f : Figures) → Legal f → IsLeast (planOf x f) (min 1 (planOf x f .margin))) ⌝ }
+    ensures opened { λ _. ⌜ ((p : Plan) (ps ls : List ℕ) → Wide (p .figures) → openDesk p ps ls .verdict .number ≡ 0 → IsLeast p (min 1 (p .margin))) ⌝ }
+{}
+
 // The facts on floors are of any film whose successive pairs stay within a worst time, with rates within the formulas of streams, margin and
 // buffer: what the desk is told of it keeps the planner's promise, and every list of calls under the rules is safe. A film shown once and one
 // that goes round are two of them.
 pub fn paced_film_is_safe()
     ensures lawful { λ _. ⌜ ((film : Film ℕ) (w m : ℕ) (r : Rates) → Paced film w m → Rated film w r m → Lawful (supplied film w r)) ⌝ }
     ensures safe { λ _. ⌜ ((film : Film ℕ) (w m : ℕ) (r : Rates) → Paced film w m → Rated film w r m → Named (supplied film w r) → (gs : List (Given ℕ))
-        → RuledSafe (supplied film w r) (bySlot (supplied film w r)) (kindAfter (supplied film w r)) gs) ⌝ }
+        → RuledSafe (supplied film w r) (byPlace (supplied film w r)) (kindAfter (supplied film w r)) gs) ⌝ }
 {}
 
 // An accepted call on any record, not only on one that a list reached, leaves a sound record.

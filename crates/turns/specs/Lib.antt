@@ -5,7 +5,12 @@ pub mod ArrayLaws
 pub mod Turns
 pub mod Sorting
 pub mod Orderly
-pub mod BySlot
+pub mod Begins
+pub mod Places
+pub mod ByPlace
+pub mod Served
+pub mod Eldest
+pub mod Ranks
 pub mod Strict
 pub mod Answers
 pub mod Sweeps

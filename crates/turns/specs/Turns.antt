@@ -7,10 +7,9 @@ use mathlib.Core.Logic.{_≢_, by-cases}
 use mathlib.Core.Bool.{Bool, true, false, cond, _&&_}
 use mathlib.Core.List.{List, [], _∷_}
 use native.Mathlib.Omega.{arith}
-use native.Mathlib.Decide.{ℕ-discrete, decLt}
+use native.Mathlib.Decide.{decLt}
 use native.Mathlib.Numerals.{add-one}
-use lib.ListN.{length, getD, set, take, length-set, length-map, List·getD-map, List·getD-eq-default}
-use lib.Seq.{getD-set-same, getD-set-other}
+use lib.ListN.{length, getD, set, take, List·getD-map, List·getD-eq-default}
 use lib.Dec.{leb, eqb}
 use borrow.Author.Tests.{leb-true, eqb-true, eq-eqb, ne-eqb, le-leb, lt-leb}
 use Rattle.laws.specs.Bools.{bit, implies, is-false, bool-ext, and-left, and-right, and-both}
@@ -23,8 +22,8 @@ use Rattle.numbers.specs.Units.{parts}
 use Rattle.rules.specs.Supply.{Supply, Named}
 use Rattle.numbers.specs.Slots.{free, waiting, filling, playing, draining}
 use Rattle.rules.specs.Scheduler.{Slot, freeSlot, at}
-use Rattle.rules.specs.Scheduler.{leadOf, leads, lowWater, holds, playingSlot, fillingSlot, startBy, startedSlot, started, playersHold}
-use Rattle.rules.specs.Scheduler.{grantable, granted, grantBy, tried, tries, isFetched, timeOf, times, fetchCount}
+use Rattle.rules.specs.Scheduler.{leadOf, leads, holds, playingSlot, fillingSlot, startBy, startedSlot, started, playersHold}
+use Rattle.rules.specs.Scheduler.{granted, isFetched, timeOf, times, fetchCount}
 use Rattle.rules.specs.Scheduler.{sweptBy, releaseBy, released, endedSlot, ended, drawLimit}
 use Rattle.rules.specs.Order.{Scheduler, Order}
 use Rattle.rules.specs.Sound.{soundSlot, sound}
@@ -188,10 +187,6 @@ module _ {A : Type 0} (p : Supply A) where
   unfolding started startedSlot
   started-at x ss i = List·getD-map (startedSlot p x) ss i (freeSlot p)
 
-  pub started-length : (x : ℕ) (ss : List (Slot A)) → length (started p x ss) ≡ length ss
-  unfolding started
-  started-length x ss = length-map ss (startedSlot p x)
-
   -- their leads counted before
   started-lead : (x : ℕ) (s : Slot A) → leadOf p (startedSlot p x s) ≡ leadOf p s
   unfolding startedSlot
@@ -208,7 +203,7 @@ module _ {A : Type 0} (p : Supply A) where
   started-leads x [] = refl
   started-leads x (s ∷ ss) = omega (arith, started-lead x s, started-leads x ss)
 
-  -- ---- begin: asked slots are granted in slot order
+  -- ---- begin: an asked slot is granted
 
   -- the lead of one that is granted joins the others
   pub granted-leads : (ss : List (Slot A)) (i : ℕ) → at p ss i .kind ≡ waiting → leads p (granted p ss i) ≡ leads p ss + p .lead (at p ss i .next)
@@ -218,172 +213,12 @@ module _ {A : Type 0} (p : Supply A) where
       omega (arith, other-lead p s (λ a b. omega arith), reading-lead p (fillingSlot p s) (omega arith) (omega arith))
   granted-leads (s ∷ ss) (suc i) k = omega (arith, granted-leads ss i k)
 
-  pub tries-none : (ss : List (Slot A)) → tries p ss 0 0 ≡ ss
-  unfolding tries
-  tries-none ss = refl
-
-  tries-turn : (ss : List (Slot A)) (i k : ℕ) → tries p ss i (suc k) ≡ tried p (tries p ss i k) (i + k)
-  unfolding tries
-  tries-turn ss i zero = ap (tried p ss) (omega arith)
-  tries-turn ss i (suc k) = tries-turn (tried p ss i) (suc i) k ∙ ap (tried p (tries p (tried p ss i) (suc i) k)) (omega arith)
-
-  -- one turn tries slot i over what the slots before it left
-  pub tries-next : (ss : List (Slot A)) (i : ℕ) → tries p ss 0 (i + 1) ≡ tried p (tries p ss 0 i) i
-  tries-next ss i = ap (tries p ss 0) (add-one i) ∙ tries-turn ss 0 i ∙ ap (tried p (tries p ss 0 i)) (omega arith)
-
-  -- a slot that does not ask, one that has to wait, and one that is granted
-  pub tried-other : (ss : List (Slot A)) (i : ℕ) → at p ss i .kind ≢ waiting → tried p ss i ≡ ss
-  unfolding tried grantable
-  tried-other ss i k = rw (ne-eqb (at p ss i .kind) waiting k)
-
-  pub tried-waits : (ss : List (Slot A)) (i : ℕ) → playersHold p (lowWater p (leads p ss + p .lead (at p ss i .next))) ss ≡ false → tried p ss i ≡ ss
-  unfolding tried grantable
-  tried-waits ss i h = rw h (go (eqb (at p ss i .kind) waiting))
-    where
-      go : (t : Bool) → grantBy p (t && false) ss i ≡ ss
-      go true = refl
-      go false = refl
-
-  pub tried-granted : (ss : List (Slot A)) (i : ℕ) → at p ss i .kind ≡ waiting
-      → playersHold p (lowWater p (leads p ss + p .lead (at p ss i .next))) ss ≡ true → tried p ss i ≡ granted p ss i
-  unfolding tried grantable
-  tried-granted ss i k h = rw (eq-eqb (at p ss i .kind) waiting k, h)
-
-  -- a grant adds the slot's lead
-  pub tried-leads : (ss : List (Slot A)) (i : ℕ) → leads p (tried p ss i) ≡ leads p ss + cond (grantable p ss i) (p .lead (at p ss i .next)) 0
-  unfolding tried grantable
-  tried-leads ss i = go (eqb (at p ss i .kind) waiting) refl (playersHold p (lowWater p (leads p ss + p .lead (at p ss i .next))) ss)
-    where
-      go : (t : Bool) → eqb (at p ss i .kind) waiting ≡ t → (u : Bool)
-          → leads p (grantBy p (t && u) ss i) ≡ leads p ss + cond (t && u) (p .lead (at p ss i .next)) 0
-      go true e true = granted-leads ss i (eqb-true (at p ss i .kind) waiting e)
-      go true e false = omega arith
-      go false e u = omega arith
-
-  -- a try changes its own slot alone
-  pub tried-at : (ss : List (Slot A)) (i j : ℕ) → j ≢ i → at p (tried p ss i) j ≡ at p ss j
-  unfolding tried granted
-  tried-at ss i j n = go (grantable p ss i)
-    where
-      go : (t : Bool) → at p (grantBy p t ss i) j ≡ at p ss j
-      go true = getD-set-other ss i j _ (freeSlot p) n
-      go false = refl
-
-  tries-outside : (ss : List (Slot A)) (i k j : ℕ) → (i ≤ j → i + k ≤ j) → at p (tries p ss i k) j ≡ at p ss j
-  unfolding tries
-  tries-outside ss i zero j h = refl
-  tries-outside ss i (suc k) j h = tries-outside (tried p ss i) (suc i) k j (λ l. omega (arith, h (omega arith)))
-      ∙ tried-at ss i j (λ e. omega (arith, h (omega arith)))
-
-  -- the slots from i on are as they were
-  pub tries-past : (ss : List (Slot A)) (i j : ℕ) → i ≤ j → at p (tries p ss 0 i) j ≡ at p ss j
-  tries-past ss i j h = tries-outside ss 0 i j (λ l. omega arith)
-
-  pub tried-length : (ss : List (Slot A)) (i : ℕ) → length (tried p ss i) ≡ length ss
-  unfolding tried granted
-  tried-length ss i = go (grantable p ss i)
-    where
-      go : (t : Bool) → length (grantBy p t ss i) ≡ length ss
-      go true = length-set ss i _
-      go false = refl
-
-  pub tries-length : (ss : List (Slot A)) (i k : ℕ) → length (tries p ss i k) ≡ length ss
-  unfolding tries
-  tries-length ss i zero = refl
-  tries-length ss i (suc k) = tries-length (tried p ss i) (suc i) k ∙ tried-length ss i
-
   -- granting changes no playing slot, so the test and the least may be taken before the loop
-  granted-players : (x : ℕ) (ss : List (Slot A)) (i : ℕ) → at p ss i .kind ≡ waiting → playersHold p x (granted p ss i) ≡ playersHold p x ss
+  pub granted-players : (x : ℕ) (ss : List (Slot A)) (i : ℕ) → at p ss i .kind ≡ waiting → playersHold p x (granted p ss i) ≡ playersHold p x ss
   unfolding playersHold allBy granted
   granted-players x [] i k = refl
   granted-players x (s ∷ ss) zero k = rw k
   granted-players x (s ∷ ss) (suc i) k = ap (λ (t : Bool). implies (eqb (s .kind) playing) (holds p x s) && t) (granted-players x ss i k)
-
-  tried-players : (x : ℕ) (ss : List (Slot A)) (i : ℕ) → playersHold p x (tried p ss i) ≡ playersHold p x ss
-  unfolding tried grantable
-  tried-players x ss i = go (eqb (at p ss i .kind) waiting) refl (playersHold p (lowWater p (leads p ss + p .lead (at p ss i .next))) ss)
-    where
-      go : (t : Bool) → eqb (at p ss i .kind) waiting ≡ t → (u : Bool) → playersHold p x (grantBy p (t && u) ss i) ≡ playersHold p x ss
-      go true e true = granted-players x ss i (eqb-true (at p ss i .kind) waiting e)
-      go true e false = refl
-      go false e u = refl
-
-  pub tries-players : (x : ℕ) (ss : List (Slot A)) (i k : ℕ) → playersHold p x (tries p ss i k) ≡ playersHold p x ss
-  unfolding tries
-  tries-players x ss i zero = refl
-  tries-players x ss i (suc k) = tries-players x (tried p ss i) (suc i) k ∙ tried-players x ss i
-
-  -- slot i is granted where it asks and every playing slot holds the mark of the leads so far and its own
-  pub grantable-at : (ss : List (Slot A)) (i : ℕ)
-      → grantable p (tries p ss 0 i) i ≡ (eqb (at p ss i .kind) waiting && playersHold p (lowWater p (leads p (tries p ss 0 i) + p .lead (at p ss i .next))) ss)
-  unfolding grantable
-  grantable-at ss i = rw (tries-past ss i i (omega arith), tries-players (lowWater p (leads p (tries p ss 0 i) + p .lead (at p ss i .next))) ss 0 i)
-
-  tried-self : (ss : List (Slot A)) (i : ℕ) → i < length ss
-      → at p (tried p ss i) i ≡ cond (grantable p ss i) (fillingSlot p (at p ss i)) (at p ss i)
-  unfolding tried granted
-  tried-self ss i l = go (grantable p ss i)
-    where
-      go : (t : Bool) → at p (grantBy p t ss i) i ≡ cond t (fillingSlot p (at p ss i)) (at p ss i)
-      go true = getD-set-same ss i _ (freeSlot p) l
-      go false = refl
-
-  -- slot i after all tries
-  pub tries-at : (ss : List (Slot A)) (k i : ℕ) → i < k → i < length ss
-      → at p (tries p ss 0 k) i ≡ cond (grantable p (tries p ss 0 i) i) (fillingSlot p (at p ss i)) (at p ss i)
-  tries-at ss zero i h l = absurd (omega arith)
-  tries-at ss (suc k) i h l = ap (λ (r : List (Slot A)). at p r i) (tries-turn ss 0 k) ∙ go (ℕ-discrete i (0 + k)) (λ u. tries-at ss k i u l)
-    where
-      go : Dec (i ≡ 0 + k) → (i < k → at p (tries p ss 0 k) i ≡ cond (grantable p (tries p ss 0 i) i) (fillingSlot p (at p ss i)) (at p ss i))
-          → at p (tried p (tries p ss 0 k) (0 + k)) i ≡ cond (grantable p (tries p ss 0 i) i) (fillingSlot p (at p ss i)) (at p ss i)
-      go (yes e) ih =
-          let q : k ≡ i = omega arith in
-          rw (sym e, q)
-          (tried-self (tries p ss 0 i) i (omega (arith, tries-length ss 0 i))
-          ∙ ap (λ (s : Slot A). cond (grantable p (tries p ss 0 i) i) (fillingSlot p s) s) (tries-past ss i i (omega arith)))
-      go (no n) ih = tried-at (tries p ss 0 k) (0 + k) i n ∙ ih (omega arith)
-
-  -- one turn of the loop, over the slots as they were before it: L is the running sum of the leads
-  pub tries-other : (ss : List (Slot A)) (i : ℕ) → at p ss i .kind ≢ waiting → tries p ss 0 (i + 1) ≡ tries p ss 0 i
-  tries-other ss i k = tries-next ss i ∙ tried-other (tries p ss 0 i) i (λ e. k (ap (λ (s : Slot A). s .kind) (sym (tries-past ss i i (omega arith))) ∙ e))
-
-  pub tries-waits : (ss : List (Slot A)) (i L : ℕ) → L ≡ leads p (tries p ss 0 i) → playersHold p (lowWater p (L + p .lead (at p ss i .next))) ss ≡ false
-      → tries p ss 0 (i + 1) ≡ tries p ss 0 i
-  tries-waits ss i L q h =
-      tries-next ss i
-      ∙ tried-waits (tries p ss 0 i) i
-      (rw (tries-past ss i i (omega arith), tries-players (lowWater p (leads p (tries p ss 0 i) + p .lead (at p ss i .next))) ss 0 i) (rw q at h))
-
-  pub tries-granted : (ss : List (Slot A)) (i L : ℕ) → L ≡ leads p (tries p ss 0 i) → at p ss i .kind ≡ waiting
-      → playersHold p (lowWater p (L + p .lead (at p ss i .next))) ss ≡ true
-      → (tries p ss 0 (i + 1) ≡ set (tries p ss 0 i) i (fillingSlot p (at p ss i))) × (L + p .lead (at p ss i .next) ≡ leads p (tries p ss 0 (i + 1)))
-  unfolding granted
-  tries-granted ss i L q k h = (
-    turn ∙ ap (λ (s : Slot A). set ts i (fillingSlot p s)) same,
-    ap (λ (m : ℕ). m + p .lead (at p ss i .next)) q ∙ ap (λ (s : Slot A). leads p ts + p .lead (s .next)) (sym same) ∙ sym (granted-leads ts i asks)
-        ∙ ap (leads p) (sym turn),
-  )
-    where
-      ts : List (Slot A)
-      ts = tries p ss 0 i
-
-      same : at p ts i ≡ at p ss i
-      same = tries-past ss i i (omega arith)
-
-      asks : at p ts i .kind ≡ waiting
-      asks = ap (λ (s : Slot A). s .kind) same ∙ k
-
-      turn : tries p ss 0 (i + 1) ≡ granted p ts i
-      turn = tries-next ss i ∙ tried-granted ts i asks (rw (same, tries-players (lowWater p (leads p ts + p .lead (at p ss i .next))) ss 0 i) (rw q at h))
-
-  -- the loop may stop where nobody asks any more
-  pub tries-rest : (ss : List (Slot A)) (i k : ℕ) → ((j : ℕ) → i ≤ j → at p ss j .kind ≢ waiting) → tries p ss 0 (i + k) ≡ tries p ss 0 i
-  tries-rest ss i zero h = ap (tries p ss 0) (omega arith)
-  tries-rest ss i (suc k) h =
-      ap (tries p ss 0) (shift i k) ∙ tries-other ss (i + k) (h (i + k) (omega arith)) ∙ tries-rest ss i k h
-    where
-      shift : (a b : ℕ) → a + suc b ≡ a + b + 1
-      shift a b = omega arith
 
   -- ---- end
 

@@ -3,6 +3,7 @@
 use crate::desk::{
     begin, drawn_in, end, join, leave, Begun, Desk, Entry, FREE, PLAYING, SLOTS, TAIL,
 };
+use crate::queue::Queue;
 use crate::refusal::Refusal;
 use crate::scratch::answer_scratch;
 
@@ -212,21 +213,23 @@ pub fn check_claim(
     }
 }
 
-/// A desk under the model's rules with its book.
+/// A desk under the model's rules with its book and the requests that wait.
 #[derive(Clone, Debug)]
 pub struct Run {
     pub desk: Desk,
     pub book: Book,
+    pub queue: Queue,
 }
 
 impl Run {
     /// From an accepted opening.
     pub fn new(desk: Desk) -> Run {
         let book = Book::new(desk.plan.figures.block_bytes);
-        Run { desk, book }
+        let queue = Queue::new(&desk.plan);
+        Run { desk, book, queue }
     }
 
-    /// Makes a call by the model's rules, feeds the book and checks the claim after it.
+    /// Makes a call by the model's rules, feeds the book and checks the claims after it.
     pub fn call(&mut self, step: &Step) -> Result<Answer, String> {
         let answer = answer(&self.desk, &step.positions, &step.leads, &step.call);
         self.checked(&step.call, answer)
@@ -243,6 +246,7 @@ impl Run {
         let begun = answer.accepted() && matches!(call, Call::Begin { .. });
         let last_bound = if begun { Some(answer.bound) } else { None };
         check_claim(&self.book, &answer.desk, &answer.desk, last_bound)?;
+        self.queue.feed(call, answer.accepted(), &answer.desk)?;
         self.desk = answer.desk.clone();
         Ok(answer)
     }

@@ -29,6 +29,9 @@ pub struct Desk {
     pub next: [u32; SLOTS],
     /// Held bytes of each slot.
     pub held: [u32; SLOTS],
+    /// The place of each asked slot among all that wait, 1 for the eldest (request 5 of 02); of the
+    /// others 0.
+    pub places: [u32; SLOTS],
 }
 
 impl Desk {
@@ -40,6 +43,7 @@ impl Desk {
             kinds: [FREE; SLOTS],
             next: [0; SLOTS],
             held: [0; SLOTS],
+            places: [0; SLOTS],
         }
     }
 
@@ -51,6 +55,16 @@ impl Desk {
     /// Slots below n, the ones in use.
     pub fn used_slots(&self) -> std::ops::Range<usize> {
         0..self.plan.streams as usize
+    }
+
+    /// How many slots have asked.
+    pub fn waiting(&self) -> u32 {
+        self.kinds.iter().filter(|&&kind| kind == ASKED).count() as u32
+    }
+
+    /// The asked slot whose place is 1.
+    pub fn eldest(&self) -> Option<usize> {
+        (0..SLOTS).find(|&slot| self.kinds[slot] == ASKED && self.places[slot] == 1)
     }
 }
 
@@ -126,11 +140,22 @@ fn slot_is_sound(desk: &Desk, slot: usize) -> bool {
     }
 }
 
+/// Are the places of asked slots 1 up to their count, each once, and all others 0?
+fn places_are_sound(desk: &Desk) -> bool {
+    let (asked, others): (Vec<usize>, Vec<usize>) =
+        (0..SLOTS).partition(|&slot| desk.kinds[slot] == ASKED);
+    let mut places: Vec<u32> = asked.iter().map(|&slot| desk.places[slot]).collect();
+    places.sort_unstable();
+    places == (1..=desk.waiting()).collect::<Vec<u32>>()
+        && others.iter().all(|&slot| desk.places[slot] == 0)
+}
+
 /// Is the record sound? Any record and any lists may be asked about.
 pub fn is_sound(desk: &Desk, positions: &[u32], leads: &[u32]) -> bool {
     is_plan(&desk.plan, positions, leads)
         && (desk.phase == BETWEEN || desk.phase == SWEEPING)
         && (0..SLOTS).all(|slot| slot_is_sound(desk, slot))
+        && places_are_sound(desk)
         && players_hold(desk, floor(desk, leads))
 }
 
@@ -168,7 +193,7 @@ pub fn open(plan: &Plan, positions: &[u32], leads: &[u32]) -> Result<Desk, Refus
     Ok(Desk::all_free(plan))
 }
 
-/// Join: a free slot becomes asked, with its start block.
+/// Join: a free slot becomes asked, with its start block. It is the last of all that wait.
 pub fn join(
     desk: &Desk,
     positions: &[u32],
@@ -188,7 +213,19 @@ pub fn join(
     let mut after = desk.clone();
     after.kinds[slot as usize] = ASKED;
     after.next[slot as usize] = block;
+    after.places[slot as usize] = desk.waiting() + 1;
     Ok(after)
+}
+
+/// A request is granted or leaves: its slot has no place any more, and later places drop by one.
+fn give_up_place(desk: &mut Desk, slot: usize) {
+    let place = desk.places[slot];
+    desk.places[slot] = 0;
+    for other in &mut desk.places {
+        if *other > place {
+            *other -= 1;
+        }
+    }
 }
 
 /// The slot becomes free, all zero.
@@ -198,7 +235,7 @@ fn free_slot(desk: &mut Desk, slot: usize) {
     desk.held[slot] = 0;
 }
 
-/// Leave: an occupied slot becomes free, all zero.
+/// Leave: an occupied slot becomes free, all zero; if it had asked, later places drop by one.
 pub fn leave(desk: &Desk, positions: &[u32], leads: &[u32], slot: u32) -> Result<Desk, Refusal> {
     judge_sound(desk, positions, leads)?;
     judge_phase(desk, BETWEEN)?;
@@ -207,13 +244,26 @@ pub fn leave(desk: &Desk, positions: &[u32], leads: &[u32], slot: u32) -> Result
         return refuse(cause::OCCUPIED_OR_FREE, slot as u64);
     }
     let mut after = desk.clone();
+    if desk.kinds[slot as usize] == ASKED {
+        give_up_place(&mut after, slot as usize);
+    }
     free_slot(&mut after, slot as usize);
     Ok(after)
 }
 
-/// Each filling slot that holds at least the floor becomes playing.
+/// The floor with a slot's lead added.
+fn floor_with(desk: &Desk, leads: &[u32], slot: usize) -> u128 {
+    let lead = leads[desk.next[slot] as usize] as u128;
+    floor(desk, leads) + desk.plan.figures.rate as u128 * lead
+}
+
+/// Each filling slot that holds at least the floor becomes playing; while a request waits, it has to
+/// hold the floor with the eldest's lead added.
 fn start_playing(desk: &mut Desk, leads: &[u32]) {
-    let level = floor(desk, leads);
+    let level = match desk.eldest() {
+        Some(eldest) => floor_with(desk, leads, eldest),
+        None => floor(desk, leads),
+    };
     for slot in desk.used_slots() {
         if desk.kinds[slot] == FILLING && holds(desk, slot, level) {
             desk.kinds[slot] = PLAYING;
@@ -221,17 +271,16 @@ fn start_playing(desk: &mut Desk, leads: &[u32]) {
     }
 }
 
-/// In slot order, an asked slot becomes filling if every playing slot holds at least the floor
-/// with the asked slot's lead added. The floor has the slots granted before it.
+/// Eldest first, an asked slot becomes filling if every playing slot holds at least the floor with
+/// the asked slot's lead added; none behind one that has to wait. The floor has the slots granted
+/// before it.
 fn grant_asked(desk: &mut Desk, leads: &[u32]) {
-    for slot in desk.used_slots() {
-        if desk.kinds[slot] == ASKED {
-            let lead = leads[desk.next[slot] as usize] as u128;
-            let level = floor(desk, leads) + desk.plan.figures.rate as u128 * lead;
-            if players_hold(desk, level) {
-                desk.kinds[slot] = FILLING;
-            }
+    while let Some(eldest) = desk.eldest() {
+        if !players_hold(desk, floor_with(desk, leads, eldest)) {
+            return;
         }
+        desk.kinds[eldest] = FILLING;
+        give_up_place(desk, eldest);
     }
 }
 

@@ -7,6 +7,7 @@
 //!   loop.
 //! - `desk`: soundness and the calls open, join, leave, begin and end.
 //! - `book`: lists of calls, the book of demand 3 and the checker of its claim.
+//! - `queue`: who waits, in the order they asked, and for how many sweeps at most.
 //! - `scratch`: the same calls with a scratch in place of the lead list.
 //! - `window`: the worst time of several successive blocks, and the text of the windows program.
 //! - `try_all`: the second planner, which tries every laying, and all small cards.
@@ -26,6 +27,7 @@ pub mod listing;
 pub mod maker;
 pub mod plan;
 pub mod programs;
+pub mod queue;
 pub mod refusal;
 pub mod rng;
 pub mod scratch;
@@ -41,6 +43,7 @@ pub use plan::{
     fill_lent, is_plan, plan_card, plan_loop_card, plan_loop_record, plan_record, Plan, Planned,
     Showing,
 };
+pub use queue::Queue;
 pub use refusal::{cause, Refusal};
 pub use rng::Rng;
 pub use scratch::{answer_scratch, open_scratch, plan_card_scratch, plan_record_scratch};

@@ -95,7 +95,8 @@ fn first_number() {
     assert_eq!(listing(&[0x81, 0x00]), "refused 2 at 0\n");
 }
 
-/// The desk story, up to the grant of slot 1.
+/// The desk story as request 5 of 02 has it: slot 0 stays filling at the second begin and slot 1 is
+/// granted there.
 #[test]
 fn desk_story() {
     let Planned { plan, positions, leads } = planned(&bench_film());
@@ -109,12 +110,24 @@ fn desk_story() {
     let desk = end(&begun.desk, &positions, &leads, &[0; 16]).unwrap();
     assert_eq!(desk.held[0], 262_144);
     let desk = join(&desk, &positions, &leads, 1, 0).unwrap();
+    let asked_lead = leads[0] as u128 * 500_000;
+    assert_eq!(floor(&desk, &leads) + asked_lead, 2_637_815 * 200_000);
 
     let begun = begin(&desk, &positions, &leads, 16).unwrap();
-    assert_eq!(begun.bound, 43_390);
-    assert_eq!(begun.desk.kinds[..2], [PLAYING, ASKED]);
-    let asked_lead = leads[0] as u128 * 500_000;
-    assert_eq!(floor(&begun.desk, &leads) + asked_lead, 2_637_815 * 200_000);
+    assert_eq!((begun.count, begun.bound), (2, 78_330));
+    assert_eq!(begun.desk.kinds[..2], [FILLING, FILLING]);
+}
+
+/// 01's draws of slot 0, had it played alone: 20 and then the rest of 502593.
+#[test]
+fn draws_of_the_story() {
+    let Planned { plan, positions, leads } = planned(&bench_film());
+    let desk = open(&plan, &positions, &leads).unwrap();
+    let desk = join(&desk, &positions, &leads, 0, 0).unwrap();
+    let desk = begin(&desk, &positions, &leads, 16).unwrap().desk;
+    let desk = end(&desk, &positions, &leads, &[0; 16]).unwrap();
+    let begun = begin(&desk, &positions, &leads, 16).unwrap();
+    assert_eq!((begun.desk.kinds[0], begun.bound), (PLAYING, 43_390));
 
     let mut draws = [0; 16];
     draws[0] = 21_696;
@@ -123,19 +136,20 @@ fn desk_story() {
     let desk = end(&begun.desk, &positions, &leads, &draws).unwrap();
     assert_eq!(desk.held[0], 502_593);
 
-    assert_eq!(floor(&desk, &leads) + asked_lead, 264_559 * 2_000_000);
+    let desk = join(&desk, &positions, &leads, 1, 0).unwrap();
+    assert_eq!(floor(&desk, &leads) + leads[0] as u128 * 500_000, 264_559 * 2_000_000);
     let begun = begin(&desk, &positions, &leads, 16).unwrap();
     assert_eq!(begun.desk.kinds[..2], [PLAYING, FILLING]);
 }
 
-/// The same story with a slot that holds just less than the floor of 263781.5 and just more.
+/// A slot that holds just less than the floor of 263781.5 and just more.
 #[test]
 fn floor_is_not_rounded() {
     let Planned { plan, positions, leads } = planned(&bench_film());
     for (held, kind) in [(263_781, ASKED), (263_782, FILLING)] {
         let mut desk = open(&plan, &positions, &leads).unwrap();
         (desk.kinds[0], desk.next[0], desk.held[0]) = (PLAYING, 1, held);
-        desk.kinds[1] = ASKED;
+        (desk.kinds[1], desk.places[1]) = (ASKED, 1);
         let begun = begin(&desk, &positions, &leads, 16).unwrap();
         assert_eq!(begun.desk.kinds[1], kind, "slot 0 holds {held}");
     }

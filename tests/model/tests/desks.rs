@@ -16,11 +16,12 @@ fn bench() -> Planned {
     plan_record(&bench_film(), 6, 6).unwrap()
 }
 
-/// A desk on the plan with these slots: kind, next, held.
+/// A desk on the plan with these slots: kind, next, held. Those that ask did so in slot order.
 fn desk_with(planned: &Planned, slots: &[(u32, u32, u32)]) -> Desk {
     let mut desk = Desk::all_free(&planned.plan);
     for (slot, &(kind, next, held)) in slots.iter().enumerate() {
         (desk.kinds[slot], desk.next[slot], desk.held[slot]) = (kind, next, held);
+        desk.places[slot] = if kind == ASKED { desk.waiting() } else { 0 };
     }
     desk
 }
@@ -102,9 +103,9 @@ fn unused_slots() {
     let bench = bench();
     for slot in 0..SLOTS {
         let mut desk = desk_with(&bench, &[]);
-        desk.kinds[slot] = ASKED;
+        (desk.kinds[slot], desk.places[slot]) = (ASKED, 1);
         assert_eq!(sound(&bench, &desk), slot < 16);
-        desk.kinds[slot] = FREE;
+        (desk.kinds[slot], desk.places[slot]) = (FREE, 0);
         desk.next[slot] = 1;
         assert!(!sound(&bench, &desk));
         desk.next[slot] = 0;
@@ -189,6 +190,7 @@ fn leave_refusals() {
         let mut after = idle.clone();
         let slot = slot as usize;
         (after.kinds[slot], after.next[slot], after.held[slot]) = (0, 0, 0);
+        after.places[slot] = 0;
         assert_eq!((answer.number, answer.desk), (0, after));
     }
 }
@@ -267,15 +269,6 @@ fn grants_count_the_granted() {
     }
 }
 
-/// A waiting slot does not stop a later one.
-#[test]
-fn later_slots_do_not_wait() {
-    let bench = bench();
-    let slots = [(PLAYING, 1, BLOCK), (ASKED, 0, 0), (ASKED, 1, 0)];
-    let answer = begun(&bench, &desk_with(&bench, &slots));
-    assert_eq!(answer.desk.kinds[..3], [PLAYING, ASKED, FILLING]);
-}
-
 /// With no playing slot every asked slot is granted, and no granted one plays.
 #[test]
 fn all_granted_where_none_plays() {
@@ -286,16 +279,17 @@ fn all_granted_where_none_plays() {
     assert_eq!(answer.count, 3);
 }
 
-/// A slot that starts to play counts in the grants of the same begin.
+/// A slot that starts to play counts in the grants of the same begin: it holds the floor with the
+/// first request's lead of 0, and not with the second's.
 #[test]
 fn new_players_count() {
     let bench = bench();
-    let slots = [(ASKED, 0, 0), (FILLING, 1, BLOCK)];
+    let slots = [(ASKED, 3, 0), (FILLING, 1, BLOCK), (ASKED, 0, 0)];
     let answer = begun(&bench, &desk_with(&bench, &slots));
-    assert_eq!(answer.desk.kinds[..2], [ASKED, PLAYING]);
-    let slots = [(ASKED, 0, 0), (FILLING, 1, BLOCK - 1)];
+    assert_eq!(answer.desk.kinds[..3], [FILLING, PLAYING, ASKED]);
+    let slots = [(ASKED, 3, 0), (FILLING, 1, BLOCK - 1), (ASKED, 0, 0)];
     let answer = begun(&bench, &desk_with(&bench, &slots));
-    assert_eq!(answer.desk.kinds[..2], [FILLING, FILLING]);
+    assert_eq!(answer.desk.kinds[..3], [FILLING, FILLING, FILLING]);
 }
 
 /// A filling slot's own lead is part of the floor that it has to hold.

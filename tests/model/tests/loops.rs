@@ -260,11 +260,12 @@ fn other_words() {
 
 // The desk.
 
-/// A desk on the plan with these slots: kind, next, held.
+/// A desk on the plan with these slots: kind, next, held. Those that ask did so in slot order.
 fn desk_with(planned: &Planned, phase: u32, slots: &[(u32, u32, u32)]) -> Desk {
     let mut desk = Desk { phase, ..Desk::all_free(&planned.plan) };
     for (slot, &(kind, next, held)) in slots.iter().enumerate() {
         (desk.kinds[slot], desk.next[slot], desk.held[slot]) = (kind, next, held);
+        desk.places[slot] = if kind == ASKED { desk.waiting() } else { 0 };
     }
     desk
 }

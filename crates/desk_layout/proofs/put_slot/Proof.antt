@@ -31,11 +31,20 @@ slice-aggregate-write-words-3 c = search needs
 write-words-requires-3 : tie.Need-write-words-requires-3
 write-words-requires-3 c κs = search needs
 
+add-write-words-4 : tie.Need-add-write-words-4
+add-write-words-4 c = search needs
+
+slice-aggregate-write-words-4 : tie.Need-slice-aggregate-write-words-4
+slice-aggregate-write-words-4 c = search needs
+
+write-words-requires-4 : tie.Need-write-words-requires-4
+write-words-requires-4 c κs = search needs
+
 same-length : tie.Need-same-length
 same-length c = search needs
 
 returns : tie.Need-returns
-returns c = slot-written _ _ _ _ _ (search needs) (omega arith) (omega arith) cc
+returns c = slot-written _ _ _ _ _ _ (search needs) (omega arith) (omega arith) cc
 
 pub put-slot-spec : {M : Type 1} → statement M
 put-slot-spec =
@@ -50,5 +59,8 @@ put-slot-spec =
     add-write-words-3
     slice-aggregate-write-words-3
     write-words-requires-3
+    add-write-words-4
+    slice-aggregate-write-words-4
+    write-words-requires-4
     same-length
     returns)

@@ -6,7 +6,8 @@ use mathlib.Core.List.{List}
 use native.Mathlib.Omega.{arith}
 use lib.ListN.{getD}
 use borrow.Author.Needs.{needs}
-use Rattle.words.specs.Words.{Words, withWords}
+use Rattle.words.specs.Words.{Bytes, Words, withWords}
+use Rattle.words.specs.Laws.{bytes-fit}
 use Rattle.plan.specs.declared.Plan.{Plan}
 use Rattle.plan.specs.Lent.{lent-plan}
 use Rattle.fields.specs.Fields.{_&_}
@@ -25,6 +26,7 @@ sized c = record {
   kinds = search needs;
   next = search needs;
   held = search needs;
+  places = search needs;
 }
 
 below : (vs : List ℕ) → ((i : ℕ) → Fits w32 (getD vs i 0)) → Words vs
@@ -56,11 +58,15 @@ plan-fits c = packed-fit planFields (planValues (c .args .t1 .plan)) (plan-small
 slots-small : (c : tie.Start) → AllFit slotFields (slotValues (c .args .t1))
 slots-small c =
     let d = c .args .t1 in
-    search needs & below (d .kinds) (search needs) & below (d .next) (search needs) & below (d .held) (search needs) & tt
+    search needs & below (d .kinds) (search needs) & below (d .next) (search needs) & below (d .held) (search needs) & below (d .places) (search needs) & tt
+
+empty-bytes : (c : tie.After-blank) → Bytes (c .blank .result)
+empty-bytes c = bytes-fit (c .blank .result) (search needs)
 
 returns : tie.Need-returns
 returns c =
-    let slots = c .before in
+    let places = c .before in
+    let slots = places .before .before .before .before .before in
     let plan = slots .before .before .before .before .before .before .before in
     let numbers = plan .before .before .before .before .before .before in
     let scalars = numbers .before .before in
@@ -68,8 +74,9 @@ returns c =
     let d = s .args .t1 in
     let empty = scalars .before .before .blank .result in
     let same = lent-plan _ _ (d .plan) (scalars .scalars-in .ensures) (numbers .numbers-in .ensures) in (
-      desk-said d empty _ _ (sized s) (plan-fits s) (desk-fit d (plan-fits s) (slots-small s)) (omega arith)
-          (plan .write-parts .ensures .0 ∙ ap (λ (p : Plan). withWords empty 0 (planWords p)) same) (slots .put-slots .ensures),
+      desk-said d empty _ _ _ (sized s) (plan-fits s) (desk-fit d (plan-fits s) (slots-small s)) (empty-bytes (scalars .before .before)) (omega arith)
+          (plan .write-parts .ensures .0 ∙ ap (λ (p : Plan). withWords empty 0 (planWords p)) same) (slots .put-slots .ensures)
+          (places .put-places .ensures .0),
       search needs,
     )
 
@@ -79,6 +86,8 @@ string-of-spec =
     (tie.spec
     (λ c κs. search needs)
     (λ c κs. search needs)
+    (λ c κs. search needs)
+    (λ c. search needs)
     (λ c κs. search needs)
     (λ c. search needs)
     (λ c κs. search needs)

@@ -3,7 +3,7 @@ use Rattle.desk.specs.declared.Desk.{Desk}
 use Rattle.admission.specs.Moves.{moveDesk}
 use Rattle.desk_strings.specs.Calls.{said}
 use Rattle.desk_strings.specs.Inner.{moveAnswer, moveString, deskBy}
-use Rattle.desk_strings.proofs.Judged.{other-call, Judged, move-left, move-room, move-put}
+use Rattle.desk_strings.proofs.Judged.{other-call, Judged, move-left, move-told, move-put}
 use Rattle.desk_strings.proofs.make_move.Statement.{statement}
 use Rattle.desk_strings.proofs.make_move.Tie as tie
 
@@ -15,9 +15,6 @@ right c = c .before .before
 
 abbrev start : tie.After-judge-move → tie.Start
 start c = right c .before .before .before .before
-
-abbrev accepted : tie.After-next-after → tie.Else2
-accepted c = c .before .before .before .before
 
 -- ---- what is known there
 
@@ -36,16 +33,14 @@ returns c = other-call _ _ _ _ (c .before .if1 .taken) (c .number-answer .ensure
 returns-2 : tie.Need-returns-2
 returns-2 c = move-left _ _ _ _ _ (judged (c .before .before .before)) (c .before .if2 .taken) _ (c .verdict-answer .ensures)
 
-put-slot-requires : tie.Need-put-slot-requires
-put-slot-requires c κs = let e = accepted c in move-room _ _ _ _ _ (judged (e .before .before)) (e .if2 .left)
+write-move-requires : tie.Need-write-move-requires
+write-move-requires c κs = let e = c .before in move-told _ _ _ _ _ (judged (e .before .before)) (e .if2 .left)
 
 returns-3 : tie.Need-returns-3
 returns-3 c =
-    let p = c .before .before .before in
-    let n = p .before in
-    let e = accepted n in
-    move-put _ _ _ _ _ (judged (e .before .before)) (e .if2 .left) _ _ (n .before .kind-after .ensures) (n .next-after .ensures)
-    (c .verdict-answer2 .ensures) (p .put-slot .ensures)
+    let w = c .before .before .before in
+    let e = w .before .before in
+    move-put _ _ _ _ _ (judged (e .before .before)) (e .if2 .left) _ _ (c .verdict-answer2 .ensures) (w .write-move .ensures)
 
 pub make-move-spec : {M : Type 1} → statement M
 make-move-spec =
@@ -57,10 +52,7 @@ make-move-spec =
     (λ c κs. search needs)
     (λ c. search needs)
     returns-2
-    (λ c. search needs)
-    (λ c κs. search needs)
-    (λ c κs. search needs)
-    put-slot-requires
+    write-move-requires
     (λ c κs. search needs)
     (λ c. search needs)
     returns-3)

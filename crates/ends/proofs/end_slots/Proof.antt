@@ -22,7 +22,7 @@ use Rattle.ends.proofs.end_slots.Tie as tie
 record Ending (d : Desk) (draws : List ℕ) (count : ℕ) (ks xs hs : List ℕ) (i : ℕ) : Type 0 where
   counts : count ≡ d .plan .streams
   few : i ≤ count
-  ended : recordOf (d .plan) (d .phase) ks xs hs ≡ endedUpTo d draws i
+  ended : recordOf (d .plan) (d .phase) ks xs hs (d .places) ≡ endedUpTo d draws i
 
 abbrev Inv-loop : tie.InvT-loop
 Inv-loop desk kinds₀ next₀ held₀ draws showing blocks bytes room count i₀ kinds next held i = Ending (deskIn (wordsOf desk))
@@ -100,7 +100,7 @@ loop-holds c =
     record {
       counts = c .streams-in .ensures;
       few = omega arith;
-      ended = (λ t. recordOf (d .plan) (d .phase) (e .kinds t) (e .next t) (e .held t)) ∙ ends-none d (e .wide) _;
+      ended = (λ t. recordOf (d .plan) (d .phase) (e .kinds t) (e .next t) (e .held t) (d .places)) ∙ ends-none d (e .wide) _;
     }
 
 ended-slot-requires : tie.Need-ended-slot-requires Inv-loop μ-loop

@@ -9,7 +9,7 @@ use Rattle.fetch_list.proofs.begin_within.Statement.{statement}
 use Rattle.fetch_list.proofs.begin_within.Tie as tie
 
 wide : (c : tie.Start) → Wide (c .args .desk)
-wide c = record { kinds = search needs; next = search needs; held = search needs }
+wide c = record { kinds = search needs; next = search needs; held = search needs; places = search needs }
 
 slim : (c : tie.Start) → legality.Wide (c .args .desk .plan .figures)
 slim c = (search needs, search needs, search needs)

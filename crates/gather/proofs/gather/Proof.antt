@@ -16,12 +16,12 @@ use Rattle.gather.proofs.gather.Tie as tie
 
 -- the next blocks of the first i slots are collected
 abbrev Inv-loop : tie.InvT-loop
-Inv-loop desk positions streams found₀ places₀ sizes times i₀ found places i = (let d = deskIn (wordsOf desk) in
+Inv-loop desk positions streams found₀ spots₀ sizes times i₀ found spots i = (let d = deskIn (wordsOf desk) in
     let f = d .plan .figures in
-    Collecting (f .positions) (f .times) positions (d .kinds) (d .next) streams (gathered found places) i)
+    Collecting (f .positions) (f .times) positions (d .kinds) (d .next) streams (gathered found spots) i)
 
 abbrev μ-loop : tie.MeasureT-loop
-μ-loop desk positions streams found₀ places₀ sizes times i₀ found places i = streams - i
+μ-loop desk positions streams found₀ spots₀ sizes times i₀ found spots i = streams - i
 
 -- ---- the places, each from a later one
 
@@ -73,7 +73,7 @@ loop-again c =
     let t = turn (c .before .before) in
     let l = t .before .loop in
     let h : l .i < 256 = omega (arith, t .loop-test .taken, start (t .before) .pre .1) in
-    collecting-next _ _ _ _ _ _ (gathered (l .found) (l .places)) (l .i) (c .next-block .result) (l .inv) (t .loop-test .taken) h (finds c)
+    collecting-next _ _ _ _ _ _ (gathered (l .found) (l .spots)) (l .i) (c .next-block .result) (l .inv) (t .loop-test .taken) h (finds c)
 
 returns : tie.Need-returns Inv-loop μ-loop
 returns c =

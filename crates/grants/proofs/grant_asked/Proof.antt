@@ -1,117 +1,128 @@
 use native.Mathlib.Omega.{arith}
+use native.Mathlib.Nat.{mul-le-mul}
 use Prim.Native.Nat.{ℕ, _+_, _*_, _-_, _≤_, _<_}
-use mathlib.Core.Path.{_≡_, sym, ap, _∙_}
+use mathlib.Core.Path.{_≡_, ap, _∙_}
 use mathlib.Core.List.{List}
-use mathlib.Core.Logic.{⊎-elim}
-use lib.ListN.{length, getD, length-set}
-use lib.Dec.{leb, eqb}
-use mathlib.Core.Bool.{_&&_}
-use Rattle.rules.specs.Supply.{Supply}
-use Rattle.numbers.specs.Slots.{waiting, filling}
+use lib.ListN.{length, getD, set, length-set}
+use borrow.Author.Needs.{needs}
+use Rattle.numbers.specs.Limits.{maxRate, maxTime}
+use Rattle.numbers.specs.Slots.{filling}
 use Rattle.numbers.specs.Units.{parts}
+use Rattle.rules.specs.Supply.{Supply}
 use Rattle.desk.specs.Shown.{Slots}
-use Rattle.floor.specs.Floor.{mostLead}
+use Rattle.floor.specs.Floor.{ample}
 use Rattle.floor.specs.Sources.{leadsIn}
-use Rattle.grants.specs.Grants.{Asks}
-use Rattle.grants.proofs.Granting.{Granted, grants-none, grants-yes, grants-no, grants-end}
+use Rattle.grants.specs.Grants.{mostFloor, Asks}
+use Rattle.grants.specs.Line.{Lined}
+use Rattle.grants.proofs.Granting.{Granted, none-granted, all-granted, next-waits, next-granted}
 use Rattle.grants.proofs.grant_asked.Statement.{statement}
 use Rattle.grants.proofs.grant_asked.Tie as tie
 
--- the first i slots are tried; the sum of the leads goes with the grants
-record Trying (kinds₀ : List ℕ) (g : ℕ → ℕ) (streams bytes rate sum level : ℕ) (kinds : List ℕ) (total i : ℕ) : Type 0 where
-  few : i ≤ streams
+-- no lead costs more
+abbrev mostCost : ℕ
+mostCost = maxRate * (2 * maxTime)
+
+-- so many of the line are granted, and the mark has their leads
+record Granting (kinds₀ line : List ℕ) (count : ℕ) (g : ℕ → ℕ) (rate floor level : ℕ) (kinds : List ℕ) (mark granted : ℕ) : Type 0 where
+  few : granted ≤ count
   long : length kinds ≡ 256
-  most : total ≤ 256 * mostLead + i * mostLead
-  granted : (p : Supply ℕ) (xs hs : List ℕ) (w : Slots p streams kinds₀ xs hs) → Asks p bytes rate sum level g kinds₀ xs hs
-      → Granted p streams kinds₀ xs hs w kinds total i
+  most : mark ≤ mostFloor + granted * mostCost
+  so-far : (p : Supply ℕ) (n : ℕ) (xs hs qs : List ℕ) (w : Slots p n kinds₀ xs hs) (a : Asks p rate floor level g kinds₀ xs hs qs) (o : Lined qs line count)
+      → Granted p rate floor level g n kinds₀ xs hs qs line count w a o kinds mark granted
 
 abbrev Inv-loop : tie.InvT-loop
-Inv-loop kinds₀ times worst2 streams bytes rate sum level total₀ i₀ kinds total i =
-    Trying kinds₀ (leadsIn times worst2) streams bytes rate sum level kinds total i
+Inv-loop kinds₀ line count times worst2 rate floor level mark₀ granted₀ kinds mark granted =
+    Granting kinds₀ line count (leadsIn times worst2) rate floor level kinds mark granted
 
 abbrev μ-loop : tie.MeasureT-loop
-μ-loop kinds₀ times worst2 streams bytes rate sum level total₀ i₀ kinds total i = streams - i
+μ-loop kinds₀ line count times worst2 rate floor level mark₀ granted₀ kinds mark granted = count - granted
 
 loop-holds : tie.Need-loop-holds Inv-loop μ-loop
-loop-holds c = record { few = omega arith; long = c .pre .1; most = omega (arith, c .pre .5); granted = λ p xs hs w a. grants-none p _ _ xs hs w _ _ _ _ _ a }
+loop-holds c = record {
+  few = omega arith;
+  long = c .pre .0;
+  most = omega (arith, c .pre .4);
+  so-far = λ p n xs hs qs w a o. none-granted p _ _ _ _ n _ xs hs qs _ _ w a o;
+}
 
 -- ---- the places, each from a later one
 
-abbrev turn : tie.After-lead Inv-loop μ-loop → tie.In-loop Inv-loop μ-loop
+abbrev found : tie.After-product Inv-loop μ-loop → tie.After-slot-at Inv-loop μ-loop
+found c = c .before .before .before
+
+abbrev turn : tie.After-slot-at Inv-loop μ-loop → tie.At-loop Inv-loop μ-loop
 turn c = c .before .before
 
-abbrev start : tie.In-loop Inv-loop μ-loop → tie.Start Inv-loop μ-loop
-start t = t .before .before
-
--- the lead of slot i
-abbrev own : tie.In-loop Inv-loop μ-loop → ℕ
-own t = let a = start t .args in leadsIn (a .times .now) (a .worst2) (t .before .loop .i)
+abbrev start : tie.At-loop Inv-loop μ-loop → tie.Start Inv-loop μ-loop
+start l = l .before
 
 -- ---- what is known there
 
-small : (t : tie.In-loop Inv-loop μ-loop) → own t ≤ mostLead
-small t = start t .pre .2 .small (t .before .loop .i) (t .loop-test .taken)
+-- the next slot, and its lead
+abbrev next : tie.At-loop Inv-loop μ-loop → ℕ
+next l = getD (start l .args .line .now) (l .loop .granted + 1) 0
 
--- the sum with it
-raised : (c : tie.After-lead Inv-loop μ-loop) → (let t = turn c in t .before .loop .total + c .lead .result ≡ t .before .loop .total + own t)
-raised c = ap (λ (m : ℕ). turn c .before .loop .total + m) (c .lead .ensures)
+abbrev own : tie.At-loop Inv-loop μ-loop → ℕ
+own l = let a = start l .args in leadsIn (a .times .now) (a .worst2) (next l)
 
--- what the test tells
-tested : (c : tie.After-is-granted Inv-loop μ-loop) → (let t = turn (c .before .before) in
-    let a = start t .args in
-    let l = t .before .loop in
-    c .is-granted .result ≡ (eqb (getD (l .kinds) (l .i) 0) waiting && leb (parts * a .bytes + a .rate * (l .total + own t)) (a .level)))
-tested c =
-    let f = c .before .before in
+small : (l : tie.At-loop Inv-loop μ-loop) → start l .args .rate * own l ≤ mostCost
+small l = let s = start l in
+    let h : own l ≤ 2 * maxTime = omega (arith, s .pre .2 (next l)) in
+    mul-le-mul (s .pre .3) h
+
+cost : (c : tie.After-product Inv-loop μ-loop) → (let l = turn (found c) in c .product .result ≡ start l .args .rate * own l)
+cost c =
+    let f = found c in
     let a = start (turn f) .args in
-    let l = turn f .before .loop in
-    c .is-granted .ensures ∙ ap (λ (m : ℕ). eqb (getD (l .kinds) (l .i) 0) waiting && leb (parts * a .bytes + a .rate * m) (a .level)) (raised f)
+    c .product .ensures
+    ∙ ap (λ (m : ℕ). a .rate * m) (c .before .lead .ensures ∙ ap (leadsIn (a .times .now) (a .worst2)) (f .slot-at .ensures .0))
+
+below : (l : tie.At-loop Inv-loop μ-loop) → l .loop .granted < start l .args .count → l .loop .mark + start l .args .rate * own l ≤ parts * ample
+below l h = omega (arith, l .loop .inv .most, small l, start l .pre .1)
+
+-- the slot and the cost as the code has them
+as-found : {kinds₀ line : List ℕ} {count : ℕ} {g : ℕ → ℕ} {rate floor level : ℕ} (kinds : List ℕ) (mark : ℕ) {granted i j x y : ℕ} → i ≡ j → x ≡ y
+    → Granting kinds₀ line count g rate floor level (set kinds j filling) (mark + y) granted
+    → Granting kinds₀ line count g rate floor level (set kinds i filling) (mark + x) granted
+as-found kinds mark e q h = rw (e, q) h
 
 -- ---- the needs
 
 lead-requires : tie.Need-lead-requires Inv-loop μ-loop
-lead-requires c κs = start (c .before) .pre .2 .quick _
+lead-requires c κs = start (turn (c .before)) .pre .2 _
 
-add-raised : tie.Need-add-raised Inv-loop μ-loop
-add-raised c = let t = turn c in
-    omega (arith, start t .pre .0, small t, raised c, t .before .loop .inv .most, t .loop-test .taken)
+add-mark : tie.Need-add-mark Inv-loop μ-loop
+add-mark c = let f = found c in omega (arith, cost c, below (turn f) (f .before .loop-test .taken))
 
-is-granted-requires : tie.Need-is-granted-requires Inv-loop μ-loop
-is-granted-requires c κs = let s = start (turn (c .before)) in (s .pre .3, s .pre .4)
+returns : tie.Need-returns Inv-loop μ-loop
+returns c = λ p n xs hs qs w a o.
+    let b = c .before in
+    let f = found b in
+    let t = turn f in
+    let l = t .loop in
+    next-waits p _ _ _ _ n _ xs hs qs _ _ w a o (l .kinds) (l .inv .long) (l .mark) (l .granted) (l .inv .so-far p n xs hs qs w a o)
+    (f .before .loop-test .taken) (omega (arith, f .slot-at .ensures)) (below t (f .before .loop-test .taken)) (omega (arith, cost b, c .if1 .taken))
 
 loop-again : tie.Need-loop-again Inv-loop μ-loop
 loop-again c =
     let b = c .before in
-    let f = b .before .before in
+    let f = found b in
     let t = turn f in
-    let l = t .before .loop in
-    let a = start t in
-    let v = l .inv in
-    let h : l .i < 256 = omega (arith, t .loop-test .taken, a .pre .0) in
-    let top : l .total + own t ≤ 513 * mostLead = omega (arith, v .most, small t) in
-    ⊎-elim
-    (λ w. rw (w .1, w .2 ∙ raised f) (record {
-      few = omega (arith, t .loop-test .taken);
-      long = length-set (l .kinds) (l .i) filling ∙ v .long;
-      most = omega (arith, v .most, small t);
-      granted = λ p xs hs s k.
-          grants-yes p _ _ xs hs s _ _ _ _ _ k (l .kinds) (v .long) (l .total) (l .i) h (v .granted p xs hs s k) top (a .pre .3) (a .pre .4)
-          (sym (tested b) ∙ w .0 .taken);
-    }))
-    (λ w. rw (w .1, w .2) (record {
-      few = omega (arith, t .loop-test .taken);
-      long = v .long;
-      most = omega (arith, v .most);
-      granted = λ p xs hs s k.
-          grants-no p _ _ xs hs s _ _ _ _ _ k (l .kinds) (v .long) (l .total) (l .i) h (v .granted p xs hs s k) top (a .pre .3) (a .pre .4)
-          (sym (tested b) ∙ w .0 .left);
-    }))
-    (c .if1 .came)
+    let l = t .loop in
+    as-found (l .kinds) (l .mark) (f .slot-at .ensures .0) (cost b) (record {
+      few = omega (arith, f .before .loop-test .taken);
+      long = length-set (l .kinds) (next t) filling ∙ l .inv .long;
+      most = omega (arith, l .inv .most, small t);
+      so-far = λ p n xs hs qs w a o.
+          next-granted p _ _ _ _ n _ xs hs qs _ _ w a o (l .kinds) (l .inv .long) (l .mark) (l .granted) (l .inv .so-far p n xs hs qs w a o)
+          (f .before .loop-test .taken) (omega (arith, f .slot-at .ensures)) (below t (f .before .loop-test .taken)) (omega (arith, cost b, c .if1 .left));
+    })
 
-returns : tie.Need-returns Inv-loop μ-loop
-returns c = let l = c .before .loop in
-    λ p xs hs w a. grants-end p _ _ xs hs w (l .kinds) (l .total) (l .i) (l .inv .granted p xs hs w a)
-    (omega (arith, c .loop-test .left, l .inv .few)) (c .before .before .pre .0)
+returns-2 : tie.Need-returns-2 Inv-loop μ-loop
+returns-2 c = λ p n xs hs qs w a o.
+    let l = c .before .loop in
+    all-granted p _ _ _ _ n _ xs hs qs _ _ w a o (l .kinds) (l .mark) (l .granted) (l .inv .so-far p n xs hs qs w a o)
+    (omega (arith, l .inv .few, c .loop-test .left))
 
 pub grant-asked-spec : {M : Type 1} → statement M
 grant-asked-spec =
@@ -121,15 +132,18 @@ grant-asked-spec =
     μ-loop
     loop-holds
     (λ c. omega arith)
+    (λ c κs. omega arith)
+    (λ c. omega arith)
     (λ c. omega arith)
     lead-requires
-    add-raised
+    (λ c κs. search needs)
+    add-mark
     (λ c. omega arith)
-    (λ c. omega arith)
-    is-granted-requires
+    returns
     (λ c. omega arith)
     (λ c. omega arith)
     (λ c. omega arith)
     (λ c. omega arith)
     loop-again
-    returns)
+    (λ c. omega arith)
+    returns-2)

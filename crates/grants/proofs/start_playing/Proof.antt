@@ -8,7 +8,7 @@ use Rattle.rules.specs.Supply.{Supply}
 use Rattle.rules.specs.Arrays.{slotsOf}
 use Rattle.turns.specs.Turns.{startedTo}
 use Rattle.desk.specs.Shown.{Slots}
-use Rattle.grants.proofs.Granting.{started-none, started-turn, started-end}
+use Rattle.grants.proofs.Starting.{started-none, started-turn, started-end}
 use Rattle.grants.proofs.start_playing.Statement.{statement}
 use Rattle.grants.proofs.start_playing.Tie as tie
 

@@ -13,7 +13,7 @@ use Rattle.scheduler.proofs.begun.Statement.{statement}
 use Rattle.scheduler.proofs.begun.Tie as tie
 
 wide : (c : tie.Start) → Wide (c .args .desk)
-wide c = record { kinds = search needs; next = search needs; held = search needs }
+wide c = record { kinds = search needs; next = search needs; held = search needs; places = search needs }
 
 slim : (c : tie.Start) → legality.Wide (c .args .desk .plan .figures)
 slim c = (search needs, search needs, search needs)
@@ -46,7 +46,7 @@ returns c =
 returns-2 : tie.Need-returns-2
 unfolding begunOf
 returns-2 c =
-    let e = c .before .before in
+    let e = c .before .before .before in
     let j = e .before .before .before in
     let s = start j in
     ap (begunOf (s .args .desk)) (swept j) ∙ begin-swept (s .args .desk) (wide s) (slim s) _ _ _ (sym (number j) ∙ e .if1 .left)

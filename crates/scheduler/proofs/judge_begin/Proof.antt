@@ -23,7 +23,7 @@ use Rattle.desk.specs.Shown.{Gathered}
 use Rattle.gather.specs.Gather.{Reached, Collected, gathered}
 use Rattle.scheduler.specs.Gathered.{zoned, reached, gathers, in-range, timely, lead-sum}
 use Rattle.sweep.specs.Begins.{Begins}
-use Rattle.sweep.specs.Steps.{sweptOf, notSwept}
+use Rattle.sweep.specs.Steps.{sweptOf}
 use Rattle.sweep.specs.Kept.{not-swept}
 use Rattle.scheduler.specs.Answers.{begin-unsound, begin-in-sweep, begin-no-room, begin-begun}
 use Rattle.scheduler.proofs.judge_begin.Statement.{statement}
@@ -66,7 +66,7 @@ roomy c = c .before .before .before .before .before
 abbrev gathering : tie.After-sum-times → tie.After-gather
 gathering c = c .before .before
 
-abbrev summed : tie.After-places2 → tie.After-sum-times
+abbrev summed : tie.After-spots2 → tie.After-sum-times
 summed c = c .before .before
 
 -- the two arrays after it
@@ -129,31 +129,28 @@ told c =
 
 returns : tie.Need-returns
 returns c =
-    let k = c .before in
-    let t = k .before .before in
+    let t = c .before .before in
     let s = start t in
-    c .not-swept .ensures ∙ ap (λ ks. notSwept ks notSound) (k .all-kinds .ensures) ∙ not-swept (given s) notSound
-    ∙ ap sweptOf (begin-unsound (given s) (wide s) _ _ _ (sym (t .is-sound .ensures) ∙ not-true _ (k .before .if1 .taken)))
+    c .not-swept .ensures ∙ not-swept (given s) notSound
+    ∙ ap sweptOf (begin-unsound (given s) (wide s) _ _ _ (sym (t .is-sound .ensures) ∙ not-true _ (c .before .if1 .taken)))
 
 returns-2 : tie.Need-returns-2
 returns-2 c =
-    let k = c .before in
-    let p = k .before .before in
+    let p = c .before .before in
     let e = asked p in
     let s = start (tested e) in
-    c .not-swept2 .ensures ∙ ap (λ ks. notSwept ks wrongPhase) (k .all-kinds2 .ensures) ∙ not-swept (given s) wrongPhase
-    ∙ ap sweptOf (begin-in-sweep (given s) (wide s) _ _ _ (passed e) (λ z. k .before .if2 .taken (p .phase-in .ensures ∙ z)))
+    c .not-swept2 .ensures ∙ not-swept (given s) wrongPhase
+    ∙ ap sweptOf (begin-in-sweep (given s) (wide s) _ _ _ (passed e) (λ z. c .before .if2 .taken (p .phase-in .ensures ∙ z)))
 
 returns-3 : tie.Need-returns-3
 returns-3 c =
-    let k = c .before in
-    let n = k .before .before in
+    let n = c .before .before in
     let p = between n in
     let e = first n in
     let s = start (tested e) in
-    c .not-swept3 .ensures ∙ ap (λ ks. notSwept ks tooShort) (k .all-kinds3 .ensures) ∙ not-swept (given s) tooShort
+    c .not-swept3 .ensures ∙ not-swept (given s) tooShort
     ∙ ap sweptOf (begin-no-room (given s) (wide s) _ _ _ (passed e) (sym (p .before .phase-in .ensures) ∙ p .if2 .left)
-    (omega (arith, k .before .if3 .taken, n .streams-in .ensures)))
+    (omega (arith, c .before .if3 .taken, n .streams-in .ensures)))
 
 gather-requires : tie.Need-gather-requires
 gather-requires c κs =
@@ -205,15 +202,12 @@ judge-begin-spec =
     (tie.spec
     (λ c κs. search needs)
     (λ c κs. search needs)
-    (λ c κs. search needs)
     returns
-    (λ c κs. search needs)
     (λ c κs. search needs)
     (λ c κs. search needs)
     returns-2
     (λ c κs. search needs)
     (λ c. search needs)
-    (λ c κs. search needs)
     (λ c κs. search needs)
     returns-3
     (λ c κs. search needs)

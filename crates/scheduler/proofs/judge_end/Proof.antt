@@ -75,14 +75,14 @@ desk c =
     let r = b .before .before in
     let d = given (start (tested (passing b))) in
     withRead d (r .before .bytes-in .result) (r .rate-in .result) (b .before .streams-in .result) (b .buffer-in .result)
-    (c .before .before .overheads .result) (c .all-kinds .result) (d .next) (c .before .all-held .result)
+    (c .before .before .overheads .result) (c .all-kinds .result) (d .next) (c .before .all-held .result) (d .places)
 
 desk-is : (c : tie.After-all-kinds) → desk c ≡ given (start (tested (passing (buffered c))))
 desk-is c =
     let b = buffered c in
     let r = b .before .before in
     read-same (given (start (tested (passing b)))) (r .before .bytes-in .ensures) (r .rate-in .ensures) (b .before .streams-in .ensures) (b .buffer-in .ensures)
-    (c .before .before .overheads .ensures) (c .all-kinds .ensures) refl (c .before .all-held .ensures)
+    (c .before .before .overheads .ensures) (c .all-kinds .ensures) refl (c .before .all-held .ensures) refl
 
 -- what is known of the desk
 record Judged (d : Desk) (ps ls : List ℕ) : Type 0 where

@@ -1,8 +1,9 @@
 use Prim.Native.Nat.{ℕ, _≤_}
-use mathlib.Core.Path.{_≡_, sym, _∙_}
+use mathlib.Core.Path.{_≡_, sym, subst, _∙_}
 use mathlib.Core.Bool.{true}
 use mathlib.Core.List.{List}
 use native.Mathlib.Omega.{arith}
+use lib.ListN.{take}
 use borrow.Author.Needs.{needs}
 use borrow.Author.Tests.{not-true, not-false}
 use Rattle.words.specs.Words.{wordsOf}
@@ -13,11 +14,13 @@ use Rattle.plan.specs.Answer.{isPlan}
 use Rattle.plan.specs.Check.{checked-legal}
 use Rattle.plan.specs.Scratch.{leadsBy}
 use Rattle.desk.specs.declared.Desk.{Desk}
+use Rattle.desk.specs.Asked.{askedCount}
 use Rattle.desk.specs.View.{Wide}
 use Rattle.desk_layout.specs.Layout.{deskIn}
 use Rattle.desk_layout.specs.RoundTrip.{DeskSized, desk-sized}
-use Rattle.soundness.specs.Facts.{ZonesRead, AllTidy}
-use Rattle.soundness.specs.Tests.{unsound-phase, unsound-slots, sound-told}
+use Rattle.soundness.specs.Facts.{Tells, ZonesRead, AllTidy, Placed}
+use Rattle.soundness.specs.Places.{AllPlaced}
+use Rattle.soundness.specs.Tests.{unsound-phase, unsound-slots, unsound-places, sound-told}
 use Rattle.soundness.specs.Ready.{plan-streams}
 use Rattle.soundness.proofs.Tells.{fails-first, then-second}
 use Rattle.soundness.proofs.is_sound.Statement.{statement}
@@ -31,7 +34,7 @@ sized : (c : tie.Start) → DeskSized (given c)
 sized c = desk-sized _ (omega (arith, words-length (c .args .desk .now), c .pre))
 
 wide : (c : tie.Start) → Wide (given c)
-wide c = let z = sized c in record { kinds = z .kinds; next = z .next; held = z .held }
+wide c = let z = sized c in record { kinds = z .kinds; next = z .next; held = z .held; places = z .places }
 
 slim : (c : tie.Start) → legality.Wide (given c .plan .figures)
 slim c = let z = sized c .plan in (z .positions, z .times, z .table)
@@ -46,6 +49,9 @@ first c = read c .before .before .before .before .before
 
 abbrev start : tie.Else1 → tie.Start
 start c = first (c .before .before)
+
+abbrev tidied : tie.Else4 → tie.Else3
+tidied c = c .before .before
 
 abbrev counted : tie.Else3 → tie.After-streams-in
 counted c = c .before .before
@@ -77,6 +83,17 @@ few c = plan-streams _ _ _ (slim (start c)) (passed c)
 tidy : (c : tie.Else3) → AllTidy (given (start (planned (counted c))))
 tidy c = c .before .all-tidy .ensures .yes (not-false _ (c .if3 .left))
 
+-- the test of the places
+told : (c : tie.After-all-placed) → (let s = start (planned (counted (c .before))) in Tells (c .all-placed .result) (AllPlaced (given s) (wide s)))
+told c =
+    let k = counted (c .before) in
+    let d = given (start (planned k)) in
+    subst (λ (n : ℕ). Tells (c .all-placed .result) (Placed (askedCount (take n (d .kinds))) n (d .kinds) (d .places))) (k .streams-in .ensures)
+    (c .all-placed .ensures)
+
+placed : (c : tie.Else4) → (let s = start (planned (counted (tidied c))) in AllPlaced (given s) (wide s))
+placed c = told (c .before) .yes (not-false _ (c .if4 .left))
+
 -- ---- the needs
 
 returns : tie.Need-returns
@@ -96,35 +113,45 @@ returns-3 c = let e = planned (c .before .before) in
     let s = start e in
     then-second _ _ _ (passed e) (unsound-slots (given s) (wide s) (c .before .all-tidy .ensures .no (not-true _ (c .if3 .taken))))
 
+all-placed-requires : tie.Need-all-placed-requires
+all-placed-requires c κs = let k = counted c in
+    (omega (arith, few (planned k), k .streams-in .ensures), start (planned k) .pre)
+
+returns-4 : tie.Need-returns-4
+returns-4 c = let e = planned (counted (c .before .before)) in
+    let s = start e in
+    then-second _ _ _ (passed e) (unsound-places (given s) (wide s) (told (c .before) .no (not-true _ (c .if4 .taken))))
+
 has-plan-requires : tie.Need-has-plan-requires
 has-plan-requires c κs = (first c .pre, zones c)
 
 sum-next-requires : tie.Need-sum-next-requires
-sum-next-requires c κs = let t = c .before .before in
+sum-next-requires c κs = let t = tidied (c .before .before) in
     let k = counted t in
     let e = planned k in
     (start e .pre, record { streams = k .streams-in .ensures; zones = zones (e .before .before); plan = passed e; tidy = tidy t })
 
 low-water-requires : tie.Need-low-water-requires
-low-water-requires c κs = let h = legal (planned (counted (c .before .before .before .before .before))) in
+low-water-requires c κs = let h = legal (planned (counted (tidied (c .before .before .before .before .before)))) in
     rw (c .before .bytes-in .ensures, c .rate-in .ensures) (h .bytes .1, h .rate .1)
 
 players-hold-requires : tie.Need-players-hold-requires
-players-hold-requires c κs = let k = counted (c .before .before .before .before .before .before) in
+players-hold-requires c κs = let k = counted (tidied (c .before .before .before .before .before .before)) in
     (omega (arith, few (planned k), k .streams-in .ensures), start (planned k) .pre)
 
-returns-4 : tie.Need-returns-4
-returns-4 c =
+returns-5 : tie.Need-returns-5
+returns-5 c =
     let m = c .before in
     let b = m .before .before in
     let l = b .before in
-    let t = l .before .before .before in
+    let q = l .before .before .before in
+    let t = tidied q in
     let k = counted t in
     let e = planned k in
     let s = start e in
     then-second _ _ _ (passed e)
     (sound-told (given s) (wide s) _ _ _ (l .sum-next .ensures) (m .low-water .ensures ∙ rw (b .bytes-in .ensures, m .before .rate-in .ensures))
-    (omega (arith, k .before .if2 .left, k .before .before .phase-in .ensures)) (tidy t)
+    (omega (arith, k .before .if2 .left, k .before .before .phase-in .ensures)) (tidy t) (placed q)
     (rw (k .streams-in .ensures) at (c .players-hold .ensures)))
 
 pub is-sound-spec : {M : Type 1} → statement M
@@ -141,9 +168,11 @@ is-sound-spec =
     (λ c. search needs)
     all-tidy-requires
     returns-3
+    all-placed-requires
+    returns-4
     sum-next-requires
     (λ c κs. search needs)
     (λ c κs. search needs)
     low-water-requires
     players-hold-requires
-    returns-4)
+    returns-5)

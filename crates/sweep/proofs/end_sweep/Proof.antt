@@ -7,7 +7,7 @@ use Rattle.sweep.proofs.end_sweep.Tie as tie
 
 -- the arrays have 256 entries
 wide : (c : tie.Start) → Wide (c .args .desk)
-wide c = record { kinds = search needs; next = search needs; held = search needs }
+wide c = record { kinds = search needs; next = search needs; held = search needs; places = search needs }
 
 abbrev start : tie.After-string-of → tie.Start
 start c = c .before .before

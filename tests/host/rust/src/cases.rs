@@ -5,11 +5,15 @@ use crate::layout::{
     bytes_of, desk_bytes, plan_bytes, DESK_BYTES, ENTRY_BYTES, FETCH_BYTES, PLAN_BYTES,
     SCRATCH_BYTES,
 };
-use film_disk_model::desk::{floor, sweep_bound, ASKED, BETWEEN, FILLING, PLAYING, SLOTS, TAIL};
+use film_disk_model::desk::{
+    floor, sweep_bound, ASKED, BETWEEN, FILLING, FREE, PLAYING, SLOTS, TAIL,
+};
 use film_disk_model::plan::TWO_MILLION;
 use film_disk_model::rng::borders::{border_card, border_plan_for};
 use film_disk_model::rng::cards::any_card;
-use film_disk_model::rng::desks::{alter_plan, any_step, longer_list, sound_desk, spoiled_list};
+use film_disk_model::rng::desks::{
+    alter_places, alter_plan, any_step, longer_list, set_places, sound_desk, spoiled_list,
+};
 use film_disk_model::rng::figures::{desk_plan_for, large_desk_plan_for, uneven_plan_for};
 use film_disk_model::rng::tables::{alter_overheads, some_entry};
 use film_disk_model::{card_bytes, read_card, Desk, Plan, Planned, Rng, Showing, Step};
@@ -234,6 +238,7 @@ fn set_tail(rng: &mut Rng, desk: &mut Desk) {
     let slot = rng.below(desk.plan.streams as usize);
     let blocks = desk.plan.figures.blocks;
     desk.kinds[slot] = TAIL;
+    set_places(rng, desk);
     desk.next[slot] = rng.pick(&[blocks, blocks, blocks, 0, blocks - 1]);
     desk.held[slot] = rng.between(1, desk.plan.buffer);
 }
@@ -303,18 +308,33 @@ pub fn overhead_case(rng: &mut Rng) -> (Call, Strings) {
     opening_or_step(rng, &desk, &step)
 }
 
-/// The floor with the leads of the first few asked slots, in whole bytes, rounded up.
+/// The floor with the leads of the first few requests by place, in whole bytes, rounded up.
 fn some_level(rng: &mut Rng, planned: &Planned, desk: &Desk) -> u32 {
-    let asked = desk.used_slots().filter(|&slot| desk.kinds[slot] == ASKED);
-    let leads = asked.map(|slot| planned.leads[desk.next[slot] as usize] as u128);
-    let first = rng.pick(&[0, 0, 1, 1, 2, 3, 9]);
+    let mut asked: Vec<usize> =
+        desk.used_slots().filter(|&slot| desk.kinds[slot] == ASKED).collect();
+    asked.sort_by_key(|&slot| desk.places[slot]);
+    let leads = asked.iter().map(|&slot| planned.leads[desk.next[slot] as usize] as u128);
+    let (some, all) = (rng.below(asked.len() + 1), asked.len());
+    let first = rng.pick(&[0, 0, 1, 1, 2, 3, some, all]);
     let granted: u128 = leads.take(first).sum();
     let shares = floor(desk, &planned.leads) + planned.plan.figures.rate as u128 * granted;
     shares.div_ceil(TWO_MILLION) as u32
 }
 
-/// A call, mostly a begin, on a desk whose slots hold just what decides: the floor with and without grants, or a byte beside it;
-/// or the greatest that a block is still fetched on.
+/// Filling and playing slots, three in four, hold just what decides: the floor with and without requests, or a byte beside it; or the
+/// greatest that a block is still fetched on.
+fn set_to_edge(rng: &mut Rng, planned: &Planned, desk: &mut Desk) {
+    let room = planned.plan.buffer - planned.plan.figures.block_bytes;
+    let level = if rng.once_in(6) { room } else { some_level(rng, planned, desk) };
+    let held = level + rng.pick(&[0, 0, 1]) - rng.once_in(3) as u32;
+    for slot in desk.used_slots() {
+        if matches!(desk.kinds[slot], FILLING | PLAYING) && !rng.once_in(4) {
+            desk.held[slot] = held;
+        }
+    }
+}
+
+/// A call, mostly a begin, on a desk whose slots hold just what decides.
 pub fn edge_case(rng: &mut Rng) -> (Call, Strings) {
     let planned = some_plan(rng);
     let (_, mut step) = any_step(rng, &planned);
@@ -323,13 +343,65 @@ pub fn edge_case(rng: &mut Rng) -> (Call, Strings) {
         desk.phase = BETWEEN;
         step.call = film_disk_model::Call::Begin { fetch_list: planned.plan.streams as usize };
     }
-    let room = planned.plan.buffer - planned.plan.figures.block_bytes;
-    let level = if rng.once_in(6) { room } else { some_level(rng, &planned, &desk) };
-    let held = level + rng.pick(&[0, 0, 1]) - rng.once_in(3) as u32;
+    set_to_edge(rng, &planned, &mut desk);
+    step_strings(rng, desk_bytes(&desk), &step, 100)
+}
+
+/// A slot for a join or a leave: free, asked, or any.
+fn slot_of_kind(rng: &mut Rng, desk: &Desk, kind: u32) -> u32 {
+    let slots: Vec<usize> = desk.used_slots().filter(|&slot| desk.kinds[slot] == kind).collect();
+    match slots.len() {
+        0 => some_slot(rng, desk),
+        _ => rng.pick(&slots) as u32,
+    }
+}
+
+/// A desk between sweeps where requests wait, up to all slots but one that plays, if that; with players and fillers that hold just what
+/// decides.
+fn crowded_desk(rng: &mut Rng, planned: &Planned) -> Desk {
+    let mut desk = Desk { phase: BETWEEN, ..sound_desk(rng, planned) };
+    let blocks = planned.plan.figures.blocks;
+    let one_in = rng.pick(&[2, 6, 40]);
     for slot in desk.used_slots() {
-        if matches!(desk.kinds[slot], FILLING | PLAYING) && !rng.once_in(4) {
-            desk.held[slot] = held;
+        if desk.kinds[slot] == TAIL || !rng.once_in(one_in) {
+            (desk.kinds[slot], desk.held[slot]) = (ASKED, 0);
+            desk.next[slot] = rng.between(0, blocks - 1);
         }
+    }
+    if !rng.once_in(4) {
+        let slot = rng.below(planned.plan.streams as usize);
+        (desk.kinds[slot], desk.next[slot]) = (PLAYING, rng.between(0, blocks - 1));
+        desk.held[slot] = planned.plan.buffer;
+    }
+    set_places(rng, &mut desk);
+    set_to_edge(rng, planned, &mut desk);
+    desk
+}
+
+/// A call where requests wait: a join behind them, a leave of one of them, mostly a begin. A film without leads makes none wait, and is
+/// rare here.
+pub fn request_case(rng: &mut Rng) -> (Call, Strings) {
+    let mut planned = some_plan(rng);
+    while planned.plan.margin == 0 && !rng.once_in(20) {
+        planned = some_plan(rng);
+    }
+    let desk = crowded_desk(rng, &planned);
+    let call = match rng.below(6) {
+        0 => film_disk_model::Call::Join { slot: slot_of_kind(rng, &desk, FREE), block: 0 },
+        1 => film_disk_model::Call::Leave { slot: slot_of_kind(rng, &desk, ASKED) },
+        _ => film_disk_model::Call::Begin { fetch_list: planned.plan.streams as usize },
+    };
+    let Planned { positions, leads, .. } = planned;
+    step_strings(rng, desk_bytes(&desk), &Step { positions, leads, call }, 100)
+}
+
+/// A call on a desk whose places are others: one twice, left out, one more, on another slot, or two that change places.
+pub fn place_case(rng: &mut Rng) -> (Call, Strings) {
+    let planned = some_plan(rng);
+    let (_, step) = any_step(rng, &planned);
+    let mut desk = sound_desk(rng, &planned);
+    for _ in 0..rng.pick(&[1, 1, 1, 2]) {
+        alter_places(rng, &mut desk);
     }
     step_strings(rng, desk_bytes(&desk), &step, 100)
 }

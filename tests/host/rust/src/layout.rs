@@ -3,7 +3,7 @@
 use film_disk_model::{Desk, Entry, Figures, Plan, SLOTS};
 
 pub const PLAN_BYTES: usize = 1584;
-pub const DESK_BYTES: usize = 4660;
+pub const DESK_BYTES: usize = 5684;
 pub const ENTRY_BYTES: usize = 4;
 pub const FETCH_BYTES: usize = 12;
 pub const SCRATCH_BYTES: usize = 2048;
@@ -71,10 +71,11 @@ pub fn desk_bytes(desk: &Desk) -> Vec<u8> {
     words.extend(desk.kinds);
     words.extend(desk.next);
     words.extend(desk.held);
+    words.extend(desk.places);
     bytes_of(&words)
 }
 
-/// The desk in a string of 4,660 bytes.
+/// The desk in a string of 5,684 bytes.
 pub fn read_desk(bytes: &[u8]) -> Desk {
     let words = words_of(bytes);
     Desk {
@@ -83,6 +84,7 @@ pub fn read_desk(bytes: &[u8]) -> Desk {
         kinds: array(&words, 397),
         next: array(&words, 397 + SLOTS),
         held: array(&words, 397 + 2 * SLOTS),
+        places: array(&words, 397 + 3 * SLOTS),
     }
 }
 

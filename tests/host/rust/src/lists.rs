@@ -1,5 +1,5 @@
-//! Long lists of calls from an accepted opening: the library's desk goes from call to call as bytes, and the book's claim is
-//! checked after each. Each call is made with the lead list and with a scratch, and the desk goes on as one of the two left it: by lists
+//! Long lists of calls from an accepted opening: the library's desk goes from call to call as bytes, and the book's claim, the order of
+//! the requests and their waits are checked after each. Each call is made with the lead list and with a scratch, and the desk goes on as one of the two left it: by lists
 //! alone, by scratch alone, or by either in turn.
 
 use crate::call::{
@@ -9,8 +9,8 @@ use crate::cases::{long_scratch, noise, some_plan, step_strings};
 use crate::expected::model_call;
 use crate::layout::{bytes_of, read_desk, read_fetches, DESK_BYTES, ENTRY_BYTES, PLAN_BYTES};
 use crate::trial::Trial;
-use film_disk_model::rng::desks::{next_step, temper};
-use film_disk_model::{card_bytes, check_claim, Book, Desk, Planned, Rng, Showing, Step};
+use film_disk_model::rng::desks::{full_house, next_step, temper, Temper};
+use film_disk_model::{card_bytes, check_claim, Book, Desk, Planned, Queue, Rng, Showing, Step};
 
 /// The ways in of a list's calls: one, or both at random.
 const WAYS: [&[Way]; 3] = [&[Way::List], &[Way::Scratch], &[Way::List, Way::Scratch]];
@@ -59,6 +59,7 @@ pub struct List<'a> {
     desk: Vec<u8>,
     pub rules: Desk,
     book: Book,
+    queue: Queue,
     number: usize,
 }
 
@@ -67,7 +68,8 @@ impl<'a> List<'a> {
         let ways = rng.pick(&WAYS);
         let desk = open_desk(rng, trial, planned, ways)?;
         let book = Book::new(planned.plan.figures.block_bytes);
-        Ok(List { planned, ways, desk, rules: Desk::all_free(&planned.plan), book, number: 0 })
+        let (rules, queue) = (Desk::all_free(&planned.plan), Queue::new(&planned.plan));
+        Ok(List { planned, ways, desk, rules, book, queue, number: 0 })
     }
 
     /// Makes a call; once in `damaged` times a list that it is lent is spoiled.
@@ -101,7 +103,10 @@ impl<'a> List<'a> {
             let slot = rng.below(self.planned.plan.streams as usize) as u32;
             trial.both(rng, Call::DrawLimit { slot, bound }, Way::List, &got.strings)?;
         }
-        check_claim(&self.book, &read_desk(&self.desk), &self.rules, begun(call, &got))?;
+        let desk = read_desk(&self.desk);
+        check_claim(&self.book, &desk, &self.rules, begun(call, &got))?;
+        self.queue.feed(&model_call(call, &before), got.answer.number == 0, &desk)?;
+        trial.note_wait(self.queue.longest);
         Ok(got)
     }
 
@@ -114,12 +119,22 @@ impl<'a> List<'a> {
 
 /// A list of random calls.
 pub fn list_case(rng: &mut Rng, trial: &mut Trial) -> Result<(), String> {
+    let temper = temper(rng);
+    run_list(rng, trial, &temper)
+}
+
+/// A list of a full house: slots that were fetched for leave and others ask in the same gap.
+pub fn house_case(rng: &mut Rng, trial: &mut Trial) -> Result<(), String> {
+    let temper = full_house(rng);
+    run_list(rng, trial, &temper)
+}
+
+fn run_list(rng: &mut Rng, trial: &mut Trial, temper: &Temper) -> Result<(), String> {
     let planned = some_plan(rng);
     let mut list = List::open(rng, trial, &planned)?;
-    let temper = temper(rng);
     let most = if planned.positions.len() > 256 { 20 } else { rng.pick(&[10, 40, 150, 400]) };
     for _ in 0..most {
-        let step = next_step(rng, &planned, &list.rules, &temper);
+        let step = next_step(rng, &planned, &list.rules, temper);
         list.call(rng, trial, &step, 40)?;
     }
     Ok(())

@@ -20,25 +20,25 @@ mod windows;
 
 use call::Way;
 use cases::{
-    desk_case, edge_case, limit_case, open_case, overhead_case, plan_case, showing_case,
-    worst_pair_case,
+    desk_case, edge_case, limit_case, open_case, overhead_case, place_case, plan_case,
+    request_case, showing_case, worst_pair_case,
 };
 use film_disk_model::Rng;
 use films::{all_films, film_case};
 use library::set_scene;
-use lists::list_case;
+use lists::{house_case, list_case};
 use std::process::ExitCode;
 use trial::Trial;
 use windows::window_case;
 
-/// A run of so many cases or more must meet every number of every call, worst pairs everywhere, and loops gone round.
+/// A run of so many cases or more must meet every number of every call, worst pairs everywhere, loops gone round, and requests that wait.
 const MANY_CASES: u64 = 5000;
 /// As many failures are shown.
 const SHOWN: u64 = 10;
 
 fn run_case(trial: &mut Trial, seed: u64) -> Result<(), String> {
     let mut rng = Rng::new(seed);
-    let (call, strings) = match rng.below(17) {
+    let (call, strings) = match rng.below(22) {
         0..=2 => plan_case(&mut rng),
         3 => open_case(&mut rng),
         4 | 5 => desk_case(&mut rng),
@@ -48,6 +48,9 @@ fn run_case(trial: &mut Trial, seed: u64) -> Result<(), String> {
         11 | 12 => window_case(&mut rng),
         13 | 14 => overhead_case(&mut rng),
         15 => limit_case(&mut rng),
+        16 | 17 => request_case(&mut rng),
+        18 | 19 => place_case(&mut rng),
+        20 => return house_case(&mut rng, trial),
         _ => return list_case(&mut rng, trial),
     };
     trial.both(&mut rng, call, Way::List, &strings).map(|_| ())

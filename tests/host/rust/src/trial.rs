@@ -1,11 +1,11 @@
 //! A call made of the library and of the model, or of an earlier library in its place, and the tally of what was answered.
 
-use crate::call::{Call, Outcome, Strings, Way, LEADS, NAMES, PLAN, SORTS};
+use crate::call::{Call, Outcome, Strings, Way, DESK, LEADS, NAMES, PLAN, SORTS};
 use crate::entries::{EARLIER, PRESENT};
 use crate::expected::{expected, is_same_by_scratch};
-use crate::layout::read_plan;
+use crate::layout::{read_desk, read_plan};
 use crate::library::{Lending, Library};
-use film_disk_model::{Plan, Rng};
+use film_disk_model::{Plan, Rng, SLOTS};
 
 /// Numbers of answers, 0 to 27.
 const NUMBERS: usize = 28;
@@ -19,6 +19,8 @@ const KINDS: [&str; 2] = ["of kind 1", "of kind 2"];
 const WINDOWS: [&str; 3] = ["at block 0", "in mid film", "past the last block"];
 /// Sizes of a draw limit.
 const LIMITS: [&str; 3] = ["of 0", "of 32 bits", "of more"];
+/// What a begin makes of the requests.
+const REQUESTS: [&str; 4] = ["none there", "all granted", "some granted", "all waiting on"];
 /// Calls made in both ways.
 const ALIKE: [&str; 2] = ["with another list or a short scratch", "alike"];
 
@@ -38,6 +40,12 @@ pub struct Trial {
     windows: [u64; WINDOWS.len()],
     /// For each size, how many draw limits have it.
     limits: [u64; LIMITS.len()],
+    /// For each outcome, how many accepted begins have it.
+    requests: [u64; REQUESTS.len()],
+    /// The most requests at an accepted begin.
+    crowd: u32,
+    /// The most sweeps that an eldest request of a list waited for its grant.
+    wait: u64,
     /// Calls that answered the same by list and by scratch, and those where the list was not the film's or the scratch short.
     alike: [u64; ALIKE.len()],
 }
@@ -68,6 +76,16 @@ fn limit_size(limit: u64) -> usize {
     }
 }
 
+/// What became of so many requests, of which so many wait on.
+fn requests_left(before: u32, after: u32) -> usize {
+    match (before, after) {
+        (0, _) => 0,
+        (_, 0) => 1,
+        _ if after < before => 2,
+        _ => 3,
+    }
+}
+
 /// The call and the lengths of what it was lent.
 fn describe(call: Call, way: Way, strings: &Strings) -> String {
     let lent = call.lent(way).into_iter();
@@ -93,6 +111,9 @@ impl Trial {
             kinds: [0; KINDS.len()],
             windows: [0; WINDOWS.len()],
             limits: [0; LIMITS.len()],
+            requests: [0; REQUESTS.len()],
+            crowd: 0,
+            wait: 0,
             alike: [0; ALIKE.len()],
         }
     }
@@ -110,7 +131,7 @@ impl Trial {
             Some(earlier) if earlier.has(way) => earlier.call(call, way, strings, lending)?,
             _ => expected(call, way, strings),
         };
-        self.note(call, way, &wanted);
+        self.note(call, way, strings, &wanted);
         let named = |words| format!("{}: {words}", describe(call, way, strings));
         let got = self.library.call(call, way, strings, lending).map_err(named)?;
         got.compare(&wanted).map_err(named)?;
@@ -142,7 +163,7 @@ impl Trial {
         Ok(if way == Way::List { listed } else { scratched })
     }
 
-    fn note(&mut self, call: Call, way: Way, wanted: &Outcome) {
+    fn note(&mut self, call: Call, way: Way, before: &Strings, wanted: &Outcome) {
         let number = wanted.answer.number;
         self.tally[call.sort(way)][number as usize] += 1;
         if number != 0 {
@@ -157,6 +178,12 @@ impl Trial {
             Call::Window { blocks } if blocks > 1 => {
                 let plan = read_plan(&wanted.strings[PLAN]);
                 self.windows[window_place(&plan, wanted.answer.first, blocks)] += 1;
+            }
+            Call::Begin => {
+                let waiting = |strings: &Strings| read_desk(&strings[DESK]).waiting();
+                let (asked, left) = (waiting(before), waiting(&wanted.strings));
+                self.requests[requests_left(asked, left)] += 1;
+                self.crowd = self.crowd.max(asked);
             }
             Call::DrawLimit { .. } => self.limits[limit_size(wanted.answer.limit)] += 1,
             _ => {}
@@ -183,6 +210,11 @@ impl Trial {
         self.rounds = self.rounds.max(rounds);
     }
 
+    /// Notes how many sweeps an eldest request has waited.
+    pub fn note_wait(&mut self, sweeps: u64) {
+        self.wait = self.wait.max(sweeps);
+    }
+
     /// A line for each sort of call: how many, and how often each number was answered.
     pub fn report(&self) {
         for (sort, counts) in SORTS.iter().zip(&self.tally) {
@@ -194,12 +226,15 @@ impl Trial {
         println!("worst windows: {}", tallied(&WINDOWS, &self.windows));
         println!("draw limits: {}", tallied(&LIMITS, &self.limits));
         println!("plans: {}", tallied(&KINDS, &self.kinds));
+        println!("requests at a begin: {}", tallied(&REQUESTS, &self.requests));
+        println!("requests: {} at once; the eldest waited {} sweeps", self.crowd, self.wait);
         println!("by list and by scratch: {}", tallied(&ALIKE, &self.alike));
         println!("loops: a slot went round {} times", self.rounds);
     }
 
     /// The numbers that each sort of call can answer and that no call was answered; places where no
-    /// worst pair or window was; a kind of card; a size of a draw limit; and loops, if none went round often enough.
+    /// worst pair or window was; a kind of card; a size of a draw limit; requests, of which all slots may be and one has to wait a
+    /// sweep; and loops, if none went round often enough.
     pub fn missing(&self) -> Vec<String> {
         let plan: Vec<usize> = (0..=13).chain([25, 26]).collect();
         let answers: [&[usize]; SORTS.len()] = [
@@ -240,6 +275,12 @@ impl Trial {
         }
         for (how, _) in ALIKE.iter().zip(self.alike).filter(|&(_, count)| count == 0) {
             missing.push(format!("a call in both ways, {how}"));
+        }
+        for (what, _) in REQUESTS.iter().zip(self.requests).filter(|&(_, count)| count == 0) {
+            missing.push(format!("a begin with requests, {what}"));
+        }
+        if self.crowd < SLOTS as u32 || self.wait < 1 {
+            missing.push("requests of all slots, or one that waited a sweep".to_string());
         }
         if self.rounds < MANY_ROUNDS {
             missing.push(format!("a loop gone round {MANY_ROUNDS} times"));

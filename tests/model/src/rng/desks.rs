@@ -28,6 +28,8 @@ pub struct Temper {
     /// A call in so many is anything at all.
     pub wild: usize,
     pub draw: Draw,
+    /// A full house: free slots ask before each sweep, and some leave and ask again between two.
+    pub full: bool,
 }
 
 pub fn temper(rng: &mut Rng) -> Temper {
@@ -37,7 +39,13 @@ pub fn temper(rng: &mut Rng) -> Temper {
         begins: rng.pick(&[1, 3, 6]),
         wild: rng.pick(&[3, 10, 40]),
         draw: rng.pick(&[Draw::None, Draw::Full, Draw::Full, Draw::Any, Draw::Mixed]),
+        full: rng.once_in(4),
     }
+}
+
+/// A full house that draws all it may.
+pub fn full_house(rng: &mut Rng) -> Temper {
+    Temper { draw: Draw::Full, full: true, ..temper(rng) }
 }
 
 // Draws.
@@ -119,10 +127,25 @@ fn fair_begin(rng: &mut Rng, desk: &Desk) -> Call {
     Call::Begin { fetch_list: desk.plan.streams as usize + rng.pick(&[0, 0, 1, 300]) }
 }
 
+/// Between the sweeps of a full house: whoever is free asks, at times some leave before the begin. So
+/// slots that were fetched for leave and ask again in one gap.
+fn full_house_call(rng: &mut Rng, desk: &Desk) -> Call {
+    if let (Some(call), false) = (fair_join(rng, desk), rng.once_in(20)) {
+        return call;
+    }
+    match fair_leave(rng, desk) {
+        Some(call) if rng.once_in(3) => call,
+        _ => fair_begin(rng, desk),
+    }
+}
+
 /// A call that the desk accepts.
 pub fn fair_call(rng: &mut Rng, desk: &Desk, temper: &Temper) -> Call {
     if desk.phase == SWEEPING {
         return Call::End { draws: fair_draws(rng, desk, temper.draw) };
+    }
+    if temper.full {
+        return full_house_call(rng, desk);
     }
     let choice = rng.below(temper.joins + temper.leaves + temper.begins);
     let call = if choice < temper.joins {
@@ -243,17 +266,45 @@ fn some_held(rng: &mut Rng, plan: &Plan, least: u32) -> u32 {
     held.clamp(least, plan.buffer)
 }
 
+/// The slots that have asked, of any desk.
+fn asked_slots(desk: &Desk) -> Vec<usize> {
+    (0..SLOTS).filter(|&slot| desk.kinds[slot] == ASKED).collect()
+}
+
+/// Gives the asked slots their places, in any order, and all others 0.
+pub fn set_places(rng: &mut Rng, desk: &mut Desk) {
+    let mut asked = asked_slots(desk);
+    desk.places = [0; SLOTS];
+    for place in 1..=asked.len() as u32 {
+        let slot = asked.swap_remove(rng.below(asked.len()));
+        desk.places[slot] = place;
+    }
+}
+
+/// Kinds of the slots: any, or mostly asked, or all asked but for one or none.
+fn set_kinds(rng: &mut Rng, desk: &mut Desk) {
+    let any: &[u32] = match desk.showing() {
+        Showing::Once => &[FREE, ASKED, FILLING, FILLING, PLAYING, PLAYING, TAIL],
+        Showing::Loop => &[FREE, ASKED, FILLING, FILLING, PLAYING, PLAYING],
+    };
+    let crowd = rng.below(5);
+    for slot in desk.used_slots() {
+        let asks = crowd == 0 || (crowd == 1 && !rng.once_in(6));
+        desk.kinds[slot] = if asks { ASKED } else { rng.pick(any) };
+    }
+    if crowd == 0 && rng.once_in(2) {
+        let slot = rng.below(desk.plan.streams as usize);
+        desk.kinds[slot] = rng.pick(any);
+    }
+}
+
 /// A sound desk whether or not a list reaches it. A loop's has no tail.
 pub fn sound_desk(rng: &mut Rng, planned: &Planned) -> Desk {
     let mut desk = Desk::all_free(&planned.plan);
     let blocks = planned.plan.figures.blocks;
-    let kinds: &[u32] = match desk.showing() {
-        Showing::Once => &[FREE, ASKED, FILLING, FILLING, PLAYING, PLAYING, TAIL],
-        Showing::Loop => &[FREE, ASKED, FILLING, FILLING, PLAYING, PLAYING],
-    };
     desk.phase = rng.between(0, 1);
+    set_kinds(rng, &mut desk);
     for slot in desk.used_slots() {
-        desk.kinds[slot] = rng.pick(kinds);
         desk.next[slot] = match desk.kinds[slot] {
             FREE => 0,
             TAIL => blocks,
@@ -269,6 +320,7 @@ pub fn sound_desk(rng: &mut Rng, planned: &Planned) -> Desk {
             _ => 0,
         };
     }
+    set_places(rng, &mut desk);
     desk
 }
 
@@ -286,23 +338,53 @@ pub fn alter_plan(rng: &mut Rng, plan: &mut Plan) {
     *figure = rng.other_than(*figure);
 }
 
+/// A slot of any desk, mostly a used one.
+fn some_slot(rng: &mut Rng, desk: &Desk) -> usize {
+    let used = (desk.plan.streams as usize).clamp(1, SLOTS);
+    if rng.once_in(4) {
+        rng.below(SLOTS)
+    } else {
+        rng.below(used)
+    }
+}
+
 /// Alters one number of the slots. The record may stay sound.
 fn alter_slot(rng: &mut Rng, desk: &mut Desk) {
-    let used = (desk.plan.streams as usize).clamp(1, SLOTS);
-    let slot = if rng.once_in(4) { rng.below(SLOTS) } else { rng.below(used) };
-    let number = match rng.below(3) {
+    let slot = some_slot(rng, desk);
+    let number = match rng.below(4) {
         0 => &mut desk.kinds[slot],
         1 => &mut desk.next[slot],
-        _ => &mut desk.held[slot],
+        2 => &mut desk.held[slot],
+        _ => &mut desk.places[slot],
     };
     *number = if rng.once_in(3) { rng.between(0, 5) } else { rng.other_than(*number) };
 }
 
+/// Alters the places of the slots: two are alike, one is left out, one more is there, one is on
+/// another slot, or two change places, which stays sound.
+pub fn alter_places(rng: &mut Rng, desk: &mut Desk) {
+    let asked = asked_slots(desk);
+    let any = some_slot(rng, desk);
+    let count = desk.waiting();
+    let mut pick = || if asked.is_empty() { any } else { rng.pick(&asked) };
+    let (one, other) = (pick(), pick());
+    match rng.below(7) {
+        0 => desk.places[one] = desk.places[other],
+        1 => desk.places[one] = 0,
+        2 => desk.places[one] = rng.pick(&[count + 1, 256, 257, u32::MAX]),
+        3 => desk.places[any] = rng.pick(&[1, count, count + 1]),
+        4 => desk.places.swap(one, any),
+        5 => desk.places.swap(one, other),
+        _ => desk.places[one] = rng.other_than(desk.places[one]),
+    }
+}
+
 /// Alters one number of a desk. The record may stay sound.
 pub fn alter_desk(rng: &mut Rng, desk: &mut Desk) {
-    match rng.below(6) {
+    match rng.below(7) {
         0 => alter_plan(rng, &mut desk.plan),
         1 => desk.phase = rng.other_than(desk.phase),
+        2 => alter_places(rng, desk),
         _ => alter_slot(rng, desk),
     }
 }
@@ -318,6 +400,7 @@ pub fn random_desk(rng: &mut Rng, plan: &Plan) -> Desk {
         desk.kinds[slot] = rng.any();
         desk.next[slot] = rng.any();
         desk.held[slot] = rng.any();
+        desk.places[slot] = rng.any();
     }
     desk
 }

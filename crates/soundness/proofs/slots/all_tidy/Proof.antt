@@ -35,7 +35,7 @@ returns c =
     tells-no (λ t. c .before .rest-zero .ensures .no (not-true _ (c .if1 .taken))
     (λ i l u. let k = t .unused i l (omega arith) in
     let z = t .slots i l .zeros k in
-    (k, z .0, z .1)))
+    (k, z .0, z .1, t .idle i l (omega arith))))
 
 loop-holds : tie.Need-loop-holds Inv-loop μ-loop
 loop-holds c = record { few = omega arith; tidy = λ j h. absurd (omega arith) }
@@ -71,6 +71,7 @@ returns-3 c =
     tells-yes (record {
       slots = λ j h. by-cases (decLt j (l .i)) (λ a. l .inv .tidy j a) (λ a. let y = z j h (omega arith) in zero-tidy (y .0) (y .1) (y .2));
       unused = λ j h u. z j h (omega arith) .0;
+      idle = λ j h u. z j h (omega arith) .3;
     })
 
 pub all-tidy-spec : {M : Type 1} → statement M

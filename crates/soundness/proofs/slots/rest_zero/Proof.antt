@@ -29,21 +29,24 @@ loop-holds c = record { past = omega arith; few = omega arith; zero = λ _ j h u
 
 loop-again : tie.Need-loop-again Inv-loop μ-loop
 loop-again c =
-    let n = c .before in
+    let h = c .before in
+    let n = h .before in
     let k = n .before in
     let l = k .before .before .loop in
     let kind = k .kind-in .ensures in
     let next = n .next-in .ensures in
-    let held = c .held-in .ensures in
+    let held = h .held-in .ensures in
+    let place = c .place-in .ensures in
     record {
       past = omega arith;
       few = omega arith;
       zero = λ e. let z = both-unset e in
           let y = both-unset (z .0) in
           let x = both-unset (y .0) in
-          below-more _ (l .i) (l .inv .zero (x .0)) (λ _. (sym kind ∙ x .1, sym next ∙ y .1, sym held ∙ z .1));
+          let v = both-unset (x .0) in
+          below-more _ (l .i) (l .inv .zero (v .0)) (λ _. (sym kind ∙ v .1, sym next ∙ x .1, sym held ∙ y .1, sym place ∙ z .1));
       unset = λ r. let z = r (l .i) (omega arith) (l .inv .past) in
-          none-set (none-set (none-set (l .inv .unset (λ j h. r j (omega arith))) (kind ∙ z .0)) (next ∙ z .1)) (held ∙ z .2);
+          none-set (none-set (none-set (none-set (l .inv .unset (λ j h. r j (omega arith))) (kind ∙ z .0)) (next ∙ z .1)) (held ∙ z .2)) (place ∙ z .3);
     }
 
 returns : tie.Need-returns Inv-loop μ-loop
@@ -58,6 +61,7 @@ rest-zero-spec =
     Inv-loop
     μ-loop
     loop-holds
+    (λ c κs. search needs)
     (λ c κs. search needs)
     (λ c κs. search needs)
     (λ c κs. search needs)

@@ -1,23 +1,21 @@
--- Document 01's order, slot by slot, is orderly.
+-- The steps of a begin, a start to play and a grant: what each keeps of the slots, and that it leaves the playing ones at the mark.
 -- Assumes nothing.
 use Prim.Native.Nat.{ℕ, zero, suc, _+_, _*_, _≤_}
 use mathlib.Core.Path.{_≡_, refl}
 use mathlib.Core.Bool.{Bool, true, false, _&&_}
 use mathlib.Core.List.{List, [], _∷_}
 use native.Mathlib.Omega.{arith}
-use lib.ListN.{length}
 use lib.Dec.{leb, eqb}
 use borrow.Author.Tests.{leb-true, eqb-true, eq-eqb}
 use Rattle.laws.specs.Bools.{implies, implied, and-left, and-right}
 use Rattle.laws.specs.Runs.{allBy}
-use Rattle.laws.specs.Each.{Both, each-map, both-refl}
+use Rattle.laws.specs.Each.{Both, both-refl}
 use Rattle.numbers.specs.Units.{parts}
 use Rattle.rules.specs.Supply.{Supply}
 use Rattle.numbers.specs.Slots.{waiting, filling, playing}
 use Rattle.rules.specs.Scheduler.{Slot, at, leads, lowWater, holds}
-use Rattle.rules.specs.Scheduler.{startBy, startedSlot, started, playersHold, grantable, granted, grantBy, tried, tries, begun}
-use Rattle.rules.specs.Order.{bySlot}
-use Rattle.turns.specs.Orderly.{Kept, kept-refl, Floored, Began, Orderly, began-then, began-none}
+use Rattle.rules.specs.Scheduler.{startBy, startedSlot, started, playersHold, grantable, granted}
+use Rattle.turns.specs.Orderly.{Kept, kept-refl, Floored, Began}
 use Rattle.turns.specs.Turns.{started-leads, granted-leads}
 
 module _ {A : Type 0} (p : Supply A) where
@@ -89,36 +87,4 @@ module _ {A : Type 0} (p : Supply A) where
         kept = granted-kept ss i k;
         floored = rw (granted-leads p ss i k) (granted-floored L ss i (floored-of-test L ss (and-right (eqb (at p ss i .kind) waiting) _ e)));
       }
-
   -- ---- in slot order
-
-  tried-began : (ss : List (Slot A)) (i : ℕ) → Floored p (leads p ss) ss → Began p ss (tried p ss i)
-  unfolding tried
-  tried-began ss i f = go (grantable p ss i) refl
-    where
-      go : (t : Bool) → grantable p ss i ≡ t → Began p ss (grantBy p t ss i)
-      go true e = granted-began ss i e
-      go false e = began-none p ss f
-
-  tries-began : (k i : ℕ) (ss : List (Slot A)) → Floored p (leads p ss) ss → Began p ss (tries p ss i k)
-  unfolding tries
-  tries-began zero i ss f = began-none p ss f
-  tries-began (suc k) i ss f =
-      let b = tried-began ss i f in began-then p ss (tried p ss i) _ (b .kept) (tries-began k (suc i) (tried p ss i) (b .floored))
-
-  pub begun-began : (ss : List (Slot A)) → Floored p (leads p ss) ss → Began p ss (begun p ss)
-  unfolding begun
-  begun-began ss f =
-      let r = started-began (lowWater p (leads p ss)) ss (omega arith) f in
-      began-then p ss (started p (lowWater p (leads p ss)) ss) _ (r .kept) (tries-began (length ss) 0 _ (r .floored))
-
-  pub bySlot-orderly : Orderly p (bySlot p)
-  unfolding bySlot
-  bySlot-orderly = record {
-    began = λ q ss g. begun-began ss (each-map _ _ ss (λ s u. u .floored) g);
-    queue-opened = refl;
-    queue-joined = λ q ss i b k h. refl;
-    queue-left = λ q ss i k h. refl;
-    queue-begun = λ q ss g h. refl;
-    queue-ended = λ q ss ts k h. refl;
-  }
