@@ -48,7 +48,9 @@ places-are D = refl
 read-there : (D : List ℕ) (start : ℕ) (vs : List ℕ) (k : ℕ) → start + length vs ≤ k → getD (wordsOf (withWords D start vs)) k 0 ≡ getD (wordsOf D) k 0
 read-there D start vs k h =
     let z : k + 0 ≡ k = omega arith in
-    rw z at (sym (getD-drop k (wordsOf (withWords D start vs)) 0 0) ∙ ap (λ (ws : List ℕ). getD ws 0 0) (read-after D start vs k h) ∙ getD-drop k (wordsOf D) 0 0)
+    rw z at
+    (sym (getD-drop k (wordsOf (withWords D start vs)) 0 0) ∙ ap (λ (ws : List ℕ). getD ws 0 0) (read-after D start vs k h)
+    ∙ getD-drop k (wordsOf D) 0 0)
 
 -- where all is zero nothing is lowered
 zero-rest : (f : ℕ → ℕ) (n : ℕ) (q : List ℕ) → f 0 ≡ 0 → Placeless n q → drop n (map f q) ≡ drop n q
@@ -169,7 +171,8 @@ set-small (v ∷ vs) (suc i) x y h (suc j) = set-small vs i x (λ k. y (suc k)) 
 -- one place set leaves numbers of 32 bits
 pub places-small : (D : List ℕ) (i x : ℕ) → ((j : ℕ) → Fits w8 (getD D j 0)) → x < 4294967296 → Words (set (placesIn D) i x)
 places-small D i x y h =
-    set-small (placesIn D) i x (rw (places-are D) (take-small maxStreams (drop placesAt (wordsOf D)) (drop-small placesAt (wordsOf D) (words-small D (bytes-fit D y))))) h
+    let small = drop-small placesAt (wordsOf D) (words-small D (bytes-fit D y)) in
+    set-small (placesIn D) i x (rw (places-are D) (take-small maxStreams (drop placesAt (wordsOf D)) small)) h
 
 -- they are read back
 pub places-back : (D u : List ℕ) (e : Desk) → deskSize ≤ length D → DeskSized e → Words (e .places) → u ≡ withWords D 0 (deskWords e)
