@@ -241,7 +241,7 @@ impl Run {
         self.checked(&step.call, answer)
     }
 
-    fn checked(&mut self, call: &Call, answer: Answer) -> Result<Answer, String> {
+    pub(crate) fn checked(&mut self, call: &Call, answer: Answer) -> Result<Answer, String> {
         self.book.feed(call, answer.accepted(), &answer.entries)?;
         let begun = answer.accepted() && matches!(call, Call::Begin { .. });
         let last_bound = if begun { Some(answer.bound) } else { None };

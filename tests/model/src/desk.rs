@@ -161,7 +161,7 @@ pub fn is_sound(desk: &Desk, positions: &[u32], leads: &[u32]) -> bool {
 
 // What the calls turn down.
 
-fn judge_sound(desk: &Desk, positions: &[u32], leads: &[u32]) -> Result<(), Refusal> {
+pub(crate) fn judge_sound(desk: &Desk, positions: &[u32], leads: &[u32]) -> Result<(), Refusal> {
     if !is_sound(desk, positions, leads) {
         return refuse(cause::NOT_SOUND, 0);
     }
@@ -202,6 +202,11 @@ pub fn join(
     block: u32,
 ) -> Result<Desk, Refusal> {
     judge_sound(desk, positions, leads)?;
+    join_sound(desk, slot, block)
+}
+
+/// Join on a sound desk.
+pub(crate) fn join_sound(desk: &Desk, slot: u32, block: u32) -> Result<Desk, Refusal> {
     judge_phase(desk, BETWEEN)?;
     judge_slot(desk, slot)?;
     if desk.kinds[slot as usize] != FREE {
@@ -238,6 +243,11 @@ fn free_slot(desk: &mut Desk, slot: usize) {
 /// Leave: an occupied slot becomes free, all zero; if it had asked, later places drop by one.
 pub fn leave(desk: &Desk, positions: &[u32], leads: &[u32], slot: u32) -> Result<Desk, Refusal> {
     judge_sound(desk, positions, leads)?;
+    leave_sound(desk, slot)
+}
+
+/// Leave on a sound desk.
+pub(crate) fn leave_sound(desk: &Desk, slot: u32) -> Result<Desk, Refusal> {
     judge_phase(desk, BETWEEN)?;
     judge_slot(desk, slot)?;
     if desk.kinds[slot as usize] == FREE {

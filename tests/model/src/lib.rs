@@ -8,6 +8,7 @@
 //! - `desk`: soundness and the calls open, join, leave, begin and end.
 //! - `book`: lists of calls, the book of demand 3 and the checker of its claim.
 //! - `queue`: who waits, in the order they asked, and for how many sweeps at most.
+//! - `batch`: several joins and leaves in one call.
 //! - `scratch`: the same calls with a scratch in place of the lead list.
 //! - `window`: the worst time of several successive blocks, and the text of the windows program.
 //! - `try_all`: the second planner, which tries every laying, and all small cards.
@@ -19,6 +20,7 @@
 //! Answers are values: a refusal has 01's number and place, and leaves what was lent. An accepted
 //! call has number 0 and place 0.
 
+pub mod batch;
 pub mod bench;
 pub mod book;
 pub mod card;
@@ -35,6 +37,7 @@ pub mod text;
 pub mod try_all;
 pub mod window;
 
+pub use batch::{batch, batch_scratch, singly, Item, ItemAnswer};
 pub use book::{answer, check_claim, Answer, Book, Call, Row, Run, Step};
 pub use card::{card_bytes, judge_record, read_card, write_card, Figures};
 pub use desk::{begin, end, is_sound, join, leave, open, Begun, Desk, Entry, SLOTS};

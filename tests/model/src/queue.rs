@@ -14,7 +14,7 @@ pub fn most_sweeps(plan: &Plan) -> u64 {
 }
 
 /// A slot that has asked.
-#[derive(Clone, Copy, Debug)]
+#[derive(Clone, Copy, Debug, PartialEq, Eq)]
 struct Request {
     slot: usize,
     /// Its place when it asked.
@@ -25,7 +25,7 @@ struct Request {
 
 /// The requests of a list of calls, by the calls and by which slots fill after a begin. It reads no
 /// place.
-#[derive(Clone, Debug)]
+#[derive(Clone, Debug, PartialEq, Eq)]
 pub struct Queue {
     /// Eldest first.
     waiting: Vec<Request>,

@@ -1,5 +1,6 @@
 //! A small seeded generator of numbers; the inputs made from it are in the modules below.
 
+pub mod batches;
 pub mod borders;
 pub mod cards;
 pub mod desks;

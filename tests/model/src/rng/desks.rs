@@ -102,7 +102,7 @@ fn slots_where(desk: &Desk, wanted: impl Fn(u32) -> bool) -> Vec<u32> {
 }
 
 /// A join of a free slot, if there is one.
-fn fair_join(rng: &mut Rng, desk: &Desk) -> Option<Call> {
+pub(super) fn fair_join(rng: &mut Rng, desk: &Desk) -> Option<Call> {
     let free = slots_where(desk, |kind| kind == FREE);
     if free.is_empty() {
         return None;
@@ -114,7 +114,7 @@ fn fair_join(rng: &mut Rng, desk: &Desk) -> Option<Call> {
 }
 
 /// A leave of an occupied slot, if there is one.
-fn fair_leave(rng: &mut Rng, desk: &Desk) -> Option<Call> {
+pub(super) fn fair_leave(rng: &mut Rng, desk: &Desk) -> Option<Call> {
     let occupied = slots_where(desk, |kind| kind != FREE);
     if occupied.is_empty() {
         return None;
@@ -159,7 +159,7 @@ pub fn fair_call(rng: &mut Rng, desk: &Desk, temper: &Temper) -> Call {
 }
 
 /// A slot of a wanted kind, about n, or anything.
-fn wild_slot(rng: &mut Rng, desk: &Desk, wanted: impl Fn(u32) -> bool) -> u32 {
+pub(super) fn wild_slot(rng: &mut Rng, desk: &Desk, wanted: impl Fn(u32) -> bool) -> u32 {
     let slots = slots_where(desk, wanted);
     if !slots.is_empty() && rng.once_in(2) {
         return rng.pick(&slots);
@@ -169,7 +169,7 @@ fn wild_slot(rng: &mut Rng, desk: &Desk, wanted: impl Fn(u32) -> bool) -> u32 {
     rng.pick(&[used, used, used, n - 1, n, n + 1, 255, 256, any])
 }
 
-fn wild_join(rng: &mut Rng, desk: &Desk) -> Call {
+pub(super) fn wild_join(rng: &mut Rng, desk: &Desk) -> Call {
     let blocks = desk.plan.figures.blocks;
     let any = rng.any();
     let block = rng.pick(&[0, blocks - 1, blocks, blocks + 1, any]);
@@ -216,7 +216,7 @@ pub fn longer_list(rng: &mut Rng, list: &[u32]) -> Vec<u32> {
 }
 
 /// The plan's lists, longer ones, or once in `spoiled` times bad ones.
-fn lent_lists(rng: &mut Rng, planned: &Planned, spoiled: usize) -> (Vec<u32>, Vec<u32>) {
+pub(super) fn lent_lists(rng: &mut Rng, planned: &Planned, spoiled: usize) -> (Vec<u32>, Vec<u32>) {
     let mut positions = planned.positions.clone();
     let mut leads = planned.leads.clone();
     if rng.once_in(4) {
