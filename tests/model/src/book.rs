@@ -3,6 +3,7 @@
 use crate::desk::{
     begin, drawn_in, end, join, leave, Begun, Desk, Entry, FREE, PLAYING, SLOTS, TAIL,
 };
+use crate::pairs::desk::answer_pairs;
 use crate::queue::Queue;
 use crate::refusal::Refusal;
 use crate::scratch::answer_scratch;
@@ -47,14 +48,14 @@ pub(crate) fn refused_answer(desk: &Desk, refusal: Refusal) -> Answer {
     Answer { number, place, desk: desk.clone(), count: 0, bound: 0, entries: Vec::new() }
 }
 
-fn desk_answer(given: &Desk, result: Result<Desk, Refusal>) -> Answer {
+pub(crate) fn desk_answer(given: &Desk, result: Result<Desk, Refusal>) -> Answer {
     match result {
         Ok(desk) => Answer { number: 0, place: 0, desk, count: 0, bound: 0, entries: Vec::new() },
         Err(refusal) => refused_answer(given, refusal),
     }
 }
 
-fn begin_answer(given: &Desk, result: Result<Begun, Refusal>) -> Answer {
+pub(crate) fn begin_answer(given: &Desk, result: Result<Begun, Refusal>) -> Answer {
     match result {
         Ok(Begun { desk, count, bound, entries }) => {
             Answer { number: 0, place: 0, desk, count, bound, entries }
@@ -238,6 +239,12 @@ impl Run {
     /// The same with a scratch in place of the step's leads.
     pub fn call_scratch(&mut self, step: &Step, scratch: &[u32]) -> Result<Answer, String> {
         let answer = answer_scratch(&self.desk, &step.positions, scratch, &step.call);
+        self.checked(&step.call, answer)
+    }
+
+    /// The same on a desk of pairs.
+    pub fn call_pairs(&mut self, step: &Step) -> Result<Answer, String> {
+        let answer = answer_pairs(&self.desk, &step.positions, &step.leads, &step.call);
         self.checked(&step.call, answer)
     }
 

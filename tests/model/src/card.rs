@@ -181,6 +181,9 @@ fn judge_time(time: u32, before: &[u32]) -> Result<(), u32> {
     Ok(())
 }
 
+/// The judge of N on a disk of so many positions.
+pub(crate) type JudgeBlocks = fn(u32, u64) -> Result<(), u32>;
+
 /// N, on a disk of `total` positions.
 fn judge_blocks(blocks: u32, total: u64) -> Result<(), u32> {
     if !(MIN_BLOCKS..=MAX_BLOCKS).contains(&blocks) {
@@ -233,6 +236,11 @@ fn unused_zones_zero(figures: &Figures) -> bool {
 
 /// Judges figures given as a record: 3 to 10, 25 and 26 in the order of the card, zone by zone.
 pub fn judge_record(figures: &Figures) -> Result<(), u32> {
+    judge_record_with(figures, judge_blocks)
+}
+
+/// The same with another judge of N.
+pub(crate) fn judge_record_with(figures: &Figures, judge_blocks: JudgeBlocks) -> Result<(), u32> {
     judge_kind(figures.kind)?;
     judge_zone_count(figures.zones)?;
     if !unused_zones_zero(figures) {
@@ -293,6 +301,11 @@ fn read_table(reader: &mut Reader, kind: u32) -> Result<[u32; ENTRIES], Refusal>
 
 /// Reads a card number by number; the first fault ends it: 1 to 11, 25 and 26.
 pub fn read_card(card: &[u8]) -> Result<Figures, Refusal> {
+    read_card_with(card, judge_blocks)
+}
+
+/// The same with another judge of N.
+pub(crate) fn read_card_with(card: &[u8], judge_blocks: JudgeBlocks) -> Result<Figures, Refusal> {
     let mut reader = Reader { card, offset: 0 };
     let mut figures = Figures::zero();
     figures.kind = reader.field(judge_kind)?;

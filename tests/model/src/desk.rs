@@ -2,6 +2,7 @@
 //!
 //! A call answers the new desk; a refused one leaves the desk that it was given.
 
+use crate::pairs::{pair_time, PAIRS, VISITS};
 use crate::plan::{is_plan, narrow, time, Plan, Showing, TWO_MILLION};
 use crate::refusal::{cause, refuse, Refusal};
 
@@ -50,6 +51,19 @@ impl Desk {
     /// The showing that a sound desk's plan says.
     pub fn showing(&self) -> Showing {
         Showing::of(self.plan.showing).expect("the word of a sound record")
+    }
+
+    /// Is block 0 next after the last?
+    pub fn goes_round(&self) -> bool {
+        self.plan.showing == Showing::Loop.word()
+    }
+
+    /// Visits of the disk for one block: two where it is stored as two halves.
+    pub fn visits(&self) -> usize {
+        match self.plan.showing {
+            PAIRS => VISITS,
+            _ => 1,
+        }
     }
 
     /// Slots below n, the ones in use.
@@ -135,7 +149,7 @@ fn slot_is_sound(desk: &Desk, slot: usize) -> bool {
         FREE => slot_is_zero(desk, slot),
         ASKED => held == 0 && next < blocks,
         FILLING | PLAYING => next < blocks,
-        TAIL => desk.showing() == Showing::Once && held >= 1 && next == blocks,
+        TAIL => !desk.goes_round() && held >= 1 && next == blocks,
         _ => false,
     }
 }
@@ -152,8 +166,12 @@ fn places_are_sound(desk: &Desk) -> bool {
 
 /// Is the record sound? Any record and any lists may be asked about.
 pub fn is_sound(desk: &Desk, positions: &[u32], leads: &[u32]) -> bool {
-    is_plan(&desk.plan, positions, leads)
-        && (desk.phase == BETWEEN || desk.phase == SWEEPING)
+    is_plan(&desk.plan, positions, leads) && is_sound_on_plan(desk, leads)
+}
+
+/// All that a sound record asks beside the plan and the lists, which are those of its figures.
+pub(crate) fn is_sound_on_plan(desk: &Desk, leads: &[u32]) -> bool {
+    (desk.phase == BETWEEN || desk.phase == SWEEPING)
         && (0..SLOTS).all(|slot| slot_is_sound(desk, slot))
         && places_are_sound(desk)
         && players_hold(desk, floor(desk, leads))
@@ -300,28 +318,38 @@ pub fn is_fetched(desk: &Desk, slot: usize) -> bool {
     in_floor(desk.kinds[slot]) && full <= desk.plan.buffer as u64
 }
 
-/// The fetches by rising position, then slot.
+/// The fetches by rising position, then slot, one for each visit.
 fn fetches(desk: &Desk, positions: &[u32]) -> Vec<Entry> {
     let mut entries = Vec::new();
     for slot in desk.used_slots() {
         if is_fetched(desk, slot) {
             let block = desk.next[slot];
-            entries.push(Entry { position: positions[block as usize], slot: slot as u32, block });
+            let visited = positions.chunks(desk.visits()).nth(block as usize).expect("its entries");
+            let slot = slot as u32;
+            entries.extend(visited.iter().map(|&position| Entry { position, slot, block }));
         }
     }
     entries.sort_by_key(|entry| (entry.position, entry.slot));
     entries
 }
 
-/// The sweep bound: fetched times added up, plus the overhead for their count.
+/// The time of a block: its pair's where it is stored as two halves.
+fn block_time(desk: &Desk, block: u32) -> u32 {
+    match desk.plan.showing {
+        PAIRS => pair_time(&desk.plan.figures, block),
+        _ => time(&desk.plan.figures, desk.showing(), block),
+    }
+}
+
+/// The sweep bound: fetched times added up, plus the overhead for all visits.
 pub fn sweep_bound(desk: &Desk) -> u32 {
     let figures = &desk.plan.figures;
     let mut times = 0;
     let mut count = 0;
     for slot in desk.used_slots() {
         if is_fetched(desk, slot) {
-            times += time(figures, desk.showing(), desk.next[slot]) as u128;
-            count += 1;
+            times += block_time(desk, desk.next[slot]) as u128;
+            count += desk.visits();
         }
     }
     narrow(times + figures.table[count] as u128)
@@ -335,8 +363,18 @@ pub fn begin(
     fetch_list: usize,
 ) -> Result<Begun, Refusal> {
     judge_sound(desk, positions, leads)?;
+    begin_sound(desk, positions, leads, fetch_list)
+}
+
+/// Begin on a sound desk.
+pub(crate) fn begin_sound(
+    desk: &Desk,
+    positions: &[u32],
+    leads: &[u32],
+    fetch_list: usize,
+) -> Result<Begun, Refusal> {
     judge_phase(desk, BETWEEN)?;
-    if fetch_list < desk.plan.streams as usize {
+    if fetch_list < desk.visits() * desk.plan.streams as usize {
         return refuse(cause::TOO_SHORT, 0);
     }
     let mut after = desk.clone();
@@ -390,9 +428,9 @@ fn end_slot(desk: &mut Desk, slot: usize, draw: u32, fetched: bool) {
         desk.held[slot] += desk.plan.figures.block_bytes;
         desk.next[slot] += 1;
         if desk.next[slot] == desk.plan.figures.blocks {
-            match desk.showing() {
-                Showing::Once => desk.kinds[slot] = TAIL,
-                Showing::Loop => desk.next[slot] = 0,
+            match desk.goes_round() {
+                false => desk.kinds[slot] = TAIL,
+                true => desk.next[slot] = 0,
             }
         }
     }
@@ -404,6 +442,11 @@ fn end_slot(desk: &mut Desk, slot: usize, draw: u32, fetched: bool) {
 /// End the sweep, given a draw for each of the n slots.
 pub fn end(desk: &Desk, positions: &[u32], leads: &[u32], draws: &[u32]) -> Result<Desk, Refusal> {
     judge_sound(desk, positions, leads)?;
+    end_sound(desk, draws)
+}
+
+/// End on a sound desk.
+pub(crate) fn end_sound(desk: &Desk, draws: &[u32]) -> Result<Desk, Refusal> {
     judge_phase(desk, SWEEPING)?;
     judge_draws(desk, draws)?;
     let mut after = desk.clone();

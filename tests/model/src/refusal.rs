@@ -37,6 +37,7 @@ pub mod cause {
     pub const OVERHEAD: u32 = 25;
     pub const HALF_DEAD: u32 = 26;
     pub const WINDOW: u32 = 27;
+    pub const PAIRS_ABOVE_POSITIONS: u32 = 28;
     pub const TOO_MANY_BLOCKS: u32 = 29;
 }
 

@@ -6,6 +6,7 @@ pub mod cards;
 pub mod desks;
 pub mod figures;
 pub mod makers;
+pub mod pairs;
 pub mod tables;
 pub mod texts;
 

@@ -7,7 +7,7 @@ use crate::book::{answer, Call, Step};
 use crate::desk::{
     draw_limit, floor, sweep_bound, Desk, ASKED, FILLING, FREE, PLAYING, SLOTS, SWEEPING, TAIL,
 };
-use crate::plan::{Plan, Planned, Showing, TWO_MILLION};
+use crate::plan::{Plan, Planned, TWO_MILLION};
 
 /// How the draws of a list go, within what the slots may draw.
 #[derive(Clone, Copy, Debug)]
@@ -122,9 +122,14 @@ pub(super) fn fair_leave(rng: &mut Rng, desk: &Desk) -> Option<Call> {
     Some(Call::Leave { slot: rng.pick(&occupied) })
 }
 
+/// The most fetches of a sweep.
+fn most_fetches(desk: &Desk) -> usize {
+    desk.visits() * desk.plan.streams as usize
+}
+
 /// A fetch list long enough.
 fn fair_begin(rng: &mut Rng, desk: &Desk) -> Call {
-    Call::Begin { fetch_list: desk.plan.streams as usize + rng.pick(&[0, 0, 1, 300]) }
+    Call::Begin { fetch_list: most_fetches(desk) + rng.pick(&[0, 0, 1, 300]) }
 }
 
 /// Between the sweeps of a full house: whoever is free asks, at times some leave before the begin. So
@@ -178,7 +183,7 @@ pub(super) fn wild_join(rng: &mut Rng, desk: &Desk) -> Call {
 
 /// A call of any sort with any arguments, on a sound desk; more often one of its phase.
 pub fn wild_call(rng: &mut Rng, desk: &Desk) -> Call {
-    let n = desk.plan.streams as usize;
+    let most = most_fetches(desk);
     let sort = match rng.below(4) {
         0 => rng.below(4),
         _ if desk.phase == SWEEPING => 3,
@@ -187,7 +192,7 @@ pub fn wild_call(rng: &mut Rng, desk: &Desk) -> Call {
     match sort {
         0 => wild_join(rng, desk),
         1 => Call::Leave { slot: wild_slot(rng, desk, |kind| kind != FREE) },
-        2 => Call::Begin { fetch_list: rng.pick(&[0, n - 1, n, n + 1, 1000]) },
+        2 => Call::Begin { fetch_list: rng.pick(&[0, most - 1, most, most + 1, 1000]) },
         _ => Call::End { draws: wild_draws(rng, desk) },
     }
 }
@@ -283,9 +288,9 @@ pub fn set_places(rng: &mut Rng, desk: &mut Desk) {
 
 /// Kinds of the slots: any, or mostly asked, or all asked but for one or none.
 fn set_kinds(rng: &mut Rng, desk: &mut Desk) {
-    let any: &[u32] = match desk.showing() {
-        Showing::Once => &[FREE, ASKED, FILLING, FILLING, PLAYING, PLAYING, TAIL],
-        Showing::Loop => &[FREE, ASKED, FILLING, FILLING, PLAYING, PLAYING],
+    let any: &[u32] = match desk.goes_round() {
+        false => &[FREE, ASKED, FILLING, FILLING, PLAYING, PLAYING, TAIL],
+        true => &[FREE, ASKED, FILLING, FILLING, PLAYING, PLAYING],
     };
     let crowd = rng.below(5);
     for slot in desk.used_slots() {

@@ -112,6 +112,11 @@ pub fn sweep_need(figures: &Figures, showing: Showing, n: u32) -> u64 {
 /// Sets c and B so that n streams just fit.
 pub fn tighten(rng: &mut Rng, figures: &mut Figures, showing: Showing, n: u32) {
     let need = sweep_need(figures, showing, n);
+    tighten_to(rng, figures, need);
+}
+
+/// Sets c and B so that c × need is just within 2,000,000 × B.
+pub(super) fn tighten_to(rng: &mut Rng, figures: &mut Figures, need: u64) {
     let most = 2_000_000 * MAX_BLOCK_BYTES as u64 / need;
     figures.rate = tight_rate(rng, need, most.min(MAX_RATE as u64) as u32);
     let bytes = (figures.rate as u64 * need).div_ceil(2_000_000);
