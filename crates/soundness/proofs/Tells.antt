@@ -1,14 +1,18 @@
 -- Tests that tell of facts.
 -- Assumes nothing.
 use Prim.Native.Nat.{ℕ, zero, suc, _≤_, _<_}
-use mathlib.Core.Path.{_≡_, refl, sym}
+use mathlib.Core.Path.{_≡_, refl, sym, _∙_}
 use mathlib.Core.Bool.{Bool, true, false, _&&_}
+use mathlib.Core.Logic.{_≢_, by-cases}
 use native.Mathlib.Omega.{arith}
+use native.Mathlib.Decide.{ℕ-discrete}
 use lib.Bits.{bitOr, or-add-and, and-le-l, and-le-r}
 use lib.Dec.{leb, ltb, eqb}
-use borrow.Author.Tests.{leb-true, ltb-true, eqb-true, eqb-false, lt-ltb, le-leb}
+use borrow.Author.Tests.{leb-true, ltb-true, eqb-true, eqb-false, lt-ltb, le-leb, ne-eqb}
 use Rattle.laws.specs.Bools.{clash}
-use Rattle.soundness.specs.Facts.{Tells, Tidy}
+use Rattle.numbers.specs.Slots.{free, filling, draining}
+use Rattle.numbers.specs.Showings.{loopWord}
+use Rattle.soundness.specs.Facts.{Tells, LastKind, Tidy}
 
 pub tells-yes : {P : Type 0} → P → Tells true P
 tells-yes p = record { yes = λ _. p; no = λ e _. clash refl e }
@@ -45,14 +49,60 @@ none-set {a} {b} x y = omega (arith, or-add-and a b)
 pub both-unset : {a b : ℕ} → bitOr a b ≡ 0 → (a ≡ 0) × (b ≡ 0)
 both-unset {a} {b} e = omega (arith, or-add-and a b, and-le-l a b, and-le-r a b)
 
--- the last arm of the match on a kind
-pub no-kind : (k : ℕ) → (k ≡ 0 → ⊥) → (k ≡ 1 → ⊥) → (k ≡ 2 → ⊥) → (k ≡ 3 → ⊥) → (k ≡ 4 → ⊥) → k ≤ 4 → ⊥
-no-kind zero a b c d e l = a refl
-no-kind (suc zero) a b c d e l = b refl
-no-kind (suc (suc zero)) a b c d e l = c refl
-no-kind (suc (suc (suc zero))) a b c d e l = d refl
-no-kind (suc (suc (suc (suc zero)))) a b c d e l = e refl
-no-kind (suc (suc (suc (suc (suc k))))) a b c d e l = omega arith
+-- a number that is kept where so, else 0
+abbrev pub Kept : Bool → ℕ → ℕ → Type 0
+Kept so bits r = (so ≡ true → r ≡ bits) × (so ≡ false → r ≡ 0)
+
+pub kept-zero : {so : Bool} {bits r : ℕ} → Kept so bits r → r ≡ 0 → so ≡ true → bits ≡ 0
+kept-zero k z e = sym (k .0 e) ∙ z
+
+pub zero-kept : (so : Bool) {bits r : ℕ} → Kept so bits r → (so ≡ true → bits ≡ 0) → r ≡ 0
+zero-kept true k z = k .0 refl ∙ z refl
+zero-kept false k z = k .1 refl
+
+pub not-zero : (h : ℕ) → eqb h 0 ≡ false → 1 ≤ h
+not-zero zero e = absurd (eqb-false 0 0 e refl)
+not-zero (suc h) e = omega arith
+
+pub zero-not : (h : ℕ) → 1 ≤ h → eqb h 0 ≡ false
+zero-not h l = ne-eqb h 0 (λ e. omega arith)
+
+-- what no bit says of a slot; top is the greatest kind, end that of the blocks that it may name
+pub record Clear (top N buffer end k x h : ℕ) : Type 0 where
+  pub known : k ≤ top
+  pub fits : h ≤ buffer
+  pub empty : k < filling → h ≡ 0
+  pub named : k < draining → x < end
+  pub past : k ≡ draining → x ≡ N
+  pub some : k ≡ draining → 1 ≤ h
+
+module _ {w top N end k : ℕ} (last : LastKind w top) (ends : (k ≡ free → end ≡ 1) × (k ≢ free → end ≡ N)) {buffer x h : ℕ} where
+  -- it is tidy just there
+  pub clear-tidy : Clear top N buffer end k x h → Tidy w N buffer k x h
+  clear-tidy c = record {
+    kinds = by-cases (ℕ-discrete w loopWord) (λ e. omega (arith, last .0 e, c .known)) (λ e. omega (arith, last .1 e, c .known));
+    zeros = λ e. (omega (arith, c .named (omega arith), ends .0 e), c .empty (omega arith));
+    empty = λ e. c .empty (omega arith);
+    named = λ a b. omega (arith, c .named (omega arith), ends .1 (λ e. omega arith));
+    ends = λ e l. omega (arith, last .0 l, c .known);
+    past = c .past;
+    some = c .some;
+    fits = c .fits;
+  }
+
+  pub tidy-clear : Tidy w N buffer k x h → Clear top N buffer end k x h
+  tidy-clear t = record {
+    known = by-cases (ℕ-discrete w loopWord)
+        (λ e. by-cases (ℕ-discrete k draining) (λ d. absurd (t .ends d e)) (λ d. omega (arith, last .0 e, t .kinds)))
+        (λ e. omega (arith, last .1 e, t .kinds));
+    fits = t .fits;
+    empty = λ l. by-cases (ℕ-discrete k free) (λ e. t .zeros e .1) (λ e. t .empty (omega arith));
+    named = λ l. by-cases (ℕ-discrete k free)
+        (λ e. omega (arith, ends .0 e, t .zeros e))
+        (λ e. omega (arith, ends .1 e, t .named (omega arith) (omega arith)));
+    past = t .past;
+    some = t .some;
+  }
 
 -- two tests in a row
 pub fails-first : (a b : Bool) → a ≡ false → false ≡ (a && b)
@@ -60,8 +110,3 @@ fails-first a b e = sym (rw e)
 
 pub then-second : (a r b : Bool) → a ≡ true → r ≡ b → r ≡ (a && b)
 then-second a r b e q = rw e q
-
--- the same of numbers that are equal
-pub tidy-same : (r : Bool) {w v N M u t k j x y h g : ℕ} → v ≡ w → M ≡ N → t ≡ u → j ≡ k → y ≡ x → g ≡ h → Tells r (Tidy v M t j y g)
-    → Tells r (Tidy w N u k x h)
-tidy-same r a b c d e f q = rw (sym a, sym b, sym c, sym d, sym e, sym f) q

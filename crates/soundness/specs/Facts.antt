@@ -33,6 +33,10 @@ pub record Tells (r : Bool) (P : Type 0) : Type 0 where
   pub yes : r ≡ true → P
   pub no : r ≡ false → P → ⊥
 
+-- k is the greatest kind of a slot: in a loop, which the plan's word w tells, none is tail (T7.8)
+abbrev pub LastKind : ℕ → ℕ → Type 0
+LastKind w k = (w ≡ loopWord → k ≡ playing) × (w ≢ loopWord → k ≡ draining)
+
 -- a slot's kind k, next block x and held bytes h, but for the low-water mark: `each kind is 0 to 4, free slots .. are zero, asked slots
 -- hold 0, next is below N for kinds 1 to 3 and N for tail, tail holds 1 or more, no slot holds above the buffer`. In a loop, which the plan's
 -- word w tells, none is tail (T7.8)

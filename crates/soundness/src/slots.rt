@@ -11,52 +11,71 @@ use numbers::slots::DRAINING;
 use numbers::slots::FILLING;
 use numbers::slots::FREE;
 use numbers::slots::PLAYING;
-use numbers::slots::WAITING;
 use numbers::units::PARTS;
 ghost use mathlib.Core.Path.{_≡_};
+ghost use mathlib.Core.Bool.{true, false};
+ghost use mathlib.Core.Logic.{_≢_};
 ghost use Prim.Native.Nat.{ℕ, _*_, _≤_};
 ghost use lib.ListN.{length};
 ghost use Rattle.numbers.specs.Limits.{maxStreams};
-ghost use Rattle.numbers.specs.Slots.{playing};
+ghost use Rattle.numbers.specs.Slots.{free, playing};
 ghost use Rattle.numbers.specs.Units.{parts};
 ghost use Rattle.words.specs.Words.{wordsOf};
 ghost use Rattle.desk_layout.specs.Layout.{deskIn, deskSize};
-ghost use Rattle.soundness.specs.Facts.{Tells, Tidy, AllTidy, PlayersHold};
+ghost use Rattle.soundness.specs.Facts.{Tells, LastKind, Tidy, AllTidy, PlayersHold};
 ghost use Rattle.soundness.specs.Facts.{RestZero};
 
-// Is a slot sound but for the low-water mark (01: the floor)? `showing` is the plan's word, `blocks` N.
-fn is_tidy(showing: u32, blocks: u32, buffer: u32, kind: u32, next: u32, held: u32) -> bool
-    ensures { λ r. ⌜ Tells r (Tidy showing blocks buffer kind next held) ⌝ }
+// The greatest kind of a slot: in a loop none is tail.
+fn last_kind(showing: u32) -> u32
+    ensures { λ r. ⌜ LastKind showing r ⌝ }
 {
-    if held > buffer {
-        return false;
+    if showing == LOOP {
+        return PLAYING;
     }
-    match kind {
-        FREE => {
-            if next != 0 {
-                return false;
-            }
-            return held == 0;
-        }
-        WAITING => {
-            if held != 0 {
-                return false;
-            }
-            return next < blocks;
-        }
-        FILLING => return next < blocks,
-        PLAYING => return next < blocks,
-        DRAINING => {
-            if showing == LOOP {
-                return false;
-            }
-            if held == 0 {
-                return false;
-            }
-            return next == blocks;
-        }
-        _ => return false,
+    DRAINING
+}
+
+// One where so, else 0.
+fn one_if(so: bool) -> u32
+    ensures { λ r. ⌜ (r ≡ 0 → so ≡ false) × (so ≡ false → r ≡ 0) ⌝ }
+{
+    if so {
+        return 1;
     }
+    0
+}
+
+// A number where so, else 0.
+fn bits_if(so: bool, bits: u32) -> u32
+    ensures { λ r. ⌜ (so ≡ true → r ≡ bits) × (so ≡ false → r ≡ 0) ⌝ }
+{
+    if so {
+        return bits;
+    }
+    0
+}
+
+// The end of the blocks that a slot may name: 1 for a free one.
+fn name_end(kind: u32, blocks: u32) -> u32
+    ensures { λ r. ⌜ (kind ≡ free → r ≡ 1) × (kind ≢ free → r ≡ blocks) ⌝ }
+{
+    if kind == FREE {
+        return 1;
+    }
+    blocks
+}
+
+// Some bit where a slot is not sound, the low-water mark (01: the floor) left out; `top` is the greatest kind, `blocks` N. Without a jump, so
+// that the compiler takes several slots at a time.
+fn untidy(top: u32, blocks: u32, buffer: u32, kind: u32, next: u32, held: u32) -> u32
+    ensures { λ r. ⌜ ((w : ℕ) → LastKind w top
+        → (r ≡ 0 → Tidy w blocks buffer kind next held) × (Tidy w blocks buffer kind next held → r ≡ 0)) ⌝ }
+{
+    let ranges = one_if(top < kind) | one_if(buffer < held);
+    let empty = bits_if(kind < FILLING, held);
+    let named = bits_if(kind < DRAINING, one_if(name_end(kind, blocks) <= next));
+    let tail = bits_if(kind == DRAINING, one_if(next != blocks) | one_if(held == 0));
+    ranges | empty | named | tail
 }
 
 // Are all slots from n on zero?
@@ -73,7 +92,7 @@ fn rest_zero(desk: &[u8], streams: usize) -> bool
     bits == 0
 }
 
-// Are all slots tidy, and those from n on zero? `showing` is the plan's word, `blocks` N, `streams` n.
+// Are all slots tidy, and those from n on zero? `streams` is n.
 pub fn all_tidy(desk: &[u8], streams: usize) -> bool
     requires { ⌜ (streams ≤ maxStreams) × (deskSize ≤ length (now desk)) × (streams ≡ deskIn (wordsOf (now desk)) .plan .streams) ⌝ }
     ensures { λ r. ⌜ Tells r (AllTidy (deskIn (wordsOf (now (desk .entry))))) ⌝ }
@@ -81,24 +100,24 @@ pub fn all_tidy(desk: &[u8], streams: usize) -> bool
     if !rest_zero(desk, streams) {
         return false;
     }
-    let showing = showing_in(desk);
+    let top = last_kind(showing_in(desk));
     let blocks = blocks_in(desk);
     let buffer = buffer_in(desk);
+    let mut bits: u32 = 0;
     let mut i: usize = 0;
     while i < streams {
-        if !is_tidy(
-            showing,
-            blocks,
-            buffer,
-            kind_in(desk, i),
-            next_in(desk, i),
-            held_in(desk, i),
-        ) {
-            return false;
-        }
+        bits = bits
+            | untidy(
+                top,
+                blocks,
+                buffer,
+                kind_in(desk, i),
+                next_in(desk, i),
+                held_in(desk, i),
+            );
         i += 1;
     }
-    true
+    bits == 0
 }
 
 // The whole bytes that hold a mark given in two-millionths of a byte: rounded up.

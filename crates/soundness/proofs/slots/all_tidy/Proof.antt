@@ -1,5 +1,5 @@
 use Prim.Native.Nat.{ℕ, _-_, _≤_, _<_}
-use mathlib.Core.Path.{_≡_, refl}
+use mathlib.Core.Path.{_≡_, refl, sym}
 use mathlib.Core.Logic.{by-cases}
 use native.Mathlib.Omega.{arith}
 use native.Mathlib.Decide.{decLt}
@@ -10,8 +10,8 @@ use lib.ListN.{getD}
 use Rattle.words.specs.Words.{wordsOf}
 use Rattle.desk.specs.declared.Desk.{Desk}
 use Rattle.desk_layout.specs.Layout.{deskIn}
-use Rattle.soundness.specs.Facts.{Tells, Tidy}
-use Rattle.soundness.proofs.Tells.{tells-yes, tells-no, zero-tidy, tidy-same}
+use Rattle.soundness.specs.Facts.{Tidy}
+use Rattle.soundness.proofs.Tells.{tells-no, tells-equal, none-set, both-unset, zero-tidy}
 use Rattle.soundness.proofs.slots.all_tidy.Statement.{statement}
 use Rattle.soundness.proofs.slots.all_tidy.Tie as tie
 
@@ -19,16 +19,17 @@ use Rattle.soundness.proofs.slots.all_tidy.Tie as tie
 abbrev TidyAt : Desk → ℕ → Type 0
 TidyAt d j = Tidy (d .plan .showing) (d .plan .figures .blocks) (d .plan .buffer) (getD (d .kinds) j 0) (getD (d .next) j 0) (getD (d .held) j 0)
 
--- the first i slots are tidy
-record Testing (d : Desk) (streams i : ℕ) : Type 0 where
+-- no bit is set in the first i slots where they are tidy, and only there
+record Unset (d : Desk) (streams bits i : ℕ) : Type 0 where
   few : i ≤ streams
-  tidy : (j : ℕ) → j < i → TidyAt d j
+  tidy : bits ≡ 0 → (j : ℕ) → j < i → TidyAt d j
+  unset : ((j : ℕ) → j < i → TidyAt d j) → bits ≡ 0
 
 abbrev Inv-loop : tie.InvT-loop
-Inv-loop desk streams showing blocks buffer i₀ i = Testing (deskIn (wordsOf desk)) streams i
+Inv-loop desk streams top blocks buffer bits₀ i₀ bits i = Unset (deskIn (wordsOf desk)) streams bits i
 
 abbrev μ-loop : tie.MeasureT-loop
-μ-loop desk streams showing blocks buffer i₀ i = streams - i
+μ-loop desk streams top blocks buffer bits₀ i₀ bits i = streams - i
 
 returns : tie.Need-returns Inv-loop μ-loop
 returns c =
@@ -38,41 +39,48 @@ returns c =
     (k, z .0, z .1, t .idle i l (omega arith))))
 
 loop-holds : tie.Need-loop-holds Inv-loop μ-loop
-loop-holds c = record { few = omega arith; tidy = λ j h. absurd (omega arith) }
+loop-holds c = record { few = omega arith; tidy = λ _ j h. absurd (omega arith); unset = λ _. refl }
 
--- where the loop stands, and what was read before it
-abbrev turn : tie.After-is-tidy Inv-loop μ-loop → tie.At-loop Inv-loop μ-loop
-turn c = c .before .before .before .before .before
-
+-- what the bits of slot i tell
 abbrev given : tie.At-loop Inv-loop μ-loop → Desk
-given l = deskIn (wordsOf (l .before .before .before .before .before .before .before .args .desk .now))
+given l = deskIn (wordsOf (l .before .before .before .before .before .before .before .before .args .desk .now))
 
--- what the test of slot i tells
-told : (c : tie.After-is-tidy Inv-loop μ-loop) → Tells (c .is-tidy .result) (TidyAt (given (turn c)) (turn c .loop .i))
+told : (c : tie.After-untidy Inv-loop μ-loop) → (let l = c .before .before .before .before .before in
+    (c .untidy .result ≡ 0 → TidyAt (given l) (l .loop .i)) × (TidyAt (given l) (l .loop .i) → c .untidy .result ≡ 0))
 told c =
-    let b = turn c .before in
     let h = c .before in
-    tidy-same _ (b .before .before .showing-in .ensures) (b .before .blocks-in .ensures) (b .buffer-in .ensures)
-    (h .before .before .kind-in .ensures) (h .before .next-in .ensures) (h .held-in .ensures) (c .is-tidy .ensures)
-
-returns-2 : tie.Need-returns-2 Inv-loop μ-loop
-returns-2 c = tells-no (λ t. told (c .before) .no (not-true _ (c .if2 .taken)) (t .slots _ (omega arith)))
+    let b = h .before .before .before .before .before in
+    let k = b .before .before in
+    rw (
+      sym (k .before .showing-in .ensures),
+      sym (b .before .blocks-in .ensures),
+      sym (b .buffer-in .ensures),
+      sym (h .before .before .kind-in .ensures),
+      sym (h .before .next-in .ensures),
+      sym (h .held-in .ensures),
+    ) (c .untidy .ensures _ (k .last-kind .ensures))
 
 loop-again : tie.Need-loop-again Inv-loop μ-loop
 loop-again c =
-    let l = turn (c .before) .loop in
-    record { few = omega arith; tidy = below-more _ (l .i) (l .inv .tidy) (told (c .before) .yes (not-false _ (c .if2 .left))) }
+    let l = c .before .before .before .before .before .loop in
+    record {
+      few = omega arith;
+      tidy = λ e. let z = both-unset e in below-more _ (l .i) (l .inv .tidy (z .0)) (told c .0 (z .1));
+      unset = λ t. none-set (l .inv .unset (λ j h. t j (omega arith))) (told c .1 (t (l .i) (omega arith)));
+    }
 
-returns-3 : tie.Need-returns-3 Inv-loop μ-loop
-returns-3 c =
+returns-2 : tie.Need-returns-2 Inv-loop μ-loop
+returns-2 c =
     let l = c .before .loop in
-    let e = c .before .before .before .before .before in
+    let e = c .before .before .before .before .before .before in
     let z = e .before .rest-zero .ensures .yes (not-false _ (e .if1 .left)) in
-    tells-yes (record {
-      slots = λ j h. by-cases (decLt j (l .i)) (λ a. l .inv .tidy j a) (λ a. let y = z j h (omega arith) in zero-tidy (y .0) (y .1) (y .2));
+    tells-equal (l .bits) 0
+    (λ b. record {
+      slots = λ j h. by-cases (decLt j (l .i)) (λ a. l .inv .tidy b j a) (λ a. let y = z j h (omega arith) in zero-tidy (y .0) (y .1) (y .2));
       unused = λ j h u. z j h (omega arith) .0;
       idle = λ j h u. z j h (omega arith) .3;
     })
+    (λ t. l .inv .unset (λ j h. t .slots j (omega (arith, l .inv .few))))
 
 pub all-tidy-spec : {M : Type 1} → statement M
 all-tidy-spec =
@@ -85,13 +93,13 @@ all-tidy-spec =
     (λ c κs. search needs)
     (λ c κs. search needs)
     (λ c κs. search needs)
-    loop-holds
-    (λ c κs. omega arith)
-    (λ c κs. omega arith)
-    (λ c κs. omega arith)
     (λ c κs. search needs)
-    returns-2
-    (λ c. omega arith)
-    (λ c. omega arith)
+    loop-holds
+    (λ c κs. search needs)
+    (λ c κs. search needs)
+    (λ c κs. search needs)
+    (λ c κs. search needs)
+    (λ c. search needs)
+    (λ c. search needs)
     loop-again
-    returns-3)
+    returns-2)
