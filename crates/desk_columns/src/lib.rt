@@ -154,7 +154,7 @@ pub fn all_places(desk: &[u8]) -> [u32; 256]
 }
 
 // What a slot of this kind adds to the number that ask.
-fn asking(kind: u32) -> u32
+pub fn asking(kind: u32) -> u32
     ensures { λ r. ⌜ (r ≡ bit (eqb kind waiting)) × (r ≤ 1) ⌝ }
 {
     if kind == WAITING {

@@ -5,7 +5,7 @@ use mathlib.Core.Path.{_≡_}
 use mathlib.Core.Logic.{_≢_}
 use mathlib.Core.Bool.{Bool, true, false, _&&_}
 use mathlib.Core.List.{List}
-use lib.ListN.{getD}
+use lib.ListN.{getD, take}
 use Rattle.numbers.specs.Limits.{maxStreams}
 use Rattle.numbers.specs.Slots.{free, waiting, playing, draining}
 use Rattle.numbers.specs.Showings.{loopWord}
@@ -17,6 +17,7 @@ use Rattle.plan.specs.Scratch.{leadsBy}
 use Rattle.rules.specs.Sound.{sound}
 use Rattle.desk.specs.declared.Desk.{Desk}
 use Rattle.desk.specs.Desk.{supplyOf, orderOf, viewOf}
+use Rattle.desk.specs.Asked.{askedCount}
 use Rattle.floor.specs.Floor.{mostLead}
 use Rattle.floor.specs.Sources.{Sourced, leadFrom}
 
@@ -78,6 +79,11 @@ pub record Placed (c n : ℕ) (ks qs : List ℕ) : Type 0 where
 -- its half: `all others 0`
 abbrev pub OthersIdle : ℕ → List ℕ → List ℕ → Type 0
 OthersIdle n ks qs = (i : ℕ) → i < n → getD ks i 0 ≢ waiting → getD qs i 0 ≡ 0
+
+-- what the test of the slots of a record tells, n being read: tidy, and then how many of the first n ask
+pub record Told (d : Desk) (n : ℕ) (tidy : Bool) (asked : ℕ) : Type 0 where
+  pub slots : Tells tidy (AllTidy d × OthersIdle n (d .kinds) (d .places))
+  pub count : tidy ≡ true → (asked ≡ askedCount (take n (d .kinds))) × (asked ≤ n)
 
 -- a source of leads, with a list or without one, has those of plan p: each block, its lead, and that in its range
 pub record LeadSource (listed : Bool) (p : Plan) (ps ls : List ℕ) : Type 0 where

@@ -27,7 +27,7 @@ use Rattle.desk.specs.Promise.{supply-named}
 use Rattle.desk.specs.Slots.{length-in, slot-in, kind-in}
 use Rattle.floor.specs.Floor.{leadSum, Added, mark-is}
 use Rattle.floor.specs.Sources.{leadsNext, Found}
-use Rattle.soundness.specs.Facts.{slotsSound, Tells, Tidy, AllTidy, PlayersHold, LeadSource, ZonesRead}
+use Rattle.soundness.specs.Facts.{slotsSound, Tells, Tidy, AllTidy, OthersIdle, PlayersHold, LeadSource, ZonesRead}
 use Rattle.soundness.specs.Places.{AllPlaced, sound-idle, sound-placed, placed-sound}
 
 -- ---- one slot
@@ -147,8 +147,9 @@ module _ (d : Desk) (w : Wide d) where
   pub unsound-phase : sweeping < d .phase → false ≡ slotsSound d
   unsound-phase l = sym (sound-no (supplyOf (d .plan)) (supply-named (d .plan)) (orderOf (d .plan)) (viewOf d) (λ h. omega (arith, sound-phase h)))
 
-  pub unsound-slots : (AllTidy d → ⊥) → false ≡ slotsSound d
-  unsound-slots n = sym (sound-no (supplyOf (d .plan)) (supply-named (d .plan)) (orderOf (d .plan)) (viewOf d) (λ h. n (sound-tidy h)))
+  pub unsound-slots : (AllTidy d × OthersIdle (d .plan .streams) (d .kinds) (d .places) → ⊥) → false ≡ slotsSound d
+  unsound-slots n = sym (sound-no (supplyOf (d .plan)) (supply-named (d .plan)) (orderOf (d .plan)) (viewOf d)
+      (λ h. n (sound-tidy h, λ i l. sound-placed d w h .each i l .idle)))
 
   pub unsound-places : (AllPlaced d w → ⊥) → false ≡ slotsSound d
   unsound-places n =

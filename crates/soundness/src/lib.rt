@@ -5,8 +5,8 @@ mod slots; // the test of its slots
 
 use crate::leads::sum_next;
 use crate::places::all_placed;
-use crate::slots::all_tidy;
 use crate::slots::players_hold;
+use crate::slots::test_slots;
 use desk_columns::bytes_in;
 use desk_columns::overheads;
 use desk_columns::phase_in;
@@ -69,10 +69,11 @@ pub fn is_sound(desk: &[u8], positions: &[u8], leads: &[u8], listed: bool) -> bo
         return false;
     }
     let streams = streams_in(desk) as usize;
-    if !all_tidy(desk, streams) {
+    let slots = test_slots(desk, streams);
+    if !slots.tidy {
         return false;
     }
-    if !all_placed(desk, streams) {
+    if !all_placed(desk, streams, slots.asked) {
         return false;
     }
     let sum = sum_next(desk, streams, &sizes, &times, positions, leads, listed);

@@ -1,4 +1,5 @@
 // The test of the slots of a desk where it lies.
+use desk_columns::asking;
 use desk_columns::blocks_in;
 use desk_columns::buffer_in;
 use desk_columns::held_in;
@@ -11,6 +12,7 @@ use numbers::slots::DRAINING;
 use numbers::slots::FILLING;
 use numbers::slots::FREE;
 use numbers::slots::PLAYING;
+use numbers::slots::WAITING;
 use numbers::units::PARTS;
 ghost use mathlib.Core.Path.{_≡_};
 ghost use mathlib.Core.Bool.{true, false};
@@ -18,12 +20,18 @@ ghost use mathlib.Core.Logic.{_≢_};
 ghost use Prim.Native.Nat.{ℕ, _*_, _≤_};
 ghost use lib.ListN.{length};
 ghost use Rattle.numbers.specs.Limits.{maxStreams};
-ghost use Rattle.numbers.specs.Slots.{free, playing};
+ghost use Rattle.numbers.specs.Slots.{free, waiting, playing};
 ghost use Rattle.numbers.specs.Units.{parts};
 ghost use Rattle.words.specs.Words.{wordsOf};
 ghost use Rattle.desk_layout.specs.Layout.{deskIn, deskSize};
-ghost use Rattle.soundness.specs.Facts.{Tells, LastKind, Tidy, AllTidy, PlayersHold};
+ghost use Rattle.soundness.specs.Facts.{Tells, LastKind, Tidy, Told, PlayersHold};
 ghost use Rattle.soundness.specs.Facts.{RestZero};
+
+// What the test of the slots tells: are they tidy, and if so, how many ask?
+pub struct Tested {
+    pub tidy: bool,
+    pub asked: u32,
+}
 
 // The greatest kind of a slot: in a loop none is tail.
 fn last_kind(showing: u32) -> u32
@@ -92,32 +100,52 @@ fn rest_zero(desk: &[u8], streams: usize) -> bool
     bits == 0
 }
 
-// Are all slots tidy, and those from n on zero? `streams` is n.
-pub fn all_tidy(desk: &[u8], streams: usize) -> bool
+// The place of a slot that does not ask, and 0 of one that asks.
+fn idle_place(kind: u32, place: u32) -> u32
+    ensures { λ r. ⌜ (kind ≡ waiting → r ≡ 0) × (kind ≢ waiting → r ≡ place) ⌝ }
+{
+    if kind == WAITING {
+        return 0;
+    }
+    place
+}
+
+// Are all slots tidy, those from n on zero, and the places of those that do not ask 0? And how many ask? `streams` is n. All are looked at, so
+// that the compiler takes several at a time.
+pub fn test_slots(desk: &[u8], streams: usize) -> Tested
     requires { ⌜ (streams ≤ maxStreams) × (deskSize ≤ length (now desk)) × (streams ≡ deskIn (wordsOf (now desk)) .plan .streams) ⌝ }
-    ensures { λ r. ⌜ Tells r (AllTidy (deskIn (wordsOf (now (desk .entry))))) ⌝ }
+    ensures { λ r. ⌜ (let d = deskIn (wordsOf (now (desk .entry))) in Told d streams (r .tidy) (r .asked)) ⌝ }
 {
     if !rest_zero(desk, streams) {
-        return false;
+        return Tested {
+            tidy: false,
+            asked: 0,
+        };
     }
     let top = last_kind(showing_in(desk));
     let blocks = blocks_in(desk);
     let buffer = buffer_in(desk);
     let mut bits: u32 = 0;
+    let mut asked: u32 = 0;
     let mut i: usize = 0;
     while i < streams {
-        bits = bits
-            | untidy(
-                top,
-                blocks,
-                buffer,
-                kind_in(desk, i),
-                next_in(desk, i),
-                held_in(desk, i),
-            );
+        let kind = kind_in(desk, i);
+        let slot = untidy(
+            top,
+            blocks,
+            buffer,
+            kind,
+            next_in(desk, i),
+            held_in(desk, i),
+        );
+        bits = bits | slot | idle_place(kind, place_in(desk, i));
+        asked += asking(kind);
         i += 1;
     }
-    bits == 0
+    Tested {
+        tidy: bits == 0,
+        asked: asked,
+    }
 }
 
 // The whole bytes that hold a mark given in two-millionths of a byte: rounded up.

@@ -18,7 +18,7 @@ use Rattle.desk.specs.Asked.{askedCount}
 use Rattle.desk.specs.View.{Wide}
 use Rattle.desk_layout.specs.Layout.{deskIn}
 use Rattle.desk_layout.specs.RoundTrip.{DeskSized, desk-sized}
-use Rattle.soundness.specs.Facts.{Tells, ZonesRead, AllTidy, Placed}
+use Rattle.soundness.specs.Facts.{Tells, ZonesRead, AllTidy, OthersIdle, Placed}
 use Rattle.soundness.specs.Places.{AllPlaced}
 use Rattle.soundness.specs.Tests.{unsound-phase, unsound-slots, unsound-places, sound-told}
 use Rattle.soundness.specs.Ready.{plan-streams}
@@ -54,7 +54,7 @@ abbrev tidied : tie.Else4 → tie.Else3
 tidied c = c .before .before
 
 abbrev counted : tie.Else3 → tie.After-streams-in
-counted c = c .before .before
+counted c = c .before .before .before
 
 abbrev planned : tie.After-streams-in → tie.Else1
 planned c = c .before .before .before
@@ -80,16 +80,21 @@ few : (c : tie.Else1) → given (start c) .plan .streams ≤ 256
 few c = plan-streams _ _ _ (slim (start c)) (passed c)
 
 -- past the test of the slots
+slots : (c : tie.Else3) → (let d = given (start (planned (counted c))) in
+    AllTidy d × OthersIdle (counted c .streams-in .result) (d .kinds) (d .places))
+slots c = c .before .before .test-slots .ensures .slots .yes (not-false _ (c .if3 .left))
+
 tidy : (c : tie.Else3) → AllTidy (given (start (planned (counted c))))
-tidy c = c .before .all-tidy .ensures .yes (not-false _ (c .if3 .left))
+tidy c = slots c .0
 
 -- the test of the places
 told : (c : tie.After-all-placed) → (let s = start (planned (counted (c .before))) in Tells (c .all-placed .result) (AllPlaced (given s) (wide s)))
 told c =
     let k = counted (c .before) in
     let d = given (start (planned k)) in
+    let a = c .before .before .before .test-slots .ensures .count (not-false _ (c .before .if3 .left)) .0 in
     subst (λ (n : ℕ). Tells (c .all-placed .result) (Placed (askedCount (take n (d .kinds))) n (d .kinds) (d .places))) (k .streams-in .ensures)
-    (c .all-placed .ensures)
+    (rw a at (c .all-placed .ensures))
 
 placed : (c : tie.Else4) → (let s = start (planned (counted (tidied c))) in AllPlaced (given s) (wide s))
 placed c = told (c .before) .yes (not-false _ (c .if4 .left))
@@ -104,18 +109,20 @@ returns-2 c =
     let e = c .before .before in
     then-second _ _ _ (passed e) (unsound-phase (given (start e)) (wide (start e)) (omega (arith, c .if2 .taken, c .before .phase-in .ensures)))
 
-all-tidy-requires : tie.Need-all-tidy-requires
-all-tidy-requires c κs = let e = planned c in
+test-slots-requires : tie.Need-test-slots-requires
+test-slots-requires c κs = let e = planned c in
     (omega (arith, few e, c .streams-in .ensures), start e .pre, c .streams-in .ensures)
 
 returns-3 : tie.Need-returns-3
-returns-3 c = let e = planned (c .before .before) in
+returns-3 c = let e = planned (c .before .before .before) in
     let s = start e in
-    then-second _ _ _ (passed e) (unsound-slots (given s) (wide s) (c .before .all-tidy .ensures .no (not-true _ (c .if3 .taken))))
+    then-second _ _ _ (passed e) (unsound-slots (given s) (wide s) (λ t. c .before .before .test-slots .ensures .slots .no (not-true _ (c .if3 .taken))
+    (t .0, rw (c .before .before .before .streams-in .ensures) (t .1))))
 
 all-placed-requires : tie.Need-all-placed-requires
 all-placed-requires c κs = let k = counted c in
-    (omega (arith, few (planned k), k .streams-in .ensures), start (planned k) .pre)
+    let a = c .before .before .test-slots .ensures .count (not-false _ (c .if3 .left)) in
+    (omega (arith, few (planned k), k .streams-in .ensures), start (planned k) .pre, a .0, a .1, slots c .1)
 
 returns-4 : tie.Need-returns-4
 returns-4 c = let e = planned (counted (c .before .before)) in
@@ -166,7 +173,7 @@ is-sound-spec =
     returns-2
     (λ c κs. search needs)
     (λ c. search needs)
-    all-tidy-requires
+    test-slots-requires
     returns-3
     all-placed-requires
     returns-4
