@@ -372,6 +372,42 @@ static void measure_loops(void)
     }
 }
 
+static bool has_pairs(int twin)
+{
+    return twins[twin][0].plan_pairs != NULL;
+}
+
+/* The calls whose work depends on half blocks: planning, the check behind 14, begins with two fetches a slot, and windows. */
+static void measure_pairs(void)
+{
+    static const uint32_t windows[] = { 2, 64 };
+    if (!has_pairs(PLAIN_C))
+        return;
+    head("Pairs (16 streams): planning; leave of a free slot, 17; open; begin and end, all slots playing and fetched for; windows");
+    EACH(blocks, sizes) EACH(zones, zone_counts) {
+        make_pairs(&input, *blocks, *zones, 16);
+        measure(call_plan_pairs, false, FILMDISK_ACCEPTED, "plan, N %u, %u zones", *blocks, *zones);
+        make_players(&input, FILMDISK_BETWEEN, 15);
+        measure(call_leave, true, FILMDISK_REFUSED_SLOT_STATE, "leave, N %u, %u zones", *blocks, *zones);
+    }
+    EACH(blocks, sizes) {
+        make_pairs(&input, *blocks, 7, 16);
+        measure(call_open, false, FILMDISK_ACCEPTED, "open, N %u, 7 zones", *blocks);
+        measure_half("begin", call_begin, FILMDISK_BETWEEN, *blocks, 7, 16);
+        measure_half("end", call_end, FILMDISK_SWEEPING, *blocks, 7, 16);
+        EACH(window, windows) {
+            uint32_t expected = *window <= *blocks ? FILMDISK_ACCEPTED : FILMDISK_REFUSED_WINDOW;
+            input.window = *window;
+            measure(call_window, false, expected, "window, N %u, %u blocks", *blocks, *window);
+        }
+    }
+    EACH(zones, zone_counts) {
+        make_pairs(&input, 1000, *zones, FILMDISK_MAX_PAIR_STREAMS);
+        measure_half("begin", call_begin, FILMDISK_BETWEEN, 1000, *zones, FILMDISK_MAX_PAIR_STREAMS);
+        measure_half("end", call_end, FILMDISK_SWEEPING, 1000, *zones, FILMDISK_MAX_PAIR_STREAMS);
+    }
+}
+
 /* Cards of kind 2: planning, the check behind 14, and sweeps. */
 static void measure_measured(void)
 {
@@ -445,6 +481,22 @@ static double measure_scratch_film(const struct scratch_film *film)
     return greater(worst, measure_ways("plan_loop", film, call_plan_loop, call_plan_loop_scratch, false));
 }
 
+/* Those of the same film as pairs, of which there are fewer streams at most. */
+static double measure_scratch_pairs(const struct scratch_film *film)
+{
+    struct scratch_film pairs = *film;
+    if (pairs.streams > FILMDISK_MAX_PAIR_STREAMS)
+        pairs.streams = FILMDISK_MAX_PAIR_STREAMS;
+    make_pairs(&input, pairs.blocks, pairs.zones, pairs.streams);
+    double worst = measure_ways("plan_pairs", &pairs, call_plan_pairs, call_plan_pairs_scratch, false);
+    worst = greater(worst, measure_ways("open of pairs", &pairs, call_open, call_open_scratch, false));
+    make_players(&input, FILMDISK_BETWEEN, pairs.streams);
+    worst = greater(worst, measure_ways("begin of pairs", &pairs, call_begin, call_begin_scratch, true));
+    make_players(&input, FILMDISK_SWEEPING, pairs.streams);
+    make_draws(&input, 1000);
+    return greater(worst, measure_ways("end of pairs", &pairs, call_end, call_end_scratch, true));
+}
+
 static bool has_scratch(int twin)
 {
     return twins[twin][0].plan_scratch != NULL;
@@ -460,8 +512,11 @@ static void measure_scratch(void)
     printf("| Case | List, ns | Scratch / list | over places | Scratch, ns | %s by scratch, ns | Library / %s | over places |\n", other_name,
            other_name);
     printf("|---|---|---|---|---|---|---|---|\n");
-    for (size_t i = 0; i < sizeof films / sizeof films[0]; i++)
+    for (size_t i = 0; i < sizeof films / sizeof films[0]; i++) {
         worst[i] = measure_scratch_film(&films[i]);
+        if (has_pairs(PLAIN_C))
+            worst[i] = greater(worst[i], measure_scratch_pairs(&films[i]));
+    }
     printf("\n");
     for (size_t i = 0; i < sizeof films / sizeof films[0]; i++)
         printf("Scratch / list, the greatest at N %u, %u zones, %u streams: %.3f, bar %.1f%s\n", films[i].blocks, films[i].zones,
@@ -514,10 +569,9 @@ static void run_painted(void)
     painted_call(&twins[painted_twin][0], &input, &strings[painted_twin], 0);
 }
 
-/* The slots from `first_free` on are free, so many before them ask, the others play. */
-static void print_stack_of(const char *name, call *c, uint32_t phase, uint32_t first_free, uint32_t asked)
+/* Of the film that was made the slots from `first_free` on are free, so many before them ask, the others play. */
+static void print_stack_on(const char *name, call *c, uint32_t phase, uint32_t first_free, uint32_t asked)
 {
-    make_film(&input, 1000, 64, 256);
     make_players(&input, phase, first_free - asked);
     make_requests(&input, first_free - asked, asked);
     make_draws(&input, 1000);
@@ -528,6 +582,18 @@ static void print_stack_of(const char *name, call *c, uint32_t phase, uint32_t f
         printf(" %zu |", stack_of(run_painted));
     }
     printf("\n");
+}
+
+static void print_stack_of(const char *name, call *c, uint32_t phase, uint32_t first_free, uint32_t asked)
+{
+    make_film(&input, 1000, 64, 256);
+    print_stack_on(name, c, phase, first_free, asked);
+}
+
+static void print_stack_of_pairs(const char *name, call *c, uint32_t phase, uint32_t first_free)
+{
+    make_pairs(&input, 1000, 64, FILMDISK_MAX_PAIR_STREAMS);
+    print_stack_on(name, c, phase, first_free, 0);
 }
 
 static void print_stack(const char *name, call *c, uint32_t phase, uint32_t first_free)
@@ -544,6 +610,16 @@ static void print_scratch_stacks(void)
     print_stack("leave_scratch", call_leave_scratch, FILMDISK_BETWEEN, 256);
     print_stack("begin_scratch", call_begin_scratch, FILMDISK_BETWEEN, 256);
     print_stack("end_scratch", call_end_scratch, FILMDISK_SWEEPING, 256);
+}
+
+static void print_pairs_stacks(void)
+{
+    print_stack_of_pairs("plan_pairs", call_plan_pairs, FILMDISK_BETWEEN, 0);
+    print_stack_of_pairs("plan_pairs_scratch", call_plan_pairs_scratch, FILMDISK_BETWEEN, 0);
+    print_stack_of_pairs("open of pairs, 128 streams", call_open, FILMDISK_BETWEEN, 0);
+    print_stack_of_pairs("begin of pairs, 128 streams", call_begin, FILMDISK_BETWEEN, FILMDISK_MAX_PAIR_STREAMS);
+    print_stack_of_pairs("end of pairs, 128 streams", call_end, FILMDISK_SWEEPING, FILMDISK_MAX_PAIR_STREAMS);
+    print_stack_of_pairs("window of pairs", call_window, FILMDISK_BETWEEN, 0);
 }
 
 static void print_stacks(void)
@@ -564,6 +640,8 @@ static void print_stacks(void)
     }
     if (has_scratch(PLAIN_C))
         print_scratch_stacks();
+    if (has_pairs(PLAIN_C))
+        print_pairs_stacks();
 }
 
 /* The length of an earlier library's desk string is the one that its opening accepts: 4,660 bytes before 0.10.0. */
@@ -592,6 +670,7 @@ int main(int argc, char **argv)
     measure_requests();
     measure_sweeps();
     measure_loops();
+    measure_pairs();
     measure_measured();
     measure_windows();
     measure_scratch();

@@ -36,11 +36,13 @@ static void put_overheads(struct input *in, uint32_t kind)
         put_number(in, n * HOP + RETURN);
 }
 
-static void put_card(struct input *in, uint32_t kind, uint32_t blocks, uint32_t zones, uint32_t rate)
+/* A film that takes all positions, or where there are more zones one of each. */
+static void put_card(struct input *in, uint32_t kind, uint32_t visits, uint32_t blocks, uint32_t zones, uint32_t rate)
 {
+    uint32_t taken = visits * blocks;
     in->card_len = 0;
     put_number(in, kind);
-    put_zones(in, zones, blocks > zones ? blocks : zones);
+    put_zones(in, zones, taken > zones ? taken : zones);
     put_number(in, blocks);
     put_number(in, BLOCK_BYTES);
     put_number(in, rate);
@@ -49,8 +51,9 @@ static void put_card(struct input *in, uint32_t kind, uint32_t blocks, uint32_t 
 
 static void plan_input(struct input *in, uint32_t showing)
 {
-    filmdisk_answer a = (showing == FILMDISK_LOOP ? plain_plan_loop : plain_plan)(
-        in->card, in->card_len, in->plan, sizeof in->plan, in->positions, sizeof in->positions, in->leads, sizeof in->leads);
+    static __typeof__(plain_plan) *const planners[] = { plain_plan, plain_plan_loop, plain_plan_pairs };
+    filmdisk_answer a = planners[showing](in->card, in->card_len, in->plan, sizeof in->plan, in->positions, sizeof in->positions, in->leads,
+                                          sizeof in->leads);
     if (a.number != FILMDISK_ACCEPTED) {
         fprintf(stderr, "bench: the film's card is refused: %s\n", filmdisk_meaning(a.number));
         exit(1);
@@ -59,17 +62,19 @@ static void plan_input(struct input *in, uint32_t showing)
 
 static void make(struct input *in, uint32_t kind, uint32_t showing, uint32_t blocks, uint32_t zones, uint32_t streams)
 {
-    put_card(in, kind, blocks, zones, 1);
+    uint32_t visits = showing == FILMDISK_PAIRS ? FILMDISK_PAIR_VISITS : 1;
+    put_card(in, kind, visits, blocks, zones, 1);
     plan_input(in, showing);
     uint32_t worst2 = filmdisk_word(in->plan, FILMDISK_PLAN_WORST2);
-    uint64_t load = (uint64_t)streams * worst2 + 2 * ((uint64_t)streams * HOP + RETURN);
-    put_card(in, kind, blocks, zones, (uint32_t)(UINT64_C(2000000) * BLOCK_BYTES / load));
+    uint64_t load = (uint64_t)streams * worst2 + 2 * ((uint64_t)visits * streams * HOP + RETURN);
+    put_card(in, kind, visits, blocks, zones, (uint32_t)(UINT64_C(2000000) * BLOCK_BYTES / load));
     plan_input(in, showing);
     if (filmdisk_word(in->plan, FILMDISK_PLAN_STREAMS) != streams) {
         fprintf(stderr, "bench: a film of %u blocks has not %u streams\n", blocks, streams);
         exit(1);
     }
     in->list_len = (size_t)blocks * FILMDISK_ENTRY_BYTES;
+    in->positions_len = visits * in->list_len;
     memcpy(in->desk, in->plan, sizeof in->plan);
     memset(in->desk + sizeof in->plan, 0, sizeof in->desk - sizeof in->plan);
 }
@@ -87,6 +92,11 @@ void make_measured(struct input *in, uint32_t blocks, uint32_t zones, uint32_t s
 void make_loop(struct input *in, uint32_t blocks, uint32_t zones, uint32_t streams)
 {
     make(in, FILMDISK_STRAIGHT, FILMDISK_LOOP, blocks, zones, streams);
+}
+
+void make_pairs(struct input *in, uint32_t blocks, uint32_t zones, uint32_t streams)
+{
+    make(in, FILMDISK_STRAIGHT, FILMDISK_PAIRS, blocks, zones, streams);
 }
 
 static void put_slot(struct input *in, uint32_t slot, uint32_t kind, uint32_t next, uint32_t held, uint32_t place)

@@ -9,7 +9,8 @@ struct input {
     uint8_t card[FILMDISK_MAX_CARD_BYTES];
     size_t card_len;
     uint8_t plan[FILMDISK_PLAN_BYTES];
-    uint8_t positions[FILMDISK_MAX_BLOCKS * FILMDISK_ENTRY_BYTES];
+    uint8_t positions[FILMDISK_PAIR_VISITS * FILMDISK_MAX_BLOCKS * FILMDISK_ENTRY_BYTES];
+    size_t positions_len;
     uint8_t leads[FILMDISK_MAX_BLOCKS * FILMDISK_ENTRY_BYTES];
     size_t list_len;
     uint8_t desk[FILMDISK_DESK_BYTES];
@@ -26,6 +27,9 @@ void make_measured(struct input *in, uint32_t blocks, uint32_t zones, uint32_t s
 
 /* The same as a loop. */
 void make_loop(struct input *in, uint32_t blocks, uint32_t zones, uint32_t streams);
+
+/* The same with each block as two halves; no more than FILMDISK_MAX_PAIR_STREAMS. */
+void make_pairs(struct input *in, uint32_t blocks, uint32_t zones, uint32_t streams);
 
 /* A desk in a phase on which the slots from `first_free` on are free and the others play, each with room for a block. */
 void make_players(struct input *in, uint32_t phase, uint32_t first_free);

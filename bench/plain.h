@@ -9,6 +9,8 @@
                                   uint8_t *positions, size_t positions_len, uint8_t *leads, size_t leads_len); \
     filmdisk_answer prefix##_plan_loop(const uint8_t *card, size_t card_len, uint8_t *plan, size_t plan_len, \
                                        uint8_t *positions, size_t positions_len, uint8_t *leads, size_t leads_len); \
+    filmdisk_answer prefix##_plan_pairs(const uint8_t *card, size_t card_len, uint8_t *plan, size_t plan_len, \
+                                        uint8_t *positions, size_t positions_len, uint8_t *leads, size_t leads_len); \
     filmdisk_answer prefix##_open(const uint8_t *plan, size_t plan_len, const uint8_t *positions, size_t positions_len, \
                                   const uint8_t *leads, size_t leads_len, uint8_t *desk, size_t desk_len); \
     filmdisk_answer prefix##_join(uint8_t *desk, size_t desk_len, const uint8_t *positions, size_t positions_len, \
@@ -23,6 +25,8 @@
                                           uint8_t *positions, size_t positions_len, uint8_t *scratch, size_t scratch_len); \
     filmdisk_answer prefix##_plan_loop_scratch(const uint8_t *card, size_t card_len, uint8_t *plan, size_t plan_len, \
                                                uint8_t *positions, size_t positions_len, uint8_t *scratch, size_t scratch_len); \
+    filmdisk_answer prefix##_plan_pairs_scratch(const uint8_t *card, size_t card_len, uint8_t *plan, size_t plan_len, \
+                                                uint8_t *positions, size_t positions_len, uint8_t *scratch, size_t scratch_len); \
     filmdisk_answer prefix##_open_scratch(const uint8_t *plan, size_t plan_len, const uint8_t *positions, size_t positions_len, \
                                           const uint8_t *scratch, size_t scratch_len, uint8_t *desk, size_t desk_len); \
     filmdisk_answer prefix##_join_scratch(uint8_t *desk, size_t desk_len, const uint8_t *positions, size_t positions_len, \

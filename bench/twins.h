@@ -30,6 +30,9 @@ struct twin {
     filmdisk_answer (*leave_scratch)(uint8_t *, size_t, const uint8_t *, size_t, const uint8_t *, size_t, uint32_t);
     filmdisk_answer (*begin_scratch)(uint8_t *, size_t, const uint8_t *, size_t, const uint8_t *, size_t, uint8_t *, size_t);
     filmdisk_answer (*end_scratch)(uint8_t *, size_t, const uint8_t *, size_t, const uint8_t *, size_t, const uint8_t *, size_t);
+    /* For half blocks; an earlier library may have none. */
+    filmdisk_answer (*plan_pairs)(const uint8_t *, size_t, uint8_t *, size_t, uint8_t *, size_t, uint8_t *, size_t);
+    filmdisk_answer (*plan_pairs_scratch)(const uint8_t *, size_t, uint8_t *, size_t, uint8_t *, size_t, uint8_t *, size_t);
 };
 
 extern struct twin twins[TWINS][COPIES];

@@ -7,15 +7,18 @@
  * Order: slots that have asked are served in the order they asked, eldest first and none behind one that has to wait. The eldest waits for
  * one finished sweep at most, where the margin is 0 for none: it is granted at the first begin after it.
  *
- * Films: a plan is for one showing or for a loop, by its planner call; a word of the plan says which, and all calls on its desk go by it.
+ * Films: a plan is for one showing, for a loop, or for pairs, by its planner call; a word of the plan says which, and all calls on its desk
+ * go by it. Pairs are for a drive that stores each block as two halves, on a slow and a quick position: one showing, and the card's zone
+ * times are for a half. Two things are longer there. The positions list has 2 x N entries, those of a block together, the lower first; and
+ * a block gives two fetch entries, so that the fetch list has room for 2 x n. The lead list has N entries, all 0.
  *
  * Scratch: each call that takes the lead list has a second way in, by its name with _scratch, that takes a scratch in its place, for boards
  * without room for the leads of a long film. A scratch has FILMDISK_SCRATCH_WORDS whole words or more; fewer are 13, which a call on a desk,
  * an opening too, judges first of all. All else is as with the film's own leads, the answer and the desk that is left. No call reads or
  * writes a byte of the scratch, and calls of both ways may be mixed on one desk.
  *
- * Refused calls leave all that they were lent as it was, but for two: a plan call that is refused by 1 to 12, 25 or 26 fills a plan
- * string of the right length with zeros, and an opening that is refused by 14 a desk string of the right length.
+ * Refused calls leave all that they were lent as it was, but for two: a plan call that is refused by 1 to 12, 25, 26 or 28 fills a
+ * plan string of the right length with zeros, and an opening that is refused by 14 a desk string of the right length.
  *
  * Threads: the library has no globals and keeps nothing between calls, so calls on different strings may run at once. A string that is
  * only read, such as the lists of several desks, may be lent to several calls at a time.
@@ -35,9 +38,9 @@
 extern "C" {
 #endif
 
-#define FILMDISK_VERSION "0.10.0"
+#define FILMDISK_VERSION "0.11.0"
 #define FILMDISK_VERSION_MAJOR 0
-#define FILMDISK_VERSION_MINOR 10
+#define FILMDISK_VERSION_MINOR 11
 #define FILMDISK_VERSION_PATCH 0
 
 /* Limits. */
@@ -45,8 +48,10 @@ extern "C" {
 #define FILMDISK_MAX_ZONES 64
 #define FILMDISK_MAX_BLOCKS 16384
 #define FILMDISK_MAX_STREAMS 256
+#define FILMDISK_MAX_PAIR_STREAMS 128 /* of pairs; their desks have FILMDISK_MAX_STREAMS slots too */
+#define FILMDISK_PAIR_VISITS 2 /* of pairs: positions of a block, and fetch entries that it gives */
 #define FILMDISK_MAX_WINDOW 64 /* blocks of a window */
-#define FILMDISK_OVERHEADS 257 /* of a sweep of 0 to 256 blocks */
+#define FILMDISK_OVERHEADS 257 /* of a sweep of 0 to 256 visits: blocks, of pairs half blocks */
 #define FILMDISK_SCRATCH_WORDS 512 /* of a scratch in the lead list's place, at least */
 
 /* The words of a plan, one after the other. */
@@ -58,13 +63,13 @@ enum filmdisk_plan_word {
     FILMDISK_PLAN_BLOCKS = FILMDISK_PLAN_TIMES + FILMDISK_MAX_ZONES,
     FILMDISK_PLAN_BLOCK_BYTES,
     FILMDISK_PLAN_RATE,
-    FILMDISK_PLAN_TABLE, /* a word for each overhead: that of a sweep of k blocks is word k */
+    FILMDISK_PLAN_TABLE, /* a word for each overhead: that of a sweep of k visits is word k */
     FILMDISK_PLAN_STREAMS = FILMDISK_PLAN_TABLE + FILMDISK_OVERHEADS,
     FILMDISK_PLAN_BUFFER,
     FILMDISK_PLAN_WORST2,
     FILMDISK_PLAN_MARGIN,
     FILMDISK_PLAN_SHOWING,
-    FILMDISK_PLAN_WORSTAT, /* the first block of the worst pair, the earliest where several are equal */
+    FILMDISK_PLAN_WORSTAT, /* the first block of the worst pair, the earliest where several are equal; of pairs the first slowest block */
     FILMDISK_PLAN_WORDS /* how many there are */
 };
 
@@ -92,26 +97,28 @@ enum filmdisk_fetch_word { FILMDISK_FETCH_POSITION, FILMDISK_FETCH_SLOT, FILMDIS
 /* Stack in bytes that a call takes below the caller's frame, at most. */
 #define FILMDISK_STACK_PLAN 3900
 #define FILMDISK_STACK_PLAN_LOOP 3900
+#define FILMDISK_STACK_PLAN_PAIRS 3900
 #define FILMDISK_STACK_WINDOW 2600
 #define FILMDISK_STACK_OPEN 2600
 #define FILMDISK_STACK_JOIN 2700
 #define FILMDISK_STACK_LEAVE 2700
-#define FILMDISK_STACK_BEGIN 14200
+#define FILMDISK_STACK_BEGIN 15300
 #define FILMDISK_STACK_DRAW_LIMIT 16
-#define FILMDISK_STACK_END 7400
+#define FILMDISK_STACK_END 9100
 #define FILMDISK_STACK_PLAN_SCRATCH 3900
 #define FILMDISK_STACK_PLAN_LOOP_SCRATCH 3900
+#define FILMDISK_STACK_PLAN_PAIRS_SCRATCH 3900
 #define FILMDISK_STACK_OPEN_SCRATCH 2600
 #define FILMDISK_STACK_JOIN_SCRATCH 2700
 #define FILMDISK_STACK_LEAVE_SCRATCH 2700
-#define FILMDISK_STACK_BEGIN_SCRATCH 14200
-#define FILMDISK_STACK_END_SCRATCH 7400
+#define FILMDISK_STACK_BEGIN_SCRATCH 15300
+#define FILMDISK_STACK_END_SCRATCH 9100
 
-/* The kind of a card: overheads by hop and return, or measured for each number of blocks. */
+/* The kind of a card: overheads by hop and return, or measured for each number of visits. */
 enum filmdisk_card_kind { FILMDISK_STRAIGHT = 1, FILMDISK_MEASURED = 2 };
 
-/* The showing of a plan: the film once through, or as a loop, whose last block is followed by the first. */
-enum filmdisk_showing { FILMDISK_ONCE = 0, FILMDISK_LOOP = 1 };
+/* The showing of a plan: the film once through; as a loop, whose last block is followed by the first; as pairs, once through by half blocks. */
+enum filmdisk_showing { FILMDISK_ONCE = 0, FILMDISK_LOOP = 1, FILMDISK_PAIRS = 2 };
 
 /* The kind of a slot. */
 enum filmdisk_kind {
@@ -151,7 +158,8 @@ enum filmdisk_number {
     FILMDISK_REFUSED_DRAW_ABOVE_HELD = 21,
     FILMDISK_REFUSED_TABLE = 25,               /* 25 and 26, place: offset of the number in the card */
     FILMDISK_REFUSED_ZONE_TIME_HALF_DEAD = 26,
-    FILMDISK_REFUSED_WINDOW = 27
+    FILMDISK_REFUSED_WINDOW = 27,
+    FILMDISK_REFUSED_HALVES_ABOVE_POSITIONS = 28 /* in the place of 9, of pairs; place: offset of the number in the card */
 };
 
 /* The answer of every call but that of windows and of draw limits. Refused: number and place, the rest 0. Accepted: number and place 0. */
@@ -207,6 +215,8 @@ static inline const char *filmdisk_meaning(uint32_t number)
         return "zone time, times three, below the first zone's time";
     if (number == FILMDISK_REFUSED_WINDOW)
         return "window of 0 blocks, above 64 or above the film's";
+    if (number == FILMDISK_REFUSED_HALVES_ABOVE_POSITIONS)
+        return "half blocks, two for each film block, above positions";
     return number < sizeof meanings / sizeof meanings[0] ? meanings[number] : "no such number";
 }
 
@@ -233,7 +243,16 @@ typedef struct filmdisk_pair {
     uint32_t second; /* 0 after the last block of a loop */
 } filmdisk_pair;
 
-/* The blocks that take worst2, by an accepted plan or by a desk, which begins with one. */
+/* The visits of the disk for a block, by an accepted plan or by a desk, which begins with one: 2 of pairs, else 1. */
+static inline uint32_t filmdisk_visits(const uint8_t *plan)
+{
+    return filmdisk_word(plan, FILMDISK_PLAN_SHOWING) == FILMDISK_PAIRS ? FILMDISK_PAIR_VISITS : 1;
+}
+
+/*
+ * The blocks that take worst2, by an accepted plan or by a desk, which begins with one. Not for pairs, where worst2 is twice the time of
+ * one block: of these `first` is that block and `second` the one after it, 0 after the last, of which nothing is said.
+ */
 static inline filmdisk_pair filmdisk_worst_pair(const uint8_t *plan)
 {
     filmdisk_pair pair;
@@ -278,7 +297,7 @@ static inline uint32_t filmdisk_waiting(const uint8_t *desk)
     return waiting;
 }
 
-/* An entry of the fetch list: read the block at this position into the slot's buffer. */
+/* An entry of the fetch list: read the block, of pairs a half of it, at this position into the slot's buffer. */
 typedef struct filmdisk_fetch {
     uint32_t position;
     uint32_t slot;
@@ -312,14 +331,24 @@ filmdisk_answer filmdisk_plan_loop(const uint8_t *card, size_t card_len,
                                    uint8_t *leads, size_t leads_len);
 
 /*
- * The worst time that `blocks` successive blocks of either plan take, and where; in a loop the first block follows the last. Writes nothing.
- * Of positions the first N entries are read. Refusals 14, 27.
+ * Plans a card for pairs: one showing on a drive that stores each block as two halves; its zone times are for a half. No matching of halves
+ * has a quicker slowest block. Writes the plan, the first 2 x N entries of the positions and N leads of 0. Refusals 1 to 8, 10, 11, 25, 26,
+ * and 28 in 9's place, where 2 x N is above the positions; then 13, for positions below 2 x N too, then 12.
+ */
+filmdisk_answer filmdisk_plan_pairs(const uint8_t *card, size_t card_len,
+                                    uint8_t *plan, size_t plan_len,
+                                    uint8_t *positions, size_t positions_len,
+                                    uint8_t *leads, size_t leads_len);
+
+/*
+ * The worst time that `blocks` successive blocks of any plan take, and where; in a loop the first block follows the last, of pairs a block
+ * takes the time of both halves. Writes nothing. Of positions the first N entries are read, of pairs 2 x N. Refusals 14, 27.
  */
 filmdisk_window_answer filmdisk_window(const uint8_t *plan, size_t plan_len,
                                        const uint8_t *positions, size_t positions_len,
                                        uint32_t blocks);
 
-/* Opens a desk of either plan and its lists, between sweeps, all slots free: writes the whole desk. Refusals 14, 13. */
+/* Opens a desk of any plan and its lists, between sweeps, all slots free: writes the whole desk. Refusals 14, 13. */
 filmdisk_answer filmdisk_open(const uint8_t *plan, size_t plan_len,
                               const uint8_t *positions, size_t positions_len,
                               const uint8_t *leads, size_t leads_len,
@@ -346,7 +375,7 @@ filmdisk_answer filmdisk_leave(uint8_t *desk, size_t desk_len,
 /*
  * Begins a sweep: alters the phase, kinds and places of the desk in place, writes the answer's `count` fetches, and answers its `bound`.
  * Slots that hold enough start to play; requests are granted eldest first as long as all playing slots hold enough, and the places of those
- * that wait on drop by as many. Refusals 14, 15, 13.
+ * that wait on drop by as many. The fetch list has room for an entry for each of the n slots, of pairs for two. Refusals 14, 15, 13.
  */
 filmdisk_answer filmdisk_begin(uint8_t *desk, size_t desk_len,
                                const uint8_t *positions, size_t positions_len,
@@ -362,7 +391,8 @@ uint64_t filmdisk_draw_limit(const uint8_t *desk, size_t desk_len, uint32_t slot
 
 /*
  * Ends a sweep, with the bytes that each of the n slots drew: alters the desk in place, no place. Refusals 14, 15, 19, 20, 21. After the last
- * block of a film shown once a slot is tail, and free when it holds no more; in a loop its next block is 0, and it is free only by a leave.
+ * block of a film shown once, of pairs too, a slot is tail, and free when it holds no more; in a loop its next block is 0, and it is free
+ * only by a leave.
  */
 filmdisk_answer filmdisk_end(uint8_t *desk, size_t desk_len,
                              const uint8_t *positions, size_t positions_len,
@@ -386,8 +416,14 @@ filmdisk_answer filmdisk_plan_loop_scratch(const uint8_t *card, size_t card_len,
                                            uint8_t *positions, size_t positions_len,
                                            uint8_t *scratch, size_t scratch_len);
 
+/* Plans a card for pairs: writes the plan and the first 2 x N entries of the positions. Refusals as with the list, 13 for a short scratch too. */
+filmdisk_answer filmdisk_plan_pairs_scratch(const uint8_t *card, size_t card_len,
+                                            uint8_t *plan, size_t plan_len,
+                                            uint8_t *positions, size_t positions_len,
+                                            uint8_t *scratch, size_t scratch_len);
+
 /*
- * Opens a desk of either plan and its positions: writes the whole desk. Refusals 13 for the scratch, after which the desk string stays as it
+ * Opens a desk of any plan and its positions: writes the whole desk. Refusals 13 for the scratch, after which the desk string stays as it
  * was, then 14, then 13 for the desk string.
  */
 filmdisk_answer filmdisk_open_scratch(const uint8_t *plan, size_t plan_len,

@@ -32,6 +32,30 @@ struct card example_card(uint32_t bytes)
     return card;
 }
 
+struct card small_barracuda(uint32_t bytes)
+{
+    static const uint32_t rates[] = {59, 64, 70, 77, 83, 89, 92};
+    struct card card = evening_card;
+    card.bytes = bytes;
+    card.rate = 524288;
+    card.hop = 8280;
+    for (uint32_t zone = 0; zone < card.zones; zone++) {
+        uint64_t bytes_a_second = (uint64_t)rates[zone] << 17;
+        card.times[zone] = (uint32_t)(((uint64_t)bytes * 1000000 + bytes_a_second - 1) / bytes_a_second);
+    }
+    return card;
+}
+
+struct card halved(const struct card *card)
+{
+    struct card half = *card;
+    for (uint32_t zone = 0; zone < card->zones; zone++) {
+        half.positions[zone] = 2 * card->positions[zone];
+        half.times[zone] = (card->times[zone] + 1) / 2;
+    }
+    return half;
+}
+
 void must(int holds, const char *fact)
 {
     if (holds)
@@ -72,13 +96,13 @@ static size_t write_card(uint8_t *to, const struct card *card)
     return length;
 }
 
-/* Streams, margin and buffer of the scope, for a laying with this worst time and this greatest time. */
-static struct promise promise_of(const struct card *card, uint32_t worst2, uint32_t greatest)
+/* Streams, margin and buffer of the scope, for a laying with this worst time and this greatest time, and so many visits for a block. */
+static struct promise promise_of(const struct card *card, uint32_t visits, uint32_t worst2, uint32_t greatest)
 {
-    struct promise promise = {.streams = FILMDISK_MAX_STREAMS, .worst2 = worst2, .margin = 2 * greatest - worst2};
+    struct promise promise = {.streams = FILMDISK_MAX_STREAMS / visits, .worst2 = worst2, .margin = 2 * greatest - worst2};
     for (; promise.streams > 0; promise.streams--) {
         uint64_t n = promise.streams;
-        uint64_t twice = n * worst2 + 2 * (n * card->hop + card->back);
+        uint64_t twice = n * worst2 + 2 * (visits * n * card->hop + card->back);
         if (card->rate * twice <= (uint64_t)2000000 * card->bytes)
             break;
     }
@@ -89,7 +113,7 @@ static struct promise promise_of(const struct card *card, uint32_t worst2, uint3
 
 struct promise slowest_promise(const struct card *card)
 {
-    return promise_of(card, 2 * card->times[0], card->times[0]);
+    return promise_of(card, 1, 2 * card->times[0], card->times[0]);
 }
 
 struct promise plain_promise(const struct card *card)
@@ -100,17 +124,25 @@ struct promise plain_promise(const struct card *card)
     /* times never rise towards the outer zones, so the first two blocks are the worst pair */
     uint32_t first = card->times[zone_of(card, places - card->blocks)];
     uint32_t second = card->times[zone_of(card, places - card->blocks + 1)];
-    return promise_of(card, first + second, first);
+    return promise_of(card, 1, first + second, first);
 }
 
-uint32_t laid_zone(const struct film *film, uint32_t block)
+uint32_t laid_zone(const struct film *film, uint32_t entry)
 {
-    return zone_of(&film->card, filmdisk_word(film->positions, block));
+    return zone_of(&film->card, filmdisk_word(film->positions, entry));
+}
+
+uint32_t entry_time(const struct film *film, uint32_t entry)
+{
+    return film->card.times[laid_zone(film, entry)];
 }
 
 uint32_t laid_time(const struct film *film, uint32_t block)
 {
-    return film->card.times[laid_zone(film, block)];
+    uint32_t visits = filmdisk_visits(film->plan), time = 0;
+    for (uint32_t visit = 0; visit < visits; visit++)
+        time += entry_time(film, visits * block + visit);
+    return time;
 }
 
 uint32_t pair_count(const struct film *film)
@@ -123,6 +155,12 @@ uint32_t pair_time(const struct film *film, uint32_t block)
     return laid_time(film, block) + laid_time(film, (block + 1) % film->card.blocks);
 }
 
+/* What worst2 is the greatest of: two successive blocks, of pairs a block twice, each by its first block. */
+static uint32_t measured_time(const struct film *film, uint32_t block)
+{
+    return filmdisk_visits(film->plan) > 1 ? 2 * laid_time(film, block) : pair_time(film, block);
+}
+
 /* The formulas over the library's own laying must give the library's figures: the other plans use the same formulas. */
 static void compare_with_formulas(const struct film *film)
 {
@@ -130,12 +168,12 @@ static void compare_with_formulas(const struct film *film)
     for (uint32_t b = 0; b < film->card.blocks; b++) {
         if (laid_time(film, b) > greatest)
             greatest = laid_time(film, b);
-        if (b < pair_count(film) && pair_time(film, b) > worst2) {
-            worst2 = pair_time(film, b);
+        if (b < pair_count(film) && measured_time(film, b) > worst2) {
+            worst2 = measured_time(film, b);
             worstat = b;
         }
     }
-    struct promise expected = promise_of(&film->card, worst2, greatest);
+    struct promise expected = promise_of(&film->card, filmdisk_visits(film->plan), worst2, greatest);
     must(memcmp(&expected, &film->promise, sizeof expected) == 0, "the library's figures are the formulas' over its laying");
     must(filmdisk_worst_pair(film->plan).first == worstat, "worstat is the first block of the earliest worst pair");
 }
@@ -168,4 +206,9 @@ void plan_film(struct film *film, const struct card *card)
 void plan_loop(struct film *film, const struct card *card)
 {
     plan_by(filmdisk_plan_loop, film, card);
+}
+
+void plan_pairs(struct film *film, const struct card *card)
+{
+    plan_by(filmdisk_plan_pairs, film, card);
 }

@@ -21,7 +21,7 @@ struct film {
     struct card card;
     struct promise promise;
     uint8_t plan[FILMDISK_PLAN_BYTES];
-    uint8_t positions[FILMDISK_MAX_BLOCKS * FILMDISK_ENTRY_BYTES];
+    uint8_t positions[FILMDISK_PAIR_VISITS * FILMDISK_MAX_BLOCKS * FILMDISK_ENTRY_BYTES];
     uint8_t leads[FILMDISK_MAX_BLOCKS * FILMDISK_ENTRY_BYTES];
 };
 
@@ -33,18 +33,29 @@ extern const struct card evening_card;    /* Barracuda 9 in small: 48 blocks ove
 /* The six zones of example 1 of 001, 60 to 85 Mbit/s, with blocks of so many bytes. */
 struct card example_card(uint32_t bytes);
 
+/* The evening's zones with blocks of so many bytes and films of 4 Mbit/s; hop and return are the example's. */
+struct card small_barracuda(uint32_t bytes);
+
+/* The same disk with each block as two halves: twice the positions of half the bytes, so half the times, rounded up. */
+struct card halved(const struct card *card);
+
 /* Ends the program with a line on standard error if a fact of the pictures does not hold. */
 void must(int holds, const char *fact);
 
 /* The zone of a position. */
 uint32_t zone_of(const struct card *card, uint32_t position);
 
-/* Plans by the library, for one showing or as a loop; streams 0 if not one fits. Its figures are compared with the formulas of promise_of. */
+/*
+ * Plans by the library, for one showing, as a loop or as pairs, whose card has the times of halves; streams 0 if not one fits. Its figures
+ * are compared with the formulas of promise_of.
+ */
 void plan_film(struct film *film, const struct card *card);
 void plan_loop(struct film *film, const struct card *card);
+void plan_pairs(struct film *film, const struct card *card);
 
-/* The zone of block b as laid, and its time. */
-uint32_t laid_zone(const struct film *film, uint32_t block);
+/* The zone of an entry of the positions list, and its time; of a block, which pairs have two entries for, its time. */
+uint32_t laid_zone(const struct film *film, uint32_t entry);
+uint32_t entry_time(const struct film *film, uint32_t entry);
 uint32_t laid_time(const struct film *film, uint32_t block);
 
 /* The pairs of successive blocks, of which a loop has one more, and the time of the pair that starts at block b. */

@@ -56,7 +56,7 @@ static const char *pair_colour(const struct film *film, uint32_t b)
 }
 
 /* The pairs stand where their two blocks meet; the one of the last and the first block is at the top. */
-static void draw_pairs(FILE *out, const struct film *film)
+static void draw_pairs_of_blocks(FILE *out, const struct film *film)
 {
     for (uint32_t b = 0; b < pair_count(film); b++) {
         must(pair_time(film, b) <= film->promise.worst2, "no two successive blocks of the loop take more than worst2");
@@ -171,7 +171,7 @@ void draw_loop(FILE *out)
     svg_text(out, 20, 58, "note", "%u blocks of %s on the seven zones of a Barracuda 9, a film of 8 Mbit/s. "
              "The last block is followed by the first.", film->card.blocks, svg_megabytes(film->card.bytes));
     draw_ring(out, film);
-    draw_pairs(out, film);
+    draw_pairs_of_blocks(out, film);
     draw_words(out, film);
     draw_lobby(out, &run);
     svg_text(out, 20, HEIGHT - 10, "note", "Drawn by the library's filmdisk_plan_loop and %s sweeps. Seconds: the bounds of the sweeps added up. "

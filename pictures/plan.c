@@ -53,7 +53,7 @@ static void draw_bars(FILE *out, const struct film *film)
     svg_text(out, (LEFT + RIGHT) / 2.0, BARS_FOOT + 34, "note mid", "block of the film");
 }
 
-static void draw_pairs(FILE *out, const struct film *film)
+static void draw_pairs_of_blocks(FILE *out, const struct film *film)
 {
     const double most = 300000;
     const filmdisk_pair worst = filmdisk_worst_pair(film->plan);
@@ -92,7 +92,7 @@ void draw_plan(FILE *out)
              film.card.blocks, svg_megabytes(film.card.bytes), film.promise.worst2 / 1000.0);
     draw_zones(out, &film);
     draw_bars(out, &film);
-    draw_pairs(out, &film);
+    draw_pairs_of_blocks(out, &film);
     svg_text(out, 20, HEIGHT - 16, "note", "Drawn by the library's filmdisk_plan. ms: thousandths of a second. MB: a million bytes.");
     svg_close(out);
 }

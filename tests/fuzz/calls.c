@@ -1,9 +1,9 @@
 /*
  * Fuzz target: the bytes of an input are read as a card and then as calls on its desk, with damage to strings between them. The film is
- * shown once or is a loop; a few bytes may stand for the table of a card of kind 2. Each call is made of the library and of its plain C
- * twin (bench/plain.c); answers and strings must be the same. Each is made twice, with the lead list and with a scratch of random bytes in
- * its place, and what comes of the two must be the same where the list is the film's own; the desk goes on as either left it. The twin is
- * built with coverage, which leads the fuzzer; the library's strings touch pages that may not be touched.
+ * shown once, is a loop, or has each block as two halves; a few bytes may stand for the table of a card of kind 2. Each call is made of
+ * the library and of its plain C twin (bench/plain.c); answers and strings must be the same. Each is made twice, with the lead list and
+ * with a scratch of random bytes in its place, and what comes of the two must be the same where the list is the film's own; the desk goes
+ * on as either left it. The twin is built with coverage, which leads the fuzzer; the library's strings touch pages that may not be touched.
  */
 #include "guarded.h"
 #include "plain.h"
@@ -12,7 +12,7 @@
 #include <stdlib.h>
 #include <string.h>
 
-#define MOST_BYTES (FILMDISK_MAX_BLOCKS * FILMDISK_ENTRY_BYTES + 64)
+#define MOST_BYTES (FILMDISK_PAIR_VISITS * FILMDISK_MAX_BLOCKS * FILMDISK_ENTRY_BYTES + 64)
 #define COUNT(array) (sizeof(array) / sizeof *(array))
 #define MOST_OVERHEAD 257000000u
 
@@ -20,7 +20,7 @@ int LLVMFuzzerTestOneInput(const uint8_t *data, size_t size);
 
 enum lent { CARD, PLAN, POSITIONS, LEADS, DESK, FETCHES, DRAWS, SCRATCH, STRINGS };
 enum way { BY_LIST, BY_SCRATCH, WAYS };
-enum sort { CALL_PLAN, CALL_PLAN_LOOP, CALL_OPEN, CALL_JOIN, CALL_LEAVE, CALL_BEGIN, CALL_END };
+enum sort { CALL_PLAN, CALL_PLAN_LOOP, CALL_PLAN_PAIRS, CALL_OPEN, CALL_JOIN, CALL_LEAVE, CALL_BEGIN, CALL_END };
 
 struct call {
     enum sort sort;
@@ -32,6 +32,7 @@ struct call {
 struct calls {
     __typeof__(filmdisk_plan) *plan;
     __typeof__(filmdisk_plan_loop) *plan_loop;
+    __typeof__(filmdisk_plan_pairs) *plan_pairs;
     __typeof__(filmdisk_open) *open;
     __typeof__(filmdisk_join) *join;
     __typeof__(filmdisk_leave) *leave;
@@ -47,8 +48,8 @@ struct interface {
 };
 
 #define CALLS(prefix, suffix) \
-    {prefix##_plan##suffix,  prefix##_plan_loop##suffix, prefix##_open##suffix, prefix##_join##suffix, \
-     prefix##_leave##suffix, prefix##_begin##suffix,     prefix##_end##suffix}
+    {prefix##_plan##suffix, prefix##_plan_loop##suffix, prefix##_plan_pairs##suffix, prefix##_open##suffix, \
+     prefix##_join##suffix, prefix##_leave##suffix,     prefix##_begin##suffix,      prefix##_end##suffix}
 #define INTERFACE(prefix) {{CALLS(prefix, ), CALLS(prefix, _scratch)}, prefix##_window, prefix##_draw_limit}
 
 static const struct interface library = INTERFACE(filmdisk);
@@ -96,6 +97,8 @@ static filmdisk_answer make(const struct interface *interface, enum way way, con
         return of->plan(s[CARD], n[CARD], s[PLAN], n[PLAN], s[POSITIONS], n[POSITIONS], s[by], n[by]);
     case CALL_PLAN_LOOP:
         return of->plan_loop(s[CARD], n[CARD], s[PLAN], n[PLAN], s[POSITIONS], n[POSITIONS], s[by], n[by]);
+    case CALL_PLAN_PAIRS:
+        return of->plan_pairs(s[CARD], n[CARD], s[PLAN], n[PLAN], s[POSITIONS], n[POSITIONS], s[by], n[by]);
     case CALL_OPEN:
         return of->open(s[PLAN], n[PLAN], s[POSITIONS], n[POSITIONS], s[by], n[by], s[DESK], n[DESK]);
     case CALL_JOIN:
@@ -172,11 +175,11 @@ static filmdisk_answer call_by(enum way way, const struct call *call)
 
 /*
  * Is the lead list the full one? For a planner it has room for N entries: N of the plan, or where none was made no more than the positions
- * have room for. A desk's is what the planner wrote.
+ * have room for, were each block to take one. A desk's is what the planner wrote.
  */
 static int is_full_list(const struct call *call, filmdisk_answer by_scratch)
 {
-    if (call->sort == CALL_PLAN || call->sort == CALL_PLAN_LOOP) {
+    if (call->sort <= CALL_PLAN_PAIRS) {
         size_t blocks = by_scratch.number == 0 ? filmdisk_word(left[BY_SCRATCH][PLAN], FILMDISK_PLAN_BLOCKS)
                                                : lengths[POSITIONS] / FILMDISK_ENTRY_BYTES;
         return lengths[LEADS] / FILMDISK_ENTRY_BYTES >= blocks;
@@ -295,19 +298,29 @@ static void take_table(void)
         put_number(n == odd && odd % 4 == 0 ? others[odd / 4 % COUNT(others)] : overhead);
 }
 
+/* Which planner call the bytes ask for. */
+static enum sort planner_of(uint32_t plan)
+{
+    if (plan / 64 == 2)
+        return CALL_PLAN_PAIRS;
+    return plan / 8 % 2 == 0 ? CALL_PLAN : CALL_PLAN_LOOP;
+}
+
 /* The lengths for a plan: mostly enough for a short film, at times for any or none. Answers the planner call. */
 static enum sort take_planner(void)
 {
     static const size_t entries[] = {64, 64, 64, FILMDISK_MAX_BLOCKS, 6, 5, 1, 0};
     uint32_t choice = take(), plan = take(), desk = take();
-    set_noise(POSITIONS, entries[choice % 8] * FILMDISK_ENTRY_BYTES + choice / 64);
+    const enum sort planner = planner_of(plan);
+    const size_t visits = planner == CALL_PLAN_PAIRS ? FILMDISK_PAIR_VISITS : 1;
+    set_noise(POSITIONS, visits * entries[choice % 8] * FILMDISK_ENTRY_BYTES + choice / 64);
     set_noise(LEADS, entries[choice / 8 % 8] * FILMDISK_ENTRY_BYTES + choice / 64);
     set_noise(PLAN, FILMDISK_PLAN_BYTES - (plan % 8 == 1));
     set_noise(DESK, FILMDISK_DESK_BYTES - (desk % 8 == 1));
     set_scratch(desk / 32);
     habit = desk / 8 % 4;
     has_table = plan / 16 % 4 == 1;
-    return plan / 8 % 2 == 0 ? CALL_PLAN : CALL_PLAN_LOOP;
+    return planner;
 }
 
 static uint32_t word(enum lent which, size_t index)
@@ -378,11 +391,11 @@ static void damage(void)
         contents[which][at % lengths[which]] ^= change;
 }
 
-/* Sets the showing: turned over, or any word. */
+/* Sets the showing: another one, or any word. */
 static void set_showing(enum lent which)
 {
-    uint32_t value = take_number();
-    filmdisk_put_word(contents[which], FILMDISK_PLAN_SHOWING, value % 4 == 0 ? 1 - word(which, FILMDISK_PLAN_SHOWING) : value);
+    uint32_t value = take_number(), its = word(which, FILMDISK_PLAN_SHOWING);
+    filmdisk_put_word(contents[which], FILMDISK_PLAN_SHOWING, value % 4 == 0 ? (its + 1 + value / 4 % 2) % 3 : value);
 }
 
 /* Sets the kind or an overhead: beside its own value, at an end of its range, or any. */
@@ -527,7 +540,7 @@ static void damage_plan(uint32_t choice)
 static void run_desk(void)
 {
     size_t streams = word(DESK, FILMDISK_PLAN_STREAMS);
-    set_noise(FETCHES, streams * FILMDISK_FETCH_BYTES);
+    set_noise(FETCHES, filmdisk_visits(contents[DESK]) * streams * FILMDISK_FETCH_BYTES);
     set_noise(DRAWS, streams * FILMDISK_ENTRY_BYTES);
     while (input_left > 0)
         take_call();
@@ -556,7 +569,8 @@ int LLVMFuzzerTestOneInput(const uint8_t *data, size_t size)
         own_leads_len = list_bytes;
         memcpy(own_leads, contents[LEADS], list_bytes);
     }
-    lengths[POSITIONS] = lengths[LEADS] = list_bytes;
+    lengths[POSITIONS] = filmdisk_visits(contents[PLAN]) * list_bytes;
+    lengths[LEADS] = list_bytes;
     uint32_t more = take();
     for (; more >= 200; more = take())
         damage_plan(more);

@@ -1069,7 +1069,8 @@ static void draw_limits_of_a_sweep(void)
 /* Numbers that a call may answer: document 01's, and of document 02's some. */
 static int is_number(uint32_t number)
 {
-    return number <= FILMDISK_REFUSED_DRAW_ABOVE_HELD || (number >= FILMDISK_REFUSED_TABLE && number <= FILMDISK_REFUSED_WINDOW);
+    return number <= FILMDISK_REFUSED_DRAW_ABOVE_HELD ||
+           (number >= FILMDISK_REFUSED_TABLE && number <= FILMDISK_REFUSED_HALVES_ABOVE_POSITIONS);
 }
 
 static void a_meaning_for_each_number(void)
@@ -1085,6 +1086,7 @@ static void a_meaning_for_each_number(void)
           "26 is a zone time");
     check(FILMDISK_REFUSED_TABLE == 25, "25 is an overhead");
     check(FILMDISK_REFUSED_WINDOW == 27, "27 is a window");
+    check(FILMDISK_REFUSED_HALVES_ABOVE_POSITIONS == 28, "28 is of pairs");
 }
 
 static const test tests[] = {

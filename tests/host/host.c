@@ -7,12 +7,16 @@
 #include <stdlib.h>
 #include <string.h>
 
-/* The longest string is a list of 16,384 entries with some to spare. */
-#define MOST_BYTES 80000
+/* The longest string is a list of 32,768 entries with some to spare. */
+#define MOST_BYTES 140000
 #define MOST_CARD_NUMBERS 400
 
 const uint32_t bench_film[BENCH_NUMBERS] = {
     1, 6, 1, 22270, 1, 20550, 1, 19090, 1, 17810, 1, 16700, 1, 15720, 6, 262144, 500000, 12670, 15000,
+};
+
+const uint32_t bench_pairs[BENCH_NUMBERS] = {
+    1, 6, 1, 22270, 1, 20550, 1, 19090, 1, 17810, 1, 16700, 1, 15720, PAIRS_BLOCKS, 262144, 500000, 12670, 15000,
 };
 
 static const char *const names[STRINGS] = {"card", "plan", "positions", "leads", "desk", "fetches", "draws", "scratch"};
@@ -285,13 +289,18 @@ static void after_call(void)
 #define PLANNED_SCRATCH (1u << PLAN | 1u << POSITIONS)
 #define PLANNED (PLANNED_SCRATCH | 1u << LEADS)
 
+/* The bytes of N entries, by the plan. */
+static size_t list_bytes(void)
+{
+    return (size_t)word(PLAN, FILMDISK_PLAN_BLOCKS) * FILMDISK_ENTRY_BYTES;
+}
+
 static filmdisk_answer plan_answer(filmdisk_answer answer, unsigned written)
 {
     after_call();
     if (answer.number == 0) {
-        size_t list_bytes = (size_t)word(PLAN, FILMDISK_PLAN_BLOCKS) * FILMDISK_ENTRY_BYTES;
-        check_kept(POSITIONS, list_bytes);
-        check_kept(LEADS, list_bytes);
+        check_kept(POSITIONS, filmdisk_visits(bytes_of(PLAN)) * list_bytes());
+        check_kept(LEADS, list_bytes());
         check_others_kept(written);
     } else if (answer.number == FILMDISK_REFUSED_TOO_SHORT) {
         check_others_kept(0);
@@ -323,6 +332,18 @@ filmdisk_answer host_plan_loop_scratch(void)
 {
     before_call(PLANNED_SCRATCH);
     return plan_answer(filmdisk_plan_loop_scratch(LENT(CARD), LENT(PLAN), LENT(POSITIONS), LENT(SCRATCH)), PLANNED_SCRATCH);
+}
+
+filmdisk_answer host_plan_pairs(void)
+{
+    before_call(PLANNED);
+    return plan_answer(filmdisk_plan_pairs(LENT(CARD), LENT(PLAN), LENT(POSITIONS), LENT(LEADS)), PLANNED);
+}
+
+filmdisk_answer host_plan_pairs_scratch(void)
+{
+    before_call(PLANNED_SCRATCH);
+    return plan_answer(filmdisk_plan_pairs_scratch(LENT(CARD), LENT(PLAN), LENT(POSITIONS), LENT(SCRATCH)), PLANNED_SCRATCH);
 }
 
 static filmdisk_answer open_answer(filmdisk_answer answer)
@@ -504,17 +525,16 @@ void expect_words(enum lent which, size_t first, const uint32_t *words, size_t c
               word(which, first + i));
 }
 
-/* The card, and noise in what either plan call writes; the lists are cut to N entries. */
+/* The card, and noise in what a plan call writes; the lists are cut to their entries. */
 static void plan_card(planner *plan, const uint32_t *numbers, size_t count)
 {
     lend_card(numbers, count);
     lend_noise(PLAN, FILMDISK_PLAN_BYTES);
-    lend_noise(POSITIONS, FILMDISK_MAX_BLOCKS * FILMDISK_ENTRY_BYTES);
+    lend_noise(POSITIONS, FILMDISK_PAIR_VISITS * FILMDISK_MAX_BLOCKS * FILMDISK_ENTRY_BYTES);
     expect(plan(), 0, 0);
-    size_t list_bytes = (size_t)word(PLAN, FILMDISK_PLAN_BLOCKS) * FILMDISK_ENTRY_BYTES;
-    resize(POSITIONS, list_bytes);
-    if (length_of(LEADS) > list_bytes)
-        resize(LEADS, list_bytes);
+    resize(POSITIONS, filmdisk_visits(bytes_of(PLAN)) * list_bytes());
+    if (length_of(LEADS) > list_bytes())
+        resize(LEADS, list_bytes());
 }
 
 /* What either opening and the sweeps write and read. */
@@ -522,7 +542,7 @@ static void lend_sweep(void)
 {
     size_t streams = word(PLAN, FILMDISK_PLAN_STREAMS);
     lend_noise(DESK, FILMDISK_DESK_BYTES);
-    lend_noise(FETCHES, streams * FILMDISK_FETCH_BYTES);
+    lend_noise(FETCHES, filmdisk_visits(bytes_of(PLAN)) * streams * FILMDISK_FETCH_BYTES);
     lend_noise(DRAWS, streams * FILMDISK_ENTRY_BYTES);
     memset(bytes_of(DRAWS), 0, length_of(DRAWS));
 }

@@ -59,6 +59,7 @@ size_t offset_of(const uint32_t *numbers, size_t index);
 /* The library's calls over the strings. */
 filmdisk_answer host_plan(void);
 filmdisk_answer host_plan_loop(void);
+filmdisk_answer host_plan_pairs(void);
 filmdisk_answer host_open(void);
 filmdisk_answer host_join(uint32_t slot, uint32_t block);
 filmdisk_answer host_leave(uint32_t slot);
@@ -69,6 +70,7 @@ filmdisk_window_answer host_window(uint32_t blocks);
 /* The same with the scratch in place of the leads. No call may touch a byte of it. */
 filmdisk_answer host_plan_scratch(void);
 filmdisk_answer host_plan_loop_scratch(void);
+filmdisk_answer host_plan_pairs_scratch(void);
 filmdisk_answer host_open_scratch(void);
 filmdisk_answer host_join_scratch(uint32_t slot, uint32_t block);
 filmdisk_answer host_leave_scratch(uint32_t slot);
@@ -97,7 +99,7 @@ void expect_places(const uint32_t *slots, const uint32_t *places, size_t count);
 void expect_begun(filmdisk_answer answer, uint32_t count, uint32_t bound);
 void expect_fetch(size_t entry, uint32_t position, uint32_t slot, uint32_t block);
 
-/* A planner call: for one showing, or for a loop. */
+/* A planner call: for one showing, for a loop, or for pairs. */
 typedef filmdisk_answer planner(void);
 
 /* Lends a card with noise in all that a plan call writes, plans it and opens a desk with room for its fetches and draws. */
@@ -122,5 +124,9 @@ uint32_t below(uint32_t end);
 #define BENCH_BLOCK_BYTES 15
 #define BENCH_HOP 17
 extern const uint32_t bench_film[BENCH_NUMBERS];
+
+/* The bench film with as many blocks as there are pairs of positions. */
+#define PAIRS_BLOCKS 3
+extern const uint32_t bench_pairs[BENCH_NUMBERS];
 
 #endif

@@ -292,6 +292,7 @@ static void no_block_after_the_last(void)
     expect(host_join(0, BLOCKS - 1), 0, 0);
 }
 
+/* 2 says pairs, which these records are not; the others say nothing. */
 static void third_words(void)
 {
     static const uint32_t words[] = {2, 3, 4, 256, 65536, 0x01000000, 0xFFFFFFFFu};

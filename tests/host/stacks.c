@@ -17,6 +17,11 @@ static void call_plan_loop(void)
     answer = filmdisk_plan_loop(LENT(CARD), LENT(PLAN), LENT(POSITIONS), LENT(LEADS));
 }
 
+static void call_plan_pairs(void)
+{
+    answer = filmdisk_plan_pairs(LENT(CARD), LENT(PLAN), LENT(POSITIONS), LENT(LEADS));
+}
+
 static void call_open(void)
 {
     answer = filmdisk_open(LENT(PLAN), LENT(POSITIONS), LENT(LEADS), LENT(DESK));
@@ -50,6 +55,11 @@ static void call_plan_scratch(void)
 static void call_plan_loop_scratch(void)
 {
     answer = filmdisk_plan_loop_scratch(LENT(CARD), LENT(PLAN), LENT(POSITIONS), LENT(SCRATCH));
+}
+
+static void call_plan_pairs_scratch(void)
+{
+    answer = filmdisk_plan_pairs_scratch(LENT(CARD), LENT(PLAN), LENT(POSITIONS), LENT(SCRATCH));
 }
 
 static void call_open_scratch(void)
@@ -96,12 +106,24 @@ static void expect_stack(void (*call)(void), size_t most)
     check(bytes <= most && bytes >= most / 2, "%zu bytes of stack; the header says at most %zu", bytes, most);
 }
 
-static planner *const planners[] = {host_plan, host_plan_loop};
+static planner *const planners[] = {host_plan, host_plan_loop, host_plan_pairs};
+static planner *const scratch_planners[] = {host_plan_scratch, host_plan_loop_scratch, host_plan_pairs_scratch};
+
+/* The bench film's numbers for a planner. */
+static const uint32_t *numbers_for(planner *plan)
+{
+    return plan == host_plan_pairs || plan == host_plan_pairs_scratch ? bench_pairs : bench_film;
+}
 
 /* Each call is made once before it is measured, so that memcpy and its like have been found by the loader. */
 static void open_bench(planner *plan)
 {
-    open_desk(plan, bench_film, BENCH_NUMBERS);
+    open_desk(plan, numbers_for(plan), BENCH_NUMBERS);
+}
+
+static void open_bench_scratch(planner *plan)
+{
+    open_desk_scratch(plan, numbers_for(plan), BENCH_NUMBERS);
 }
 
 static void stack_of_plan(void)
@@ -114,6 +136,12 @@ static void stack_of_plan_loop(void)
 {
     open_bench(host_plan_loop);
     expect_stack(call_plan_loop, FILMDISK_STACK_PLAN_LOOP);
+}
+
+static void stack_of_plan_pairs(void)
+{
+    open_bench(host_plan_pairs);
+    expect_stack(call_plan_pairs, FILMDISK_STACK_PLAN_PAIRS);
 }
 
 static void stack_of_open(void)
@@ -153,17 +181,18 @@ static void stack_of_begin_and_end(void)
 
 static void stack_of_plans_by_scratch(void)
 {
-    open_desk_scratch(host_plan_scratch, bench_film, BENCH_NUMBERS);
+    open_bench_scratch(host_plan_scratch);
     expect_stack(call_plan_scratch, FILMDISK_STACK_PLAN_SCRATCH);
-    open_desk_scratch(host_plan_loop_scratch, bench_film, BENCH_NUMBERS);
+    open_bench_scratch(host_plan_loop_scratch);
     expect_stack(call_plan_loop_scratch, FILMDISK_STACK_PLAN_LOOP_SCRATCH);
+    open_bench_scratch(host_plan_pairs_scratch);
+    expect_stack(call_plan_pairs_scratch, FILMDISK_STACK_PLAN_PAIRS_SCRATCH);
 }
 
 static void stack_of_desk_calls_by_scratch(void)
 {
-    static planner *const scratch_planners[] = {host_plan_scratch, host_plan_loop_scratch};
     for (size_t i = 0; i < COUNT(scratch_planners); i++) {
-        open_desk_scratch(scratch_planners[i], bench_film, BENCH_NUMBERS);
+        open_bench_scratch(scratch_planners[i]);
         expect_stack(call_open_scratch, FILMDISK_STACK_OPEN_SCRATCH);
         expect(host_join_scratch(0, 0), 0, 0);
         expect(host_leave_scratch(0), 0, 0);
@@ -199,6 +228,7 @@ static void stack_of_draw_limit(void)
 static const test tests[] = {
     TEST(stack_of_plan),
     TEST(stack_of_plan_loop),
+    TEST(stack_of_plan_pairs),
     TEST(stack_of_open),
     TEST(stack_of_join_and_leave),
     TEST(stack_of_begin_and_end),

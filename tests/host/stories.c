@@ -4,6 +4,8 @@
  */
 #include "sweeps.h"
 
+#include <string.h>
+
 #define BENCH_BYTES 262144u
 
 /* A drive that its film fills. */
@@ -346,11 +348,63 @@ static void lobby_of_256_streams(void)
     check(fetched(0) >= 80, "slot 0: expected two rounds, got %u blocks", fetched(0));
 }
 
+/* Pairs. */
+
+/* One screen sees all half blocks of a film, from its first block on and from its last. */
+static void pairs_watched_to_their_end(void)
+{
+    for (enum draw draw = DRAW_ALL; draw <= DRAW_SOME; draw++) {
+        start_pairs_story(bench_pairs, BENCH_NUMBERS);
+        join_slot(7, 0);
+        join_slot(0, PAIRS_BLOCKS - 1);
+        sweep_to_the_end(draw, 2000);
+        check(fetched(7) == PAIRS_BLOCKS && drawn(7) == (uint64_t)PAIRS_BLOCKS * BENCH_BYTES, "3 blocks were seen: %u, %llu bytes",
+              fetched(7), (unsigned long long)drawn(7));
+        check(fetched(0) == 1, "the last block was seen: %u", fetched(0));
+    }
+}
+
+/* Half a drive of half blocks: screens come one after another a few blocks before the end. */
+static void end_of_a_long_film_of_pairs(void)
+{
+    uint32_t half[COUNT(drive)];
+    memcpy(half, drive, sizeof half);
+    half[COUNT(drive) - 5] /= 2;
+    start_pairs_story(half, COUNT(half));
+    check(blocks() == 4435, "the film fills the drive but for a position: %u blocks", blocks());
+    for (uint32_t slot = 0; slot < streams(); slot++) {
+        join_slot(slot, blocks() - 4 - slot % 7);
+        sweep(DRAW_ALL);
+    }
+    sweep_to_the_end(DRAW_ALL, 3000);
+}
+
+/* The greatest house of pairs, always full, for some hundred sweeps: whoever asks is granted at the next begin. */
+static void house_of_128_streams_of_pairs(void)
+{
+    static const uint32_t house_of_pairs[] = {1, 2, 20, 3000, 20, 2000, 20, 1768000, 1000000, 500, 1000000};
+    start_pairs_story(house_of_pairs, COUNT(house_of_pairs));
+    check(streams() == 128, "%u streams", streams());
+    for (unsigned i = 0; i < 300; i++) {
+        for (uint32_t some = below(9); some > 0; some--) {
+            uint32_t slot = below(128);
+            if (kind(slot) != FILMDISK_FREE)
+                leave_slot(slot);
+        }
+        for (uint32_t k = 0, first = below(128); k < 128; k++)
+            if (kind((first + k) % 128) == FILMDISK_FREE)
+                join_slot((first + k) % 128, below(20));
+        sweep(i % 8 == 7 ? DRAW_SOME : DRAW_ALL);
+        check(waiting() == 0, "%u slots wait on", waiting());
+    }
+}
+
 static const test tests[] = {
     TEST(film_watched_to_its_end), TEST(end_of_a_long_film),      TEST(leaves_in_mid_film),
     TEST(full_buffers_without_fetch), TEST(film_ends_while_filling), TEST(house_of_256_streams),
     TEST(a_request_waits_one_sweep), TEST(the_eldest_leaves), TEST(lower_slots_come_and_go), TEST(zapping),
     TEST(three_times_round), TEST(a_lobby), TEST(short_loops), TEST(round_a_long_film), TEST(lobby_of_256_streams),
+    TEST(pairs_watched_to_their_end), TEST(end_of_a_long_film_of_pairs), TEST(house_of_128_streams_of_pairs),
 };
 
 int main(int argc, char **argv)

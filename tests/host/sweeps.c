@@ -82,6 +82,11 @@ void start_loop_story(const uint32_t *numbers, size_t count)
     start(host_plan_loop, numbers, count);
 }
 
+void start_pairs_story(const uint32_t *numbers, size_t count)
+{
+    start(host_plan_pairs, numbers, count);
+}
+
 /* The line. */
 
 static void stand_in_line(uint32_t slot)
@@ -235,7 +240,13 @@ static uint32_t time_at(uint32_t position)
     return figure(FILMDISK_PLAN_TIMES + zone);
 }
 
-/* Marks the slots that a block is fetched for; answers their count and the bound. */
+/* Visits of the disk for a block. */
+static uint32_t visits(void)
+{
+    return filmdisk_visits(bytes_of(PLAN));
+}
+
+/* Marks the slots that a block is fetched for; answers how many entries they have and the bound. */
 static filmdisk_answer foresee_fetches(void)
 {
     filmdisk_answer foreseen = {.bound = 0};
@@ -244,8 +255,8 @@ static filmdisk_answer foresee_fetches(void)
         is_fetched[slot] = wants && held(slot) + figure(FILMDISK_PLAN_BLOCK_BYTES) <= figure(FILMDISK_PLAN_BUFFER);
         if (!is_fetched[slot])
             continue;
-        foreseen.count++;
-        foreseen.bound += time_at(word(POSITIONS, next(slot)));
+        for (uint32_t visit = 0; visit < visits(); visit++, foreseen.count++)
+            foreseen.bound += time_at(word(POSITIONS, visits() * next(slot) + visit));
     }
     foreseen.bound += figure(FILMDISK_PLAN_TABLE + foreseen.count);
     return foreseen;
@@ -261,7 +272,8 @@ static void check_entries(uint32_t count)
         check(i == 0 || order > last, "entry %u rises", i);
         last = order;
         int is_its = got.slot < streams() && is_fetched[got.slot] && got.block == next(got.slot) &&
-                     got.position == word(POSITIONS, got.block);
+                     (got.position == word(POSITIONS, visits() * got.block) ||
+                      got.position == word(POSITIONS, visits() * got.block + visits() - 1));
         check(is_its, "entry %u is a fetch by the rules: position %u, slot %u, block %u", i, got.position, got.slot, got.block);
     }
 }

@@ -10,15 +10,16 @@
 /* How the slots that may draw do so. */
 enum draw { DRAW_NOTHING, DRAW_ALL, DRAW_SOME };
 
-/* Opens a desk of a card, with an empty book; for one showing, or for a loop. */
+/* Opens a desk of a card, with an empty book; for one showing, for a loop, or for pairs. */
 void start_story(const uint32_t *numbers, size_t count);
 void start_loop_story(const uint32_t *numbers, size_t count);
+void start_pairs_story(const uint32_t *numbers, size_t count);
 
 /* A join or leave that is accepted; it changes its slot alone, and a leave of one that asks the places behind it. */
 void join_slot(uint32_t slot, uint32_t block);
 void leave_slot(uint32_t slot);
 
-/* A begin and an end. Answers how many blocks were fetched. */
+/* A begin and an end. Answers how many fetch entries there were. */
 uint32_t sweep(enum draw draw);
 
 /* Sweeps until all slots are free, at most `most`. Answers how many. */

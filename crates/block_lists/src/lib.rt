@@ -1,4 +1,5 @@
-// The two lent lists: the positions and the leads of the film's blocks, in either showing.
+// The two lent lists: the positions and the leads of the film's blocks. Half blocks are written and compared as one
+// showing of twice as many, and their leads, which are 0, by the walk of one showing.
 use numbers::showings::LOOP;
 use positions::position_of;
 use streams::lead;
@@ -18,7 +19,7 @@ ghost use Rattle.placement.specs.Circle.{ring};
 ghost use Rattle.placement.specs.Showing.{laying};
 ghost use Rattle.words.specs.Words.{wordsOf, withWords};
 ghost use Rattle.walk.specs.Walk.{sideOf};
-ghost use Rattle.plan.specs.Plan.{showingOf, row};
+ghost use Rattle.plan.specs.Plan.{walkOf, row};
 ghost use Rattle.plan.specs.Answer.{begins};
 ghost use Rattle.plan.specs.Disk.{OnDisk, leadAt};
 ghost use Rattle.block_lists.specs.Runs.{Within, written, has};
@@ -59,7 +60,7 @@ fn put_ring(list: &mut [u8], total: u32, blocks: u32)
 // Writes the first `blocks` positions; `total` is P.
 pub fn write_positions(showing: u32, total: u32, blocks: u32, positions: &mut [u8])
     requires { ⌜ (0 < blocks) × (blocks ≤ total) × (total ≤ maxPositions) × (blocks ≤ length (wordsOf (now positions))) ⌝ }
-    ensures { λ _. ⌜ now (positions .exit) ≡ withWords (now (positions .entry)) 0 (row (laying (showingOf showing) total blocks) 0 blocks) ⌝ }
+    ensures { λ _. ⌜ now (positions .exit) ≡ withWords (now (positions .entry)) 0 (row (laying (walkOf showing) total blocks) 0 blocks) ⌝ }
 {
     if showing == LOOP {
         put_ring(positions, total, blocks);
@@ -97,7 +98,7 @@ pub fn write_leads<'a>(
 )
     requires { ⌜ (OnDisk (now sizes) (now times) total blocks) × (blocks ≤ length (wordsOf (now leads))) ⌝ }
     ensures { λ _. ⌜ now (leads .exit) ≡ withWords (now (leads .entry)) 0
-        (row (leadAt (now (sizes .entry)) (now (times .entry)) (laying (showingOf showing) total blocks) worst2) 0 blocks) ⌝ }
+        (row (leadAt (now (sizes .entry)) (now (times .entry)) (laying (walkOf showing) total blocks) worst2) 0 blocks) ⌝ }
 {
     let mut walk = set_out(sizes);
     let mut b: u32 = 0;
@@ -157,7 +158,7 @@ fn same_ring(list: &[u8], total: u32, blocks: u32) -> bool
 // The list begins with the `blocks` positions of the film; `total` is P.
 pub fn same_positions(showing: u32, total: u32, blocks: u32, positions: &[u8]) -> bool
     requires { ⌜ (0 < blocks) × (blocks ≤ total) × (total ≤ maxPositions) ⌝ }
-    ensures { λ r. ⌜ r ≡ begins (row (laying (showingOf showing) total blocks) 0 blocks) (wordsOf (now (positions .entry))) ⌝ }
+    ensures { λ r. ⌜ r ≡ begins (row (laying (walkOf showing) total blocks) 0 blocks) (wordsOf (now (positions .entry))) ⌝ }
 {
     if entries(positions) < blocks as usize {
         return false;
@@ -201,7 +202,7 @@ pub fn same_leads<'a>(
     leads: &[u8],
 ) -> bool
     requires { ⌜ OnDisk (now sizes) (now times) total blocks ⌝ }
-    ensures { λ r. ⌜ r ≡ begins (row (leadAt (now (sizes .entry)) (now (times .entry)) (laying (showingOf showing) total blocks) worst2) 0 blocks)
+    ensures { λ r. ⌜ r ≡ begins (row (leadAt (now (sizes .entry)) (now (times .entry)) (laying (walkOf showing) total blocks) worst2) 0 blocks)
         (wordsOf (now (leads .entry))) ⌝ }
 {
     if entries(leads) < blocks as usize {

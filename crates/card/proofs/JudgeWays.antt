@@ -20,31 +20,31 @@ use Rattle.card_field.specs.RangeLaws.{first-stops, first-goes}
 
 -- ---- the zones
 
-module _ (f : Figures) (i total before : ℕ) where
-  pub zones-done : (left : ℕ) → left ≤ 0 → filmFault f total ≡ zoneFaults left i f total before
+module _ (k : ℕ) (f : Figures) (i total before : ℕ) where
+  pub zones-done : (left : ℕ) → left ≤ 0 → filmFault k f total ≡ zoneFaults k left i f total before
   unfolding zoneFaults
   zones-done zero h = refl
   zones-done (suc left) h = absurd (omega arith)
 
-  pub zones-few : (left : ℕ) → 0 < left → {k : ℕ} → k ≡ faultOf Positions total (getD (f .positions) i 0) → (k ≡ 0 → ⊥) → k ≡ zoneFaults left i f total before
+  pub zones-few : (left : ℕ) → 0 < left → {l : ℕ} → l ≡ faultOf Positions total (getD (f .positions) i 0) → (l ≡ 0 → ⊥) → l ≡ zoneFaults k left i f total before
   unfolding zoneFaults
   zones-few zero p e n = absurd (omega arith)
   zones-few (suc left) p e n = first-stops e _ n
 
-  pub zones-slow : (left : ℕ) → 0 < left → {j k : ℕ} → j ≡ faultOf Positions total (getD (f .positions) i 0) → j ≡ 0
-      → k ≡ timeFault (getD (f .times) 0 0) before (getD (f .times) i 0) → (k ≡ 0 → ⊥) → k ≡ zoneFaults left i f total before
+  pub zones-slow : (left : ℕ) → 0 < left → {j l : ℕ} → j ≡ faultOf Positions total (getD (f .positions) i 0) → j ≡ 0
+      → l ≡ timeFault (getD (f .times) 0 0) before (getD (f .times) i 0) → (l ≡ 0 → ⊥) → l ≡ zoneFaults k left i f total before
   unfolding zoneFaults
   zones-slow zero p d z e n = absurd (omega arith)
   zones-slow (suc left) p d z e n = first-stops e _ n ∙ first-goes d _ z
 
-  pub zones-more : (left k : ℕ) → left ≡ k + 1 → {j l : ℕ} → j ≡ faultOf Positions total (getD (f .positions) i 0) → j ≡ 0
+  pub zones-more : (left fewer : ℕ) → left ≡ fewer + 1 → {j l : ℕ} → j ≡ faultOf Positions total (getD (f .positions) i 0) → j ≡ 0
       → l ≡ timeFault (getD (f .times) 0 0) before (getD (f .times) i 0) → l ≡ 0
-      → zoneFaults k (i + 1) f (total + getD (f .positions) i 0) (getD (f .times) i 0) ≡ zoneFaults left i f total before
+      → zoneFaults k fewer (i + 1) f (total + getD (f .positions) i 0) (getD (f .times) i 0) ≡ zoneFaults k left i f total before
   unfolding zoneFaults
-  zones-more zero k h d z e y = absurd (omega arith)
-  zones-more (suc left) k h d z e y =
-      let q : k ≡ left = omega arith in
-      ap (λ (x : ℕ). zoneFaults x (i + 1) f (total + getD (f .positions) i 0) (getD (f .times) i 0)) q ∙ first-goes e _ y ∙ first-goes d _ z
+  zones-more zero fewer h d z e y = absurd (omega arith)
+  zones-more (suc left) fewer h d z e y =
+      let q : fewer ≡ left = omega arith in
+      ap (λ (x : ℕ). zoneFaults k x (i + 1) f (total + getD (f .positions) i 0) (getD (f .times) i 0)) q ∙ first-goes e _ y ∙ first-goes d _ z
 
 -- ---- the unused zones
 

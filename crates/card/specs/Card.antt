@@ -25,7 +25,8 @@ use Rattle.card_table.specs.Table.{Straight, Measured, tableFault, tableNumbers
 unfoldable pub totalPositions : Figures → ℕ
 totalPositions f = sumBy (λ (p : ℕ). p) (take (f .zones) (f .positions))
 
-pub record Legal (f : Figures) : Type 0 where
+-- legal figures, of which each block takes k positions: 1, or 2 for half blocks (document 02, ticket 11)
+pub record Legal (k : ℕ) (f : Figures) : Type 0 where
   -- the entries of a record
   pub wide : (length (f .positions) ≡ maxZones) × (length (f .times) ≡ maxZones) × (length (f .table) ≡ tableLength)
   pub kind : (f .kind ≡ straightKind) ⊎ (f .kind ≡ measuredKind)
@@ -39,33 +40,33 @@ pub record Legal (f : Figures) : Type 0 where
   -- times three, never below the first zone
   pub thrice : (i : ℕ) → i < f .zones → getD (f .times) 0 0 ≤ timesAsFast * getD (f .times) i 0
   pub blocks : (minBlocks ≤ f .blocks) × (f .blocks ≤ maxBlocks)
-  pub room : f .blocks ≤ totalPositions f
+  pub room : k * f .blocks ≤ totalPositions f
   pub bytes : (1 ≤ f .bytes) × (f .bytes ≤ maxBytes)
   pub rate : (1 ≤ f .rate) × (f .rate ≤ maxRate)
   pub straight : f .kind ≡ straightKind → Straight (f .table)
   pub measured : f .kind ≡ measuredKind → Measured (f .table)
 
--- ---- the judge of a record: 3 to 10 in the card's order, 26 right after 7, 25 in place of hop and return
+-- ---- the judge of a record: 3 to 10 in the card's order, 26 right after 7, 25 in place of hop and return, 28 in place of 9 for half blocks
 
--- the film's figures: N, B, c, then the table; total is P
-unfoldable pub filmFault : Figures → ℕ → ℕ
-filmFault f total =
-    first (blocksFault total (f .blocks))
+-- the film's figures: N, of which each block takes k positions, B, c, then the table; total is P
+unfoldable pub filmFault : ℕ → Figures → ℕ → ℕ
+filmFault k f total =
+    first (blocksFault k total (f .blocks))
     (first (faultOf Measure maxBytes (f .bytes))
     (first (faultOf Measure maxRate (f .rate)) (tableFault (f .kind) (f .table))))
 
 -- `left` more zones from the i-th on; total is the positions so far, before the time of the zone before
-unfoldable pub zoneFaults : ℕ → ℕ → Figures → ℕ → ℕ → ℕ
-zoneFaults zero i f total before = filmFault f total
-zoneFaults (suc left) i f total before =
+unfoldable pub zoneFaults : ℕ → ℕ → ℕ → Figures → ℕ → ℕ → ℕ
+zoneFaults k zero i f total before = filmFault k f total
+zoneFaults k (suc left) i f total before =
     first (faultOf Positions total (getD (f .positions) i 0))
     (first (timeFault (getD (f .times) 0 0) before (getD (f .times) i 0))
-    (zoneFaults left (i + 1) f (total + getD (f .positions) i 0) (getD (f .times) i 0)))
+    (zoneFaults k left (i + 1) f (total + getD (f .positions) i 0) (getD (f .times) i 0)))
 
 -- the fault of figures whose zones are judged: that of a zone, or of the film, given P
-unfoldable pub faultWith : Figures → Judged → ℕ
-faultWith f (Refused k) = k
-faultWith f (Total total) = filmFault f total
+unfoldable pub faultWith : ℕ → Figures → Judged → ℕ
+faultWith k f (Refused number) = number
+faultWith k f (Total total) = filmFault k f total
 
 -- positions and times are zero from the i-th on
 unfoldable pub zerosFrom : ℕ → List ℕ → List ℕ → Bool
@@ -76,15 +77,15 @@ unfoldable pub unusedZero : Figures → Bool
 unusedZero f = zerosFrom (f .zones) (f .positions) (f .times)
 
 -- the refusal of a record, 0 where it is legal
-unfoldable pub recordFault : Figures → ℕ
-recordFault f =
+unfoldable pub recordFault : ℕ → Figures → ℕ
+recordFault k f =
     first (faultOf Kind 0 (f .kind))
     (first (faultOf Zones 0 (f .zones))
-    (first (cond (unusedZero f) 0 wrongZones) (zoneFaults (f .zones) 0 f 0 maxTime)))
+    (first (cond (unusedZero f) 0 wrongZones) (zoneFaults k (f .zones) 0 f 0 maxTime)))
 
 -- records answer with offset 0
-unfoldable pub judgeRecord : Figures → Verdict
-judgeRecord f = record { number = recordFault f; place = 0 }
+unfoldable pub judgeRecord : ℕ → Figures → Verdict
+judgeRecord k f = record { number = recordFault k f; place = 0 }
 
 -- ---- the card of figures
 
@@ -110,10 +111,10 @@ bytesOf (v ∷ vs) = groups v ++ bytesOf vs
 unfoldable pub cardOf : Figures → List ℕ
 cardOf f = bytesOf (numbersOf f)
 
--- ---- the writer (K9)
+-- ---- the writer (K9): of cards whose blocks take one position each
 
 unfoldable pub writeFault : Figures → ℕ → ℕ
-writeFault f room = first (recordFault f) (cond (leb (length (cardOf f)) room) 0 tooShort)
+writeFault f room = first (recordFault 1 f) (cond (leb (length (cardOf f)) room) 0 tooShort)
 
 -- a refusal answers offset 0 and length 0
 abbrev pub notWritten : ℕ → CardWritten

@@ -82,10 +82,10 @@ entriesFrom s at go = rowFrom (faultOf Overhead) lastEntry tableLength s at 0 0 
 unfoldable pub tableFrom : ℕ → List ℕ → ℕ → (List ℕ → ℕ → CardRead) → CardRead
 tableFrom kind s at go = cond (eqb kind straightKind) (movesFrom s at go) (entriesFrom s at go)
 
--- the film's figures: N, B, c; total is P
-unfoldable pub filmFrom : List ℕ → ℕ → ℕ → (ℕ → ℕ → ℕ → ℕ → CardRead) → CardRead
-filmFrom s at total go =
-    thenField (fieldAt (blocksFault total) s at) (λ n at₁.
+-- the film's figures: N, of which each block takes k positions, B, c; total is P
+unfoldable pub filmFrom : ℕ → List ℕ → ℕ → ℕ → (ℕ → ℕ → ℕ → ℕ → CardRead) → CardRead
+filmFrom k s at total go =
+    thenField (fieldAt (blocksFault k total) s at) (λ n at₁.
     thenField (fieldAt (faultOf Measure maxBytes) s at₁) (λ b at₂.
     thenField (fieldAt (faultOf Measure maxRate) s at₂) (λ c at₃.
     go n b c at₃)))
@@ -102,15 +102,15 @@ zonesFrom (suc left) s at i ps ts total before go =
 -- ---- the card (K3): kind, zones, each zone, the film, the overheads, and no byte more
 
 -- after the zones; total is P
-abbrev pub afterZones : List ℕ → ℕ → ℕ → List ℕ → List ℕ → ℕ → ℕ → CardRead
-afterZones s kind z ps ts total at =
-    filmFrom s at total (λ n b c at₁.
+abbrev pub afterZones : ℕ → List ℕ → ℕ → ℕ → List ℕ → List ℕ → ℕ → ℕ → CardRead
+afterZones k s kind z ps ts total at =
+    filmFrom k s at total (λ n b c at₁.
     tableFrom kind s at₁ (λ os at₂.
     cardEnd s at₂ (figuresFrom (record { kind = kind; zones = z; blocks = n; bytes = b; rate = c }) ps ts os)))
 
--- the first zone's time is bounded by the greatest time alone
-unfoldable pub readCard : List ℕ → CardRead
-readCard s =
+-- each block takes k positions; the first zone's time is bounded by the greatest time alone
+unfoldable pub readCard : ℕ → List ℕ → CardRead
+readCard k s =
     thenField (fieldAt (faultOf Kind 0) s 0) (λ kind at₁.
     thenField (fieldAt (faultOf Zones 0) s at₁) (λ z at₂.
-    zonesFrom z s at₂ 0 blankZones blankZones 0 maxTime (afterZones s kind z)))
+    zonesFrom z s at₂ 0 blankZones blankZones 0 maxTime (afterZones k s kind z)))

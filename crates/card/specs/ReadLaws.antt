@@ -30,7 +30,7 @@ pub record Holds (P : CardRead → Type 0) (Q : ℕ → Type 0) : Type 0 where
   pub over : Q cardGoesOn
   pub rule : (u : Rule) (bound v : ℕ) → Q (faultOf u bound v)
   pub time : (innermost before v : ℕ) → Q (timeFault innermost before v)
-  pub blocks : (total v : ℕ) → Q (blocksFault total v)
+  pub blocks : (k total v : ℕ) → Q (blocksFault k total v)
 
 module _ (P : CardRead → Type 0) (Q : ℕ → Type 0) (h : Holds P Q) where
   -- a figure, and what follows it
@@ -82,18 +82,18 @@ module _ (P : CardRead → Type 0) (Q : ℕ → Type 0) (h : Holds P Q) where
       then-holds _ s at₁ _ (h .time (getD ts 0 0) before) (λ t at₂.
       zones-hold left s at₂ (i + 1) (set ps i p) (set ts i t) (total + p) t go q))
 
-  rest-holds : (s : List ℕ) (kind z : ℕ) (ps ts : List ℕ) (total at : ℕ) → P (afterZones s kind z ps ts total at)
+  rest-holds : (k : ℕ) (s : List ℕ) (kind z : ℕ) (ps ts : List ℕ) (total at : ℕ) → P (afterZones k s kind z ps ts total at)
   unfolding filmFrom
-  rest-holds s kind z ps ts total at =
-      then-holds _ s at _ (h .blocks total) (λ n at₁.
+  rest-holds k s kind z ps ts total at =
+      then-holds _ s at _ (h .blocks k total) (λ n at₁.
       then-holds _ s at₁ _ (h .rule Measure maxBytes) (λ b at₂.
       then-holds _ s at₂ _ (h .rule Measure maxRate) (λ c at₃.
       table-holds kind s at₃ _ (λ os at₄. end-holds s at₄ _))))
 
   -- IT HOLDS OF THE READER'S ANSWER
-  pub read-holds : (s : List ℕ) → P (readCard s)
+  pub read-holds : (k : ℕ) (s : List ℕ) → P (readCard k s)
   unfolding readCard
-  read-holds s =
+  read-holds k s =
       then-holds _ s 0 _ (h .rule Kind 0) (λ kind at₁.
       then-holds _ s at₁ _ (h .rule Zones 0) (λ z at₂.
-      zones-hold z s at₂ 0 blankZones blankZones 0 maxTime _ (rest-holds s kind z)))
+      zones-hold z s at₂ 0 blankZones blankZones 0 maxTime _ (rest-holds k s kind z)))

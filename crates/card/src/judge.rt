@@ -22,11 +22,11 @@ ghost use Rattle.card.specs.declared.Scalars.{Scalars};
 ghost use Rattle.card.specs.Card.{filmFault, zoneFaults, faultWith, zerosFrom, recordFault};
 ghost use Rattle.card.specs.Read.{figuresFrom};
 
-// N, B, c, then the overheads.
-fn fault_of_film(total: u32, figures: Scalars, table: &[u32; 257]) -> u32
-    ensures { λ r. ⌜ r ≡ filmFault (figuresFrom figures [] [] (now (table .entry))) total ⌝ }
+// N, of which each block takes so many positions, B, c, then the overheads.
+fn fault_of_film(visits: u32, total: u32, figures: Scalars, table: &[u32; 257]) -> u32
+    ensures { λ r. ⌜ r ≡ filmFault visits (figuresFrom figures [] [] (now (table .entry))) total ⌝ }
 {
-    let few = fault_of_blocks(total, figures.blocks);
+    let few = fault_of_blocks(visits, total, figures.blocks);
     if few != 0 {
         return few;
     }
@@ -50,8 +50,8 @@ pub enum Judged {
 // Each zone's positions, then its time.
 fn fault_of_zones<'a>(zones: u32, positions: &'a [u32; 64], times: &'a [u32; 64]) -> Judged
     requires { ⌜ zones ≤ maxZones ⌝ }
-    ensures { λ r. ⌜ ((x : Scalars) (os : List ℕ) → faultWith (figuresFrom x (now (positions .entry)) (now (times .entry)) os) r
-        ≡ zoneFaults zones 0 (figuresFrom x (now (positions .entry)) (now (times .entry)) os) 0 maxTime) ⌝ }
+    ensures { λ r. ⌜ ((k : ℕ) (x : Scalars) (os : List ℕ) → faultWith k (figuresFrom x (now (positions .entry)) (now (times .entry)) os) r
+        ≡ zoneFaults k zones 0 (figuresFrom x (now (positions .entry)) (now (times .entry)) os) 0 maxTime) ⌝ }
 {
     let innermost = times[0];
     let mut total: u32 = 0;
@@ -93,15 +93,16 @@ fn fault_of_unused<'a>(zones: u32, positions: &'a [u32; 64], times: &'a [u32; 64
     0
 }
 
-// The refusal of figures whose arrays are lent, 0 where they are legal.
+// The refusal of figures whose arrays are lent, 0 where they are legal; each block takes so many positions.
 pub fn fault_of_figures<'a>(
+    visits: u32,
     figures: Scalars,
     positions: &'a [u32; 64],
     times: &'a [u32; 64],
     table: &'a [u32; 257],
 ) -> u32
     requires { ⌜ (length (now positions) ≡ maxZones) × (length (now times) ≡ maxZones) × (length (now table) ≡ tableLength) ⌝ }
-    ensures { λ r. ⌜ r ≡ recordFault (figuresFrom figures (now (positions .entry)) (now (times .entry)) (now (table .entry))) ⌝ }
+    ensures { λ r. ⌜ r ≡ recordFault visits (figuresFrom figures (now (positions .entry)) (now (times .entry)) (now (table .entry))) ⌝ }
 {
     let kind = fault(Rule::Kind, 0, figures.kind);
     if kind != 0 {
@@ -118,15 +119,16 @@ pub fn fault_of_figures<'a>(
     let judged = fault_of_zones(figures.zones, positions, times);
     match judged {
         Judged::Refused(number) => number,
-        Judged::Total(total) => fault_of_film(total, figures, table),
+        Judged::Total(total) => fault_of_film(visits, total, figures, table),
     }
 }
 
 // The refusal of a record, 0 where it is legal.
-pub fn fault_of_record(figures: Figures) -> u32
-    ensures { λ r. ⌜ r ≡ recordFault figures ⌝ }
+pub fn fault_of_record(visits: u32, figures: Figures) -> u32
+    ensures { λ r. ⌜ r ≡ recordFault visits figures ⌝ }
 {
     fault_of_figures(
+        visits,
         Scalars {
             kind: figures.kind,
             zones: figures.zones,

@@ -52,10 +52,17 @@ pub struct CardWritten {
 
 // Judges a record of figures: refusals 3 to 10, 26 right after 7, and 25 for the overheads of kind 2, offset 0.
 pub fn judge_figures(figures: Figures) -> Verdict
-    ensures { λ r. ⌜ r ≡ judgeRecord figures ⌝ }
+    ensures { λ r. ⌜ r ≡ judgeRecord 1 figures ⌝ }
+{
+    judge_figures_of(figures, 1)
+}
+
+// Judges them for blocks of so many positions each, 2 for half blocks: 28 in place of 9.
+pub fn judge_figures_of(figures: Figures, visits: u32) -> Verdict
+    ensures { λ r. ⌜ r ≡ judgeRecord visits figures ⌝ }
 {
     Verdict {
-        number: judge::fault_of_record(figures),
+        number: judge::fault_of_record(visits, figures),
         place: 0,
     }
 }

@@ -10,11 +10,11 @@ use Rattle.leb128.specs.declared.Number.the-variants as number
 use Rattle.leb128.specs.Number.{numberAt}
 use mathlib.Core.List.{List}
 use Rattle.numbers.specs.Limits.{maxTime, timesAsFast}
-use Rattle.numbers.specs.Refusals.{wrongTime, risingTime, halfDeadTime}
+use Rattle.numbers.specs.Refusals.{wrongTime, risingTime, halfDeadTime, blocksAbovePositions, halvesAbovePositions}
 use Rattle.card_field.specs.declared.Rule.{Rule}
 use Rattle.card_field.specs.declared.Field.{Field}
 use Rattle.card_field.specs.declared.Field.the-variants.{Value, Refused}
-use Rattle.card_field.specs.Ranges.{first, below, above, outside, thenAbove, thenBelow, faultOf, timeFault}
+use Rattle.card_field.specs.Ranges.{first, below, above, outside, thenAbove, thenBelow, faultOf, timeFault, roomFault}
 use Rattle.card_field.specs.RangeLaws.{first-stops}
 use Rattle.card_field.specs.Figure.{valueIn, onFault, onNumber, fieldAt}
 
@@ -84,6 +84,15 @@ module _ (innermost before v : ℕ) {k : ℕ} (judged : k ≡ outside 1 maxTime 
   pub time-good : k ≡ 0 → v ≤ before → innermost ≤ timesAsFast * v → 0 ≡ timeFault innermost before v
   unfolding timeFault thenBelow thenAbove below above first
   time-good z h l = rw (sym judged ∙ z, le-leb v before h, le-leb innermost (timesAsFast * v) l)
+
+-- no room: 9 where a block takes one position, else 28
+pub room-of-blocks : (k : ℕ) → k ≤ 1 → blocksAbovePositions ≡ roomFault k
+unfolding roomFault
+room-of-blocks k h = rw (le-leb k 1 h)
+
+pub room-of-halves : (k : ℕ) → 1 < k → halvesAbovePositions ≡ roomFault k
+unfolding roomFault
+room-of-halves k h = rw (lt-leb k 1 h)
 
 -- the same rule, the same refusal
 pub by-rule : (b v : ℕ) {r r′ : Rule} → r ≡ r′ → faultOf r′ b v ≡ faultOf r b v

@@ -10,9 +10,9 @@ use lib.Dec.{leb}
 use borrow.Author.Tests.{leb-true, le-leb}
 use Rattle.numbers.specs.Limits.{straightKind, measuredKind, maxNumber, maxZones, maxPositions, maxTime, timesAsFast, minBlocks, maxBlocks, maxOverhead}
 use Rattle.numbers.specs.Refusals.{wrongKind, wrongZones, wrongPositions, wrongTime, risingTime}
-use Rattle.numbers.specs.Refusals.{wrongBlocks, blocksAbovePositions, wrongMeasure, wrongOverhead, halfDeadTime}
+use Rattle.numbers.specs.Refusals.{wrongBlocks, blocksAbovePositions, wrongMeasure, wrongOverhead, halfDeadTime, halvesAbovePositions}
 use Rattle.card_field.specs.declared.Rule.the-variants.{Kind, Zones, Positions, Measure, Overhead}
-use Rattle.card_field.specs.Ranges.{first, below, above, outside, thenAbove, thenBelow, faultOf, timeFault, blocksFault}
+use Rattle.card_field.specs.Ranges.{first, below, above, outside, thenAbove, thenBelow, faultOf, timeFault, roomFault, blocksFault}
 
 -- no fault of two is no fault of either
 pub first-none : (j k : ℕ) → first j k ≡ 0 → (j ≡ 0) × (k ≡ 0)
@@ -72,6 +72,23 @@ pub range-outside : (least most k v : ℕ) → least ≤ v → v ≤ most → ou
 unfolding outside
 range-outside least most k v l h = first-clear (range-below least k v l) (range-above most k v h)
 
+-- no room is a fault, however many positions a block takes; 9 for one, 28 for two
+pub room-some : (k : ℕ) → 0 < roomFault k
+unfolding roomFault
+room-some k = go (leb k 1)
+  where
+    go : (t : Bool) → 0 < cond t blocksAbovePositions halvesAbovePositions
+    go true = omega arith
+    go false = omega arith
+
+pub room-whole : roomFault 1 ≡ blocksAbovePositions
+unfolding roomFault
+room-whole = refl
+
+pub room-halves : roomFault 2 ≡ halvesAbovePositions
+unfolding roomFault
+room-halves = refl
+
 module _ (bound v : ℕ) where
   pub kind-range : faultOf Kind bound v ≡ 0 → (v ≡ straightKind) ⊎ (v ≡ measuredKind)
   unfolding faultOf
@@ -97,12 +114,12 @@ module _ (bound v : ℕ) where
       let r = outside-range 1 maxTime wrongTime v (omega arith) (h .0) in
       (r .0, r .1, above-range bound risingTime v (omega arith) (h .1), below-range innermost halfDeadTime (timesAsFast * v) (omega arith) (d .1))
 
-  pub blocks-range : blocksFault bound v ≡ 0 → (minBlocks ≤ v) × (v ≤ maxBlocks) × (v ≤ bound)
+  pub blocks-range : (k : ℕ) → blocksFault k bound v ≡ 0 → (minBlocks ≤ v) × (v ≤ maxBlocks) × (k * v ≤ bound)
   unfolding blocksFault thenAbove
-  blocks-range e =
-      let h = first-none (outside minBlocks maxBlocks wrongBlocks v) (above bound blocksAbovePositions v) e in
+  blocks-range k e =
+      let h = first-none (outside minBlocks maxBlocks wrongBlocks v) (above bound (roomFault k) (k * v)) e in
       let r = outside-range minBlocks maxBlocks wrongBlocks v (omega arith) (h .0) in
-      (r .0, r .1, above-range bound blocksAbovePositions v (omega arith) (h .1))
+      (r .0, r .1, above-range bound (roomFault k) (k * v) (room-some k) (h .1))
 
   pub measure-range : faultOf Measure bound v ≡ 0 → (1 ≤ v) × (v ≤ bound)
   unfolding faultOf
@@ -134,9 +151,9 @@ module _ (bound v : ℕ) where
       first-clear (first-clear (range-outside 1 maxTime wrongTime v l h) (range-above bound risingTime v b))
       (range-below innermost halfDeadTime (timesAsFast * v) a)
 
-  pub blocks-legal : minBlocks ≤ v → v ≤ maxBlocks → v ≤ bound → blocksFault bound v ≡ 0
+  pub blocks-legal : (k : ℕ) → minBlocks ≤ v → v ≤ maxBlocks → k * v ≤ bound → blocksFault k bound v ≡ 0
   unfolding blocksFault thenAbove
-  blocks-legal l h b = first-clear (range-outside minBlocks maxBlocks wrongBlocks v l h) (range-above bound blocksAbovePositions v b)
+  blocks-legal k l h b = first-clear (range-outside minBlocks maxBlocks wrongBlocks v l h) (range-above bound (roomFault k) (k * v) b)
 
   pub measure-legal : 1 ≤ v → v ≤ bound → faultOf Measure bound v ≡ 0
   unfolding faultOf

@@ -1,10 +1,10 @@
--- The ranges of a card's figures (K4), and the refusal of each (R3 to R10; 25, T3.7; 26, T8.3).
+-- The ranges of a card's figures (K4), and the refusal of each (R3 to R10; 25, T3.7; 26, T8.3; 28, T11).
 use Prim.Native.Nat.{ℕ, zero, suc, _+_, _*_}
 use mathlib.Core.Bool.{cond}
 use lib.Dec.{leb}
 use Rattle.numbers.specs.Limits.{straightKind, measuredKind, maxNumber, maxZones, maxPositions, maxTime, timesAsFast, minBlocks, maxBlocks, maxOverhead}
 use Rattle.numbers.specs.Refusals.{wrongKind, wrongZones, wrongPositions, wrongTime, risingTime}
-use Rattle.numbers.specs.Refusals.{wrongBlocks, blocksAbovePositions, wrongMeasure, wrongOverhead, halfDeadTime}
+use Rattle.numbers.specs.Refusals.{wrongBlocks, blocksAbovePositions, wrongMeasure, wrongOverhead, halfDeadTime, halvesAbovePositions}
 use Rattle.card_field.specs.declared.Rule.{Rule}
 use Rattle.card_field.specs.declared.Rule.the-variants.{Kind, Zones, Positions, Measure, Overhead}
 
@@ -43,6 +43,10 @@ faultOf Overhead before v = thenBelow (outside 1 maxOverhead wrongOverhead v) be
 unfoldable pub timeFault : ℕ → ℕ → ℕ → ℕ
 timeFault innermost before v = thenBelow (thenAbove (outside 1 maxTime wrongTime v) before risingTime v) innermost halfDeadTime (timesAsFast * v)
 
--- the refusal of N, 0 where it is legal: out of range, then above P
-unfoldable pub blocksFault : ℕ → ℕ → ℕ
-blocksFault total v = thenAbove (outside minBlocks maxBlocks wrongBlocks v) total blocksAbovePositions v
+-- the refusal of a film without room, each block on k positions: 9, for half blocks (k is 2) 28
+unfoldable pub roomFault : ℕ → ℕ
+roomFault k = cond (leb k 1) blocksAbovePositions halvesAbovePositions
+
+-- the refusal of N, 0 where it is legal: out of range, then k times N above P
+unfoldable pub blocksFault : ℕ → ℕ → ℕ → ℕ
+blocksFault k total v = thenAbove (outside minBlocks maxBlocks wrongBlocks v) total (roomFault k) (k * v)

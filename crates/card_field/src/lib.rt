@@ -13,6 +13,7 @@ use numbers::limits::TIMES_AS_FAST;
 use numbers::refusals::BLOCKS_ABOVE_POSITIONS;
 use numbers::refusals::CARD_ENDS;
 use numbers::refusals::HALF_DEAD_TIME;
+use numbers::refusals::HALVES_ABOVE_POSITIONS;
 use numbers::refusals::NUMBER_FORM;
 use numbers::refusals::RISING_TIME;
 use numbers::refusals::WRONG_BLOCKS;
@@ -24,7 +25,7 @@ use numbers::refusals::WRONG_TIME;
 use numbers::refusals::WRONG_ZONES;
 ghost use mathlib.Core.Path.{_≡_};
 ghost use Prim.Native.Nat.{ℕ};
-ghost use Rattle.card_field.specs.Ranges.{outside, thenAbove, thenBelow, faultOf, timeFault, blocksFault};
+ghost use Rattle.card_field.specs.Ranges.{outside, thenAbove, thenBelow, faultOf, timeFault, roomFault, blocksFault};
 ghost use Rattle.card_field.specs.Figure.{valueIn, fieldAt, onNumber, onFault};
 
 // Which figure is judged, and what its bound is.
@@ -105,16 +106,25 @@ pub fn fault_of_time(innermost: u32, before: u32, v: u32) -> u32
     0
 }
 
-// The refusal of N: its range, then all positions.
-pub fn fault_of_blocks(total: u32, v: u32) -> u32
-    ensures { λ r. ⌜ r ≡ blocksFault total v ⌝ }
+// The refusal of a film without room, of which each block takes so many positions: 9, for half blocks 28.
+fn room_fault(visits: u32) -> u32
+    ensures { λ r. ⌜ r ≡ roomFault visits ⌝ }
 {
-    then_above(
-        outside(MIN_BLOCKS, MAX_BLOCKS, WRONG_BLOCKS, v),
-        total as u64,
-        BLOCKS_ABOVE_POSITIONS,
-        v as u64,
-    )
+    if visits <= 1 {
+        return BLOCKS_ABOVE_POSITIONS;
+    }
+    HALVES_ABOVE_POSITIONS
+}
+
+// The refusal of N: its range, then all positions, of which each block takes so many.
+pub fn fault_of_blocks(visits: u32, total: u32, v: u32) -> u32
+    ensures { λ r. ⌜ r ≡ blocksFault visits total v ⌝ }
+{
+    let range = outside(MIN_BLOCKS, MAX_BLOCKS, WRONG_BLOCKS, v);
+    if range != 0 {
+        return range;
+    }
+    then_above(range, (total / v) as u64, room_fault(visits), visits as u64)
 }
 
 // The refusal of the value v of any other figure; 0 where it is in range.
@@ -189,10 +199,10 @@ pub fn read_time(card: &[u8], at: usize, innermost: u32, before: u32) -> Field
     field_of(fault_of_time(innermost, before, value_in(n)), at, n)
 }
 
-// N at an offset of a card.
-pub fn read_blocks(card: &[u8], at: usize, total: u32) -> Field
-    ensures { λ r. ⌜ r ≡ fieldAt (blocksFault total) (now (card .entry)) at ⌝ }
+// N at an offset of a card; each block takes so many positions.
+pub fn read_blocks(card: &[u8], at: usize, visits: u32, total: u32) -> Field
+    ensures { λ r. ⌜ r ≡ fieldAt (blocksFault visits total) (now (card .entry)) at ⌝ }
 {
     let n = leb128::read_number(card, at);
-    field_of(fault_of_blocks(total, value_in(n)), at, n)
+    field_of(fault_of_blocks(visits, total, value_in(n)), at, n)
 }

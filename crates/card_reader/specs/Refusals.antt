@@ -1,15 +1,15 @@
 -- The reader never answers 13: that is the number of lent strings.
 -- Assumes nothing.
-use Prim.Native.Nat.{ℕ, zero, suc, _+_}
+use Prim.Native.Nat.{ℕ, zero, suc, _+_, _*_}
 use mathlib.Core.Logic.{_≢_}
 use mathlib.Core.Bool.{Bool, true, false, cond}
 use mathlib.Core.List.{List}
 use native.Mathlib.Omega.{arith}
 use lib.Dec.{leb}
-use Rattle.numbers.specs.Refusals.{tooShort}
+use Rattle.numbers.specs.Refusals.{tooShort, blocksAbovePositions, halvesAbovePositions}
 use Rattle.card_field.specs.declared.Rule.{Rule}
 use Rattle.card_field.specs.declared.Rule.the-variants.{Kind, Zones, Positions, Measure, Overhead}
-use Rattle.card_field.specs.Ranges.{first, below, above, outside, thenAbove, thenBelow, faultOf, timeFault, blocksFault}
+use Rattle.card_field.specs.Ranges.{first, below, above, outside, thenAbove, thenBelow, faultOf, timeFault, roomFault, blocksFault}
 use Rattle.card.specs.Read.{refusedCard, readCard}
 use Rattle.card.specs.ReadLaws.{read-holds}
 
@@ -51,14 +51,22 @@ time-other : (innermost before v : ℕ) → Other (timeFault innermost before v)
 unfolding timeFault
 time-other innermost before v = below-other _ _ _ _ (above-other _ _ _ v (outside-other _ _ _ v (λ e. omega arith)) (λ e. omega arith)) (λ e. omega arith)
 
-blocks-other : (total v : ℕ) → Other (blocksFault total v)
+room-other : (k : ℕ) → Other (roomFault k)
+unfolding roomFault
+room-other k = by (leb k 1)
+  where
+    by : (t : Bool) → Other (cond t blocksAbovePositions halvesAbovePositions)
+    by true = λ e. omega arith
+    by false = λ e. omega arith
+
+blocks-other : (k total v : ℕ) → Other (blocksFault k total v)
 unfolding blocksFault
-blocks-other total v = above-other _ _ _ v (outside-other _ _ _ v (λ e. omega arith)) (λ e. omega arith)
+blocks-other k total v = above-other _ _ _ (k * v) (outside-other _ _ _ v (λ e. omega arith)) (room-other k)
 
 -- ---- the card
 
-pub read-other : (s : List ℕ) → readCard s .verdict .number ≢ tooShort
-read-other s = read-holds (λ r. Other (r .verdict .number)) Other (record {
+pub read-other : (k : ℕ) (s : List ℕ) → readCard k s .verdict .number ≢ tooShort
+read-other k s = read-holds (λ r. Other (r .verdict .number)) Other (record {
   accepts = λ f e. omega arith;
   refuses = λ k at o. unfold refusedCard in o;
   ends = λ e. omega arith;
@@ -67,4 +75,4 @@ read-other s = read-holds (λ r. Other (r .verdict .number)) Other (record {
   rule = rule-other;
   time = time-other;
   blocks = blocks-other;
-}) s
+}) k s

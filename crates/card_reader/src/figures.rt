@@ -27,19 +27,21 @@ pub fn refused_field(f: Field) -> Told
     }
 }
 
-// The film's figures, and the overheads into a table; after the last of these no byte is left over. Kind and zones are those of the card.
+// The film's figures, each block on so many positions, and the overheads into a table; after the last of these no byte is left over. Kind
+// and zones are those of the card.
 fn read_film(
     card: &[u8],
     at: usize,
+    visits: u32,
     total: u32,
     kind: u32,
     zones: u32,
     table: &mut [u32; 257],
 ) -> Told
     requires { ⌜ now table ≡ blankTable ⌝ }
-    ensures { λ r. ⌜ ((ps ts : List ℕ) → toldCard ps ts (now (table .exit)) r ≡ afterZones (now (card .entry)) kind zones ps ts total at) ⌝ }
+    ensures { λ r. ⌜ ((ps ts : List ℕ) → toldCard ps ts (now (table .exit)) r ≡ afterZones visits (now (card .entry)) kind zones ps ts total at) ⌝ }
 {
-    let first = read_blocks(card, at, total);
+    let first = read_blocks(card, at, visits, total);
     let Field::Value(blocks, at1) = first else {
         return refused_field(first);
     };
@@ -65,6 +67,7 @@ fn read_film(
 pub fn read_zones(
     card: &[u8],
     start: usize,
+    visits: u32,
     kind: u32,
     zones: u32,
     sizes: &mut [u32; 64],
@@ -73,7 +76,7 @@ pub fn read_zones(
 ) -> Told
     requires { ⌜ (zones ≤ maxZones) × (now table ≡ blankTable) ⌝ }
     ensures { λ r. ⌜ toldCard (now (sizes .exit)) (now (times .exit)) (now (table .exit)) r
-        ≡ zonesFrom zones (now (card .entry)) start 0 (now (sizes .entry)) (now (times .entry)) 0 maxTime (afterZones (now (card .entry)) kind zones) ⌝ }
+        ≡ zonesFrom zones (now (card .entry)) start 0 (now (sizes .entry)) (now (times .entry)) 0 maxTime (afterZones visits (now (card .entry)) kind zones) ⌝ }
 {
     let mut at = start;
     let mut total: u32 = 0;
@@ -96,5 +99,5 @@ pub fn read_zones(
         at = next;
         i += 1;
     }
-    read_film(card, at, total, kind, zones, table)
+    read_film(card, at, visits, total, kind, zones, table)
 }

@@ -19,16 +19,17 @@ pub enum Told {
     Refused(u32, usize),
 }
 
-// Reads a card into lent arrays that are all zero: refusals 1 to 11, 26 right after 7, and 25 for the overheads of kind 2. Refused, they
-// hold what was read before the fault.
+// Reads a card, of which each block takes so many positions, into lent arrays that are all zero: refusals 1 to 11, 26 right after 7, 25 for
+// the overheads of kind 2, and 28 in place of 9 for half blocks. Refused, they hold what was read before the fault.
 pub fn read_into(
     card: &[u8],
     sizes: &mut [u32; 64],
     times: &mut [u32; 64],
     table: &mut [u32; 257],
+    visits: u32,
 ) -> Told
     requires { ⌜ (now sizes ≡ blankZones) × (now times ≡ blankZones) × (now table ≡ blankTable) ⌝ }
-    ensures { λ r. ⌜ toldCard (now (sizes .exit)) (now (times .exit)) (now (table .exit)) r ≡ readCard (now (card .entry)) ⌝ }
+    ensures { λ r. ⌜ toldCard (now (sizes .exit)) (now (times .exit)) (now (table .exit)) r ≡ readCard visits (now (card .entry)) ⌝ }
 {
     let first = read_field(card, 0, Rule::Kind, 0);
     let Field::Value(kind, at) = first else {
@@ -38,7 +39,7 @@ pub fn read_into(
     let Field::Value(zones, next) = second else {
         return figures::refused_field(second);
     };
-    figures::read_zones(card, next, kind, zones, sizes, times, table)
+    figures::read_zones(card, next, visits, kind, zones, sizes, times, table)
 }
 
 // A refused card.
@@ -66,12 +67,19 @@ fn refused_card(number: u32, place: usize) -> CardRead
 
 // Reads a card.
 pub fn read_card(card: &[u8]) -> CardRead
-    ensures { λ r. ⌜ r ≡ readCard (now (card .entry)) ⌝ }
+    ensures { λ r. ⌜ r ≡ readCard 1 (now (card .entry)) ⌝ }
+{
+    read_card_of(card, 1)
+}
+
+// Reads a card of which each block takes so many positions: 2 for half blocks.
+pub fn read_card_of(card: &[u8], visits: u32) -> CardRead
+    ensures { λ r. ⌜ r ≡ readCard visits (now (card .entry)) ⌝ }
 {
     let mut sizes = [0u32; 64];
     let mut times = [0u32; 64];
     let mut table = [0u32; 257];
-    let told = read_into(card, &mut sizes, &mut times, &mut table);
+    let told = read_into(card, &mut sizes, &mut times, &mut table, visits);
     match told {
         Told::Refused(number, place) => refused_card(number, place),
         Told::Figures(kind, zones, blocks, bytes, rate) => CardRead {

@@ -157,17 +157,17 @@ card-counted f w z = omega (arith, bytes-short (f .kind ∷ f .zones ∷ zoneNum
 -- ---- the answer
 
 module _ (f : Figures) (out : List ℕ) where
-  pub write-faulty : {k : ℕ} → k ≡ recordFault f → (k ≡ 0 → ⊥) → (notWritten k ≡ writtenCard f out) × (out ≡ bufferAfter f out)
+  pub write-faulty : {k : ℕ} → k ≡ recordFault 1 f → (k ≡ 0 → ⊥) → (notWritten k ≡ writtenCard f out) × (out ≡ bufferAfter f out)
   unfolding writtenCard bufferAfter writeFault
   write-faulty {k} e n = by k e n
     where
-      by : (k : ℕ) → k ≡ recordFault f → (k ≡ 0 → ⊥)
-          → (notWritten k ≡ writtenBy (first (recordFault f) (cond (leb (length (cardOf f)) (length out)) 0 tooShort)) f)
-          × (out ≡ bufferBy (first (recordFault f) (cond (leb (length (cardOf f)) (length out)) 0 tooShort)) f out)
+      by : (k : ℕ) → k ≡ recordFault 1 f → (k ≡ 0 → ⊥)
+          → (notWritten k ≡ writtenBy (first (recordFault 1 f) (cond (leb (length (cardOf f)) (length out)) 0 tooShort)) f)
+          × (out ≡ bufferBy (first (recordFault 1 f) (cond (leb (length (cardOf f)) (length out)) 0 tooShort)) f out)
       by zero e n = absurd (n refl)
       by (suc k) e n = unfold first in (rw (sym e), rw (sym e))
 
-  module _ (legal : recordFault f ≡ 0) where
+  module _ (legal : recordFault 1 f ≡ 0) where
     pub write-short : length out < length (cardOf f) → (notWritten tooShort ≡ writtenCard f out) × (out ≡ bufferAfter f out)
     unfolding writtenCard bufferAfter writeFault first
     write-short h = (rw (legal, lt-leb _ _ h), rw (legal, lt-leb _ _ h))

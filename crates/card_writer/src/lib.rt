@@ -14,7 +14,7 @@ ghost use Rattle.card.specs.Card.{writtenCard, bufferAfter};
 pub fn write_card(figures: Figures, out: &mut [u8]) -> CardWritten
     ensures { λ r. ⌜ (r ≡ writtenCard figures (now (out .entry))) × (now (out .exit) ≡ bufferAfter figures (now (out .entry))) ⌝ }
 {
-    let number = fault_of_record(figures);
+    let number = fault_of_record(1, figures);
     if number != 0 {
         return writing::not_written(number);
     }

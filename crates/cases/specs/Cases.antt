@@ -1,11 +1,11 @@
 -- The rows of document 01's bench cases that are marked (p), each an equation that computes; document 02's one-zone case as a loop, with the
--- bench film as one; the bench film with measured overheads; and the number of document 02's small cards.
+-- bench film as one; the bench film with measured overheads; half blocks; and the number of document 02's small cards.
 use Prim.Native.Nat.{ℕ}
 use mathlib.Core.Path.{_≡_, refl}
 use mathlib.Core.List.{List, [], _∷_}
 use lib.ListN.{length}
 use Rattle.leb128.specs.Number.{groupsFrom, groups, continuing, joined, judged, numberIn, numberAt}
-use Rattle.card_field.specs.Ranges.{first, below, above, outside, thenAbove, thenBelow, faultOf, timeFault, blocksFault}
+use Rattle.card_field.specs.Ranges.{first, below, above, outside, thenAbove, thenBelow, faultOf, timeFault, roomFault, blocksFault}
 use Rattle.card_field.specs.Figure.{onFault, onNumber, fieldAt}
 use Rattle.card.specs.Read.{blankZones, blankTable, blankFigures, accepted, refusedCard, thenField, cardEnd, rowFrom, movesFrom, entriesFrom}
 use Rattle.card.specs.Read.{tableFrom, filmFrom, zonesFrom, readCard}
@@ -19,7 +19,8 @@ use Rattle.laws.specs.Greatest.{greatestOf, greatest, firstReaching, earliestOf
 use Rattle.words.specs.Words.{wordsOf}
 use Rattle.placement.specs.Placement.{zigzag, worstTime}
 use Rattle.placement.specs.Circle.{round, falls, rank, ring, worstRound}
-use Rattle.placement.specs.Showing.{Showing, one, loop, worstAt}
+use Rattle.placement.specs.Pairs.{worstMatch}
+use Rattle.placement.specs.Showing.{Showing, one, loop, pairs, worstAt}
 use Rattle.placement.specs.Zones.{timeAt}
 use Rattle.pacing.specs.Film.{row as run, span, lead}
 use Rattle.pacing.specs.Streams.{overhead, load, streams, bufferOf}
@@ -35,7 +36,11 @@ use Rattle.cases.specs.Bench.{entries, film, sixOnes, bench, alike, meas
 
 -- what a listing prints of a refused card: the number and the offset
 abbrev pub Refuses : List ℕ → ℕ → ℕ → Type 0
-Refuses s number offset = (readCard s .verdict .number ≡ number) × (readCard s .verdict .place ≡ offset)
+Refuses s number offset = (readCard 1 s .verdict .number ≡ number) × (readCard 1 s .verdict .place ≡ offset)
+
+-- the same of half blocks
+abbrev pub RefusesHalves : List ℕ → ℕ → ℕ → Type 0
+RefusesHalves s number offset = (readCard 2 s .verdict .number ≡ number) × (readCard 2 s .verdict .place ≡ offset)
 
 -- the plan of figures in a showing: streams, buffer, worst2, worstat (T2.3) and margin
 abbrev pub Plans : Showing → Figures → ℕ → ℕ → ℕ → ℕ → ℕ → Type 0
@@ -60,14 +65,14 @@ two = 0 ∷ 0 ∷ 0 ∷ 0 ∷ 0 ∷ 0 ∷ 0 ∷ 0 ∷ []
 
 -- the number that the planner answers to the card of a film of two blocks
 abbrev pub answered : Figures → ℕ
-answered f = planned one (readCard (cardOf f)) two two .verdict .number
+answered f = planned one (readCard 1 (cardOf f)) two two .verdict .number
 
 pub record Cases : Type 0 where
   -- 300 is AC 02, 22270 is FE AD 01
   pub number-300 : groups 300 ≡ 172 ∷ 2 ∷ []
   pub number-22270 : groups 22270 ≡ 254 ∷ 173 ∷ 1 ∷ []
   -- the bench film's card is read as its figures
-  pub bench-card : _≡_ {A = CardRead} (readCard (cardOf (bench 6 262144))) (record { verdict = accepted; figures = bench 6 262144 })
+  pub bench-card : _≡_ {A = CardRead} (readCard 1 (cardOf (bench 6 262144))) (record { verdict = accepted; figures = bench 6 262144 })
   -- with the second zone's time 0: refused 6 at 7
   pub zero-time : Refuses (cardOf (film sixOnes (22270 ∷ 0 ∷ 19090 ∷ 17810 ∷ 16700 ∷ 15720 ∷ []) 6 262144)) 6 7
   -- N 1: 8. N 7: 9
@@ -103,7 +108,7 @@ pub record Cases : Type 0 where
   pub bench-loop-positions : positionsOf loop (bench 6 262144) ≡ 0 ∷ 5 ∷ 1 ∷ 3 ∷ 2 ∷ 4 ∷ []
   pub bench-loop-leads : leadsOf loop (bench 6 262144) ≡ 5570 ∷ 0 ∷ 2130 ∷ 0 ∷ 0 ∷ 0 ∷ []
   -- the bench film as kind 2 with the table of its hop and return: its card is read as its figures, and the plan is that of kind 1 (T3.5)
-  pub measured-card : _≡_ {A = CardRead} (readCard (cardOf (measured (straight 12670 15000) (bench 6 262144))))
+  pub measured-card : _≡_ {A = CardRead} (readCard 1 (cardOf (measured (straight 12670 15000) (bench 6 262144))))
       (record { verdict = accepted; figures = measured (straight 12670 15000) (bench 6 262144) })
   pub measured-plan : Plans one (measured (straight 12670 15000) (bench 6 262144)) 16 812632 37990 0 6550
   -- a table that rises late feeds fewer streams than its first two entries would
@@ -112,6 +117,24 @@ pub record Cases : Type 0 where
   pub late-one : streamsOf one (measured (late 1 257000000) (bench 6 262144)) ≡ 1
   pub level-all : streamsOf one (measured (level 268288) (film (2 ∷ []) (1000 ∷ []) 2 262144)) ≡ 256
   pub level-last : streamsOf one (measured (level 268289) (film (2 ∷ []) (1000 ∷ []) 2 262144)) ≡ 255
+  -- half blocks (ticket 11): the bench film of 3 blocks takes all six positions, a slow and a quick one each; p 37990, 8 streams, 3 × B, no leads
+  pub halves-card : _≡_ {A = CardRead} (readCard 2 (cardOf (bench 3 262144))) (record { verdict = accepted; figures = bench 3 262144 })
+  pub halves-plan : Plans pairs (bench 3 262144) 8 786432 75980 0 0
+  pub halves-positions : positionsOf pairs (bench 3 262144) ≡ 0 ∷ 5 ∷ 1 ∷ 4 ∷ 2 ∷ 3 ∷ []
+  pub halves-leads : leadsOf pairs (bench 3 262144) ≡ 0 ∷ 0 ∷ 0 ∷ []
+  -- B 260820: 8 streams. B 260819: 7
+  pub halves-eight : Plans pairs (bench 3 260820) 8 782460 75980 0 0
+  pub halves-seven : Plans pairs (bench 3 260819) 7 782457 75980 0 0
+  -- N 2 takes positions 2 to 5; with the two slowest alike the second block of three is the first that takes p
+  pub halves-two : positionsOf pairs (bench 2 262144) ≡ 2 ∷ 5 ∷ 3 ∷ 4 ∷ []
+  pub halves-second : (let f = film sixOnes (22270 ∷ 22270 ∷ 19090 ∷ 17810 ∷ 16700 ∷ 15720 ∷ []) 3 262144 in
+      (worst2Of pairs f ≡ 77940) × (worstAtOf pairs f ≡ 1))
+  -- N 4: 28, where a block on one position each would fit
+  pub halves-four : RefusesHalves (cardOf (bench 4 262144)) 28 25
+  pub four-blocks : readCard 1 (cardOf (bench 4 262144)) .verdict .number ≡ 0
+  -- 128 streams and 127, decided by the table's entry for 256 visits
+  pub halves-all : streamsOf pairs (measured (level 268288) (film (4 ∷ []) (1000 ∷ []) 2 262144)) ≡ 128
+  pub halves-last : streamsOf pairs (measured (level 268289) (film (4 ∷ []) (1000 ∷ []) 2 262144)) ≡ 127
   -- document 02: there are 1511 small cards (T13.4)
   pub small-cards : length smallCards ≡ 1511
   -- the desk case, and requests in the order they asked
@@ -119,7 +142,7 @@ pub record Cases : Type 0 where
   pub asking : Asking
 
 pub cases : Cases
-unfolding groupsFrom groups continuing joined judged numberIn numberAt first below above outside thenAbove thenBelow faultOf timeFault blocksFault onFault onNumber fieldAt blankZones blankTable blankFigures refusedCard thenField cardEnd rowFrom movesFrom entriesFrom tableFrom filmFrom zonesFrom readCard straightFrom straight tableNumbers filmNumbers zoneNumbers numbersOf bytesOf cardOf entries film late level totalPositions sumBy greatestOf greatest wordsOf zigzag worstTime round falls rank ring worstRound timeAt run span lead overhead load streams bufferOf slowest margin firstReaching earliestOf worstAt worst2Of worstAtOf streamsOf marginOf bufferSize planOf blankPlan row positionsOf leadsOf planFault refusal planned
+unfolding groupsFrom groups continuing joined judged numberIn numberAt first below above outside thenAbove thenBelow faultOf timeFault roomFault blocksFault onFault onNumber fieldAt blankZones blankTable blankFigures refusedCard thenField cardEnd rowFrom movesFrom entriesFrom tableFrom filmFrom zonesFrom readCard straightFrom straight tableNumbers filmNumbers zoneNumbers numbersOf bytesOf cardOf entries film late level totalPositions sumBy greatestOf greatest wordsOf zigzag worstTime round falls rank ring worstRound worstMatch timeAt run span lead overhead load streams bufferOf slowest margin firstReaching earliestOf worstAt worst2Of worstAtOf streamsOf marginOf bufferSize planOf blankPlan row positionsOf leadsOf planFault refusal planned
 cases = record {
   number-300 = refl;
   number-22270 = refl;
@@ -154,6 +177,18 @@ cases = record {
   late-one = refl;
   level-all = refl;
   level-last = refl;
+  halves-card = refl;
+  halves-plan = refl;
+  halves-positions = refl;
+  halves-leads = refl;
+  halves-eight = refl;
+  halves-seven = refl;
+  halves-two = refl;
+  halves-second = (refl, refl);
+  halves-four = (refl, refl);
+  four-blocks = refl;
+  halves-all = refl;
+  halves-last = refl;
   small-cards = how-many;
   desk = story;
   asking = asking;

@@ -1,7 +1,7 @@
 -- The writer makes the card of small figures, and both planners agree on it.
 -- Assumes nothing.
 use Prim.Native.Nat.{ℕ, _*_, _≤_, _<_}
-use mathlib.Core.Path.{_≡_, refl, sym, ap, _∙_}
+use mathlib.Core.Path.{_≡_, refl, sym, ap, _∙_, subst}
 use mathlib.Core.List.{List}
 use native.Mathlib.Omega.{arith}
 use lib.ListN.{length, take, drop, length-append}
@@ -24,12 +24,12 @@ use Rattle.legality.specs.Legality.{legal-fault}
 use Rattle.round_trip.specs.RoundTrip.{legal-read}
 use Rattle.round_trip.specs.Size.{legal-size}
 use Rattle.laws.specs.Greatest.{greatestOf-least}
-use Rattle.placement.specs.Showing.{Showing}
+use Rattle.placement.specs.Showing.{Showing, one, loop, pairs, visitsOf}
 use Rattle.placement.specs.Zones.{timeAt-within}
 use Rattle.pacing.specs.Laid.{slowest, worst-within}
-use Rattle.pacing.specs.Streams.{overhead, overhead-entry, load, streams-best}
+use Rattle.pacing.specs.Streams.{overhead, overhead-entry, load, capOf, cap-some, streams-best}
 use Rattle.plan.specs.declared.Planned.{Planned}
-use Rattle.plan.specs.Plan.{timeOn, positionOf, timeOf, worst2Of, overOf, streamsOf}
+use Rattle.plan.specs.Plan.{timeOn, positionOf, entriesOf, timeOf, worst2Of, overOf, streamsOf}
 use Rattle.plan.specs.Legal.{total-zones, position-below}
 use Rattle.plan.specs.Ways.{by-none, some-stream}
 use Rattle.plan.specs.Answer.{planned}
@@ -40,10 +40,10 @@ use Rattle.compare_planners.specs.Compare.{unequalOf, eight, unequalOn}
 
 -- ---- the card is written
 
-module _ (f : Figures) (ok : Legal f) (out : List ℕ) (room : maxCard ≤ length out) where
+module _ (f : Figures) (ok : Legal 1 f) (out : List ℕ) (room : maxCard ≤ length out) where
   no-fault : writeFault f (length out) ≡ 0
   unfolding writeFault first
-  no-fault = rw (legal-fault f ok, le-leb (length (cardOf f)) (length out) (omega (arith, legal-size f ok .1)))
+  no-fault = rw (legal-fault 1 f ok, le-leb (length (cardOf f)) (length out) (omega (arith, legal-size 1 f ok .1)))
 
   pub written-length : (w : CardWritten) → w ≡ writtenCard f out → w .length ≡ length (cardOf f)
   unfolding writtenCard
@@ -67,12 +67,12 @@ eight-long = refl
 eight-room : (f : Figures) → Small f → f .blocks ≤ length (wordsOf eight)
 eight-room f small = omega (arith, words-length eight, eight-long, small .blocks)
 
-pub agree : (x : Showing) (f : Figures) → Small f → unequalOn x (cardOf f) ≡ 0
+pub agree : (x : Showing) → visitsOf x ≡ 1 → (f : Figures) → Small f → unequalOn x (cardOf f) ≡ 0
 unfolding unequalOf unequalOn
-agree x f small =
-    rw (legal-read f (small .legal))
+agree x v f small =
+    rw (legal-read 1 f (small .legal))
     (rw (eq-eqb (planned x read eight eight .plan .worst2) (tried x read .worst2)
-    (sym (same-answer x read (λ z. small .legal) eight eight (small .blocks) room room .1))))
+    (sym (same-answer x v read (λ z. small .legal) eight eight (small .blocks) room room .1))))
   where
     read : CardRead
     read = record { verdict = accepted; figures = f }
@@ -82,36 +82,49 @@ agree x f small =
 
 -- ---- and neither refuses it
 
+-- a block that is visited once takes the time of its position
+time-once : (x : Showing) → visitsOf x ≡ 1 → (f : Figures) (b : ℕ) → timeOf x f b ≡ timeOn f (positionOf x f b)
+time-once one v f b = refl
+time-once loop v f b = refl
+time-once pairs v f b = absurd (omega arith)
+
 -- no two blocks take more than 6
-worst-six : (x : Showing) (f : Figures) → Small f → worst2Of x f ≤ 6
+worst-six : (x : Showing) → visitsOf x ≡ 1 → (f : Figures) → Small f → worst2Of x f ≤ 6
 unfolding worst2Of slowest
-worst-six x f small =
+worst-six x v f small =
     omega (arith, worst-within (timeOn f) (positionOf x f) (f .blocks) x, greatestOf-least (timeOf x f) (f .blocks) 3 (λ b u. three b u))
   where
+    legal : Legal (visitsOf x) f
+    legal = subst (λ (k : ℕ). Legal k f) (sym v) (small .legal)
+
+    entries : entriesOf x f ≡ f .blocks
+    entries = rw v (omega arith)
+
     three : (b : ℕ) → b < f .blocks → timeOf x f b ≤ 3
-    three b u = timeAt-within (f .positions) (f .times) (f .zones) (positionOf x f b) 3 (small .times)
-        (omega (arith, position-below x f (small .legal) b u, total-zones f (small .legal)))
+    three b u = rw (time-once x v f b) (timeAt-within (f .positions) (f .times) (f .zones) (positionOf x f b) 3 (small .times)
+        (omega (arith, position-below x f legal b (omega (arith, entries)), total-zones f legal)))
 
 -- so a stream fits
-one-fits : (c w B : ℕ) (table : List ℕ) → c ≡ 1000 → B ≡ 1000 → table ≡ straight 1 1 → w ≤ 6 → load c w (overhead table) 1 ≤ parts * B
+one-fits : (c w B visits : ℕ) (table : List ℕ) → c ≡ 1000 → B ≡ 1000 → visits ≡ 1 → table ≡ straight 1 1 → w ≤ 6
+    → load c w (λ k. overhead table (visits * k)) 1 ≤ parts * B
 unfolding load
-one-fits c w B table ec eb et l = rw (ec, eb, et) (omega (arith, overhead-entry (straight 1 1) 1 (omega arith), straight-at 1 1 1 (omega arith)))
+one-fits c w B visits table ec eb ev et l = rw (ec, eb, ev, et) (omega (arith, overhead-entry (straight 1 1) 1 (omega arith), straight-at 1 1 1 (omega arith)))
 
-fed : (x : Showing) (f : Figures) → Small f → streamsOf x f ≡ 0 → ⊥
+fed : (x : Showing) → visitsOf x ≡ 1 → (f : Figures) → Small f → streamsOf x f ≡ 0 → ⊥
 unfolding streamsOf
-fed x f small z =
+fed x v f small z =
     let m = small .measures in
     omega (
       arith,
-      one-fits (f .rate) (worst2Of x f) (f .bytes) (f .table) (m .2) (m .1) (m .3) (worst-six x f small),
-      streams-best (f .rate) (worst2Of x f) (overOf f) (f .bytes) (worst2Of x f) 1 (omega arith) (omega arith) (omega arith),
+      one-fits (f .rate) (worst2Of x f) (f .bytes) (visitsOf x) (f .table) (m .2) (m .1) v (m .3) (worst-six x v f small),
+      streams-best (capOf x) (f .rate) (worst2Of x f) (overOf x f) (f .bytes) (worst2Of x f) 1 (omega arith) (omega arith) (cap-some x),
     )
 
-pub accepted-both : (x : Showing) (f : Figures) → Small f
-    → (planned x (readCard (cardOf f)) eight eight .verdict .number ≡ 0) × (tried x (readCard (cardOf f)) .verdict .number ≡ 0)
-accepted-both x f small =
-    rw (legal-read f (small .legal))
-    (number, ap (λ (v : Verdict). v .number) (same-answer x read (λ z. small .legal) eight eight (small .blocks) room room .0) ∙ number)
+pub accepted-both : (x : Showing) → visitsOf x ≡ 1 → (f : Figures) → Small f
+    → (planned x (readCard 1 (cardOf f)) eight eight .verdict .number ≡ 0) × (tried x (readCard 1 (cardOf f)) .verdict .number ≡ 0)
+accepted-both x v f small =
+    rw (legal-read 1 f (small .legal))
+    (number, ap (λ (v : Verdict). v .number) (same-answer x v read (λ z. small .legal) eight eight (small .blocks) room room .0) ∙ number)
   where
     read : CardRead
     read = record { verdict = accepted; figures = f }
@@ -119,6 +132,9 @@ accepted-both x f small =
     room : f .blocks ≤ length (wordsOf eight)
     room = eight-room f small
 
+    entries : entriesOf x f ≤ length (wordsOf eight)
+    entries = rw v (omega (arith, room))
+
     number : planned x read eight eight .verdict .number ≡ 0
     number = ap (λ (a : Planned). a .verdict .number)
-        (sym (by-none x read eight eight refl (some-stream x f (length (wordsOf eight)) (length (wordsOf eight)) room room (fed x f small))))
+        (sym (by-none x read eight eight refl (some-stream x f (length (wordsOf eight)) (length (wordsOf eight)) entries room (fed x v f small))))

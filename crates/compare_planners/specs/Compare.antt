@@ -20,7 +20,7 @@ eight = replicate 32 0
 
 -- of a card in a showing (T13.4)
 unfoldable pub unequalOn : Showing → List ℕ → ℕ
-unequalOn x card = unequalOf (planned x (readCard card) eight eight .plan .worst2) (tried x (readCard card) .worst2)
+unequalOn x card = unequalOf (planned x (readCard 1 card) eight eight .plan .worst2) (tried x (readCard 1 card) .worst2)
 
 -- one card more, with so many unequal worst2
 unfoldable pub countedWith : Tally → ℕ → Tally

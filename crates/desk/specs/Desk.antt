@@ -9,6 +9,7 @@ use Rattle.numbers.specs.Limits.{maxStreams}
 use Rattle.numbers.specs.Refusals.{notSound}
 use Rattle.card.specs.declared.Verdict.{Verdict}
 use Rattle.words.specs.Words.{wordsOf, withWords}
+use Rattle.placement.specs.Showing.{Showing, visitsOf}
 use Rattle.plan.specs.declared.Plan.{Plan}
 use Rattle.plan.specs.Plan.{showingIn, worst2Of, overOf, filmOf, blankPlan}
 use Rattle.plan.specs.Answer.{isPlan}
@@ -23,17 +24,25 @@ use Rattle.desk.specs.declared.Answer.{Answer}
 use Rattle.desk.specs.declared.Fetches.{Fetches}
 use Rattle.desk.specs.declared.Begun.{Begun}
 
--- the rates of a plan record: those of its figures, and the streams, margin and buffer that it says
-abbrev pub ratesOf : Plan → Rates
-ratesOf p = record {
+-- how many visits to the disk a block takes
+abbrev pub visitsIn : Plan → ℕ
+visitsIn p = visitsOf (showingIn p)
+
+-- the rates of a plan record in a showing: those of its figures, and the streams, margin and buffer that it says
+abbrev pub ratesIn : Showing → Plan → Rates
+ratesIn x p = record {
   B = p .figures .bytes;
   c = p .figures .rate;
-  overhead = overOf (p .figures);
-  visits = 1;
+  overhead = overOf x (p .figures);
+  visits = visitsOf x;
   n = p .streams;
   margin = p .margin;
   buffer = p .buffer;
 }
+
+-- in its own
+abbrev pub ratesOf : Plan → Rates
+ratesOf p = ratesIn (showingIn p) p
 
 -- what a plan record tells the desk: its figures' film as it is laid for the showing that it names (T7.7), with these rates
 unfoldable pub supplyOf : Plan → Supply ℕ

@@ -9,7 +9,7 @@ use borrow.Author.Tests.{eqb-true}
 use Rattle.numbers.specs.Refusals.{notSound, noSuchBlock}
 use Rattle.card.specs.declared.Figures.{Figures}
 use Rattle.card.specs.Card.{Legal}
-use Rattle.placement.specs.Showing.{Showing}
+use Rattle.placement.specs.Showing.{Showing, visitsOf}
 use Rattle.pacing.specs.Streams.{bufferOf}
 use Rattle.plan.specs.declared.Plan.{Plan}
 use Rattle.plan.specs.Plan.{worst2Of, streamsOf, slowestOf, filmOf, planOf}
@@ -19,7 +19,7 @@ use Rattle.rules.specs.Supply.{Lawful, Named}
 use Rattle.turns.specs.Orderly.{Orderly}
 use Rattle.turns.specs.ByPlace.{byPlace-orderly}
 use Rattle.desk.specs.Supply.{paced-lawful}
-use Rattle.desk.specs.Desk.{ratesOf, supplyOf, orderOf}
+use Rattle.desk.specs.Desk.{ratesIn, supplyOf, orderOf}
 
 -- the tests of block numbers say what they should, for any record
 pub supply-named : (p : Plan) → Named (supplyOf p)
@@ -43,13 +43,13 @@ supply-named p = record {
 pub order-orderly : (p : Plan) → Orderly (supplyOf p) (orderOf p)
 order-orderly p = byPlace-orderly (supplyOf p)
 
--- THE PLANNER'S PROMISE: the supply of the plan of legal figures is lawful, in either showing (T7.9)
-pub plan-lawful : (x : Showing) (f : Figures) → Legal f → 0 < streamsOf x f → Lawful (supplyOf (planOf x f))
+-- THE PLANNER'S PROMISE: the supply of the plan of legal figures is lawful, in every showing (T7.9)
+pub plan-lawful : (x : Showing) (f : Figures) → Legal (visitsOf x) f → 0 < streamsOf x f → Lawful (supplyOf (planOf x f))
 unfolding supplyOf planOf bufferOf
 plan-lawful x f legal some =
     let q = promise x f legal some in
     rw (showing-back x)
-    (paced-lawful (filmOf x f) (worst2Of x f) (ratesOf (planOf x f)) (slowestOf x f) (q .leads .paced) (record {
+    (paced-lawful (filmOf x f) (worst2Of x f) (ratesIn x (planOf x f)) (slowestOf x f) (q .leads .paced) (record {
       bytes = legal .bytes .0;
       rises = q .rises;
       fits = q .fits;

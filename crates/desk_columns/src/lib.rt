@@ -1,6 +1,7 @@
 // A desk where it lies in a lent byte string: one reader for each number, and for each array one of an entry or of all; how many slots ask.
 use desk_layout::offsets;
 use numbers::slots::WAITING;
+use plan::visits_of;
 use plan_layout::offsets as plan_offsets;
 use words::read_64;
 use words::read_256;
@@ -14,6 +15,7 @@ ghost use Rattle.laws.specs.Bools.{bit};
 ghost use Rattle.numbers.specs.Limits.{maxStreams};
 ghost use Rattle.numbers.specs.Slots.{waiting};
 ghost use Rattle.words.specs.Words.{wordsOf};
+ghost use Rattle.desk.specs.Desk.{visitsIn};
 ghost use Rattle.desk.specs.Asked.{askedCount};
 ghost use Rattle.desk_layout.specs.Layout.{deskIn, deskSize};
 
@@ -79,6 +81,14 @@ pub fn showing_in(desk: &[u8]) -> u32
     ensures { λ r. ⌜ r ≡ deskIn (wordsOf (now (desk .entry))) .plan .showing ⌝ }
 {
     word_at(desk, plan_offsets::SHOWING)
+}
+
+// How many visits to the disk a block takes: two of half blocks.
+pub fn visits_in(desk: &[u8]) -> u32
+    requires { ⌜ deskSize ≤ length (now desk) ⌝ }
+    ensures { λ r. ⌜ r ≡ visitsIn (deskIn (wordsOf (now (desk .entry))) .plan) ⌝ }
+{
+    visits_of(showing_in(desk))
 }
 
 // The phase.

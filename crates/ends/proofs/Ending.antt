@@ -2,7 +2,7 @@
 -- Assumes nothing.
 use Prim.Native.Nat.{ℕ, suc, _+_, _-_, _≤_, _<_}
 use mathlib.Core.Path.{_≡_, refl, sym, ap, _∙_}
-use mathlib.Core.Bool.{Bool, true, false}
+use mathlib.Core.Bool.{Bool, true, false, cond}
 use mathlib.Core.List.{List}
 use native.Mathlib.Omega.{arith}
 use lib.ListN.{length, getD, set}
@@ -11,13 +11,13 @@ use borrow.Author.Tests.{ltb-true, eq-eqb, ne-eqb}
 use Rattle.laws.specs.Each.{each-at}
 use Rattle.laws.specs.Indices.{each-of-allFrom, eachFrom-at}
 use Rattle.numbers.specs.Slots.{free, filling, playing, draining}
-use Rattle.numbers.specs.Showings.{loopWord}
+use Rattle.numbers.specs.Showings.{loopWord, pairsWord}
 use Rattle.placement.specs.CircleBest.{round-last, round-next}
-use Rattle.placement.specs.Showing.{Showing, one, loop, after}
+use Rattle.placement.specs.Showing.{Showing, one, loop, pairs, after}
 use Rattle.pacing.specs.Film.{isPast}
 use Rattle.pacing.specs.Shown.{round-below}
 use Rattle.plan.specs.Plan.{showingOf, showingIn}
-use Rattle.plan.specs.Check.{shows-loop, shows-once}
+use Rattle.plan.specs.Check.{shows-loop}
 use Rattle.rules.specs.Supply.{Supply}
 use Rattle.rules.specs.Scheduler as S
 use Rattle.rules.specs.Scheduler.{freeSlot, at, leads, endedSlot, ended, mostDrawn}
@@ -37,21 +37,28 @@ use Rattle.ends.specs.Ends.{Drawn, Continues, slotIn, Fair}
 
 -- ---- the next block
 
--- before the last both showings go on alike
+-- before the last all showings go on alike
 pub goes-on : (x : Showing) (N b : ℕ) → b + 1 < N → b + 1 ≡ after x N b
 goes-on one N b h = omega arith
 goes-on loop N b h = omega (arith, round-next N b (omega arith))
+goes-on pairs N b h = omega arith
 
 -- after it a loop goes back, by the plan's word
 pub goes-round : (w N b : ℕ) → w ≡ loopWord → b + 1 ≡ N → 0 ≡ after (showingOf w) N b
 goes-round w N b e h = rw (shows-loop w e) (omega (arith, round-last N b (omega arith)))
 
 pub goes-past : (w N b : ℕ) → (w ≡ loopWord → ⊥) → b + 1 ≡ after (showingOf w) N b
-goes-past w N b n = rw (shows-once w n) (omega arith)
+unfolding showingOf
+goes-past w N b n = rw (ne-eqb w loopWord n) (go (eqb w pairsWord))
+  where
+    go : (t : Bool) → b + 1 ≡ after (cond t pairs one) N b
+    go true = omega arith
+    go false = omega arith
 
 -- in a loop the next block is never N
 past-is : (x : Showing) (N b : ℕ) → b < N → isPast x N (after x N b) ≡ eqb (after x N b) N
 past-is one N b u = refl
+past-is pairs N b u = refl
 past-is loop N b u = sym (ne-eqb _ N (λ e. omega (arith, round-below N b u)))
 
 -- ---- one slot

@@ -29,14 +29,14 @@ WrongForm left = ((n : ℕ) → StartsWith left n → ⊥) × (CutShort left →
 
 -- the fault in the bytes left, which start at an offset of a card of so many bytes: where no figure is to come, that there are any; else
 -- that of the next figure, its form before its rules
-abbrev pub FaultIn : Values → List Figure → List ℕ → ℕ → ℕ → ℕ → ℕ → Type 0
-FaultIn v [] left start size k at = (k ≡ cardGoesOn) × (at ≡ start) × (left ≡ [] → ⊥)
-FaultIn v (g ∷ gs) left start size k at =
+abbrev pub FaultIn : ℕ → Values → List Figure → List ℕ → ℕ → ℕ → ℕ → ℕ → Type 0
+FaultIn visits v [] left start size k at = (k ≡ cardGoesOn) × (at ≡ start) × (left ≡ [] → ⊥)
+FaultIn visits v (g ∷ gs) left start size k at =
     ((k ≡ cardEnds) × (at ≡ size) × CutShort left)
-    ⊎ (((k ≡ numberForm) × (at ≡ start) × WrongForm left) ⊎ ((at ≡ start) × StartsWith left (v g) × Breaks (rules v g) k))
+    ⊎ (((k ≡ numberForm) × (at ≡ start) × WrongForm left) ⊎ ((at ≡ start) × StartsWith left (v g) × Breaks (rules visits v g) k))
 
--- WHY A CARD IS REFUSED, by number and offset: it starts with figures that are good, and the fault is after them
-pub record CardFault (s : List ℕ) (k at : ℕ) : Type 0 where
+-- WHY A CARD IS REFUSED, each block on so many positions, by number and offset: it starts with figures that are good, and the fault is after them
+pub record CardFault (visits : ℕ) (s : List ℕ) (k at : ℕ) : Type 0 where
   -- of each figure; those past the next one say nothing
   pub values : Values
   pub before : List Figure
@@ -44,5 +44,5 @@ pub record CardFault (s : List ℕ) (k at : ℕ) : Type 0 where
   pub left : List ℕ
   pub order : figuresInOrder (values Kind) (values Zones) ≡ before ++ after
   pub bytes : s ≡ bytesOf (map values before) ++ left
-  pub good : Each (λ g. Holds (rules values g)) before
-  pub fault : FaultIn values after left (length (bytesOf (map values before))) (length s) k at
+  pub good : Each (λ g. Holds (rules visits values g)) before
+  pub fault : FaultIn visits values after left (length (bytesOf (map values before))) (length s) k at

@@ -34,7 +34,7 @@ bytes-more (m ∷ ns) n left =
 same-fault : {x : Verdict} {j k at place : ℕ} → x ≡ Named j at → x ≡ Named k place → (j ≡ k) × (at ≡ place)
 same-fault e f = (ap (λ (z : Verdict). z .number) (sym e ∙ f), ap (λ (z : Verdict). z .place) (sym e ∙ f))
 
-module _ (s : List ℕ) (y : Bytes s) where
+module _ (visits : ℕ) (s : List ℕ) (y : Bytes s) where
   abbrev v : Values
   v = readValues s
 
@@ -43,14 +43,14 @@ module _ (s : List ℕ) (y : Bytes s) where
     order : figuresInOrder (v Kind) (v Zones) ≡ before ++ after
     inside : at ≤ length s
     bytes : s ≡ bytesOf (map v before) ++ drop at s
-    good : Each (λ g. Holds (rules v g)) before
+    good : Each (λ g. Holds (rules visits v g)) before
     offset : at ≡ offsetOf s n
     counted : Counted (v Zones) n after
-    answer : Answers v s at after x
+    answer : Answers visits v s at after x
 
   -- the fault in the bytes left is one of the card
   module _ (before after : List Figure) (at n : ℕ) (x : Verdict) (k place : ℕ) (r : Read before after at n x) where
-    fault-of : FaultIn v after (drop at s) at (length s) (suc k) place → CardFault s (suc k) place
+    fault-of : FaultIn visits v after (drop at s) at (length s) (suc k) place → CardFault visits s (suc k) place
     fault-of f =
         let start : at ≡ length (bytesOf (map v before)) =
         omega (arith, r .inside, ap length (r .bytes), length-append (bytesOf (map v before)) (drop at s), length-drop at s) in
@@ -62,12 +62,12 @@ module _ (s : List ℕ) (y : Bytes s) where
           order = r .order;
           bytes = r .bytes;
           good = r .good;
-          fault = subst (λ (j : ℕ). FaultIn v after (drop at s) j (length s) (suc k) place) start f;
+          fault = subst (λ (j : ℕ). FaultIn visits v after (drop at s) j (length s) (suc k) place) start f;
         }
 
   -- a good figure more
   read-more : (g : Figure) (before after : List Figure) (at n next : ℕ) (x : Verdict) → Read before (g ∷ after) at n x
-      → numberAt s at ≡ Value (v g) next → Holds (rules v g) → Answers v s next after x → Read (before ++ (g ∷ [])) after next (suc n) x
+      → numberAt s at ≡ Value (v g) next → Holds (rules visits v g) → Answers visits v s next after x → Read (before ++ (g ∷ [])) after next (suc n) x
   read-more g before after at n next x r q h a =
       let t = read-written s at (v g) next y q in
       record {
@@ -75,7 +75,7 @@ module _ (s : List ℕ) (y : Bytes s) where
         inside = t .inside;
         bytes = r .bytes ∙ ap (λ (bs : List ℕ). bytesOf (map v before) ++ bs) (t .bytes) ∙ sym (bytes-more (map v before) (v g) (drop next s))
             ∙ ap (λ (ns : List ℕ). bytesOf ns ++ drop next s) (sym (map-append v before (g ∷ [])));
-        good = each-append (λ g. Holds (rules v g)) before (g ∷ []) (r .good) (h, tt);
+        good = each-append (λ g. Holds (rules visits v g)) before (g ∷ []) (r .good) (h, tt);
         offset = offset-next s n at (v g) next (r .offset) q;
         counted = r .counted .1;
         answer = a;
@@ -83,11 +83,11 @@ module _ (s : List ℕ) (y : Bytes s) where
 
   -- the first fault from an offset on
   found : (after before : List Figure) (at n : ℕ) (x : Verdict) (k place : ℕ) → Read before after at n x → x ≡ Named (suc k) place
-      → CardFault s (suc k) place
+      → CardFault visits s (suc k) place
   unfolding Answers
   found [] before at n x k place r e = by (r .answer)
     where
-      by : ((at < length s) × (x ≡ Named cardGoesOn at)) ⊎ ((length s ≤ at) × (x ≡ accepted)) → CardFault s (suc k) place
+      by : ((at < length s) × (x ≡ Named cardGoesOn at)) ⊎ ((length s ≤ at) × (x ≡ accepted)) → CardFault visits s (suc k) place
       by (inl (h, f)) =
           let p = same-fault e f in
           fault-of before [] at n x k place r (p .0, p .1, λ z. omega (arith, length-drop at s, ap length z))
@@ -95,8 +95,8 @@ module _ (s : List ℕ) (y : Bytes s) where
   found (g ∷ after) before at n x k place r e =
       on (numberAt s at) refl (r .answer) (λ next m. found after (before ++ (g ∷ [])) next (suc n) x k place m e)
     where
-      on : (m : Number) → numberAt s at ≡ m → OnFigure (rules v g) (v g) at x (λ next. Answers v s next after x) m
-          → ((next : ℕ) → Read (before ++ (g ∷ [])) after next (suc n) x → CardFault s (suc k) place) → CardFault s (suc k) place
+      on : (m : Number) → numberAt s at ≡ m → OnFigure (rules visits v g) (v g) at x (λ next. Answers visits v s next after x) m
+          → ((next : ℕ) → Read (before ++ (g ∷ [])) after next (suc n) x → CardFault visits s (suc k) place) → CardFault visits s (suc k) place
       on (CutOff size) q f later =
           let c = cut-short s at size q in
           let p = same-fault e f in
@@ -112,29 +112,30 @@ module _ (s : List ℕ) (y : Bytes s) where
           here : numberAt s at ≡ Value (v g) next
           here = q ∙ ap (λ (u : ℕ). Value u next) same
 
-          by : (Breaks (rules v g) (x .number) × (x .place ≡ at)) ⊎ (Holds (rules v g) × Answers v s next after x) → CardFault s (suc k) place
+          by : (Breaks (rules visits v g) (x .number) × (x .place ≡ at)) ⊎ (Holds (rules visits v g) × Answers visits v s next after x)
+              → CardFault visits s (suc k) place
           by (inl (b, p)) =
               let t = read-written s at (v g) next y here in
-              let broken = subst (λ (z : Verdict). Breaks (rules v g) (z .number)) e b in
+              let broken = subst (λ (z : Verdict). Breaks (rules visits v g) (z .number)) e b in
               fault-of before (g ∷ after) at n x k place r
               (inr (inr (ap (λ (z : Verdict). z .place) (sym e) ∙ p, (t .small, drop next s, t .bytes), broken)))
           by (inr (h, a)) = later next (read-more g before after at n next x r here h a)
 
 -- A REFUSED CARD HAS THE FAULT THAT IS NAMED
-pub named-fault : (s : List ℕ) → Bytes s → (k at : ℕ) → readCard s .verdict ≡ Named (suc k) at → CardFault s (suc k) at
+pub named-fault : (visits : ℕ) (s : List ℕ) → Bytes s → (k at : ℕ) → readCard visits s .verdict ≡ Named (suc k) at → CardFault visits s (suc k) at
 unfolding bytesOf offsetOf
-named-fault s y k at e =
+named-fault visits s y k at e =
     let v = readValues s in
-    found s y (figuresInOrder (v Kind) (v Zones)) [] 0 0 (readCard s .verdict) k at (record {
+    found visits s y (figuresInOrder (v Kind) (v Zones)) [] 0 0 (readCard visits s .verdict) k at (record {
       order = refl;
       inside = omega arith;
       bytes = refl;
       good = tt;
       offset = refl;
       counted = counted-card (v Kind) (v Zones);
-      answer = answers-card v s;
+      answer = answers-card visits v s;
     }) e
 
 -- THE FIRST FAULT OF A CARD IS NAMED
-pub card-fault : (s : List ℕ) → Bytes s → (k at : ℕ) → (readCard s .verdict ≡ Named (suc k) at) ↔ CardFault s (suc k) at
-card-fault s y k at = (named-fault s y k at, fault-named s y (suc k) at)
+pub card-fault : (visits : ℕ) (s : List ℕ) → Bytes s → (k at : ℕ) → (readCard visits s .verdict ≡ Named (suc k) at) ↔ CardFault visits s (suc k) at
+card-fault visits s y k at = (named-fault visits s y k at, fault-named visits s y (suc k) at)

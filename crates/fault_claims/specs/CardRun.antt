@@ -36,75 +36,75 @@ OnFigure rs n at x later (number.Value w next) = w ≡ n → (Breaks rs (x .numb
 OnFigure rs n at x later (number.CutOff size) = x ≡ record { number = cardEnds; place = size }
 OnFigure rs n at x later (number.Malformed start) = x ≡ record { number = numberForm; place = start }
 
--- the answer x from an offset on, where figures gs of the values v are to come
-unfoldable pub Answers : Values → List ℕ → ℕ → List Figure → Verdict → Type 0
-Answers v s at [] x = ((at < length s) × (x ≡ record { number = cardGoesOn; place = at })) ⊎ ((length s ≤ at) × (x ≡ accepted))
-Answers v s at (g ∷ gs) x = OnFigure (rules v g) (v g) at x (λ next. Answers v s next gs x) (numberAt s at)
+-- the answer x from an offset on, where figures gs of the values v are to come and each block takes so many positions
+unfoldable pub Answers : ℕ → Values → List ℕ → ℕ → List Figure → Verdict → Type 0
+Answers visits v s at [] x = ((at < length s) × (x ≡ record { number = cardGoesOn; place = at })) ⊎ ((length s ≤ at) × (x ≡ accepted))
+Answers visits v s at (g ∷ gs) x = OnFigure (rules visits v g) (v g) at x (λ next. Answers visits v s next gs x) (numberAt s at)
 
-module _ (v : Values) (s : List ℕ) where
+module _ (visits : ℕ) (v : Values) (s : List ℕ) where
   -- one figure, and what follows it
-  answers-figure : (judge : ℕ → ℕ) (at : ℕ) (go : ℕ → ℕ → CardRead) (g : Figure) (gs : List Figure) → Says (rules v g) (judge (v g))
-      → ((next : ℕ) → Holds (rules v g) → Answers v s next gs (go (v g) next .verdict))
-      → Answers v s at (g ∷ gs) (thenField (fieldAt judge s at) go .verdict)
+  answers-figure : (judge : ℕ → ℕ) (at : ℕ) (go : ℕ → ℕ → CardRead) (g : Figure) (gs : List Figure) → Says (rules visits v g) (judge (v g))
+      → ((next : ℕ) → Holds (rules visits v g) → Answers visits v s next gs (go (v g) next .verdict))
+      → Answers visits v s at (g ∷ gs) (thenField (fieldAt judge s at) go .verdict)
   unfolding Answers fieldAt onNumber onFault thenField refusedCard
   answers-figure judge at go g gs says later = by (numberAt s at)
     where
       After : ℕ → Verdict → Type 0
-      After next x = (Breaks (rules v g) (x .number) × (x .place ≡ at)) ⊎ (Holds (rules v g) × Answers v s next gs x)
+      After next x = (Breaks (rules visits v g) (x .number) × (x .place ≡ at)) ⊎ (Holds (rules visits v g) × Answers visits v s next gs x)
 
-      on : (j next : ℕ) → Says (rules v g) j → After next (thenField (onFault j at (v g) next) go .verdict)
+      on : (j next : ℕ) → Says (rules visits v g) j → After next (thenField (onFault j at (v g) next) go .verdict)
       on zero next (none e h) = inr (h, later next h)
       on zero next (names p b) = absurd (omega arith)
       on (suc k) next (none e h) = absurd (omega arith)
       on (suc k) next (names p b) = inl (b, refl)
 
-      by : (n : Number) → OnFigure (rules v g) (v g) at (thenField (onNumber judge at n) go .verdict)
-          (λ next. Answers v s next gs (thenField (onNumber judge at n) go .verdict)) n
+      by : (n : Number) → OnFigure (rules visits v g) (v g) at (thenField (onNumber judge at n) go .verdict)
+          (λ next. Answers visits v s next gs (thenField (onNumber judge at n) go .verdict)) n
       by (number.Value w next) =
           λ e. subst (λ (u : ℕ). After next (thenField (onFault (judge u) at u next) go .verdict)) (sym e) (on (judge (v g)) next says)
       by (number.CutOff size) = refl
       by (number.Malformed start) = refl
 
   -- the end
-  answers-end : (at : ℕ) (f : Figures) → Answers v s at [] (cardEnd s at f .verdict)
+  answers-end : (at : ℕ) (f : Figures) → Answers visits v s at [] (cardEnd s at f .verdict)
   unfolding Answers cardEnd refusedCard
   answers-end at f = by (ltb at (length s)) refl
     where
       by : (t : Bool) → ltb at (length s) ≡ t
-          → Answers v s at [] (cond t (refusedCard cardGoesOn at) (record { verdict = accepted; figures = f }) .verdict)
+          → Answers visits v s at [] (cond t (refusedCard cardGoesOn at) (record { verdict = accepted; figures = f }) .verdict)
       by true e = inl (ltb-true at (length s) e, refl)
       by false e = inr (ltb-false at (length s) e, refl)
 
   -- the overheads
   answers-entries : (left j at before k : ℕ) (us : List ℕ) (go : List ℕ → ℕ → CardRead) → before ≡ entryBefore v j
-      → ((os : List ℕ) (next : ℕ) → Answers v s next [] (go os next .verdict))
-      → Answers v s at (entryFigures left j) (rowFrom (faultOf rule.Overhead) lastEntry left s at before k us go .verdict)
+      → ((os : List ℕ) (next : ℕ) → Answers visits v s next [] (go os next .verdict))
+      → Answers visits v s at (entryFigures left j) (rowFrom (faultOf rule.Overhead) lastEntry left s at before k us go .verdict)
   unfolding rowFrom entryFigures
   answers-entries zero j at before k us go e later = later us at
   answers-entries (suc left) j at before k us go e later =
-      answers-figure (faultOf rule.Overhead before) at _ (Overhead j) (entryFigures left (suc j)) (says-entry v j before e) (λ next h.
+      answers-figure (faultOf rule.Overhead before) at _ (Overhead j) (entryFigures left (suc j)) (says-entry visits v j before e) (λ next h.
       answers-entries left (suc j) next (v (Overhead j)) (k + 1) (set us k (v (Overhead j))) go refl later)
 
-  answers-table : (kind at : ℕ) (go : List ℕ → ℕ → CardRead) → ((os : List ℕ) (next : ℕ) → Answers v s next [] (go os next .verdict))
-      → Answers v s at (overheadFigures kind) (tableFrom kind s at go .verdict)
+  answers-table : (kind at : ℕ) (go : List ℕ → ℕ → CardRead) → ((os : List ℕ) (next : ℕ) → Answers visits v s next [] (go os next .verdict))
+      → Answers visits v s at (overheadFigures kind) (tableFrom kind s at go .verdict)
   unfolding overheadFigures tableFrom movesFrom entriesFrom
   answers-table kind at go later = by (eqb kind straightKind)
     where
       by : (t : Bool)
-          → Answers v s at (cond t (Hop ∷ Return ∷ []) (entryFigures tableLength 0)) (cond t (movesFrom s at go) (entriesFrom s at go) .verdict)
+          → Answers visits v s at (cond t (Hop ∷ Return ∷ []) (entryFigures tableLength 0)) (cond t (movesFrom s at go) (entriesFrom s at go) .verdict)
       by true =
-          answers-figure (faultOf rule.Measure maxMove) at _ Hop (Return ∷ []) (says-hop v) (λ at₁ h.
-          answers-figure (faultOf rule.Measure maxMove) at₁ _ Return [] (says-return v) (λ at₂ b. later (straight (v Hop) (v Return)) at₂))
+          answers-figure (faultOf rule.Measure maxMove) at _ Hop (Return ∷ []) (says-hop visits v) (λ at₁ h.
+          answers-figure (faultOf rule.Measure maxMove) at₁ _ Return [] (says-return visits v) (λ at₂ b. later (straight (v Hop) (v Return)) at₂))
       by false = answers-entries tableLength 0 at 0 0 blankTable go refl later
 
   -- N, B and c, and what follows them
   answers-film : (kind z : ℕ) (ps ts : List ℕ) (total at : ℕ) → total ≡ positionsOf v (v Zones)
-      → Answers v s at (Blocks ∷ Bytes ∷ Rate ∷ overheadFigures kind) (afterZones s kind z ps ts total at .verdict)
+      → Answers visits v s at (Blocks ∷ Bytes ∷ Rate ∷ overheadFigures kind) (afterZones visits s kind z ps ts total at .verdict)
   unfolding filmFrom
   answers-film kind z ps ts total at e =
-      answers-figure (blocksFault total) at _ Blocks _ (says-blocks v total e) (λ at₁ n.
-      answers-figure (faultOf rule.Measure maxBytes) at₁ _ Bytes _ (says-bytes v) (λ at₂ b.
-      answers-figure (faultOf rule.Measure maxRate) at₂ _ Rate _ (says-rate v) (λ at₃ c.
+      answers-figure (blocksFault visits total) at _ Blocks _ (says-blocks visits v total e) (λ at₁ n.
+      answers-figure (faultOf rule.Measure maxBytes) at₁ _ Bytes _ (says-bytes visits v) (λ at₂ b.
+      answers-figure (faultOf rule.Measure maxRate) at₂ _ Rate _ (says-rate visits v) (λ at₃ c.
       answers-table kind at₃ _ (λ os at₄. answers-end at₄ _))))
 
   -- the first zone's time is kept
@@ -116,22 +116,22 @@ module _ (v : Values) (s : List ℕ) where
   -- the zones from the i-th on, and the film
   answers-zones : (left i n at : ℕ) (ps ts : List ℕ) (total before kind z : ℕ) → n ≡ i → i + left ≡ v Zones → i + left ≤ length ts
       → total ≡ positionsOf v i → Earlier v i (getD ts 0 0) before
-      → Answers v s at (zoneFigures left i ++ (Blocks ∷ Bytes ∷ Rate ∷ overheadFigures kind))
-      (zonesFrom left s at n ps ts total before (afterZones s kind z) .verdict)
+      → Answers visits v s at (zoneFigures left i ++ (Blocks ∷ Bytes ∷ Rate ∷ overheadFigures kind))
+      (zonesFrom left s at n ps ts total before (afterZones visits s kind z) .verdict)
   unfolding zonesFrom zoneFigures positionsOf
   answers-zones zero i n at ps ts total before kind z m all w t e =
       let same : i ≡ v Zones = omega arith in
       answers-film kind z ps ts total at (t ∙ ap (positionsOf v) same)
   answers-zones (suc left) i n at ps ts total before kind z m all w t e =
-      answers-figure (faultOf rule.Positions total) at _ (Positions i) _ (says-positions v i total t) (λ at₁ p.
-      answers-figure (timeFault (getD ts 0 0) before) at₁ _ (Time i) _ (says-time v i (getD ts 0 0) before e) (λ at₂ q.
+      answers-figure (faultOf rule.Positions total) at _ (Positions i) _ (says-positions visits v i total t) (λ at₁ p.
+      answers-figure (timeFault (getD ts 0 0) before) at₁ _ (Time i) _ (says-time visits v i (getD ts 0 0) before e) (λ at₂ q.
       answers-zones left (suc i) (n + 1) at₂ (set ps n (v (Positions i))) (set ts n (v (Time i))) (total + v (Positions i)) (v (Time i)) kind z
       (omega arith) (omega arith) (omega (arith, length-set ts n (v (Time i)))) (omega arith) (refl, first-kept i n ts before m (omega arith) e)))
 
   -- THE READER GOES THROUGH THE FIGURES IN THEIR ORDER
-  pub answers-card : Answers v s 0 (figuresInOrder (v Kind) (v Zones)) (readCard s .verdict)
+  pub answers-card : Answers visits v s 0 (figuresInOrder (v Kind) (v Zones)) (readCard visits s .verdict)
   unfolding figuresInOrder readCard rules positionsOf blankZones
   answers-card =
-      answers-figure (faultOf rule.Kind 0) 0 _ Kind _ (says-kind v) (λ at₁ k.
-      answers-figure (faultOf rule.Zones 0) at₁ _ Zones _ (says-zones v) (λ at₂ z.
+      answers-figure (faultOf rule.Kind 0) 0 _ Kind _ (says-kind visits v) (λ at₁ k.
+      answers-figure (faultOf rule.Zones 0) at₁ _ Zones _ (says-zones visits v) (λ at₂ z.
       answers-zones (v Zones) 0 0 at₂ blankZones blankZones 0 maxTime (v Kind) (v Zones) refl (omega arith) (omega (arith, z .0)) refl (refl, omega arith)))

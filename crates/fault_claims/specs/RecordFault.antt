@@ -39,14 +39,14 @@ besides f Hop = []
 besides f Return = wrongMeasure unless ((j : ℕ) → j < tableLength → getD (f .table) j 0 ≡ hopIn (f .table) * j + backIn (f .table)) ∷ []
 besides f (Overhead j) = []
 
-abbrev pub recordRules : Figures → Figure → List Rule
-recordRules f g = rules (valuesIn f) g ++ besides f g
+abbrev pub recordRules : ℕ → Figures → Figure → List Rule
+recordRules visits f g = rules visits (valuesIn f) g ++ besides f g
 
--- WHY A RECORD IS REFUSED: the figures before are good, and this one breaks a rule of k first
-pub record RecordFault (f : Figures) (k : ℕ) : Type 0 where
+-- WHY A RECORD IS REFUSED, each block on so many positions: the figures before are good, and this one breaks a rule of k first
+pub record RecordFault (visits : ℕ) (f : Figures) (k : ℕ) : Type 0 where
   pub before : List Figure
   pub here : Figure
   pub after : List Figure
   pub order : figuresInOrder (f .kind) (f .zones) ≡ before ++ (here ∷ after)
-  pub good : Each (λ g. Holds (recordRules f g)) before
-  pub fault : Breaks (recordRules f here) k
+  pub good : Each (λ g. Holds (recordRules visits f g)) before
+  pub fault : Breaks (recordRules visits f here) k

@@ -79,12 +79,12 @@ module _ (r : Figure → List Rule) where
 
 -- ---- the judge of a record says what its rules say
 
-module _ (f : Figures) where
+module _ (visits : ℕ) (f : Figures) where
   abbrev v : Values
   v = valuesIn f
 
   abbrev Judges : List Figure → ℕ → Type 0
-  Judges gs j = Says (rulesOf (recordRules f) gs) j
+  Judges gs j = Says (rulesOf (recordRules visits f) gs) j
 
   -- a figure with no rule besides the card's
   alone : {rs : List Rule} {j : ℕ} → Says rs j → Says (rs ++ []) j
@@ -96,7 +96,7 @@ module _ (f : Figures) where
   judges-entries zero j before e = none refl tt
   judges-entries (suc left) j before e =
       let next : j + 1 ≡ suc j = omega arith in
-      says-then (alone (says-entry v j before e)) (rw next (judges-entries left (suc j) (v (Overhead j)) refl))
+      says-then (alone (says-entry visits v j before e)) (rw next (judges-entries left (suc j) (v (Overhead j)) refl))
 
   judges-table : Judges (overheadFigures (f .kind)) (tableFault (f .kind) (f .table))
   unfolding overheadFigures tableFault straightFault measuredFault rules
@@ -109,21 +109,22 @@ module _ (f : Figures) where
           (λ h. at-line tableLength 0 (f .table) (hopIn (f .table)) (backIn (f .table)) (λ j l u. h j (omega arith)))
 
       by : (t : Bool) → Judges (cond t (Hop ∷ Return ∷ []) (entryFigures tableLength 0)) (cond t (straightFault (f .table)) (measuredFault (f .table)))
-      by true = says-then (says-hop v) (says-then (says-return v) line)
+      by true = says-then (says-hop visits v) (says-then (says-return visits v) line)
       by false = judges-entries tableLength 0 0 refl
 
-  judges-film : (total : ℕ) → total ≡ positionsOf v (f .zones) → Judges (Blocks ∷ Bytes ∷ Rate ∷ overheadFigures (f .kind)) (filmFault f total)
+  judges-film : (total : ℕ) → total ≡ positionsOf v (f .zones) → Judges (Blocks ∷ Bytes ∷ Rate ∷ overheadFigures (f .kind)) (filmFault visits f total)
   unfolding filmFault
-  judges-film total e = says-then (alone (says-blocks v total e)) (says-then (alone (says-bytes v)) (says-then (alone (says-rate v)) judges-table))
+  judges-film total e =
+      says-then (alone (says-blocks visits v total e)) (says-then (alone (says-bytes visits v)) (says-then (alone (says-rate visits v)) judges-table))
 
   judges-zones : (left i total before : ℕ) → i + left ≡ f .zones → total ≡ positionsOf v i → Earlier v i (getD (f .times) 0 0) before
-      → Judges (zoneFigures left i ++ (Blocks ∷ Bytes ∷ Rate ∷ overheadFigures (f .kind))) (zoneFaults left i f total before)
+      → Judges (zoneFigures left i ++ (Blocks ∷ Bytes ∷ Rate ∷ overheadFigures (f .kind))) (zoneFaults visits left i f total before)
   unfolding zoneFigures zoneFaults positionsOf
   judges-zones zero i total before all t e = let same : i ≡ f .zones = omega arith in judges-film total (t ∙ ap (positionsOf v) same)
   judges-zones (suc left) i total before all t e =
       let next : i + 1 ≡ suc i = omega arith in
-      says-then (alone (says-positions v i total t))
-      (says-then (alone (says-time v i (getD (f .times) 0 0) before e))
+      says-then (alone (says-positions visits v i total t))
+      (says-then (alone (says-time visits v i (getD (f .times) 0 0) before e))
       (rw next (judges-zones left (suc i) (total + v (Positions i)) (v (Time i)) (omega arith) (omega arith) (refl, refl))))
 
   judges-unused : Says (wrongZones unless Unused f ∷ []) (cond (unusedZero f) 0 wrongZones)
@@ -135,9 +136,9 @@ module _ (f : Figures) where
       ))
       (λ u. and-both (at-zeros (f .zones) (f .positions) (λ i l. u i l .0)) (at-zeros (f .zones) (f .times) (λ i l. u i l .1)))
 
-  judges-record : Judges (figuresInOrder (f .kind) (f .zones)) (recordFault f)
+  judges-record : Judges (figuresInOrder (f .kind) (f .zones)) (recordFault visits f)
   unfolding figuresInOrder recordFault rules positionsOf
-  judges-record = says-then (says-kind v) (says-then (says-zones v) (says-then judges-unused
+  judges-record = says-then (says-kind visits v) (says-then (says-zones visits v) (says-then judges-unused
       (judges-zones (f .zones) 0 0 maxTime (omega arith) refl (refl, omega arith))))
 
   -- ---- the claim
@@ -146,29 +147,30 @@ module _ (f : Figures) where
   says-number rs j k (none e h) = (λ d. absurd (omega arith), λ b. absurd (holds-unbroken rs (suc k) h b))
   says-number rs j k (names p b) = (λ d. subst (Breaks rs) d b, breaks-one rs j (suc k) b)
 
-  record-fault : (k : ℕ) → (recordFault f ≡ suc k) ↔ RecordFault f (suc k)
+  record-fault : (k : ℕ) → (recordFault visits f ≡ suc k) ↔ RecordFault visits f (suc k)
   record-fault k = (λ e. there (broken-first r gs (suc k) (n .0 e)), λ c. n .1 (back c))
     where
       r : Figure → List Rule
-      r = recordRules f
+      r = recordRules visits f
 
       gs : List Figure
       gs = figuresInOrder (f .kind) (f .zones)
 
-      n : (recordFault f ≡ suc k) ↔ Breaks (rulesOf r gs) (suc k)
-      n = says-number (rulesOf r gs) (recordFault f) k judges-record
+      n : (recordFault visits f ≡ suc k) ↔ Breaks (rulesOf r gs) (suc k)
+      n = says-number (rulesOf r gs) (recordFault visits f) k judges-record
 
-      there : FirstOf r gs (suc k) → RecordFault f (suc k)
+      there : FirstOf r gs (suc k) → RecordFault visits f (suc k)
       there c = record { before = c .before; here = c .here; after = c .after; order = c .order; good = c .good; fault = c .fault }
 
-      back : RecordFault f (suc k) → Breaks (rulesOf r gs) (suc k)
+      back : RecordFault visits f (suc k) → Breaks (rulesOf r gs) (suc k)
       back c = subst (λ (hs : List Figure). Breaks (rulesOf r hs) (suc k)) (sym (c .order))
           (first-broken r (c .before) (c .here) (c .after) (suc k) (c .good) (c .fault))
 
 -- THE FIRST FAULT OF A RECORD IS NAMED
-pub record-named : (f : Figures) (k : ℕ)
-    → ((judgeRecord f ≡ record { number = suc k; place = 0 }) ↔ RecordFault f (suc k)) × ((recordFault f ≡ suc k) ↔ RecordFault f (suc k))
+pub record-named : (visits : ℕ) (f : Figures) (k : ℕ)
+    → ((judgeRecord visits f ≡ record { number = suc k; place = 0 }) ↔ RecordFault visits f (suc k))
+    × ((recordFault visits f ≡ suc k) ↔ RecordFault visits f (suc k))
 unfolding judgeRecord
-record-named f k =
-    let n = record-fault f k in
+record-named visits f k =
+    let n = record-fault visits f k in
     ((λ e. n .0 (ap (λ (x : Verdict). x .number) e), λ c. ap (λ (j : ℕ). record { number = j; place = 0 }) (n .1 c)), n)

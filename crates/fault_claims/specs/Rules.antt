@@ -1,5 +1,5 @@
 -- The figures of a card in their order, and the rules of each in theirs: document 01's tables of ranges and of refusals, with document 02's
--- tickets 3 and 8. A card and a record go by the same rules.
+-- tickets 3, 8 and 11. A card and a record go by the same rules.
 use Prim.Native.Nat.{ℕ, zero, suc, _+_, _*_, _≤_}
 use mathlib.Core.Path.{_≡_}
 use mathlib.Core.Logic.{_⊎_}
@@ -9,7 +9,8 @@ use lib.Dec.{eqb}
 use Rattle.numbers.specs.Limits.{straightKind, measuredKind, maxZones, maxPositions, maxTime, timesAsFast, minBlocks, maxBlocks}
 use Rattle.numbers.specs.Limits.{maxBytes, maxRate, maxMove, tableLength, maxOverhead}
 use Rattle.numbers.specs.Refusals.{wrongKind, wrongZones, wrongPositions, wrongTime, risingTime}
-use Rattle.numbers.specs.Refusals.{wrongBlocks, blocksAbovePositions, wrongMeasure, wrongOverhead, halfDeadTime}
+use Rattle.numbers.specs.Refusals.{wrongBlocks, wrongMeasure, wrongOverhead, halfDeadTime}
+use Rattle.card_field.specs.Ranges.{roomFault}
 
 -- ---- the figures in their order (K3; T3.1)
 
@@ -57,7 +58,7 @@ abbrev pub Breaks : List Rule → ℕ → Type 0
 Breaks [] k = ⊥
 Breaks (r ∷ rs) k = ((k ≡ r .refusal) × (r .fact → ⊥)) ⊎ (r .fact × Breaks rs k)
 
--- ---- the rules of each figure (K4, R3 to R10; T3.7, T8.3)
+-- ---- the rules of each figure (K4, R3 to R10; T3.7, T8.3, T11)
 
 abbrev pub Values : Type 0
 Values = Figure → ℕ
@@ -70,23 +71,24 @@ unfoldable pub positionsOf : Values → ℕ → ℕ
 positionsOf v zero = 0
 positionsOf v (suc n) = positionsOf v n + v (Positions n)
 
-unfoldable pub rules : Values → Figure → List Rule
-rules v Kind = wrongKind unless ((v Kind ≡ straightKind) ⊎ (v Kind ≡ measuredKind)) ∷ []
-rules v Zones = wrongZones unless Within 1 maxZones (v Zones) ∷ []
-rules v (Positions i) = wrongPositions unless (1 ≤ v (Positions i)) ∷ wrongPositions unless (positionsOf v (suc i) ≤ maxPositions) ∷ []
-rules v (Time zero) = wrongTime unless Within 1 maxTime (v (Time 0)) ∷ []
-rules v (Time (suc i)) =
+-- each block takes so many positions: one, or two for half blocks, which are 28 in place of 9
+unfoldable pub rules : ℕ → Values → Figure → List Rule
+rules visits v Kind = wrongKind unless ((v Kind ≡ straightKind) ⊎ (v Kind ≡ measuredKind)) ∷ []
+rules visits v Zones = wrongZones unless Within 1 maxZones (v Zones) ∷ []
+rules visits v (Positions i) = wrongPositions unless (1 ≤ v (Positions i)) ∷ wrongPositions unless (positionsOf v (suc i) ≤ maxPositions) ∷ []
+rules visits v (Time zero) = wrongTime unless Within 1 maxTime (v (Time 0)) ∷ []
+rules visits v (Time (suc i)) =
     wrongTime unless Within 1 maxTime (v (Time (suc i)))
     ∷ risingTime unless (v (Time (suc i)) ≤ v (Time i))
     ∷ halfDeadTime unless (v (Time 0) ≤ timesAsFast * v (Time (suc i)))
     ∷ []
-rules v Blocks = wrongBlocks unless Within minBlocks maxBlocks (v Blocks) ∷ blocksAbovePositions unless (v Blocks ≤ positionsOf v (v Zones)) ∷ []
-rules v Bytes = wrongMeasure unless Within 1 maxBytes (v Bytes) ∷ []
-rules v Rate = wrongMeasure unless Within 1 maxRate (v Rate) ∷ []
-rules v Hop = wrongMeasure unless Within 1 maxMove (v Hop) ∷ []
-rules v Return = wrongMeasure unless Within 1 maxMove (v Return) ∷ []
-rules v (Overhead zero) = wrongOverhead unless Within 1 maxOverhead (v (Overhead 0)) ∷ []
-rules v (Overhead (suc j)) =
+rules visits v Blocks = wrongBlocks unless Within minBlocks maxBlocks (v Blocks) ∷ roomFault visits unless (visits * v Blocks ≤ positionsOf v (v Zones)) ∷ []
+rules visits v Bytes = wrongMeasure unless Within 1 maxBytes (v Bytes) ∷ []
+rules visits v Rate = wrongMeasure unless Within 1 maxRate (v Rate) ∷ []
+rules visits v Hop = wrongMeasure unless Within 1 maxMove (v Hop) ∷ []
+rules visits v Return = wrongMeasure unless Within 1 maxMove (v Return) ∷ []
+rules visits v (Overhead zero) = wrongOverhead unless Within 1 maxOverhead (v (Overhead 0)) ∷ []
+rules visits v (Overhead (suc j)) =
     wrongOverhead unless Within 1 maxOverhead (v (Overhead (suc j)))
     ∷ wrongOverhead unless (v (Overhead j) ≤ v (Overhead (suc j)))
     ∷ []

@@ -14,7 +14,7 @@ ghost use Rattle.layings.specs.Layings.{filmPositions};
 
 // The times of the film's positions, from the innermost on; what is past them is 0.
 pub fn film_times(figures: Figures) -> [u32; 8]
-    requires { ⌜ Legal figures × (figures .blocks ≤ maxTried) ⌝ }
+    requires { ⌜ Legal 1 figures × (figures .blocks ≤ maxTried) ⌝ }
     ensures times { λ r. ⌜ take (figures .blocks) r ≡ map (timeOn figures) (filmPositions (totalPositions figures) (figures .blocks)) ⌝ }
     ensures small { λ r. ⌜ Each (λ (t : ℕ). t ≤ maxTime) r ⌝ }
 {

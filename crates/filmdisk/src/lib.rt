@@ -3,7 +3,7 @@ use desk_strings::scratch;
 use layout::FilmdiskAnswer;
 use layout::FilmdiskWindowAnswer;
 ghost use mathlib.Core.Path.{_≡_};
-ghost use Rattle.placement.specs.Showing.{one, loop};
+ghost use Rattle.placement.specs.Showing.{one, loop, pairs};
 ghost use Rattle.plan_strings.specs.Calls.{planAnswer, planString, positionsString, leadsString};
 ghost use Rattle.plan_strings.specs.Calls.{planScratchAnswer, planScratchString, positionsScratchString};
 ghost use Rattle.desk_strings.specs.Calls.{openAnswer, openString, joinAnswer, joinString, leaveAnswer, leaveString, beginAnswer, beginString};
@@ -45,6 +45,22 @@ pub extern "C" fn filmdisk_plan_loop(
     plan_strings::plan_loop(card, plan, positions, leads)
 }
 
+// Plans a card for one showing of half blocks, each on two positions: 1 to 8, 28 in place of 9, 10, 11, 25 and 26, then 13, then 12.
+#[no_mangle]
+pub extern "C" fn filmdisk_plan_pairs(
+    card: &[u8],
+    plan: &mut [u8],
+    positions: &mut [u8],
+    leads: &mut [u8],
+) -> FilmdiskAnswer
+    ensures { λ r. ⌜ (r ≡ planAnswer pairs (now (card .entry)) (now (plan .entry)) (now (positions .entry)) (now (leads .entry)))
+        × (now (plan .exit) ≡ planString pairs (now (card .entry)) (now (plan .entry)) (now (positions .entry)) (now (leads .entry)))
+        × (now (positions .exit) ≡ positionsString pairs (now (card .entry)) (now (plan .entry)) (now (positions .entry)) (now (leads .entry)))
+        × (now (leads .exit) ≡ leadsString pairs (now (card .entry)) (now (plan .entry)) (now (positions .entry)) (now (leads .entry))) ⌝ }
+{
+    plan_strings::plan_pairs(card, plan, positions, leads)
+}
+
 // Plans a card for one showing with a scratch of 512 numbers in place of the lead list: 1 to 11, 25 and 26, then 13, then 12. The scratch stays
 // as it was.
 #[no_mangle]
@@ -77,6 +93,23 @@ pub extern "C" fn filmdisk_plan_loop_scratch(
         × (now (scratch .exit) ≡ now (scratch .entry)) ⌝ }
 {
     plan_strings::plan_loop_scratch(card, plan, positions, scratch)
+}
+
+// Plans a card for one showing of half blocks with a scratch of 512 numbers in place of the lead list: 1 to 8, 28 in place of 9, 10, 11, 25 and 26,
+// then 13, then 12. The scratch stays as it was.
+#[no_mangle]
+pub extern "C" fn filmdisk_plan_pairs_scratch(
+    card: &[u8],
+    plan: &mut [u8],
+    positions: &mut [u8],
+    scratch: &mut [u8],
+) -> FilmdiskAnswer
+    ensures { λ r. ⌜ (r ≡ planScratchAnswer pairs (now (card .entry)) (now (plan .entry)) (now (positions .entry)) (now (scratch .entry)))
+        × (now (plan .exit) ≡ planScratchString pairs (now (card .entry)) (now (plan .entry)) (now (positions .entry)) (now (scratch .entry)))
+        × (now (positions .exit) ≡ positionsScratchString pairs (now (card .entry)) (now (plan .entry)) (now (positions .entry)) (now (scratch .entry)))
+        × (now (scratch .exit) ≡ now (scratch .entry)) ⌝ }
+{
+    plan_strings::plan_pairs_scratch(card, plan, positions, scratch)
 }
 
 // The worst time of so many successive blocks of a plan with its positions list: 14, then 27.

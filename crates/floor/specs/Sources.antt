@@ -47,7 +47,7 @@ leadsIn ts w i = 2 * getD ts i 0 - w
 
 -- the times and the leads of the first n slots are in their range
 pub record Timely (ts : List ℕ) (w n : ℕ) : Type 0 where
-  pub quick : (i : ℕ) → getD ts i 0 ≤ maxTime
+  pub quick : (i : ℕ) → getD ts i 0 ≤ 2 * maxTime
   pub small : (i : ℕ) → i < n → leadsIn ts w i ≤ mostLead
 
 -- they are the leads of the next blocks of a supply's slots, w being worst2; sum is what filling and playing ones add up to

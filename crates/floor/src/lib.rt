@@ -28,7 +28,8 @@ ghost use Rattle.floor.specs.Sources.{Sourced, leadFrom, leadsNext, Foun
 // Stands for the least that a playing slot holds where none plays, in two-millionths of a byte: above every floor.
 const AMPLE: u64 = 2000000000000000000;
 
-// The lead of a block: the lent list has it; where there is none, it is twice the block's time less worst2.
+// The lead of a block: the lent list has it; where there is none, it is twice the time at the block's entry less worst2. (Of half blocks that
+// entry is one half's, whose time is at most half of worst2: 0, as every lead there.)
 fn lead_from<'a>(
     sizes: &'a [u32; 64],
     times: &'a [u32; 64],

@@ -13,59 +13,65 @@ use Rattle.desk.specs.Shown.{Gathered}
 use Rattle.desk.specs.Desk.{zeros}
 use Rattle.desk.specs.Slots.{length-zeros}
 use Rattle.gather.specs.declared.Block.{Block}
-use Rattle.gather.specs.Gather.{NextFound, blockAt, Collected}
+use Rattle.gather.specs.Gather.{Nothing, NextFound, blockAt, Collected}
 
--- the next blocks of the first i slots are collected, in two arrays of 256
-pub record Collecting (sizes times ps ks xs : List ℕ) (n : ℕ) (g : Gathered) (i : ℕ) : Type 0 where
+-- the next blocks of the first i slots are collected, in three arrays of 256
+pub record Collecting (sizes times ps : List ℕ) (visits : ℕ) (ks xs : List ℕ) (n : ℕ) (g : Gathered) (i : ℕ) : Type 0 where
   pub few : i ≤ n
   pub long : length (g .times) ≡ 256
   pub wide : length (g .positions) ≡ 256
-  pub collected : Collected sizes times ps ks xs i g
+  pub broad : length (g .others) ≡ 256
+  pub collected : Collected sizes times ps visits ks xs i g
 
 -- the block of slot i is stored; other slots keep theirs
-stored : Gathered → ℕ → Block → Gathered
-stored g i b = record { times = set (g .times) i (b .time); positions = set (g .positions) i (b .position) }
+unfoldable pub stored : Gathered → ℕ → Block → Gathered
+stored g i b = record { times = set (g .times) i (b .time); positions = set (g .positions) i (b .position); others = set (g .others) i (b .other) }
 
-module _ (sizes times ps ks xs : List ℕ) (n : ℕ) where
-  pub collecting-none : (g : Gathered) → g .times ≡ zeros → g .positions ≡ zeros → Collecting sizes times ps ks xs n g 0
+module _ (sizes times ps : List ℕ) (visits : ℕ) (ks xs : List ℕ) (n : ℕ) where
+  pub collecting-none : (g : Gathered) → g .times ≡ zeros → g .positions ≡ zeros → g .others ≡ zeros → Collecting sizes times ps visits ks xs n g 0
   unfolding zeros
-  collecting-none g a b =
+  collecting-none g a b c =
+      let zero : (vs : List ℕ) (i : ℕ) → vs ≡ zeros → getD vs i 0 ≡ 0 = λ vs i e. ap (λ (v : List ℕ). getD v i 0) e ∙ zero-at 256 i in
       record {
         few = omega arith;
         long = ap length a ∙ length-zeros;
         wide = ap length b ∙ length-zeros;
+        broad = ap length c ∙ length-zeros;
         collected = record {
           found = λ i h. absurd (omega arith);
-          rest = λ i h. (ap (λ (v : List ℕ). getD v i 0) a ∙ zero-at 256 i, ap (λ (v : List ℕ). getD v i 0) b ∙ zero-at 256 i);
+          rest = λ i h. record { time = zero (g .times) i a; position = zero (g .positions) i b; other = zero (g .others) i c };
         };
       }
 
-  module _ (g : Gathered) (i : ℕ) (b : Block) (c : Collecting sizes times ps ks xs n g i) where
+  module _ (g : Gathered) (i : ℕ) (b : Block) (c : Collecting sizes times ps visits ks xs n g i) where
     other : (j : ℕ) → j ≢ i → blockAt (stored g i b) j ≡ blockAt g j
     unfolding stored
-    other j m = λ t. record { time = getD-set-other (g .times) i j (b .time) 0 m t; position = getD-set-other (g .positions) i j (b .position) 0 m t }
+    other j m = λ t. record {
+      time = getD-set-other (g .times) i j (b .time) 0 m t;
+      position = getD-set-other (g .positions) i j (b .position) 0 m t;
+      other = getD-set-other (g .others) i j (b .other) 0 m t;
+    }
 
     own : i < 256 → blockAt (stored g i b) i ≡ b
     unfolding stored
     own h = λ t. record {
       time = getD-set-same (g .times) i (b .time) 0 (omega (arith, c .long)) t;
       position = getD-set-same (g .positions) i (b .position) 0 (omega (arith, c .wide)) t;
+      other = getD-set-same (g .others) i (b .other) 0 (omega (arith, c .broad)) t;
     }
 
-    pub collecting-next : i < n → i < 256 → NextFound sizes times ps (getD ks i 0) (getD xs i 0) b
-        → Collecting sizes times ps ks xs n (record { times = set (g .times) i (b .time); positions = set (g .positions) i (b .position) }) (i + 1)
+    pub collecting-next : i < n → i < 256 → NextFound sizes times ps visits (getD ks i 0) (getD xs i 0) b
+        → Collecting sizes times ps visits ks xs n (stored g i b) (i + 1)
     unfolding stored
     collecting-next l h f = record {
       few = omega arith;
       long = length-set (g .times) i (b .time) ∙ c .long;
       wide = length-set (g .positions) i (b .position) ∙ c .wide;
+      broad = length-set (g .others) i (b .other) ∙ c .broad;
       collected = record {
         found = below-more _ i
-            (λ j u. subst (NextFound sizes times ps (getD ks j 0) (getD xs j 0)) (sym (other j (λ e. omega arith))) (c .collected .found j u))
-            (subst (NextFound sizes times ps (getD ks i 0) (getD xs i 0)) (sym (own h)) f);
-        rest = λ j u.
-            let q = other j (λ e. omega arith) in
-            let z = c .collected .rest j (omega arith) in
-            (ap (λ (x : Block). x .time) q ∙ z .0, ap (λ (x : Block). x .position) q ∙ z .1);
+            (λ j u. subst (NextFound sizes times ps visits (getD ks j 0) (getD xs j 0)) (sym (other j (λ e. omega arith))) (c .collected .found j u))
+            (subst (NextFound sizes times ps visits (getD ks i 0) (getD xs i 0)) (sym (own h)) f);
+        rest = λ j u. subst Nothing (sym (other j (λ e. omega arith))) (c .collected .rest j (omega arith));
       };
     }

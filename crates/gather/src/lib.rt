@@ -17,23 +17,49 @@ ghost use Rattle.numbers.specs.Slots.{waiting, playing};
 ghost use Rattle.plan.specs.Disk.{Zoned};
 ghost use Rattle.desk.specs.Desk.{zeros};
 ghost use Rattle.desk_layout.specs.Layout.{deskIn, deskSize};
-ghost use Rattle.gather.specs.Gather.{Reach, Reached, Here, NextFound, Collected, gathered};
+ghost use Rattle.gather.specs.Gather.{Spot, Reach, Reached, Whole, Here, NextFound, Collected, gathered};
 
-// Time and position of a block.
+// Time and position of a block; of one that takes two visits the time of both, and the position of the other.
 pub struct Block {
     pub time: u32,
     pub position: u32,
+    pub other: u32,
 }
 
-// Where a block lies, and the time of its zone.
-fn block_at<'a>(sizes: &'a [u32; 64], times: &'a [u32; 64], positions: &[u8], block: u32) -> Block
-    requires { ⌜ (Zoned (now sizes)) × (Reach (now sizes) (now positions) block) ⌝ }
-    ensures { λ r. ⌜ Here (now (sizes .entry)) (now (times .entry)) (now (positions .entry)) block r ⌝ }
+// What the list of positions has at entry j, and the time of its zone.
+fn spot_at<'a>(sizes: &'a [u32; 64], times: &'a [u32; 64], positions: &[u8], j: usize) -> Block
+    requires { ⌜ (Zoned (now sizes)) × (Spot (now sizes) (now times) (now positions) j) ⌝ }
+    ensures { λ r. ⌜ Whole (now (sizes .entry)) (now (times .entry)) (now (positions .entry)) j r ⌝ }
 {
-    let position = word_at(positions, block as usize);
+    let position = word_at(positions, j);
     Block {
         time: time_at(sizes, times, position),
         position: position,
+        other: 0,
+    }
+}
+
+// A block that takes so many visits, one or two.
+fn block_at<'a>(
+    sizes: &'a [u32; 64],
+    times: &'a [u32; 64],
+    positions: &[u8],
+    visits: u32,
+    block: u32,
+) -> Block
+    requires { ⌜ (Zoned (now sizes)) × (Reach (now sizes) (now times) (now positions) visits block) ⌝ }
+    ensures { λ r. ⌜ Here (now (sizes .entry)) (now (times .entry)) (now (positions .entry)) visits block r ⌝ }
+{
+    if visits == 1 {
+        return spot_at(sizes, times, positions, block as usize);
+    }
+    let j = block as usize + block as usize;
+    let first = spot_at(sizes, times, positions, j);
+    let second = spot_at(sizes, times, positions, j + 1);
+    Block {
+        time: first.time + second.time,
+        position: first.position,
+        other: second.position,
     }
 }
 
@@ -42,37 +68,42 @@ fn next_block<'a>(
     sizes: &'a [u32; 64],
     times: &'a [u32; 64],
     positions: &[u8],
+    visits: u32,
     kind: u32,
     next: u32,
 ) -> Block
-    requires { ⌜ (Zoned (now sizes)) × (waiting ≤ kind → kind ≤ playing → Reach (now sizes) (now positions) next) ⌝ }
-    ensures { λ r. ⌜ NextFound (now (sizes .entry)) (now (times .entry)) (now (positions .entry)) kind next r ⌝ }
+    requires { ⌜ (Zoned (now sizes)) × (waiting ≤ kind → kind ≤ playing → Reach (now sizes) (now times) (now positions) visits next) ⌝ }
+    ensures { λ r. ⌜ NextFound (now (sizes .entry)) (now (times .entry)) (now (positions .entry)) visits kind next r ⌝ }
 {
     match kind {
-        WAITING => block_at(sizes, times, positions, next),
-        FILLING => block_at(sizes, times, positions, next),
-        PLAYING => block_at(sizes, times, positions, next),
+        WAITING => block_at(sizes, times, positions, visits, next),
+        FILLING => block_at(sizes, times, positions, visits, next),
+        PLAYING => block_at(sizes, times, positions, visits, next),
         _ => Block {
             time: 0,
             position: 0,
+            other: 0,
         },
     }
 }
 
-// Time and position of the next block of each of the first `streams` slots of a desk go into two arrays that are all zero; nothing for free
-// slots and tails.
+// Time and positions of the next block of each of the first `streams` slots of a desk, where a block takes so many visits, go into three
+// arrays that are all zero; nothing for free slots and tails.
 pub fn gather<'a>(
     desk: &[u8],
     positions: &[u8],
     streams: usize,
+    visits: u32,
     found: &'a mut [u32; 256],
     spots: &'a mut [u32; 256],
+    others: &'a mut [u32; 256],
 )
     requires { ⌜ (let d = deskIn (wordsOf (now desk)) in (let f = d .plan .figures in (deskSize ≤ length (now desk)) × (streams ≤ maxStreams)
-        × (Zoned (f .positions)) × (Reached (f .positions) (now positions) (d .kinds) (d .next) streams) × (now found ≡ zeros) × (now spots ≡ zeros))) ⌝ }
+        × (Zoned (f .positions)) × (Reached (f .positions) (f .times) (now positions) visits (d .kinds) (d .next) streams)
+        × (now found ≡ zeros) × (now spots ≡ zeros) × (now others ≡ zeros))) ⌝ }
     ensures { λ _. ⌜ (let d = deskIn (wordsOf (now (desk .entry))) in (let f = d .plan .figures in
-        Collected (f .positions) (f .times) (now (positions .entry)) (d .kinds) (d .next) streams
-        (gathered (now (found .exit)) (now (spots .exit))))) ⌝ }
+        Collected (f .positions) (f .times) (now (positions .entry)) visits (d .kinds) (d .next) streams
+        (gathered (now (found .exit)) (now (spots .exit)) (now (others .exit))))) ⌝ }
 {
     let sizes = zone_sizes(desk);
     let times = zone_times(desk);
@@ -82,11 +113,13 @@ pub fn gather<'a>(
             &sizes,
             &times,
             positions,
+            visits,
             kind_in(desk, i),
             next_in(desk, i),
         );
         found[i] = b.time;
         spots[i] = b.position;
+        others[i] = b.other;
         i += 1;
     }
 }

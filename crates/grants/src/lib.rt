@@ -98,10 +98,10 @@ fn slot_at(line: &[u8; 257], place: usize) -> usize
 
 // The lead of the eldest of so many requests, 0 where none asks. A slot's lead is that of the time of its next block.
 pub fn eldest_lead(line: &[u8; 257], count: usize, times: &[u32; 256], worst2: u32) -> u32
-    requires { ⌜ (count ≤ maxStreams) × ((i : ℕ) → getD (now times) i 0 ≤ maxTime) ⌝ }
+    requires { ⌜ (count ≤ maxStreams) × ((i : ℕ) → getD (now times) i 0 ≤ 2 * maxTime) ⌝ }
     ensures lead { λ r. ⌜ ((p : Supply ℕ) (n : ℕ) (ks xs hs qs : List ℕ) → Slots p n ks xs hs → Asked p (leadsIn (now (times .entry)) worst2) ks xs hs qs
         → Lined qs (now (line .entry)) count → r ≡ eldestLead p (slotsOf p ks xs hs) qs) ⌝ }
-    ensures most { λ r. ⌜ r ≤ 2 * maxTime ⌝ }
+    ensures most { λ r. ⌜ r ≤ 4 * maxTime ⌝ }
 {
     if count == 0 {
         return 0;
@@ -121,7 +121,7 @@ pub fn grant_asked(
     floor: u64,
     level: u64,
 ) -> u32
-    requires { ⌜ (length (now kinds) ≡ 256) × (count ≤ maxStreams) × ((i : ℕ) → getD (now times) i 0 ≤ maxTime) × (rate ≤ maxRate) × (floor ≤ mostFloor) ⌝ }
+    requires { ⌜ (length (now kinds) ≡ 256) × (count ≤ maxStreams) × ((i : ℕ) → getD (now times) i 0 ≤ 2 * maxTime) × (rate ≤ maxRate) × (floor ≤ mostFloor) ⌝ }
     ensures { λ r. ⌜ ((p : Supply ℕ) (n : ℕ) (xs hs qs : List ℕ) → Slots p n (now (kinds .entry)) xs hs
         → Asks p rate floor level (leadsIn (now (times .entry)) worst2) (now (kinds .entry)) xs hs qs → Lined qs (now (line .entry)) count
         → served p 256 (slotsOf p (now (kinds .entry)) xs hs) qs ≡ servedTo (slotsOf p (now (kinds .exit)) xs hs) (droppedBy r qs)) ⌝ }

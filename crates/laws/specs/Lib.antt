@@ -1,6 +1,7 @@
 pub mod Bools
 pub mod Count
 pub mod Each
+pub mod Evens
 pub mod Greatest
 pub mod Insertion
 pub mod Map

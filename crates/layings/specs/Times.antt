@@ -1,7 +1,7 @@
 -- The worst times of all layings: that the smallest is the planner's, and that they are those of all orders of the positions' times.
 -- Assumes nothing.
-use Prim.Native.Nat.{ℕ, _-_, _≤_, _<_}
-use mathlib.Core.Path.{_≡_, sym, ap, _∙_}
+use Prim.Native.Nat.{ℕ, _+_, _-_, _≤_, _<_}
+use mathlib.Core.Path.{_≡_, refl, sym, ap, _∙_, subst}
 use mathlib.Core.List.{List, [], _∷_, map}
 use native.Mathlib.Omega.{arith}
 use native.Mathlib.Nat.{le-antisymm}
@@ -11,9 +11,10 @@ use Rattle.laws.specs.Greatest.{greatestOf-same}
 use Rattle.laws.specs.Members.{In, upto, in-map, of-map, map-at, upto-length, upto-at}
 use Rattle.card.specs.declared.Figures.{Figures}
 use Rattle.card.specs.Card.{Legal, totalPositions}
-use Rattle.placement.specs.Showing.{Showing, one, loop, worstOf, after, pairsOf, pairTime, worst-pair, laying-high}
+use Rattle.placement.specs.Placement.{Laying}
+use Rattle.placement.specs.Showing.{Showing, one, loop, pairs, visitsOf, worstOf, after, pairsOf, pairTime, worst-pair, laying-high}
 use Rattle.pacing.specs.Shown.{round-below}
-use Rattle.plan.specs.Plan.{timeOn, positionOf, worst2Of}
+use Rattle.plan.specs.Plan.{timeOn, positionOf, entriesOf, worst2Of}
 use Rattle.plan.specs.Legal.{legal-laying}
 use Rattle.plan.specs.Promise.{best-time, own-time}
 use Rattle.layings.specs.Layings.{arrangements, filmPositions, layings, listed, laid, worstIn, worstTimes, smallest, timesTried, leastOf}
@@ -23,16 +24,23 @@ use Rattle.layings.specs.Smallest.{smallest-le, smallest-least}
 
 -- ---- the worst time looks at the film's blocks alone
 
--- both blocks of a pair are the film's
-pub pair-below : (x : Showing) (N b : ℕ) → b < pairsOf x N → (b < N) × (after x N b < N)
-pair-below one N b h = omega arith
-pair-below loop N b h = (h, round-below N b h)
+-- a block that is visited once has a pair of two blocks, both of which are the film's
+pub pair-below : (x : Showing) → visitsOf x ≡ 1 → (N b : ℕ) → b < pairsOf x N → (b < N) × (after x N b < N)
+pair-below one v N b h = omega arith
+pair-below loop v N b h = (h, round-below N b h)
+pair-below pairs v N b h = absurd (omega arith)
 
-pub worst-same : (x : Showing) (τ σ l m : ℕ → ℕ) (N : ℕ) → ((b : ℕ) → b < N → τ (l b) ≡ σ (m b)) → worstOf x τ l N ≡ worstOf x σ m N
-worst-same x τ σ l m N e =
+pub pair-of-two : (x : Showing) → visitsOf x ≡ 1 → (τ l : ℕ → ℕ) (N b : ℕ) → pairTime x τ l N b ≡ τ (l b) + τ (l (after x N b))
+pair-of-two one v τ l N b = refl
+pair-of-two loop v τ l N b = refl
+pair-of-two pairs v τ l N b = absurd (omega arith)
+
+pub worst-same : (x : Showing) → visitsOf x ≡ 1 → (τ σ l m : ℕ → ℕ) (N : ℕ) → ((b : ℕ) → b < N → τ (l b) ≡ σ (m b)) → worstOf x τ l N ≡ worstOf x σ m N
+worst-same x v τ σ l m N e =
     worst-pair x τ l N
     ∙ greatestOf-same (pairTime x τ l N) (pairTime x σ m N) (pairsOf x N)
-    (λ b h. let u = pair-below x N b h in omega (arith, e b (u .0), e (after x N b) (u .1)))
+    (λ b h. let u = pair-below x v N b h in
+    omega (arith, e b (u .0), e (after x N b) (u .1), pair-of-two x v τ l N b, pair-of-two x v σ m N b))
     ∙ sym (worst-pair x σ m N)
 
 -- ---- THE SMALLEST IS THE PLANNER'S (T12.2)
@@ -44,26 +52,38 @@ smallest-of : (ws : List ℕ) (w : ℕ) → In w ws → ((v : ℕ) → In v ws �
 smallest-of [] w h low = absurd h
 smallest-of (v ∷ vs) w h low = le-antisymm (smallest-le (v ∷ vs) w h) (smallest-least w v vs low)
 
-pub least-is-planned : (x : Showing) (f : Figures) → Legal f → leastOf x f ≡ worst2Of x f
+pub least-is-planned : (x : Showing) → visitsOf x ≡ 1 → (f : Figures) → Legal 1 f → leastOf x f ≡ worst2Of x f
 unfolding leastOf timesTried worstTimes
-least-is-planned x f ok =
+least-is-planned x v f ok =
     smallest-of (map (worstIn x (timeOn f) (f .blocks)) (layings (totalPositions f) (f .blocks))) (worst2Of x f) has low
   where
+    few : entriesOf x f ≡ f .blocks
+    few = rw v (omega arith)
+
+    room : f .blocks ≤ totalPositions f
+    room = omega (arith, ok .room)
+
+    legal : Legal (visitsOf x) f
+    legal = subst (λ (k : ℕ). Legal k f) (sym v) ok
+
     own : worst2Of x f ≡ worstIn x (timeOn f) (f .blocks) (listed (positionOf x f) (f .blocks))
     own = sym (own-time x f)
-        ∙ worst-same x (timeOn f) (timeOn f) (positionOf x f) (laid (listed (positionOf x f) (f .blocks))) (f .blocks)
+        ∙ worst-same x v (timeOn f) (timeOn f) (positionOf x f) (laid (listed (positionOf x f) (f .blocks))) (f .blocks)
         (λ b h. ap (timeOn f) (sym (listed-at (positionOf x f) (f .blocks) b h)))
 
     has : In (worst2Of x f) (map (worstIn x (timeOn f) (f .blocks)) (layings (totalPositions f) (f .blocks)))
     has = rw own
         (in-map (worstIn x (timeOn f) (f .blocks)) (listed (positionOf x f) (f .blocks)) (layings (totalPositions f) (f .blocks))
-        (laying-listed (totalPositions f) (f .blocks) (ok .room) (positionOf x f)
-        (record { laying = legal-laying x f ok; high = λ b u. laying-high x (totalPositions f) (f .blocks) b (ok .room) u })))
+        (laying-listed (totalPositions f) (f .blocks) room (positionOf x f) (record {
+          laying = subst (λ (n : ℕ). Laying (totalPositions f) n (positionOf x f)) few (legal-laying x f legal);
+          high = λ b u. omega (arith, few, laying-high x (totalPositions f) (f .blocks) b (legal .room) (omega (arith, few)));
+        })))
 
-    low : (v : ℕ) → In v (map (worstIn x (timeOn f) (f .blocks)) (layings (totalPositions f) (f .blocks))) → worst2Of x f ≤ v
-    low v h =
-        let (ys, p, e) = of-map (worstIn x (timeOn f) (f .blocks)) v (layings (totalPositions f) (f .blocks)) h in
-        rw e (best-time x f ok (laid ys) (listed-laying (totalPositions f) (f .blocks) (ok .room) ys p .1 .laying))
+    low : (w : ℕ) → In w (map (worstIn x (timeOn f) (f .blocks)) (layings (totalPositions f) (f .blocks))) → worst2Of x f ≤ w
+    low w h =
+        let (ys, p, e) = of-map (worstIn x (timeOn f) (f .blocks)) w (layings (totalPositions f) (f .blocks)) h in
+        let lay = listed-laying (totalPositions f) (f .blocks) room ys p .1 .laying in
+        rw e (best-time x f legal (laid ys) (subst (λ (n : ℕ). Laying (totalPositions f) n (laid ys)) (sym few) lay))
 
 -- ---- over the times of the film's positions
 
@@ -82,9 +102,9 @@ orders-at x N r ts h =
     ∙ ap (worstIn x (λ t. t) N) (arrangement-at N r ts h)
 
 -- they are those of the layings
-pub orders-are : (x : Showing) (τ : ℕ → ℕ) (P N : ℕ) → ordersTried x N (map τ (filmPositions P N)) ≡ worstTimes x τ P N
+pub orders-are : (x : Showing) → visitsOf x ≡ 1 → (τ : ℕ → ℕ) (P N : ℕ) → ordersTried x N (map τ (filmPositions P N)) ≡ worstTimes x τ P N
 unfolding worstTimes layings
-orders-are x τ P N =
+orders-are x v τ P N =
     ext-getD 0 _ _ (orders-length x N (map τ (filmPositions P N)) ∙ sym (tried ∙ arrangements-length N (filmPositions P N)))
     (λ r h. each r (omega (arith, orders-length x N (map τ (filmPositions P N)))))
   where
@@ -97,6 +117,7 @@ orders-are x τ P N =
         let ys = numbered N r (filmPositions P N) in
         orders-at x N r (map τ (filmPositions P N)) h
         ∙ ap (worstIn x (λ t. t) N) (numbered-map τ N r (filmPositions P N) (omega (arith, positions-length P N)) h)
-        ∙ sym (worst-same x τ (λ t. t) (laid ys) (laid (map τ ys)) N (λ b u. sym (map-at τ ys b 0 0 (omega (arith, numbered-length N r (filmPositions P N))))))
+        ∙ sym (worst-same x v τ (λ t. t) (laid ys) (laid (map τ ys)) N
+        (λ b u. sym (map-at τ ys b 0 0 (omega (arith, numbered-length N r (filmPositions P N))))))
         ∙ sym (map-at (worstIn x τ N) (arrangements N (filmPositions P N)) r [] 0 (omega (arith, arrangements-length N (filmPositions P N)))
         ∙ ap (worstIn x τ N) (arrangement-at N r (filmPositions P N) h))

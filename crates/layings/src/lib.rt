@@ -6,7 +6,7 @@ ghost use lib.ListN.{length};
 ghost use Rattle.laws.specs.Members.{In, Unique};
 ghost use Rattle.card.specs.declared.Figures.{Figures};
 ghost use Rattle.card.specs.Card.{Legal};
-ghost use Rattle.placement.specs.Showing.{Showing};
+ghost use Rattle.placement.specs.Showing.{Showing, visitsOf};
 ghost use Rattle.plan.specs.Plan.{worst2Of};
 ghost use Rattle.layings.specs.Layings.{layings, OnFilm, listed, laid, leastOf};
 
@@ -19,5 +19,5 @@ pub fn every_laying_is_tried()
 
 // The smallest worst time of all these layings is the planner's worst2, for one showing and for a loop.
 pub fn smallest_is_the_planners()
-    ensures { λ _. ⌜ ((x : Showing) (f : Figures) → Legal f → leastOf x f ≡ worst2Of x f) ⌝ }
+    ensures { λ _. ⌜ ((x : Showing) → visitsOf x ≡ 1 → (f : Figures) → Legal 1 f → leastOf x f ≡ worst2Of x f) ⌝ }
 {}

@@ -21,6 +21,7 @@ use Rattle.card_field.specs.declared.Rule.the-variants.{Kind, Zones, Positions,
 use Rattle.card_field.specs.Ranges.{faultOf, timeFault, blocksFault}
 use Rattle.card_table.specs.TableFaults.{TableLegal, fault-table, table-fault}
 use Rattle.card.specs.Card.{Legal, totalPositions, filmFault, zoneFaults, zerosFrom, unusedZero, recordFault, judgeRecord}
+use Rattle.card.specs.CardLaws.{legal-fewer}
 use Rattle.card.specs.Read.{accepted}
 use Rattle.card_field.specs.RangeLaws.{first-none, first-clear, kind-range, zones-range, positions-range, time-range, blocks-range}
 use Rattle.card_field.specs.RangeLaws.{measure-range, kind-legal, zones-legal, positions-legal, time-legal, blocks-legal, measure-legal}
@@ -35,22 +36,22 @@ Kinded f = (f .kind ≡ straightKind) ⊎ (f .kind ≡ measuredKind)
 
 -- ---- the film
 
--- N, B, c and the overheads in their ranges, total being P
-pub record FilmLegal (f : Figures) (total : ℕ) : Type 0 where
+-- N, B, c and the overheads in their ranges, total being P and k the positions of a block
+pub record FilmLegal (k : ℕ) (f : Figures) (total : ℕ) : Type 0 where
   pub blocks : (minBlocks ≤ f .blocks) × (f .blocks ≤ maxBlocks)
-  pub room : f .blocks ≤ total
+  pub room : k * f .blocks ≤ total
   pub bytes : (1 ≤ f .bytes) × (f .bytes ≤ maxBytes)
   pub rate : (1 ≤ f .rate) × (f .rate ≤ maxRate)
   pub table : TableLegal (f .kind) (f .table)
 
 -- a film that is not refused is legal, and back
-pub fault-film : (f : Figures) (total : ℕ) → length (f .table) ≡ tableLength → filmFault f total ≡ 0 → FilmLegal f total
+pub fault-film : (k : ℕ) (f : Figures) (total : ℕ) → length (f .table) ≡ tableLength → filmFault k f total ≡ 0 → FilmLegal k f total
 unfolding filmFault
-fault-film f total w e =
-    let n = first-none (blocksFault total (f .blocks)) _ e in
+fault-film k f total w e =
+    let n = first-none (blocksFault k total (f .blocks)) _ e in
     let b = first-none (faultOf Measure maxBytes (f .bytes)) _ (n .1) in
     let c = first-none (faultOf Measure maxRate (f .rate)) _ (b .1) in
-    let blocks = blocks-range total (f .blocks) (n .0) in
+    let blocks = blocks-range total (f .blocks) k (n .0) in
     record {
       blocks = (blocks .0, blocks .1);
       room = blocks .2;
@@ -59,12 +60,12 @@ fault-film f total w e =
       table = fault-table (f .kind) (f .table) w (c .1);
     }
 
-film-fault : (f : Figures) (total : ℕ) → Kinded f → FilmLegal f total → filmFault f total ≡ 0
+film-fault : (k : ℕ) (f : Figures) (total : ℕ) → Kinded f → FilmLegal k f total → filmFault k f total ≡ 0
 unfolding filmFault
-film-fault f total k l =
-    first-clear (blocks-legal total (f .blocks) (l .blocks .0) (l .blocks .1) (l .room))
+film-fault k f total d l =
+    first-clear (blocks-legal total (f .blocks) k (l .blocks .0) (l .blocks .1) (l .room))
     (first-clear (measure-legal maxBytes (f .bytes) (l .bytes .0) (l .bytes .1))
-    (first-clear (measure-legal maxRate (f .rate) (l .rate .0) (l .rate .1)) (table-fault (f .kind) (f .table) k (l .table))))
+    (first-clear (measure-legal maxRate (f .rate) (l .rate .0) (l .rate .1)) (table-fault (f .kind) (f .table) d (l .table))))
 
 -- ---- the zones
 
@@ -82,24 +83,24 @@ unfolding sumFrom sumBy
 sum-here left i f h = let e : i + 1 ≡ suc i = omega arith in rw (drop-cons (f .positions) i 0 h, e)
 
 -- `left` zones from the i-th on and the film are legal, after zones of `total` positions of which the last has the time `before`
-record ZonesLegal (left i : ℕ) (f : Figures) (total before : ℕ) : Type 0 where
+record ZonesLegal (k left i : ℕ) (f : Figures) (total before : ℕ) : Type 0 where
   positions : (j : ℕ) → i ≤ j → j < i + left → 1 ≤ getD (f .positions) j 0
   times : (j : ℕ) → i ≤ j → j < i + left → (1 ≤ getD (f .times) j 0) × (getD (f .times) j 0 ≤ maxTime)
   start : 0 < left → getD (f .times) i 0 ≤ before
   falling : (j : ℕ) → i ≤ j → suc j < i + left → getD (f .times) (suc j) 0 ≤ getD (f .times) j 0
   thrice : (j : ℕ) → i ≤ j → j < i + left → getD (f .times) 0 0 ≤ timesAsFast * getD (f .times) j 0
   sum : total + sumFrom left i f ≤ maxPositions
-  film : FilmLegal f (total + sumFrom left i f)
+  film : FilmLegal k f (total + sumFrom left i f)
 
 -- a fact at i and from the next on is a fact from i on
 from-here : (P : ℕ → Type 0) (i left : ℕ) → P i → ((j : ℕ) → i + 1 ≤ j → j < i + 1 + left → P j) → (j : ℕ) → i ≤ j → j < i + suc left → P j
 from-here P i left here later j l h = by-cases (ℕ-discrete i j) (λ e. subst P e here) (λ n. later j (omega arith) (omega arith))
 
 -- zones that are not refused are legal
-fault-zones-legal : (left i : ℕ) (f : Figures) (total before : ℕ) → i + left ≤ length (f .positions) → length (f .table) ≡ tableLength → total ≤ maxPositions
-    → zoneFaults left i f total before ≡ 0 → ZonesLegal left i f total before
+fault-zones-legal : (k left i : ℕ) (f : Figures) (total before : ℕ) → i + left ≤ length (f .positions) → length (f .table) ≡ tableLength → total ≤ maxPositions
+    → zoneFaults k left i f total before ≡ 0 → ZonesLegal k left i f total before
 unfolding zoneFaults
-fault-zones-legal zero i f total before w x t e =
+fault-zones-legal k zero i f total before w x t e =
     let sum : total + sumFrom 0 i f ≡ total = omega (arith, sum-none i f) in
     record {
       positions = λ j l h. absurd (omega arith);
@@ -108,14 +109,14 @@ fault-zones-legal zero i f total before w x t e =
       falling = λ j l h. absurd (omega arith);
       thrice = λ j l h. absurd (omega arith);
       sum = omega arith;
-      film = fault-film f (total + sumFrom 0 i f) x (rw sum e);
+      film = fault-film k f (total + sumFrom 0 i f) x (rw sum e);
     }
-fault-zones-legal (suc left) i f total before w x t e =
+fault-zones-legal k (suc left) i f total before w x t e =
     let p = first-none (faultOf Positions total (getD (f .positions) i 0)) _ e in
     let q = first-none (timeFault (getD (f .times) 0 0) before (getD (f .times) i 0)) _ (p .1) in
     let few = positions-range total (getD (f .positions) i 0) (p .0) in
     let slow = time-range before (getD (f .times) i 0) (getD (f .times) 0 0) (q .0) in
-    let later = fault-zones-legal left (i + 1) f (total + getD (f .positions) i 0) (getD (f .times) i 0) (omega arith) x (few .1) (q .1) in
+    let later = fault-zones-legal k left (i + 1) f (total + getD (f .positions) i 0) (getD (f .times) i 0) (omega arith) x (few .1) (q .1) in
     let next : i + 1 ≡ suc i = omega arith in
     let sum : total + sumFrom (suc left) i f ≡ total + getD (f .positions) i 0 + sumFrom left (i + 1) f = omega (arith, sum-here left i f (omega arith)) in
     record {
@@ -131,17 +132,17 @@ fault-zones-legal (suc left) i f total before w x t e =
     }
 
 -- legal zones are not refused
-zones-legal-fault : (left i : ℕ) (f : Figures) (total before : ℕ) → i + left ≤ length (f .positions) → Kinded f
-    → ZonesLegal left i f total before → zoneFaults left i f total before ≡ 0
+zones-legal-fault : (k left i : ℕ) (f : Figures) (total before : ℕ) → i + left ≤ length (f .positions) → Kinded f
+    → ZonesLegal k left i f total before → zoneFaults k left i f total before ≡ 0
 unfolding zoneFaults
-zones-legal-fault zero i f total before w k l =
+zones-legal-fault k zero i f total before w d l =
     let sum : total + sumFrom 0 i f ≡ total = omega (arith, sum-none i f) in
-    rw sum at (film-fault f (total + sumFrom 0 i f) k (l .film))
-zones-legal-fault (suc left) i f total before w k l =
+    rw sum at (film-fault k f (total + sumFrom 0 i f) d (l .film))
+zones-legal-fault k (suc left) i f total before w d l =
     let sum : total + sumFrom (suc left) i f ≡ total + getD (f .positions) i 0 + sumFrom left (i + 1) f = omega (arith, sum-here left i f (omega arith)) in
     let next : i + 1 ≡ suc i = omega arith in
     let times = l .times i (omega arith) (omega arith) in
-    let later : ZonesLegal left (i + 1) f (total + getD (f .positions) i 0) (getD (f .times) i 0) = record {
+    let later : ZonesLegal k left (i + 1) f (total + getD (f .positions) i 0) (getD (f .times) i 0) = record {
       positions = λ j m h. l .positions j (omega arith) (omega arith);
       times = λ j m h. l .times j (omega arith) (omega arith);
       start = λ h. rw next (l .falling i (omega arith) (omega arith));
@@ -153,7 +154,7 @@ zones-legal-fault (suc left) i f total before w k l =
     first-clear (positions-legal total (getD (f .positions) i 0) (l .positions i (omega arith) (omega arith)) (omega (arith, l .sum)))
     (first-clear
     (time-legal before (getD (f .times) i 0) (getD (f .times) 0 0) (times .0) (times .1) (l .start (omega arith)) (l .thrice i (omega arith) (omega arith)))
-    (zones-legal-fault left (i + 1) f (total + getD (f .positions) i 0) (getD (f .times) i 0) (omega arith) k later))
+    (zones-legal-fault k left (i + 1) f (total + getD (f .positions) i 0) (getD (f .times) i 0) (omega arith) d later))
 
 -- ---- the unused zones
 
@@ -192,32 +193,32 @@ clear true e = refl
 clear false e = absurd (omega arith)
 
 -- what the judge of a record looks at, one by one
-pub record Judged (f : Figures) : Type 0 where
+pub record Judged (k : ℕ) (f : Figures) : Type 0 where
   pub kind : Kinded f
   pub zones : (1 ≤ f .zones) × (f .zones ≤ maxZones)
   pub unused : Unused f
-  pub faults : zoneFaults (f .zones) 0 f 0 maxTime ≡ 0
+  pub faults : zoneFaults k (f .zones) 0 f 0 maxTime ≡ 0
 
 -- a record without a fault has none of these, and back
-pub fault-judged : (f : Figures) → recordFault f ≡ 0 → Judged f
+pub fault-judged : (k : ℕ) (f : Figures) → recordFault k f ≡ 0 → Judged k f
 unfolding recordFault unusedZero zerosFrom
-fault-judged f e =
-    let k = first-none (faultOf Kind 0 (f .kind)) _ e in
-    let z = first-none (faultOf Zones 0 (f .zones)) _ (k .1) in
+fault-judged k f e =
+    let d = first-none (faultOf Kind 0 (f .kind)) _ e in
+    let z = first-none (faultOf Zones 0 (f .zones)) _ (d .1) in
     let u = first-none (cond (unusedZero f) 0 wrongZones) _ (z .1) in
     let both = clear (unusedZero f) (u .0) in
     let ps = and-left (zeros (f .zones) (f .positions)) _ both in
     let ts = and-right (zeros (f .zones) (f .positions)) _ both in
     record {
-      kind = kind-range 0 (f .kind) (k .0);
+      kind = kind-range 0 (f .kind) (d .0);
       zones = zones-range 0 (f .zones) (z .0);
       unused = λ i l. (zeros-at (f .zones) (f .positions) ps i l, zeros-at (f .zones) (f .times) ts i l);
       faults = u .1;
     }
 
-pub judged-fault : (f : Figures) → Judged f → recordFault f ≡ 0
+pub judged-fault : (k : ℕ) (f : Figures) → Judged k f → recordFault k f ≡ 0
 unfolding recordFault unusedZero zerosFrom
-judged-fault f j =
+judged-fault k f j =
     let ps = at-zeros (f .zones) (f .positions) (λ i l. j .unused i l .0) in
     let ts = at-zeros (f .zones) (f .times) (λ i l. j .unused i l .1) in
     let both : unusedZero f ≡ true = and-both ps ts in
@@ -229,10 +230,10 @@ unfolding sumFrom totalPositions
 sum-total f = omega arith
 
 -- FIGURES THAT ARE NOT REFUSED ARE LEGAL
-pub fault-legal : (f : Figures) → Wide f → recordFault f ≡ 0 → Legal f
-fault-legal f w e =
-    let j = fault-judged f e in
-    let l = fault-zones-legal (f .zones) 0 f 0 maxTime (omega (arith, j .zones)) (w .2) (omega arith) (j .faults) in
+pub fault-legal : (k : ℕ) (f : Figures) → Wide f → recordFault k f ≡ 0 → Legal k f
+fault-legal k f w e =
+    let j = fault-judged k f e in
+    let l = fault-zones-legal k (f .zones) 0 f 0 maxTime (omega (arith, j .zones)) (w .2) (omega arith) (j .faults) in
     record {
       wide = w;
       kind = j .kind;
@@ -252,16 +253,16 @@ fault-legal f w e =
     }
 
 -- LEGAL FIGURES ARE NOT REFUSED
-pub legal-fault : (f : Figures) → Legal f → recordFault f ≡ 0
-legal-fault f l =
-    let film : FilmLegal f (0 + sumFrom (f .zones) 0 f) = record {
+pub legal-fault : (k : ℕ) (f : Figures) → Legal k f → recordFault k f ≡ 0
+legal-fault k f l =
+    let film : FilmLegal k f (0 + sumFrom (f .zones) 0 f) = record {
       blocks = l .blocks;
       room = omega (arith, l .room, sum-total f);
       bytes = l .bytes;
       rate = l .rate;
       table = record { straight = l .straight; measured = l .measured };
     } in
-    let zones : ZonesLegal (f .zones) 0 f 0 maxTime = record {
+    let zones : ZonesLegal k (f .zones) 0 f 0 maxTime = record {
       positions = λ j m h. l .positions j (omega arith);
       times = λ j m h. l .times j (omega arith);
       start = λ h. l .times 0 h .1;
@@ -270,17 +271,21 @@ legal-fault f l =
       sum = omega (arith, l .total, sum-total f);
       film = film;
     } in
-    judged-fault f (record {
+    judged-fault k f (record {
       kind = l .kind;
       zones = l .zones;
       unused = l .unused;
-      faults = zones-legal-fault (f .zones) 0 f 0 maxTime (omega (arith, l .zones, l .wide)) (l .kind) zones;
+      faults = zones-legal-fault k (f .zones) 0 f 0 maxTime (omega (arith, l .zones, l .wide)) (l .kind) zones;
     })
 
 -- THE JUDGE ACCEPTS EXACTLY THE LEGAL FIGURES
-pub judge-legal : (f : Figures) → Wide f → ((judgeRecord f ≡ accepted) ↔ Legal f) × ((recordFault f ≡ 0) ↔ Legal f)
+pub judge-legal : (k : ℕ) (f : Figures) → Wide f → ((judgeRecord k f ≡ accepted) ↔ Legal k f) × ((recordFault k f ≡ 0) ↔ Legal k f)
 unfolding judgeRecord
-judge-legal f w = (
-  (λ e. fault-legal f w (ap (λ (v : Verdict). v .number) e), λ l. ap (λ (k : ℕ). record { number = k; place = 0 }) (legal-fault f l)),
-  (fault-legal f w, legal-fault f),
+judge-legal k f w = (
+  (λ e. fault-legal k f w (ap (λ (v : Verdict). v .number) e), λ l. ap (λ (n : ℕ). record { number = n; place = 0 }) (legal-fault k f l)),
+  (fault-legal k f w, legal-fault k f),
 )
+
+-- A RECORD THAT IS NOT REFUSED FOR MORE POSITIONS A BLOCK IS NOT FOR FEWER
+pub fault-fewer : (j k : ℕ) (f : Figures) → j ≤ k → Wide f → recordFault k f ≡ 0 → recordFault j f ≡ 0
+fault-fewer j k f h w e = legal-fault j f (legal-fewer j k f h (fault-legal k f w e))

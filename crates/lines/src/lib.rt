@@ -1,12 +1,17 @@
 // What the programs that plan a card share: lines of text, put together by value and written in one call, the line of a refusal, the
-// argument `loop`, and the plan that it asks for.
+// argument `loop` or `pairs`, the plan that it asks for, and the room for its positions.
 use card::Verdict;
 use libc::STDOUT_FILENO;
+use numbers::showings::LOOP;
+use numbers::showings::ONCE;
+use numbers::showings::PAIRS;
 use plan::Planned;
 use planner::plan_card;
 use planner::plan_loop_card;
+use planner::plan_pairs_card;
 ghost use mathlib.Core.Path.{_≡_};
 ghost use mathlib.Core.Bool.{true};
+ghost use lib.ListN.{length};
 ghost use Rattle.plan.specs.Answer.{isPlan};
 
 // A line as far as it is put together. A byte past its room is dropped; no line of the programs has more than 50.
@@ -89,31 +94,52 @@ fn same(a: &[u8], b: &[u8]) -> bool {
     true
 }
 
-// Is the first argument `loop`? A longer one than fits is read as none.
-pub fn asks_loop() -> bool {
+// The showing that a word asks for, once through where it asks for none.
+fn showing_of(word: &[u8]) -> u32 {
+    if same(word, b"loop") {
+        return LOOP;
+    }
+    if same(word, b"pairs") {
+        return PAIRS;
+    }
+    ONCE
+}
+
+// The showing that the first argument asks for. A longer one than fits is read as none.
+pub fn asked_showing() -> u32 {
     let mut word = [0u8; 8];
     let length = os::arg(1, &mut word);
-    same(&word[..length], b"loop")
+    showing_of(&word[..length])
 }
 
 // How many arguments a program has at most, its name among them.
-fn most_arguments(looped: bool) -> usize {
-    if looped {
-        return 2;
+fn most_arguments(showing: u32) -> usize {
+    if showing == ONCE {
+        return 1;
     }
-    1
+    2
 }
 
 // Has the program more arguments than it reads?
-pub fn has_more_arguments(looped: bool) -> bool {
-    most_arguments(looped) < os::arg_count()
+pub fn has_more_arguments(showing: u32) -> bool {
+    most_arguments(showing) < os::arg_count()
 }
 
-// The plan of a card, as a loop or for one showing, and its lists.
-pub fn plan_film(looped: bool, card: &[u8], positions: &mut [u8], leads: &mut [u8]) -> Planned
+// Room for the positions of the longest film, two for each of its half blocks.
+pub fn position_buffer() -> [u8; 131072]
+    ensures { λ r. ⌜ 131072 ≡ length r ⌝ }
+{
+    [0; 131072]
+}
+
+// The plan of a card for half blocks, as a loop or for one showing, and its lists.
+pub fn plan_film(showing: u32, card: &[u8], positions: &mut [u8], leads: &mut [u8]) -> Planned
     ensures { λ r. ⌜ (r .verdict .number ≡ 0 → isPlan (r .plan) (now (positions .exit)) (now (leads .exit)) ≡ true) ⌝ }
 {
-    if looped {
+    if showing == PAIRS {
+        return plan_pairs_card(card, positions, leads);
+    }
+    if showing == LOOP {
         return plan_loop_card(card, positions, leads);
     }
     plan_card(card, positions, leads)

@@ -17,22 +17,22 @@ use Rattle.maker_rows.specs.Kept.{backBy}
 
 -- ---- the judge
 
-module _ (f : Figures) (v : Verdict) (judged : v ≡ judgeRecord f) where
+module _ (f : Figures) (v : Verdict) (judged : v ≡ judgeRecord 1 f) where
   pub figures-refused : (v .number ≡ 0 → ⊥) → refusedText (v .number) 0 ≡ judgedFigures f
   unfolding judgedFigures judgeRecord answered
-  figures-refused n = go (recordFault f) refl
+  figures-refused n = go (recordFault 1 f) refl
     where
-      same : v .number ≡ recordFault f
+      same : v .number ≡ recordFault 1 f
       same = ap (λ (x : Verdict). x .number) judged
 
-      go : (k : ℕ) → recordFault f ≡ k → refusedText (v .number) 0 ≡ answered (recordFault f) f
+      go : (k : ℕ) → recordFault 1 f ≡ k → refusedText (v .number) 0 ≡ answered (recordFault 1 f) f
       go zero e = absurd (n (same ∙ e))
       go (suc k) e = rw e (ap (λ (x : ℕ). refusedText x 0) (same ∙ e))
 
   pub figures-accepted : v .number ≡ 0 → _≡_ {A = MakerRead} (record { verdict = v; figures = f }) (judgedFigures f)
   unfolding judgedFigures judgeRecord answered
   figures-accepted e =
-      let none : recordFault f ≡ 0 = ap (λ (x : Verdict). x .number) (sym judged) ∙ e in
+      let none : recordFault 1 f ≡ 0 = ap (λ (x : Verdict). x .number) (sym judged) ∙ e in
       let fine : v ≡ accepted = judged ∙ ap (λ (k : ℕ). record { number = k; place = 0 }) none in
       ap (λ (x : Verdict). record { verdict = x; figures = f }) fine ∙ ap (λ (k : ℕ). answered k f) (sym none)
 

@@ -105,7 +105,7 @@ module _ (r : Rows) where
 -- ---- the figures
 
 -- over 64 rows are 4
-many-zones : (f : Figures) → f .kind ≡ straightKind → maxZones < f .zones → recordFault f ≡ wrongZones
+many-zones : (f : Figures) → f .kind ≡ straightKind → maxZones < f .zones → recordFault 1 f ≡ wrongZones
 unfolding recordFault faultOf outside below above first
 many-zones f e h = rw (e, le-leb 1 (f .zones) (omega arith), lt-leb (f .zones) maxZones h)
 
@@ -162,16 +162,16 @@ filled-narrow z z′ ps ts ps′ ts′ block n c hop ret a b d = record {
   zones = a;
   positions = b;
   times = d;
-  film = λ total. ap (λ (k : ℕ). first (blocksFault total n)
+  film = λ total. ap (λ (k : ℕ). first (blocksFault 1 total n)
       (first (faultOf rule.Measure maxBytes (sectorBytes * block)) (first (faultOf rule.Measure maxRate c) k))) (table-same hop ret);
 }
 
 -- hop and return of a film that is not refused
-filled-moves : (z : ℕ) (ps ts : List ℕ) (block n c hop ret total : ℕ) → filmFault (filled z ps ts block n c hop ret) total ≡ 0
+filled-moves : (z : ℕ) (ps ts : List ℕ) (block n c hop ret total : ℕ) → filmFault 1 (filled z ps ts block n c hop ret) total ≡ 0
     → (moveIn hop ≡ hop) × (moveIn ret ≡ ret)
 unfolding filled filmFault
 filled-moves z ps ts block n c hop ret total e =
-    let a = first-none (blocksFault total n) _ e in
+    let a = first-none (blocksFault 1 total n) _ e in
     let b = first-none (faultOf rule.Measure maxBytes (sectorBytes * block)) _ (a .1) in
     let r = first-none (faultOf rule.Measure maxRate c) _ (b .1) in
     moves-kept hop ret (r .1)

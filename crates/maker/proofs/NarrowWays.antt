@@ -105,7 +105,7 @@ pub record Narrow (f g : Figures) : Type 0 where
   pub zones : g .zones ≡ f .zones
   pub positions : g .positions ≡ map narrowed (f .positions)
   pub times : g .times ≡ map narrowed (f .times)
-  pub film : (total : ℕ) → filmFault g total ≡ filmFault f total
+  pub film : (total : ℕ) → filmFault 1 g total ≡ filmFault 1 f total
 
 module _ (f g : Figures) (n : Narrow f g) where
   abbrev place : ℕ → ℕ
@@ -121,12 +121,12 @@ module _ (f g : Figures) (n : Narrow f g) where
   speed-is i = ap (λ (xs : List ℕ). getD xs i 0) (n .times) ∙ getD-narrowed (f .times) i
 
   -- the first zone's time is in range once it is judged
-  faults-same : (left i total before : ℕ) → (0 < i → speed 0 ≤ maxTime) → zoneFaults left i g total before ≡ zoneFaults left i f total before
+  faults-same : (left i total before : ℕ) → (0 < i → speed 0 ≤ maxTime) → zoneFaults 1 left i g total before ≡ zoneFaults 1 left i f total before
   unfolding zoneFaults
   faults-same zero i total before h = n .film total
   faults-same (suc left) i total before h =
       zone-same total before (place i) (speed i) (speed 0) _ _ _ _ _ (place-is i) (speed-is i) (speed-is 0) (inner i h) (λ a b.
-      ap₂ (λ (x y : ℕ). zoneFaults left (i + 1) g (total + x) y) (place-is i ∙ narrowed-small (place i) (omega arith))
+      ap₂ (λ (x y : ℕ). zoneFaults 1 left (i + 1) g (total + x) y) (place-is i ∙ narrowed-small (place i) (omega arith))
       (speed-is i ∙ narrowed-small (speed i) (omega arith))
       ∙ faults-same left (i + 1) (total + place i) (speed i) (λ k. inner i h b))
     where
@@ -135,7 +135,7 @@ module _ (f g : Figures) (n : Narrow f g) where
       inner (suc i) h t = h (omega arith)
 
   -- THE SAME REFUSAL
-  pub fault-same : recordFault g ≡ recordFault f
+  pub fault-same : recordFault 1 g ≡ recordFault 1 f
   unfolding recordFault unusedZero zerosFrom
   fault-same =
       ap₂ first (ap (faultOf Kind 0) (n .kind))
@@ -147,11 +147,11 @@ module _ (f g : Figures) (n : Narrow f g) where
       speeds : allBy (λ (v : ℕ). eqb v 0) (drop (g .zones) (g .times)) ≡ allBy (λ (v : ℕ). eqb v 0) (drop (f .zones) (f .times))
       speeds = rw (n .zones, n .times) (unused-narrowed (f .zones) (f .times))
 
-      faults : zoneFaults (g .zones) 0 g 0 maxTime ≡ zoneFaults (f .zones) 0 f 0 maxTime
-      faults = ap (λ (z : ℕ). zoneFaults z 0 g 0 maxTime) (n .zones) ∙ faults-same (f .zones) 0 0 maxTime (λ h. absurd (omega arith))
+      faults : zoneFaults 1 (g .zones) 0 g 0 maxTime ≡ zoneFaults 1 (f .zones) 0 f 0 maxTime
+      faults = ap (λ (z : ℕ). zoneFaults 1 z 0 g 0 maxTime) (n .zones) ∙ faults-same (f .zones) 0 0 maxTime (λ h. absurd (omega arith))
 
   -- the zones of figures that are not refused
-  zones-small : (left i total before : ℕ) → zoneFaults left i f total before ≡ 0 → (k : ℕ) → i ≤ k → k < i + left
+  zones-small : (left i total before : ℕ) → zoneFaults 1 left i f total before ≡ 0 → (k : ℕ) → i ≤ k → k < i + left
       → (place k ≤ maxPositions) × (speed k ≤ maxTime)
   unfolding zoneFaults
   zones-small zero i total before e k l h = absurd (omega arith)
@@ -160,14 +160,15 @@ module _ (f g : Figures) (n : Narrow f g) where
       let b = first-none (timeFault (speed 0) before (speed i)) _ (a .1) in
       on a b (ℕ-discrete k i) (zones-small left (i + 1) (total + place i) (speed i) (b .1) k)
     where
-      on : (faultOf Positions total (place i) ≡ 0) × (first (timeFault (speed 0) before (speed i)) (zoneFaults left (i + 1) f (total + place i) (speed i)) ≡ 0)
-          → (timeFault (speed 0) before (speed i) ≡ 0) × (zoneFaults left (i + 1) f (total + place i) (speed i) ≡ 0)
+      on : (faultOf Positions total (place i) ≡ 0)
+          × (first (timeFault (speed 0) before (speed i)) (zoneFaults 1 left (i + 1) f (total + place i) (speed i)) ≡ 0)
+          → (timeFault (speed 0) before (speed i) ≡ 0) × (zoneFaults 1 left (i + 1) f (total + place i) (speed i) ≡ 0)
           → Dec (k ≡ i) → (i + 1 ≤ k → k < i + 1 + left → (place k ≤ maxPositions) × (speed k ≤ maxTime)) → (place k ≤ maxPositions) × (speed k ≤ maxTime)
       on a b (yes q) later = rw q (omega (arith, positions-range total (place i) (a .0) .1), time-range before (speed i) (speed 0) (b .0) .1)
       on a b (no q) later = later (omega arith) (omega arith)
 
   -- nor is their film refused, by the positions of all zones
-  film-clear : (left i total before : ℕ) → zoneFaults left i f total before ≡ 0 → (all : ℕ) × (filmFault f all ≡ 0)
+  film-clear : (left i total before : ℕ) → zoneFaults 1 left i f total before ≡ 0 → (all : ℕ) × (filmFault 1 f all ≡ 0)
   unfolding zoneFaults
   film-clear zero i total before e = (total, e)
   film-clear (suc left) i total before e =
@@ -175,11 +176,11 @@ module _ (f g : Figures) (n : Narrow f g) where
       let b = first-none (timeFault (speed 0) before (speed i)) _ (a .1) in
       film-clear left (i + 1) (total + place i) (speed i) (b .1)
 
-  pub accepted-film : recordFault f ≡ 0 → (all : ℕ) × (filmFault f all ≡ 0)
-  accepted-film e = film-clear (f .zones) 0 0 maxTime (fault-judged f e .faults)
+  pub accepted-film : recordFault 1 f ≡ 0 → (all : ℕ) × (filmFault 1 f all ≡ 0)
+  accepted-film e = film-clear (f .zones) 0 0 maxTime (fault-judged 1 f e .faults)
 
   -- FIGURES THAT ARE NOT REFUSED ARE NOT NARROWED
-  pub accepted-same : recordFault f ≡ 0 → (g .positions ≡ f .positions) × (g .times ≡ f .times)
+  pub accepted-same : recordFault 1 f ≡ 0 → (g .positions ≡ f .positions) × (g .times ≡ f .times)
   accepted-same e = (
     n .positions ∙ map-same (f .positions) (λ i. narrowed-small (place i) (each i .0)),
     n .times
@@ -187,17 +188,17 @@ module _ (f g : Figures) (n : Narrow f g) where
   )
     where
       each : (i : ℕ) → (place i ≤ maxNumber) × (speed i ≤ maxNumber)
-      each i = go (decLt i (f .zones)) (fault-judged f e)
+      each i = go (decLt i (f .zones)) (fault-judged 1 f e)
         where
-          go : Dec (i < f .zones) → Judged f → (place i ≤ maxNumber) × (speed i ≤ maxNumber)
+          go : Dec (i < f .zones) → Judged 1 f → (place i ≤ maxNumber) × (speed i ≤ maxNumber)
           go (yes h) j = omega (arith, zones-small (f .zones) 0 0 maxTime (j .faults) i (omega arith) (omega arith))
           go (no h) j = omega (arith, j .unused i (omega arith))
 
   -- they are judged alike
-  pub judged-same : (recordFault f ≡ 0 → g ≡ f) → judgedFigures g ≡ judgedFigures f
+  pub judged-same : (recordFault 1 f ≡ 0 → g ≡ f) → judgedFigures g ≡ judgedFigures f
   unfolding judgedFigures
-  judged-same same = go (recordFault f) refl
+  judged-same same = go (recordFault 1 f) refl
     where
-      go : (k : ℕ) → recordFault f ≡ k → answered (recordFault g) g ≡ answered (recordFault f) f
-      go zero e = ap (λ (x : Figures). answered (recordFault x) x) (same e)
+      go : (k : ℕ) → recordFault 1 f ≡ k → answered (recordFault 1 g) g ≡ answered (recordFault 1 f) f
+      go zero e = ap (λ (x : Figures). answered (recordFault 1 x) x) (same e)
       go (suc k) e = unfold answered in rw (fault-same, e)

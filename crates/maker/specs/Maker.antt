@@ -52,7 +52,7 @@ answered (suc k) f = refusedText (suc k) 0
 
 -- judged as a record's: 4 to 10, and 26 right after 7; 12 is not judged (T1.10, T1.14)
 unfoldable pub judgedFigures : Figures → MakerRead
-judgedFigures f = answered (recordFault f) f
+judgedFigures f = answered (recordFault 1 f) f
 
 unfoldable pub onRows : Drive → ℕ → ℕ → ℕ → ℕ → Listed → MakerRead
 onRows d n c hop ret (Refused k line) = refusedText k line

@@ -95,11 +95,11 @@ module _ (d : Drive) (zs : List Row) (n c hop ret : ℕ) where
     straight-long hop ret,
   )
 
-  figures-legal : recordFault (figuresOf d zs n c hop ret) ≡ 0 → Legal (figuresOf d zs n c hop ret)
-  figures-legal e = fault-legal _ (figures-wide few) e
+  figures-legal : recordFault 1 (figuresOf d zs n c hop ret) ≡ 0 → Legal 1 (figuresOf d zs n c hop ret)
+  figures-legal e = fault-legal 1 _ (figures-wide few) e
     where
       few : length zs ≤ maxZones
-      few = unfold figuresOf filled in fault-zones (figuresOf d zs n c hop ret) e
+      few = unfold figuresOf filled in fault-zones 1 (figuresOf d zs n c hop ret) e
 
 -- line one in range
 judged-fits : (d : Drive) (next : ℕ) → HeadingFacts (d .turns) (d .switch) (d .heads) (d .block)
@@ -116,7 +116,7 @@ pub record Accepts (s : List ℕ) (n c hop ret : ℕ) : Type 0 where
   pub zs : List Row
   pub heading-read : headingIn s ≡ heading.Numbers (drive .turns) (drive .switch) (drive .heads) (drive .block) next
   pub rows-read : rowsFrom (length s) s next [] ≡ Zones zs
-  pub fault : recordFault (figuresOf drive zs n c hop ret) ≡ 0
+  pub fault : recordFault 1 (figuresOf drive zs n c hop ret) ≡ 0
   pub answer : readMaker s n c hop ret ≡ record { verdict = accepted; figures = figuresOf drive zs n c hop ret }
 
 -- or it is refused
@@ -135,7 +135,7 @@ module _ (s : List ℕ) (n c hop ret : ℕ) where
     where
       judged : (d : Drive) (next : ℕ) (zs : List Row) → headingIn s ≡ heading.Numbers (d .turns) (d .switch) (d .heads) (d .block) next
           → rowsFrom (length s) s next [] ≡ Zones zs
-          → readMaker s n c hop ret ≡ judgedFigures (figuresOf d zs n c hop ret) → (k : ℕ) → recordFault (figuresOf d zs n c hop ret) ≡ k
+          → readMaker s n c hop ret ≡ judgedFigures (figuresOf d zs n c hop ret) → (k : ℕ) → recordFault 1 (figuresOf d zs n c hop ret) ≡ k
           → Accepts s n c hop ret ⊎ Refuses s n c hop ret
       judged d next zs p q e zero f =
           inl (record { drive = d; next = next; zs = zs; heading-read = p; rows-read = q; fault = f; answer = e ∙ (unfold judgedFigures answered in rw f) })
@@ -144,7 +144,7 @@ module _ (s : List ℕ) (n c hop ret : ℕ) where
       rows : (d : Drive) (next : ℕ) → headingIn s ≡ heading.Numbers (d .turns) (d .switch) (d .heads) (d .block) next → (L : Listed)
           → rowsFrom (length s) s next [] ≡ L
           → readMaker s n c hop ret ≡ onRows d n c hop ret L → Accepts s n c hop ret ⊎ Refuses s n c hop ret
-      rows d next p (Zones zs) q e = judged d next zs p q (e ∙ (unfold onRows in refl)) (recordFault (figuresOf d zs n c hop ret)) refl
+      rows d next p (Zones zs) q e = judged d next zs p q (e ∙ (unfold onRows in refl)) (recordFault 1 (figuresOf d zs n c hop ret)) refl
       rows d next p (Refused k line) q e = inr (refuses k line (rows-number (length s) s next [] k line q) (e ∙ (unfold onRows in refl)))
 
       on : (h : Heading) → headingIn s ≡ h → Accepts s n c hop ret ⊎ Refuses s n c hop ret
@@ -176,7 +176,7 @@ module _ (s : List ℕ) (n c hop ret : ℕ) where
                   ∙ ap (λ (x : List ℕ). headingLine d ++ x) (sp .text);
               drive = record { turns = f .turns-in; switch = f .switch-in; heads = f .heads-in; block = f .block-in };
               follow = sp .follow;
-              legal = subst (λ (zs : List Row). Legal (figuresOf d zs n c hop ret)) (sym (sp .zones)) (figures-legal d (a .zs) n c hop ret (a .fault));
+              legal = subst (λ (zs : List Row). Legal 1 (figuresOf d zs n c hop ret)) (sym (sp .zones)) (figures-legal d (a .zs) n c hop ret (a .fault));
             },
           )
 
@@ -190,23 +190,23 @@ module _ (s : List ℕ) (n c hop ret : ℕ) where
       record { turns-in = l .drive .turns; switch-in = l .drive .switch; heads-in = l .drive .heads; block-in = l .drive .block } in
       let read : headingIn s ≡ heading.Numbers (d .turns) (d .switch) (d .heads) (d .block) (h .0) = h .1 ∙ judged-fits d (h .0) f in
       let rows-read = rows-fuel s (length s) (length s - h .0) (h .0) [] (omega arith) (omega arith) ∙ rows-spelled rows s (h .0) [] (h .2) (l .follow) in
-      rw (read, rows-read, legal-fault (figuresOf d (innermostFirst rows) n c hop ret) (l .legal))
+      rw (read, rows-read, legal-fault 1 (figuresOf d (innermostFirst rows) n c hop ret) (l .legal))
 
   pub accepts-legal : (readMaker s n c hop ret .verdict .number ≡ 0) ↔ ((d : Drive) × (rows : List Row) × Listing s n c hop ret d rows)
   accepts-legal = (accepted-listing, λ (d, rows, l). number-of (listing-answered d rows l))
 
   -- ACCEPTED FIGURES ARE THOSE OF A CARD
   pub accepted-card : readMaker s n c hop ret .verdict .number ≡ 0
-      → Legal (readMaker s n c hop ret .figures) × (judgeRecord (readMaker s n c hop ret .figures) ≡ accepted)
-      × (readCard (cardOf (readMaker s n c hop ret .figures)) ≡ record { verdict = accepted; figures = readMaker s n c hop ret .figures })
+      → Legal 1 (readMaker s n c hop ret .figures) × (judgeRecord 1 (readMaker s n c hop ret .figures) ≡ accepted)
+      × (readCard 1 (cardOf (readMaker s n c hop ret .figures)) ≡ record { verdict = accepted; figures = readMaker s n c hop ret .figures })
   accepted-card e = go answer-ways
     where
-      card : (f : Figures) → Legal f → Legal f × (judgeRecord f ≡ accepted) × (readCard (cardOf f) ≡ record { verdict = accepted; figures = f })
-      card f l = (l, unfold judgeRecord in rw (legal-fault f l), legal-read f l)
+      card : (f : Figures) → Legal 1 f → Legal 1 f × (judgeRecord 1 f ≡ accepted) × (readCard 1 (cardOf f) ≡ record { verdict = accepted; figures = f })
+      card f l = (l, unfold judgeRecord in rw (legal-fault 1 f l), legal-read 1 f l)
 
       go : Accepts s n c hop ret ⊎ Refuses s n c hop ret
-          → Legal (readMaker s n c hop ret .figures) × (judgeRecord (readMaker s n c hop ret .figures) ≡ accepted)
-          × (readCard (cardOf (readMaker s n c hop ret .figures)) ≡ record { verdict = accepted; figures = readMaker s n c hop ret .figures })
+          → Legal 1 (readMaker s n c hop ret .figures) × (judgeRecord 1 (readMaker s n c hop ret .figures) ≡ accepted)
+          × (readCard 1 (cardOf (readMaker s n c hop ret .figures)) ≡ record { verdict = accepted; figures = readMaker s n c hop ret .figures })
       go (inl a) = rw (a .answer) (card (figuresOf (a .drive) (a .zs) n c hop ret) (figures-legal (a .drive) (a .zs) n c hop ret (a .fault)))
       go (inr r) = absurd (let z = number-of (r .answer) in unfold refusedText in omega arith)
 

@@ -40,7 +40,7 @@ pub record FaultOfFigures (s : List ℕ) (n c hop ret k : ℕ) : Type 0 where
   pub rows : List Row
   pub text : s ≡ textOf drive rows
   pub good : DriveInRange drive × FollowOn 0 rows
-  pub fault : recordFault (figuresOf drive (innermostFirst rows) n c hop ret) ≡ k
+  pub fault : recordFault 1 (figuresOf drive (innermostFirst rows) n c hop ret) ≡ k
 
 -- WHY A TEXT IS REFUSED, by number and line
 abbrev pub Fault : List ℕ → ℕ → ℕ → ℕ → ℕ → ℕ → ℕ → Type 0

@@ -70,4 +70,4 @@ pub record Listing (s : List ℕ) (n c hop ret : ℕ) (d : Drive) (rows : List R
   pub text : s ≡ textOf d rows
   pub drive : DriveInRange d
   pub follow : FollowOn 0 rows
-  pub legal : Legal (figuresOf d (innermostFirst rows) n c hop ret)
+  pub legal : Legal 1 (figuresOf d (innermostFirst rows) n c hop ret)

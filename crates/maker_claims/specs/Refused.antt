@@ -246,7 +246,7 @@ module _ (s : List ℕ) (n c hop ret k line : ℕ) where
   -- all lines are good
   of-figures : (d : Drive) (next : ℕ) (zs : List Row) → headingIn s ≡ heading.Numbers (d .turns) (d .switch) (d .heads) (d .block) next
       → rowsFrom (length s) s next [] ≡ Zones zs
-      → recordFault (figuresOf d zs n c hop ret) ≡ suc k → FaultOfFigures s n c hop ret (suc k)
+      → recordFault 1 (figuresOf d zs n c hop ret) ≡ suc k → FaultOfFigures s n c hop ret (suc k)
   unfolding textOf headingLine innermostFirst following
   of-figures d next zs p q f =
       let sp = rows-spelling (length s) s next [] zs (omega arith) q in
@@ -255,7 +255,7 @@ module _ (s : List ℕ) (n c hop ret k line : ℕ) where
         rows = sp .rows;
         text = heading-spelling s (d .turns) (d .switch) (d .heads) (d .block) next p ∙ ap (λ (x : List ℕ). headingLine d ++ x) (sp .text);
         good = (in-range d (heading-words s (d .turns) (d .switch) (d .heads) (d .block) next p .facts), sp .follow);
-        fault = ap (λ (z : List Row). recordFault (figuresOf d z n c hop ret)) (sp .zones) ∙ f;
+        fault = ap (λ (z : List Row). recordFault 1 (figuresOf d z n c hop ret)) (sp .zones) ∙ f;
       }
 
   -- WHY A TEXT IS REFUSED
@@ -265,7 +265,8 @@ module _ (s : List ℕ) (n c hop ret k line : ℕ) where
     where
       judged : (d : Drive) (next : ℕ) (zs : List Row) → headingIn s ≡ heading.Numbers (d .turns) (d .switch) (d .heads) (d .block) next
           → rowsFrom (length s) s next [] ≡ Zones zs
-          → (j : ℕ) → recordFault (figuresOf d zs n c hop ret) ≡ j → answered j (figuresOf d zs n c hop ret) .verdict ≡ record { number = suc k; place = line }
+          → (j : ℕ) → recordFault 1 (figuresOf d zs n c hop ret) ≡ j
+          → answered j (figuresOf d zs n c hop ret) .verdict ≡ record { number = suc k; place = line }
           → Fault s n c hop ret (suc k) line
       judged d next zs p q zero f v = absurd (let z : _≡_ {A = ℕ} 0 (suc k) = ap (λ (x : Verdict). x .number) v in omega arith)
       judged d next zs p q (suc j) f v =
@@ -276,7 +277,7 @@ module _ (s : List ℕ) (n c hop ret k line : ℕ) where
       rows : (d : Drive) (next : ℕ) → headingIn s ≡ heading.Numbers (d .turns) (d .switch) (d .heads) (d .block) next → (L : Listed)
           → rowsFrom (length s) s next [] ≡ L
           → onRows d n c hop ret L .verdict ≡ record { number = suc k; place = line } → Fault s n c hop ret (suc k) line
-      rows d next p (Zones zs) q v = judged d next zs p q (recordFault (figuresOf d zs n c hop ret)) refl v
+      rows d next p (Zones zs) q v = judged d next zs p q (recordFault 1 (figuresOf d zs n c hop ret)) refl v
       rows d next p (Refused j l) q v =
           let same : j ≡ suc k = ap (λ (x : Verdict). x .number) v in
           let there : l ≡ line = ap (λ (x : Verdict). x .place) v in

@@ -26,8 +26,8 @@ pub fn maker_answers_its_figures()
 // Accepted figures are legal, pass the judge of a record, and are what their card is read as.
 pub fn accepted_figures_are_a_cards()
     ensures { λ _. ⌜ ((s : List ℕ) (n c hop ret : ℕ) → readMaker s n c hop ret .verdict .number ≡ 0
-        → Legal (readMaker s n c hop ret .figures) × (judgeRecord (readMaker s n c hop ret .figures) ≡ accepted)
-        × (readCard (cardOf (readMaker s n c hop ret .figures)) ≡ record { verdict = accepted; figures = readMaker s n c hop ret .figures })) ⌝ }
+        → Legal 1 (readMaker s n c hop ret .figures) × (judgeRecord 1 (readMaker s n c hop ret .figures) ≡ accepted)
+        × (readCard 1 (cardOf (readMaker s n c hop ret .figures)) ≡ record { verdict = accepted; figures = readMaker s n c hop ret .figures })) ⌝ }
 {}
 
 // A refused text answers figures that are all zero.

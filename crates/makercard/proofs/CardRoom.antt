@@ -23,5 +23,5 @@ written-short f out = go (writeFault f (length out)) refl
     fits false q e = absurd (omega arith)
 
     go : (k : ℕ) → writeFault f (length out) ≡ k → writtenBy k f .length ≤ length out
-    go zero e = fits (leb (length (cardOf f)) (length out)) refl (first-none (recordFault f) _ e .1)
+    go zero e = fits (leb (length (cardOf f)) (length out)) refl (first-none (recordFault 1 f) _ e .1)
     go (suc k) e = omega arith

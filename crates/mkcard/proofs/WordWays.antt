@@ -234,7 +234,7 @@ module _ (out bs : List ℕ) {n : ℕ} {y : List ℕ} (e : n ≡ length bs) (q :
   pub card-fits : length bs ≤ length out → n ≤ length y
   card-fits h = omega (arith, ap length q ∙ overwrite-length out 0 bs (omega arith))
 
-module _ (s : Scan) (r : CardRead) (e : r ≡ readCard (cardOfWords s)) where
+module _ (s : Scan) (r : CardRead) (e : r ≡ readCard 1 (cardOfWords s)) where
   pub made-card : r .verdict .number ≡ 0 → (n : ℕ) → n ≡ length (cardOfWords s) → _≡_ {A = Made} (record { number = 0; line = 0; length = n }) (made s)
   unfolding made madeBy
   made-card h n q = rw (sym e, h, q)
@@ -252,8 +252,8 @@ module _ (s : Scan) (r : CardRead) (e : r ≡ readCard (cardOfWords s)) where
 
 pub made-short : (s : Scan) → made s .length ≤ mostBytes
 unfolding made madeBy
-made-short s = by (readCard (cardOfWords s) .verdict .number)
+made-short s = by (readCard 1 (cardOfWords s) .verdict .number)
   where
-    by : (k : ℕ) → madeBy s k (readCard (cardOfWords s) .verdict .place) .length ≤ mostBytes
+    by : (k : ℕ) → madeBy s k (readCard 1 (cardOfWords s) .verdict .place) .length ≤ mostBytes
     by zero = card-long s
     by (suc k) = omega arith

@@ -105,7 +105,7 @@ madeBy s (suc k) place = record { number = suc k; line = lineOf s (numbersIn (ta
 
 -- THE ANSWER TO A TEXT THAT IS READ: what the reader says of its card
 unfoldable pub made : Scan → Made
-made s = madeBy s (readCard (cardOfWords s) .verdict .number) (readCard (cardOfWords s) .verdict .place)
+made s = madeBy s (readCard 1 (cardOfWords s) .verdict .number) (readCard 1 (cardOfWords s) .verdict .place)
 
 -- ---- the text of numbers
 

@@ -69,6 +69,10 @@ maxCard = 1489
 abbrev pub maxStreams : ℕ
 maxStreams = 256
 
+-- n of half blocks (document 02, ticket 11)
+abbrev pub maxPairStreams : ℕ
+maxPairStreams = 128
+
 -- k, the blocks of a window (document 02, ticket 9)
 abbrev pub maxWindow : ℕ
 maxWindow = 64

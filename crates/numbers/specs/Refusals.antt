@@ -109,6 +109,10 @@ halfDeadTime = 26
 abbrev pub wrongWindow : ℕ
 wrongWindow = 27
 
+-- twice N above P (document 02, ticket 11)
+abbrev pub halvesAbovePositions : ℕ
+halvesAbovePositions = 28
+
 -- film of more blocks than are tried (document 02, ticket 12)
 abbrev pub filmTooLong : ℕ
 filmTooLong = 29

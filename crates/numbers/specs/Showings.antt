@@ -8,3 +8,7 @@ onceWord = 0
 -- round and round
 abbrev pub loopWord : ℕ
 loopWord = 1
+
+-- once through, each block as two halves (ticket 11)
+abbrev pub pairsWord : ℕ
+pairsWord = 2

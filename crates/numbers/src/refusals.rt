@@ -61,5 +61,8 @@ pub const HALF_DEAD_TIME: u32 = 26;
 // Windows, by document 02.
 pub const WRONG_WINDOW: u32 = 27;
 
+// Half blocks, by document 02.
+pub const HALVES_ABOVE_POSITIONS: u32 = 28;
+
 // The second planner, by document 02.
 pub const FILM_TOO_LONG: u32 = 29;

@@ -3,11 +3,11 @@
 use Prim.Native.Nat.{ℕ, zero, suc, _+_, _*_, _-_, _≤_, _<_}
 use mathlib.Core.Path.{_≡_}
 use mathlib.Core.Bool.{Bool, true, false, cond, _&&_}
-use mathlib.Core.List.{List, []}
+use mathlib.Core.List.{List}
 use lib.Dec.{ltb, eqb}
 use Rattle.laws.specs.Greatest.{greatestOf}
 use Rattle.numbers.specs.Refusals.{noSuchBlock}
-use Rattle.placement.specs.Showing.{Showing, one, loop, after}
+use Rattle.placement.specs.Showing.{Showing, one, loop, pairs, after}
 
 -- A names what a slot reads next: a block's number in the base, as `shown` says. Fields that only document 02 needs say what they are there
 pub record Film (A : Type 0) : Type 0 where
@@ -24,7 +24,7 @@ pub record Film (A : Type 0) : Type 0 where
   pub next : A → A
   -- its number in the film: itself
   pub number : A → ℕ
-  -- its position (P1), and further ones: none
+  -- its position (P1), and further ones: none, of half blocks one (ticket 11)
   pub position : A → ℕ
   pub others : A → List ℕ
   -- time(b) (P2)
@@ -68,15 +68,17 @@ module _ {A : Type 0} (film : Film A) where
 abbrev pub isPast : Showing → ℕ → ℕ → Bool
 isPast one N b = eqb b N
 isPast loop N b = false
+isPast pairs N b = eqb b N
 
 -- the most blocks of a run that starts at b: to the film's end, or once round (T7.6)
 abbrev pub longestRun : Showing → ℕ → ℕ → ℕ
 longestRun one N b = N - b
 longestRun loop N b = N
+longestRun pairs N b = N - b
 
--- a film of N blocks in the order of their numbers, in either showing
-abbrev pub shown : Showing → ℕ → (ℕ → ℕ) → (ℕ → ℕ) → Film ℕ
-shown x N time position = record {
+-- a film of N blocks in the order of their numbers, in every showing
+abbrev pub shown : Showing → ℕ → (ℕ → ℕ) → (ℕ → ℕ) → (ℕ → List ℕ) → Film ℕ
+shown x N time position others = record {
   none = 0;
   isNone = λ b. eqb b 0;
   isBlock = λ b. ltb b N;
@@ -85,7 +87,7 @@ shown x N time position = record {
   next = after x N;
   number = λ b. b;
   position = position;
-  others = λ b. [];
+  others = others;
   time = time;
   longest = longestRun x N;
 }

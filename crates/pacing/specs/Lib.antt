@@ -5,3 +5,4 @@ pub mod Streams
 pub mod Laid
 pub mod Window
 pub mod WindowLaws
+pub mod HalfWindows

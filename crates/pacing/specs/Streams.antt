@@ -12,10 +12,11 @@ use lib.Dec.{leb}
 use borrow.Author.Tests.{leb-true, leb-false, le-leb, lt-leb}
 use Rattle.laws.specs.Greatest.{greatest, greatest-le, greatest-above, greatest-fits, greatest-hit, greatest-down}
 use Rattle.numbers.specs.Units.{parts, wholeBytes}
-use Rattle.numbers.specs.Limits.{maxStreams, tableLength}
+use Rattle.numbers.specs.Limits.{maxStreams, maxPairStreams, tableLength}
+use Rattle.placement.specs.Showing.{Showing, one, loop, pairs, visitsOf}
 
--- what a sweep that fetches k blocks takes beside their times (D11, T3.5): the table's entry. No sweep fetches more than 256; past them it
--- stays at the last entry. All else knows only that it never falls
+-- what a sweep of k visits takes beside their times (D11, T3.5): the table's entry. No sweep has more than 256; past them it stays at the last
+-- entry. All else knows only that it never falls
 unfoldable pub overhead : List ℕ → ℕ → ℕ
 overhead table k = getD table (min k maxStreams) 0
 
@@ -41,9 +42,32 @@ load c w over n = c * twoSweeps w over n
 abbrev pub fits : ℕ → ℕ → (ℕ → ℕ) → ℕ → ℕ → Bool
 fits c w over B n = leb (load c w over n) (parts * B)
 
--- streams (P4); 0 where no number from 1 on meets the formula
-unfoldable pub streams : ℕ → ℕ → (ℕ → ℕ) → ℕ → ℕ
-streams c w over B = greatest (fits c w over B) maxStreams
+-- streams (P4): the greatest number from 1 to cap that meets the formula, 0 where none does
+unfoldable pub streams : ℕ → ℕ → ℕ → (ℕ → ℕ) → ℕ → ℕ
+streams cap c w over B = greatest (fits c w over B) cap
+
+-- the most streams of a showing: 256, of half blocks 128 (ticket 11)
+abbrev pub capOf : Showing → ℕ
+capOf one = maxStreams
+capOf loop = maxStreams
+capOf pairs = maxPairStreams
+
+-- that is as many as have 256 visits
+pub cap-is : (x : Showing) → maxStreams / visitsOf x ≡ capOf x
+cap-is one = refl
+cap-is loop = refl
+cap-is pairs = refl
+
+pub cap-some : (x : Showing) → 1 ≤ capOf x
+cap-some one = omega arith
+cap-some loop = omega arith
+cap-some pairs = omega arith
+
+-- the visits of no sweep are above 256
+pub cap-visits : (x : Showing) (n : ℕ) → n ≤ capOf x → (visitsOf x * n ≤ maxStreams) × (n ≤ maxStreams)
+cap-visits one n h = omega arith
+cap-visits loop n h = omega arith
+cap-visits pairs n h = omega arith
 
 -- buffer (P7), in bytes
 unfoldable pub bufferOf : ℕ → ℕ → ℕ → ℕ → ℕ
@@ -51,30 +75,30 @@ bufferOf c n margin B = 3 * B + wholeBytes (c * n * margin)
 
 -- ---- what streams is
 
-module _ (c w : ℕ) (over : ℕ → ℕ) (B : ℕ) where
-  pub streams-le : streams c w over B ≤ maxStreams
+module _ (cap c w : ℕ) (over : ℕ → ℕ) (B : ℕ) where
+  pub streams-le : streams cap c w over B ≤ cap
   unfolding streams
-  streams-le = greatest-le (fits c w over B) maxStreams
+  streams-le = greatest-le (fits c w over B) cap
 
   -- it meets the formula
-  pub streams-fits : 0 < streams c w over B → load c w over (streams c w over B) ≤ parts * B
+  pub streams-fits : 0 < streams cap c w over B → load c w over (streams cap c w over B) ≤ parts * B
   unfolding streams
-  streams-fits h = leb-true (load c w over (streams c w over B)) (parts * B) (greatest-fits (fits c w over B) maxStreams h)
+  streams-fits h = leb-true (load c w over (streams cap c w over B)) (parts * B) (greatest-fits (fits c w over B) cap h)
 
   -- no number above it does, even with a greater worst time
-  pub streams-best : (w′ n : ℕ) → w ≤ w′ → streams c w over B < n → n ≤ maxStreams → parts * B < load c w′ over n
+  pub streams-best : (w′ n : ℕ) → w ≤ w′ → streams cap c w over B < n → n ≤ cap → parts * B < load c w′ over n
   unfolding streams load
   streams-best w′ n l m u =
-      omega (arith, leb-false (load c w over n) (parts * B) (greatest-above (fits c w over B) maxStreams n m u), mul-le-mul-left c (mul-le-mul-left n l))
+      omega (arith, leb-false (load c w over n) (parts * B) (greatest-above (fits c w over B) cap n m u), mul-le-mul-left c (mul-le-mul-left n l))
 
   -- and no other number has both
-  pub streams-only : (n : ℕ) → 0 < n → n ≤ maxStreams → load c w over n ≤ parts * B
-      → ((k : ℕ) → n < k → k ≤ maxStreams → parts * B < load c w over k) → n ≡ streams c w over B
-  streams-only n p u l above = go (decLt (streams c w over B) n) (decLt n (streams c w over B))
+  pub streams-only : (n : ℕ) → 0 < n → n ≤ cap → load c w over n ≤ parts * B
+      → ((k : ℕ) → n < k → k ≤ cap → parts * B < load c w over k) → n ≡ streams cap c w over B
+  streams-only n p u l above = go (decLt (streams cap c w over B) n) (decLt n (streams cap c w over B))
     where
-      go : Dec (streams c w over B < n) → Dec (n < streams c w over B) → n ≡ streams c w over B
+      go : Dec (streams cap c w over B < n) → Dec (n < streams cap c w over B) → n ≡ streams cap c w over B
       go (yes d) e = absurd (omega (arith, streams-best w n (le-refl w) d u))
-      go (no d) (yes e) = absurd (omega (arith, streams-fits (omega arith), above (streams c w over B) e streams-le))
+      go (no d) (yes e) = absurd (omega (arith, streams-fits (omega arith), above (streams cap c w over B) e streams-le))
       go (no d) (no e) = omega arith
 
 -- the load never falls as the number of streams rises
@@ -83,11 +107,11 @@ unfolding load
 load-rises c w over rises j k h = omega (arith, mul-le-mul-left c (mul-le-mul-right w h), mul-le-mul-left c (rises j k h))
 
 -- where one stream does not fit, no number does (P11)
-pub streams-none : (c w : ℕ) (over : ℕ → ℕ) (B : ℕ) → ((j k : ℕ) → j ≤ k → over j ≤ over k) → parts * B < load c w over 1 → streams c w over B ≡ 0
-streams-none c w over B rises h = go (decLt 0 (streams c w over B))
+pub streams-none : (cap c w : ℕ) (over : ℕ → ℕ) (B : ℕ) → ((j k : ℕ) → j ≤ k → over j ≤ over k) → parts * B < load c w over 1 → streams cap c w over B ≡ 0
+streams-none cap c w over B rises h = go (decLt 0 (streams cap c w over B))
   where
-    go : Dec (0 < streams c w over B) → streams c w over B ≡ 0
-    go (yes d) = absurd (omega (arith, streams-fits c w over B d, load-rises c w over rises 1 (streams c w over B) d))
+    go : Dec (0 < streams cap c w over B) → streams cap c w over B ≡ 0
+    go (yes d) = absurd (omega (arith, streams-fits cap c w over B d, load-rises c w over rises 1 (streams cap c w over B) d))
     go (no d) = omega arith
 
 -- ---- a loop that tries stream counts downward, in its own words
@@ -98,9 +122,9 @@ tried c w over B n = greatest (fits c w over B) n
 
 module _ (c w : ℕ) (over : ℕ → ℕ) (B : ℕ) where
   -- the start
-  pub tried-all : tried c w over B maxStreams ≡ streams c w over B
+  pub tried-all : (cap : ℕ) → tried c w over B cap ≡ streams cap c w over B
   unfolding tried streams
-  tried-all = refl
+  tried-all cap = refl
 
   -- the first that fits
   pub tried-hit : (n : ℕ) → 0 < n → load c w over n ≤ parts * B → tried c w over B n ≡ n
@@ -122,11 +146,11 @@ module _ (c w : ℕ) (over : ℕ → ℕ) (B : ℕ) where
   time-passes n p l = omega (arith, div-lt-iff-lt-mul {k = c} {x = parts * B} {y = twoSweeps w over n} p .0 l)
 
   -- the start from a lower number, where each above it takes too long
-  pub tried-from : (n : ℕ) → n ≤ maxStreams → ((k : ℕ) → n < k → k ≤ maxStreams → parts * B < load c w over k) → tried c w over B n ≡ streams c w over B
-  tried-from n u h = go (maxStreams - n) n (omega arith) h
+  pub tried-from : (cap n : ℕ) → n ≤ cap → ((k : ℕ) → n < k → k ≤ cap → parts * B < load c w over k) → tried c w over B n ≡ streams cap c w over B
+  tried-from cap n u h = go (cap - n) n (omega arith) h
     where
-      go : (d m : ℕ) → m + d ≡ maxStreams → ((k : ℕ) → m < k → k ≤ maxStreams → parts * B < load c w over k) → tried c w over B m ≡ streams c w over B
-      go zero m e g = let q : m ≡ maxStreams = omega arith in ap (tried c w over B) q ∙ tried-all
+      go : (d m : ℕ) → m + d ≡ cap → ((k : ℕ) → m < k → k ≤ cap → parts * B < load c w over k) → tried c w over B m ≡ streams cap c w over B
+      go zero m e g = let q : m ≡ cap = omega arith in ap (tried c w over B) q ∙ tried-all cap
       go (suc d) m e g =
           let q : suc m - 1 ≡ m = omega arith in
           sym (tried-down (suc m) (omega arith) (g (suc m) (omega arith) (omega arith)) ∙ ap (tried c w over B) q)

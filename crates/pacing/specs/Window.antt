@@ -1,8 +1,8 @@
--- Document 02, ticket 9: windows of k successive blocks of a film in either showing, and the worst of them.
+-- Document 02, ticket 9: windows of k successive blocks of a film in every showing, and the worst of them.
 -- Assumes nothing.
 use Prim.Native.Nat.{ℕ, suc, _-_}
 use Rattle.laws.specs.Greatest.{greatestOf, earliestOf}
-use Rattle.placement.specs.Showing.{Showing, one, loop}
+use Rattle.placement.specs.Showing.{Showing, one, loop, pairs}
 use Rattle.pacing.specs.Film.{span}
 use Rattle.pacing.specs.Laid.{laidFilm}
 
@@ -10,6 +10,7 @@ use Rattle.pacing.specs.Laid.{laidFilm}
 abbrev pub placesOf : Showing → ℕ → ℕ → ℕ
 placesOf one N k = suc N - k
 placesOf loop N k = N
+placesOf pairs N k = suc N - k
 
 -- the film of N blocks laid by l, τ being the time of a position
 module _ (x : Showing) (τ l : ℕ → ℕ) (N k : ℕ) where

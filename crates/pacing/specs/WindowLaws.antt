@@ -1,13 +1,16 @@
 -- Laws of windows: an even one takes at most half its blocks times what bounds the pairs, for any paced film, and one of two blocks is the
--- worst pair.
+-- worst pair; of half blocks one of one block takes p.
 -- Assumes nothing.
 use Prim.Native.Nat.{ℕ, zero, suc, _+_, _*_, _/_, _%_, _≤_, _<_}
 use mathlib.Core.Path.{_≡_, refl, sym, ap₂, _∙_}
 use mathlib.Core.Bool.{true, _&&_}
 use native.Mathlib.Omega.{arith}
 use Rattle.laws.specs.Bools.{and-left, and-right}
-use Rattle.laws.specs.Greatest.{greatestOf, greatestOf-least, earliestOf}
-use Rattle.placement.specs.Showing.{Showing, one, loop, after, worstOf, worstAt, pairTime, pairsOf, worst-pair}
+use Rattle.laws.specs.Greatest.{greatestOf, greatestOf-least, earliestOf, Earliest, earliest-unique, earliest-is}
+use Rattle.placement.specs.Showing.{Showing, one, loop, pairs, visitsOf, firstPlace, otherPlaces, blockTime, after}
+use Rattle.placement.specs.Showing.{worstOf, worstAt, pairTime, pairsOf, greatest-twice, worst-pair}
+use Rattle.placement.specs.Circle.{round}
+use Rattle.placement.specs.Pairs.{worstMatch}
 use Rattle.pacing.specs.Film.{Film, Paced, row, span}
 use Rattle.pacing.specs.Shown.{once-in, loop-in}
 use Rattle.pacing.specs.Laid.{laidFilm, slowest, laid-paced}
@@ -42,32 +45,61 @@ module _ {A : Type 0} (film : Film A) (w m : ℕ) (ok : Paced film w m) where
 module _ (τ l : ℕ → ℕ) (N : ℕ) where
   -- the blocks of a window are the film's
   window-row : (x : Showing) (k b : ℕ) → b < placesOf x N k → row (laidFilm x τ l N) k b ≡ true
-  window-row one k b u = once-in N (λ b. τ (l b)) l k b (omega arith)
-  window-row loop k b u = loop-in N (λ b. τ (l b)) l k b u
+  window-row one k b u = once-in N (blockTime one τ l) (firstPlace one l) (otherPlaces one l) k b (omega arith)
+  window-row loop k b u = loop-in N (blockTime loop τ l) (firstPlace loop l) (otherPlaces loop l) k b u
+  window-row pairs k b u = once-in N (blockTime pairs τ l) (firstPlace pairs l) (otherPlaces pairs l) k b (omega arith)
 
   -- AN EVEN WINDOW takes at most half its blocks times the worst time of two (T9.7)
   pub even-window : (x : Showing) (k : ℕ) → k % 2 ≡ 0 → worstWindow x τ l N k ≤ k / 2 * worstOf x τ l N
   unfolding worstWindow
   even-window x k even = greatestOf-least (windowTime x τ l N k) (placesOf x N k) (k / 2 * worstOf x τ l N)
-      (λ b u. even-row (laidFilm x τ l N) (worstOf x τ l N) (slowest τ l N) (laid-paced τ l N x) k b even (window-row x k b u))
+      (λ b u. even-row (laidFilm x τ l N) (worstOf x τ l N) (slowest x τ l N) (laid-paced τ l N x) k b even (window-row x k b u))
 
-  -- a window of two blocks is a pair
-  two-time : (x : Showing) → windowTime x τ l N 2 ≡ pairTime x τ l N
+  plus-none : (s t : ℕ) → s + (t + 0) ≡ s + t
+  plus-none s t = omega arith
+
+  -- a window of two blocks is a pair, of blocks with one visit
+  two-time : (x : Showing) → visitsOf x ≡ 1 → windowTime x τ l N 2 ≡ pairTime x τ l N
   unfolding span
-  two-time x = λ i b. plus-none (τ (l b)) (τ (l (after x N b))) i
-    where
-      plus-none : (s t : ℕ) → s + (t + 0) ≡ s + t
-      plus-none s t = omega arith
+  two-time one e = λ i b. plus-none (τ (l b)) (τ (l (suc b))) i
+  two-time loop e = λ i b. plus-none (τ (l b)) (τ (l (round N b))) i
+  two-time pairs e = absurd (omega arith)
 
-  two-places : (x : Showing) → placesOf x N 2 ≡ pairsOf x N
-  two-places one = omega arith
-  two-places loop = refl
+  two-places : (x : Showing) → visitsOf x ≡ 1 → placesOf x N 2 ≡ pairsOf x N
+  two-places one e = omega arith
+  two-places loop e = refl
+  two-places pairs e = absurd (omega arith)
 
   -- so the worst one is the worst pair
-  pub two-worst : (x : Showing) → worstWindow x τ l N 2 ≡ worstOf x τ l N
+  pub two-worst : (x : Showing) → visitsOf x ≡ 1 → worstWindow x τ l N 2 ≡ worstOf x τ l N
   unfolding worstWindow
-  two-worst x = ap₂ greatestOf (two-time x) (two-places x) ∙ sym (worst-pair x τ l N)
+  two-worst x e = ap₂ greatestOf (two-time x e) (two-places x e) ∙ sym (worst-pair x τ l N)
 
-  pub two-at : (x : Showing) → windowAt x τ l N 2 ≡ worstAt x τ l N
+  pub two-at : (x : Showing) → visitsOf x ≡ 1 → windowAt x τ l N 2 ≡ worstAt x τ l N
   unfolding windowAt worstAt
-  two-at x = ap₂ earliestOf (two-time x) (two-places x)
+  two-at x e = ap₂ earliestOf (two-time x e) (two-places x e)
+
+  -- a window of one block takes its time
+  one-time : windowTime pairs τ l N 1 ≡ blockTime pairs τ l
+  unfolding span
+  one-time = λ i b. none (blockTime pairs τ l b) i
+    where
+      none : (t : ℕ) → t + 0 ≡ t
+      none t = omega arith
+
+  one-places : placesOf pairs N 1 ≡ N
+  one-places = omega arith
+
+  -- so of half blocks the worst one takes p, half of the worst time, and begins where the worst pair does
+  pub one-worst : worstWindow pairs τ l N 1 ≡ worstMatch τ l N
+  unfolding worstWindow worstMatch
+  one-worst = ap₂ greatestOf one-time one-places
+
+  pub one-at : 0 < N → windowAt pairs τ l N 1 ≡ worstAt pairs τ l N
+  unfolding windowAt worstAt
+  one-at some =
+      let g = blockTime pairs τ l in
+      let e = earliest-is g N some in
+      let twice : Earliest (pairTime pairs τ l N) N (earliestOf g N) =
+      record { below = e .below; reached = omega (arith, e .reached, greatest-twice g N); first = λ a u. omega (arith, e .first a u, greatest-twice g N) } in
+      ap₂ earliestOf one-time one-places ∙ earliest-unique (pairTime pairs τ l N) N _ _ twice (earliest-is (pairTime pairs τ l N) N some)

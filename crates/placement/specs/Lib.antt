@@ -6,4 +6,5 @@ pub mod Best
 pub mod Circle
 pub mod CircleBest
 pub mod CircleRow
+pub mod Pairs
 pub mod Showing

@@ -1,4 +1,4 @@
--- The answers of the planner for either showing, the later contents of both lists, and the test that a record is the plan of its figures.
+-- The answers of the planner for every showing, the later contents of both lists, and the test that a record is the plan of its figures.
 use Prim.Native.Nat.{ℕ, zero, suc}
 use mathlib.Core.List.{List, [], _∷_}
 use mathlib.Core.Bool.{Bool, true, false, cond, _&&_, _||_}
@@ -9,16 +9,16 @@ use Rattle.card.specs.declared.Figures.{Figures}
 use Rattle.card.specs.declared.CardRead.{CardRead}
 use Rattle.card.specs.Card.{recordFault, judgeRecord}
 use Rattle.words.specs.Words.{wordsOf, withWords}
-use Rattle.placement.specs.Showing.{Showing}
+use Rattle.placement.specs.Showing.{Showing, visitsOf}
 use Rattle.plan.specs.declared.Plan.{Plan}
 use Rattle.plan.specs.declared.Planned.{Planned}
-use Rattle.plan.specs.Plan.{showingIn, streamsOf, planOf, blankPlan, positionsOf, leadsOf}
+use Rattle.plan.specs.Plan.{showingIn, entriesOf, streamsOf, planOf, blankPlan, positionsOf, leadsOf}
 
 -- ---- the answer
 
 -- after the figures are accepted: 13 where a lent list, of np or nl entries, is too short, then 12 where 'not even one stream fits'
 unfoldable pub planFault : Showing → Figures → ℕ → ℕ → ℕ
-planFault x f np nl = cond (ltb np (f .blocks) || ltb nl (f .blocks)) tooShort (cond (eqb (streamsOf x f) 0) noStream 0)
+planFault x f np nl = cond (ltb np (entriesOf x f) || ltb nl (f .blocks)) tooShort (cond (eqb (streamsOf x f) 0) noStream 0)
 
 abbrev pub faultAfter : Showing → CardRead → List ℕ → List ℕ → ℕ
 faultAfter x r ps ls = planFault x (r .figures) (length (wordsOf ps)) (length (wordsOf ls))
@@ -50,9 +50,9 @@ positionsAfter x r ps ls = filled (r .verdict .number) (faultAfter x r ps ls) ps
 unfoldable pub leadsAfter : Showing → CardRead → List ℕ → List ℕ → List ℕ
 leadsAfter x r ps ls = filled (r .verdict .number) (faultAfter x r ps ls) ls (leadsOf x (r .figures))
 
--- a record's figures, judged: 3 to 10, 25 and 26, offset 0
-unfoldable pub judged : Figures → CardRead
-judged f = record { verdict = judgeRecord f; figures = f }
+-- a record's figures, judged for blocks of k positions each: 3 to 10, 25, 26 and 28, offset 0
+unfoldable pub judged : ℕ → Figures → CardRead
+judged k f = record { verdict = judgeRecord k f; figures = f }
 
 -- ---- is this the plan of its figures
 
@@ -71,7 +71,9 @@ sameNumbers p q =
 
 -- the figures are legal and feed a stream, and the record has their numbers in the showing that it names
 unfoldable pub hasNumbers : Plan → Bool
-hasNumbers p = eqb (recordFault (p .figures)) 0 && (ltb 0 (streamsOf (showingIn p) (p .figures)) && sameNumbers p (planOf (showingIn p) (p .figures)))
+hasNumbers p =
+    eqb (recordFault (visitsOf (showingIn p)) (p .figures)) 0
+    && (ltb 0 (streamsOf (showingIn p) (p .figures)) && sameNumbers p (planOf (showingIn p) (p .figures)))
 
 -- a list begins with the film's positions, one with its leads
 unfoldable pub hasPositions : Plan → List ℕ → Bool
@@ -80,6 +82,6 @@ hasPositions p ps = begins (positionsOf (showingIn p) (p .figures)) (wordsOf ps)
 unfoldable pub hasLeads : Plan → List ℕ → Bool
 hasLeads p ls = begins (leadsOf (showingIn p) (p .figures)) (wordsOf ls)
 
--- 'it is the plan of its figures, both lists begin with its N entries'
+-- 'it is the plan of its figures, both lists begin with its entries'
 unfoldable pub isPlan : Plan → List ℕ → List ℕ → Bool
 isPlan p ps ls = hasNumbers p && (hasPositions p ps && hasLeads p ls)

@@ -2,22 +2,22 @@
 -- Assumes nothing.
 use Prim.Native.Nat.{ℕ, zero, suc, _+_, _≤_, _<_}
 use mathlib.Core.Path.{_≡_, refl, ap, _∙_}
-use mathlib.Core.Bool.{true}
+use mathlib.Core.Bool.{Bool, true, false, cond}
 use mathlib.Core.List.{List}
 use native.Mathlib.Omega.{arith}
 use lib.ListN.{length, getD, take}
 use lib.Dec.{ltb, eqb}
 use borrow.Author.Tests.{ltb-true, eqb-true, lt-ltb, eq-eqb, ne-eqb}
 use Rattle.laws.specs.Bools.{and-left, and-right, and-both}
-use Rattle.numbers.specs.Showings.{loopWord}
+use Rattle.numbers.specs.Showings.{loopWord, pairsWord}
 use Rattle.card.specs.Card.{Legal, recordFault}
 use Rattle.legality.specs.Legality.{Wide, fault-legal, legal-fault}
 use Rattle.words.specs.Words.{Words, wordsOf, withWords}
 use Rattle.words.specs.Laws.{read-written}
 use Rattle.card.specs.declared.Figures.{Figures}
-use Rattle.placement.specs.Showing.{Showing, one, loop}
+use Rattle.placement.specs.Showing.{Showing, one, loop, pairs, visitsOf, walked}
 use Rattle.plan.specs.declared.Plan.{Plan}
-use Rattle.plan.specs.Plan.{wordOf, showingOf, showingIn, positionOf, leadOf, streamsOf, bufferSize}
+use Rattle.plan.specs.Plan.{wordOf, showingOf, walkOf, showingIn, positionOf, entriesOf, leadOf, streamsOf, bufferSize}
 use Rattle.plan.specs.Plan.{worst2Of, worstAtOf, marginOf, planOf, row, positionsOf, leadsOf}
 use Rattle.plan.specs.Answer.{begins, sameNumbers, hasNumbers, hasPositions, hasLeads, isPlan}
 use Rattle.plan.specs.Legal.{position-below, lead-small}
@@ -25,17 +25,17 @@ use Rattle.plan.specs.Rows.{row-length, begins-at, begins-long, take-beg
 
 -- a plan has the numbers of its figures, which are legal and feed a stream
 pub record Numbered (p : Plan) : Type 0 where
-  pub legal : Legal (p .figures)
+  pub legal : Legal (visitsOf (showingIn p)) (p .figures)
   pub fed : 0 < streamsOf (showingIn p) (p .figures)
   pub plan : p ≡ planOf (showingIn p) (p .figures)
 
--- a passed check: the same, and both lists begin with the film's N entries
+-- a passed check: the same, and both lists begin with the film's entries
 pub record Checked (p : Plan) (ps ls : List ℕ) : Type 0 where
-  pub clear : recordFault (p .figures) ≡ 0
+  pub clear : recordFault (visitsOf (showingIn p)) (p .figures) ≡ 0
   pub fed : 0 < streamsOf (showingIn p) (p .figures)
   pub plan : p ≡ planOf (showingIn p) (p .figures)
-  pub long : (p .figures .blocks ≤ length (wordsOf ps)) × (p .figures .blocks ≤ length (wordsOf ls))
-  pub position-at : (b : ℕ) → b < p .figures .blocks → getD (wordsOf ps) b 0 ≡ positionOf (showingIn p) (p .figures) b
+  pub long : (entriesOf (showingIn p) (p .figures) ≤ length (wordsOf ps)) × (p .figures .blocks ≤ length (wordsOf ls))
+  pub position-at : (v : ℕ) → v < entriesOf (showingIn p) (p .figures) → getD (wordsOf ps) v 0 ≡ positionOf (showingIn p) (p .figures) v
   pub lead-at : (b : ℕ) → b < p .figures .blocks → getD (wordsOf ls) b 0 ≡ leadOf (showingIn p) (p .figures) b
 
 same-plan : (p : Plan) (x : Showing) (f : Figures) → p .figures ≡ f → sameNumbers p (planOf x f) ≡ true → p ≡ planOf x f
@@ -55,19 +55,20 @@ same-plan p x f d e =
 
 -- what the test of the numbers says of a record
 pub numbers-say : (p : Plan) → hasNumbers p ≡ true
-    → (recordFault (p .figures) ≡ 0) × (0 < streamsOf (showingIn p) (p .figures)) × (p ≡ planOf (showingIn p) (p .figures))
+    → (recordFault (visitsOf (showingIn p)) (p .figures) ≡ 0) × (0 < streamsOf (showingIn p) (p .figures)) × (p ≡ planOf (showingIn p) (p .figures))
 unfolding hasNumbers
 numbers-say p e =
     let x = showingIn p in
     let f = p .figures in
-    let e₁ = and-right (eqb (recordFault f) 0) _ e in (
-      eqb-true (recordFault f) 0 (and-left (eqb (recordFault f) 0) _ e),
+    let k = visitsOf x in
+    let e₁ = and-right (eqb (recordFault k f) 0) _ e in (
+      eqb-true (recordFault k f) 0 (and-left (eqb (recordFault k f) 0) _ e),
       ltb-true 0 (streamsOf x f) (and-left (ltb 0 (streamsOf x f)) _ e₁),
       same-plan p x f refl (and-right (ltb 0 (streamsOf x f)) _ e₁),
     )
 
 pub numbered : (p : Plan) → Wide (p .figures) → hasNumbers p ≡ true → Numbered p
-numbered p w e = let n = numbers-say p e in record { legal = fault-legal (p .figures) w (n .0); fed = n .1; plan = n .2 }
+numbered p w e = let n = numbers-say p e in record { legal = fault-legal (visitsOf (showingIn p)) (p .figures) w (n .0); fed = n .1; plan = n .2 }
 
 row-here : (g : ℕ → ℕ) (n : ℕ) (ws : List ℕ) → begins (row g 0 n) ws ≡ true → (b : ℕ) → b < n → getD ws b 0 ≡ g b
 row-here g n ws e b u = let z : 0 + b ≡ b = omega arith in begins-at g 0 n ws e b u ∙ ap g z
@@ -85,14 +86,14 @@ checked p ps ls e =
       clear = n .0;
       fed = n .1;
       plan = n .2;
-      long = (begins-long (positionOf x f) 0 (f .blocks) (wordsOf ps) b, begins-long (leadOf x f) 0 (f .blocks) (wordsOf ls) d);
-      position-at = row-here (positionOf x f) (f .blocks) (wordsOf ps) b;
+      long = (begins-long (positionOf x f) 0 (entriesOf x f) (wordsOf ps) b, begins-long (leadOf x f) 0 (f .blocks) (wordsOf ls) d);
+      position-at = row-here (positionOf x f) (entriesOf x f) (wordsOf ps) b;
       lead-at = row-here (leadOf x f) (f .blocks) (wordsOf ls) d;
     }
 
 -- its figures are legal
-pub checked-legal : (p : Plan) (ps ls : List ℕ) → Wide (p .figures) → isPlan p ps ls ≡ true → Legal (p .figures)
-checked-legal p ps ls w e = fault-legal (p .figures) w (checked p ps ls e .clear)
+pub checked-legal : (p : Plan) (ps ls : List ℕ) → Wide (p .figures) → isPlan p ps ls ≡ true → Legal (visitsOf (showingIn p)) (p .figures)
+checked-legal p ps ls w e = fault-legal (visitsOf (showingIn p)) (p .figures) w (checked p ps ls e .clear)
 
 -- ---- the planner's own answers
 
@@ -101,15 +102,40 @@ pub showing-back : (x : Showing) → showingOf (wordOf x) ≡ x
 unfolding showingOf
 showing-back one = refl
 showing-back loop = refl
+showing-back pairs = refl
 
 -- the showing of a word, as code tests it
 pub shows-loop : (w : ℕ) → w ≡ loopWord → showingOf w ≡ loop
 unfolding showingOf
 shows-loop w e = rw (eq-eqb w loopWord e)
 
-pub shows-once : (w : ℕ) → (w ≡ loopWord → ⊥) → showingOf w ≡ one
+pub shows-pairs : (w : ℕ) → w ≡ pairsWord → showingOf w ≡ pairs
 unfolding showingOf
-shows-once w e = rw (ne-eqb w loopWord e)
+shows-pairs w e = rw e
+
+pub shows-once : (w : ℕ) → (w ≡ loopWord → ⊥) → (w ≡ pairsWord → ⊥) → showingOf w ≡ one
+unfolding showingOf
+shows-once w e d = rw (ne-eqb w loopWord e, ne-eqb w pairsWord d)
+
+-- so are the visits of a block, and the walk over them
+pub word-visits : (w : ℕ) → (w ≡ pairsWord → ⊥) → visitsOf (showingOf w) ≡ 1
+unfolding showingOf
+word-visits w d = go (eqb w loopWord)
+  where
+    go : (t : Bool) → visitsOf (cond t loop (cond (eqb w pairsWord) pairs one)) ≡ 1
+    go true = refl
+    go false = rw (ne-eqb w pairsWord d)
+
+pub walks-loop : (w : ℕ) → w ≡ loopWord → walkOf w ≡ loop
+walks-loop w e = ap walked (shows-loop w e)
+
+pub walks-once : (w : ℕ) → (w ≡ loopWord → ⊥) → walkOf w ≡ one
+unfolding showingOf
+walks-once w e = rw (ne-eqb w loopWord e) (go (eqb w pairsWord))
+  where
+    go : (t : Bool) → walked (cond t pairs one) ≡ one
+    go true = refl
+    go false = refl
 
 same-numbers-self : (p : Plan) → sameNumbers p p ≡ true
 same-numbers-self p =
@@ -130,15 +156,16 @@ pub written-begins : (g : ℕ → ℕ) (n : ℕ) (s : List ℕ) → Words (row g
 written-begins g n s w h = take-begins (row g 0 n) _ (read-written s 0 (row g 0 n) w (omega (arith, row-length g 0 n)))
 
 -- THE PLAN OF LEGAL FIGURES PASSES, with the lists that the planner leaves
-pub plan-passes : (x : Showing) (f : Figures) → Legal f → 0 < streamsOf x f → (ps ls : List ℕ) → f .blocks ≤ length (wordsOf ps)
+pub plan-passes : (x : Showing) (f : Figures) → Legal (visitsOf x) f → 0 < streamsOf x f → (ps ls : List ℕ) → entriesOf x f ≤ length (wordsOf ps)
     → f .blocks ≤ length (wordsOf ls)
     → isPlan (planOf x f) (withWords ps 0 (positionsOf x f)) (withWords ls 0 (leadsOf x f)) ≡ true
 unfolding isPlan hasNumbers hasPositions hasLeads planOf positionsOf leadsOf
 plan-passes x f ok fed ps ls lp ll =
     rw (showing-back x)
     (and-both
-    (and-both (eq-eqb (recordFault f) 0 (legal-fault f ok)) (and-both (lt-ltb 0 (streamsOf x f) fed) (same-numbers-self (planOf x f))))
+    (and-both (eq-eqb (recordFault (visitsOf x) f) 0 (legal-fault (visitsOf x) f ok))
+    (and-both (lt-ltb 0 (streamsOf x f) fed) (same-numbers-self (planOf x f))))
     (and-both
-    (written-begins (positionOf x f) (f .blocks) ps
-    (row-words (positionOf x f) 0 (f .blocks) (λ b u. omega (arith, position-below x f ok b (omega arith), ok .total))) lp)
+    (written-begins (positionOf x f) (entriesOf x f) ps
+    (row-words (positionOf x f) 0 (entriesOf x f) (λ b u. omega (arith, position-below x f ok b (omega arith), ok .total))) lp)
     (written-begins (leadOf x f) (f .blocks) ls (row-words (leadOf x f) 0 (f .blocks) (λ b u. omega (arith, lead-small x f ok b (omega arith)))) ll)))

@@ -2,12 +2,12 @@
 use Prim.Native.Nat.{ℕ, _+_, _*_, _≤_, _<_}
 use mathlib.Core.Path.{_≡_}
 use lib.ListN.{getD}
-use Rattle.numbers.specs.Limits.{maxStreams}
 use Rattle.numbers.specs.Units.{parts}
 use Rattle.card.specs.declared.Figures.{Figures}
-use Rattle.placement.specs.Showing.{Showing, one, loop, after, pairsOf}
+use Rattle.placement.specs.Showing.{Showing, one, loop, pairs, visitsOf, pairsOf, pairTime}
 use Rattle.pacing.specs.Film.{span}
-use Rattle.plan.specs.Plan.{timeOf, worst2Of, filmOf}
+use Rattle.pacing.specs.Streams.{capOf}
+use Rattle.plan.specs.Plan.{timeOn, positionOf, worst2Of, filmOf}
 
 -- ---- runs
 
@@ -15,11 +15,13 @@ use Rattle.plan.specs.Plan.{timeOf, worst2Of, filmOf}
 abbrev pub IsRun : Showing → ℕ → ℕ → ℕ → Type 0
 IsRun one N b j = b + j ≤ N
 IsRun loop N b j = j ≤ N
+IsRun pairs N b j = b + j ≤ N
 
 -- what has a lead: each block, and the end of a film shown once
 abbrev pub Starts : Showing → ℕ → ℕ → Type 0
 Starts one N b = b ≤ N
 Starts loop N b = b < N
+Starts pairs N b = b ≤ N
 
 module _ (x : Showing) (f : Figures) where
   -- ---- P6: lead
@@ -36,24 +38,24 @@ module _ (x : Showing) (f : Figures) where
 
   -- ---- P4: streams
 
-  -- the formula of streams, with the table's entry as the overhead of a sweep of n blocks (T3.5): n streams are fed, or are too many
+  -- the formula of streams, with the table's entry as the overhead of the visits of n blocks (T3.5): n streams are fed, or are too many
   abbrev pub Feeds : ℕ → Type 0
-  Feeds n = f .rate * (n * worst2Of x f + 2 * getD (f .table) n 0) ≤ parts * f .bytes
+  Feeds n = f .rate * (n * worst2Of x f + 2 * getD (f .table) (visitsOf x * n) 0) ≤ parts * f .bytes
 
   abbrev pub TooMany : ℕ → Type 0
-  TooMany n = parts * f .bytes < f .rate * (n * worst2Of x f + 2 * getD (f .table) n 0)
+  TooMany n = parts * f .bytes < f .rate * (n * worst2Of x f + 2 * getD (f .table) (visitsOf x * n) 0)
 
-  -- n is the greatest whole number from 1 to 256 that meets the formula
+  -- n is the greatest whole number from 1 to 256, of half blocks to 128, that meets the formula
   pub record MostStreams (n : ℕ) : Type 0 where
-    pub range : (1 ≤ n) × (n ≤ maxStreams)
+    pub range : (1 ≤ n) × (n ≤ capOf x)
     pub feeds : Feeds n
-    pub most : (k : ℕ) → n < k → k ≤ maxStreams → TooMany k
+    pub most : (k : ℕ) → n < k → k ≤ capOf x → TooMany k
 
   -- ---- T2.1: the worst pair
 
-  -- what block b and the one after it take
+  -- what block b and the one after it take, of half blocks twice what block b takes
   abbrev pub pairOf : ℕ → ℕ
-  pairOf b = timeOf x f b + timeOf x f (after x (f .blocks) b)
+  pairOf b = pairTime x (timeOn f) (positionOf x f) (f .blocks) b
 
   -- the pair of block b takes worst2, and no pair before it does
   pub record EarliestPair (b : ℕ) : Type 0 where

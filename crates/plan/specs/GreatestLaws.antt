@@ -3,30 +3,30 @@
 use Prim.Native.Nat.{ℕ, zero, suc, _+_, _*_, _≤_, _<_}
 use mathlib.Core.Path.{_≡_, refl, ap}
 use mathlib.Core.Bool.{Bool, true, false, cond, _||_}
+use mathlib.Core.List.{List}
 use native.Mathlib.Omega.{arith}
-use native.Mathlib.Nat.{le-refl}
+use native.Mathlib.Nat.{le-refl, mul-le-mul-left}
 use lib.ListN.{getD}
 use lib.Dec.{ltb, eqb}
 use borrow.Author.Tests.{ltb-true, le-ltb, eqb-true}
 use Rattle.laws.specs.Bools.{and-left, and-right}
 use Rattle.laws.specs.Greatest.{greatestOf, Earliest, earliest-unique, earliest-is}
-use Rattle.numbers.specs.Limits.{maxStreams}
 use Rattle.numbers.specs.Refusals.{tooShort, noStream}
 use Rattle.card.specs.declared.Figures.{Figures}
 use Rattle.card.specs.Card.{Legal}
-use Rattle.card.specs.CardLaws.{table-rises}
-use Rattle.placement.specs.Showing.{Showing, one, loop, worstAt, pairsOf, some-pairs, worst-pair}
+use Rattle.placement.specs.Showing.{Showing, one, loop, pairs, visitsOf, worstAt, pairsOf, some-pairs, worst-pair}
 use Rattle.pacing.specs.Film.{row, longestRun, shown}
 use Rattle.pacing.specs.Shown.{once-in, loop-in}
 use Rattle.pacing.specs.Lead.{lead-above, lead-attained, lead-only}
-use Rattle.pacing.specs.Streams.{overhead-entry, overhead-rises, load, streams-le, streams-fits, streams-best, streams-only, streams-none}
-use Rattle.plan.specs.Plan.{timeOn, positionOf, timeOf, worst2Of, worstAtOf, overOf, streamsOf, filmOf, leadOf}
+use Rattle.pacing.specs.Streams.{capOf, cap-some, cap-visits, overhead-entry, load, streams-le, streams-fits, streams-best, streams-only, streams-none}
+use Rattle.plan.specs.Plan.{timeOn, positionOf, timeOf, firstOf, othersOf, entriesOf, worst2Of, worstAtOf, overOf, streamsOf, filmOf, leadOf}
+use Rattle.plan.specs.Legal.{over-rises}
 use Rattle.plan.specs.Answer.{planFault}
 use Rattle.plan.specs.Greatest.{IsRun, Starts, GreatestRun, TooMany, MostStreams, pairOf, EarliestPair}
 
-module _ (N : ℕ) (time position : ℕ → ℕ) where
+module _ (N : ℕ) (time position : ℕ → ℕ) (others : ℕ → List ℕ) where
   -- a run stays within the film
-  once-out : (j b : ℕ) → b ≤ N → row (shown one N time position) j b ≡ true → b + j ≤ N
+  once-out : (j b : ℕ) → b ≤ N → row (shown one N time position others) j b ≡ true → b + j ≤ N
   unfolding row
   once-out zero b h e = omega arith
   once-out (suc j) b h e =
@@ -34,15 +34,18 @@ module _ (N : ℕ) (time position : ℕ → ℕ) where
       omega (arith, once-out j (suc b) (omega arith) (and-right (ltb b N) _ e))
 
 -- the runs that a lead looks at are those of document 01 and document 02
-run-in : (x : Showing) (N : ℕ) (time position : ℕ → ℕ) (j b : ℕ) → Starts x N b → IsRun x N b j
-    → (j ≤ longestRun x N b) × (row (shown x N time position) j b ≡ true)
-run-in one N time position j b h u = (omega arith, once-in N time position j b u)
-run-in loop N time position j b h u = (u, loop-in N time position j b h)
+run-in : (x : Showing) (N : ℕ) (time position : ℕ → ℕ) (others : ℕ → List ℕ) (j b : ℕ) → Starts x N b → IsRun x N b j
+    → (j ≤ longestRun x N b) × (row (shown x N time position others) j b ≡ true)
+run-in one N time position others j b h u = (omega arith, once-in N time position others j b u)
+run-in pairs N time position others j b h u = (omega arith, once-in N time position others j b u)
+run-in loop N time position others j b h u = (u, loop-in N time position others j b h)
 
-in-run : (x : Showing) (N : ℕ) (time position : ℕ → ℕ) (j b : ℕ) → Starts x N b → j ≤ longestRun x N b → row (shown x N time position) j b ≡ true
+in-run : (x : Showing) (N : ℕ) (time position : ℕ → ℕ) (others : ℕ → List ℕ) (j b : ℕ) → Starts x N b → j ≤ longestRun x N b
+    → row (shown x N time position others) j b ≡ true
     → IsRun x N b j
-in-run one N time position j b h u r = once-out N time position j b h r
-in-run loop N time position j b h u r = u
+in-run one N time position others j b h u r = once-out N time position others j b h r
+in-run pairs N time position others j b h u r = once-out N time position others j b h r
+in-run loop N time position others j b h u r = u
 
 module _ (x : Showing) (f : Figures) where
   -- ---- lead
@@ -52,36 +55,39 @@ module _ (x : Showing) (f : Figures) where
   lead-greatest b h =
       let (j, u, r, e) = lead-attained (filmOf x f) (worst2Of x f) b in
       record {
-        above = λ j u. let v = run-in x (f .blocks) (timeOf x f) (positionOf x f) j b h u in lead-above (filmOf x f) (worst2Of x f) j b (v .0) (v .1);
-        reached = (j, in-run x (f .blocks) (timeOf x f) (positionOf x f) j b h u r, e);
+        above = λ j u. let v = run-in x (f .blocks) (timeOf x f) (firstOf x f) (othersOf x f) j b h u in
+            lead-above (filmOf x f) (worst2Of x f) j b (v .0) (v .1);
+        reached = (j, in-run x (f .blocks) (timeOf x f) (firstOf x f) (othersOf x f) j b h u r, e);
       }
 
   -- and no other is
   pub greatest-lead : (b m : ℕ) → Starts x (f .blocks) b → GreatestRun x f b m → m ≡ leadOf x f b
   greatest-lead b m h g =
       let (j, u, e) = g .reached in
-      let v = run-in x (f .blocks) (timeOf x f) (positionOf x f) j b h u in
-      lead-only (filmOf x f) (worst2Of x f) m b (λ k u r. g .above k (in-run x (f .blocks) (timeOf x f) (positionOf x f) k b h u r)) j (v .0) (v .1) e
+      let v = run-in x (f .blocks) (timeOf x f) (firstOf x f) (othersOf x f) j b h u in
+      lead-only (filmOf x f) (worst2Of x f) m b
+      (λ k u r. g .above k (in-run x (f .blocks) (timeOf x f) (firstOf x f) (othersOf x f) k b h u r)) j (v .0) (v .1) e
 
   -- ---- streams
 
   -- the load of n streams, in the table's words
-  load-entry : (n : ℕ) → n ≤ maxStreams → load (f .rate) (worst2Of x f) (overOf f) n ≡ f .rate * (n * worst2Of x f + 2 * getD (f .table) n 0)
+  load-entry : (n : ℕ) → n ≤ capOf x → load (f .rate) (worst2Of x f) (overOf x f) n ≡ f .rate * (n * worst2Of x f + 2 * getD (f .table) (visitsOf x * n) 0)
   unfolding load
-  load-entry n u = ap (λ (o : ℕ). f .rate * (n * worst2Of x f + 2 * o)) (overhead-entry (f .table) n u)
+  load-entry n u = ap (λ (o : ℕ). f .rate * (n * worst2Of x f + 2 * o)) (overhead-entry (f .table) (visitsOf x * n) (cap-visits x n u .0))
 
-  too-many : (n : ℕ) → streamsOf x f < n → n ≤ maxStreams → TooMany x f n
+  too-many : (n : ℕ) → streamsOf x f < n → n ≤ capOf x → TooMany x f n
   unfolding streamsOf
-  too-many n m u = omega (arith, load-entry n u, streams-best (f .rate) (worst2Of x f) (overOf f) (f .bytes) (worst2Of x f) n (le-refl (worst2Of x f)) m u)
+  too-many n m u =
+      omega (arith, load-entry n u, streams-best (capOf x) (f .rate) (worst2Of x f) (overOf x f) (f .bytes) (worst2Of x f) n (le-refl (worst2Of x f)) m u)
 
   -- the plan's streams are that number
   pub streams-most : 0 < streamsOf x f → MostStreams x f (streamsOf x f)
   unfolding streamsOf
   streams-most h =
-      let few = streams-le (f .rate) (worst2Of x f) (overOf f) (f .bytes) in
+      let few = streams-le (capOf x) (f .rate) (worst2Of x f) (overOf x f) (f .bytes) in
       record {
         range = (h, few);
-        feeds = omega (arith, load-entry (streamsOf x f) few, streams-fits (f .rate) (worst2Of x f) (overOf f) (f .bytes) h);
+        feeds = omega (arith, load-entry (streamsOf x f) few, streams-fits (capOf x) (f .rate) (worst2Of x f) (overOf x f) (f .bytes) h);
         most = too-many;
       }
 
@@ -89,15 +95,15 @@ module _ (x : Showing) (f : Figures) where
   pub most-streams : (n : ℕ) → MostStreams x f n → n ≡ streamsOf x f
   unfolding streamsOf
   most-streams n m =
-      streams-only (f .rate) (worst2Of x f) (overOf f) (f .bytes) n (m .range .0) (m .range .1)
+      streams-only (capOf x) (f .rate) (worst2Of x f) (overOf x f) (f .bytes) n (m .range .0) (m .range .1)
       (omega (arith, load-entry n (m .range .1), m .feeds)) (λ k l u. omega (arith, load-entry k u, m .most k l u))
 
   -- ---- 12: np and nl are the entries of the lent lists
 
   -- only where no number fits
-  pub none-fits : (np nl : ℕ) → planFault x f np nl ≡ noStream → (n : ℕ) → 1 ≤ n → n ≤ maxStreams → TooMany x f n
+  pub none-fits : (np nl : ℕ) → planFault x f np nl ≡ noStream → (n : ℕ) → 1 ≤ n → n ≤ capOf x → TooMany x f n
   unfolding planFault
-  none-fits np nl e n l u = too-many n (go (ltb np (f .blocks) || ltb nl (f .blocks)) (eqb (streamsOf x f) 0) refl e) u
+  none-fits np nl e n l u = too-many n (go (ltb np (entriesOf x f) || ltb nl (f .blocks)) (eqb (streamsOf x f) 0) refl e) u
     where
       go : (s t : Bool) → eqb (streamsOf x f) 0 ≡ t → _≡_ {A = ℕ} (cond s tooShort (cond t noStream 0)) noStream → streamsOf x f < n
       go true t q e = absurd (omega arith)
@@ -105,12 +111,12 @@ module _ (x : Showing) (f : Figures) where
       go false false q e = absurd (omega arith)
 
   -- and always where not even one does
-  pub one-fails : Legal f → (np nl : ℕ) → f .blocks ≤ np → f .blocks ≤ nl → TooMany x f 1 → planFault x f np nl ≡ noStream
+  pub one-fails : Legal (visitsOf x) f → (np nl : ℕ) → entriesOf x f ≤ np → f .blocks ≤ nl → TooMany x f 1 → planFault x f np nl ≡ noStream
   unfolding planFault streamsOf
   one-fails ok np nl p l h =
-      let none = streams-none (f .rate) (worst2Of x f) (overOf f) (f .bytes) (overhead-rises (f .table) (table-rises f ok))
-      (omega (arith, load-entry 1 (omega arith))) in
-      rw (le-ltb np (f .blocks) p, le-ltb nl (f .blocks) l, none)
+      let none = streams-none (capOf x) (f .rate) (worst2Of x f) (overOf x f) (f .bytes) (over-rises x f ok)
+      (omega (arith, load-entry 1 (cap-some x))) in
+      rw (le-ltb np (entriesOf x f) p, le-ltb nl (f .blocks) l, none)
 
   -- ---- the worst pair
 
@@ -119,7 +125,7 @@ module _ (x : Showing) (f : Figures) where
   worst-is = worst-pair x (timeOn f) (positionOf x f) (f .blocks)
 
   -- the block that the plan names is that one
-  pub pair-earliest : Legal f → EarliestPair x f (worstAtOf x f)
+  pub pair-earliest : Legal (visitsOf x) f → EarliestPair x f (worstAtOf x f)
   unfolding worstAtOf worstAt
   pair-earliest ok =
       let e = earliest-is (pairOf x f) (pairsOf x (f .blocks)) (some-pairs x (f .blocks) (omega (arith, ok .blocks)) .0) in

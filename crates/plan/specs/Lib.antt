@@ -2,6 +2,7 @@ pub mod Answer
 pub mod Check
 pub mod Disk
 pub mod Greatest
+pub mod Halves
 pub mod GreatestLaws
 pub mod Legal
 pub mod Lent

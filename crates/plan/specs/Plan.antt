@@ -1,18 +1,18 @@
--- The plan of figures in either showing: document 01's terms of 'Laying the film', each over the record of a card, with what document 02's
--- loop (T7.1 to T7.7) makes of them.
-use Prim.Native.Nat.{ℕ, zero, suc}
+-- The plan of figures in every showing: document 01's terms of 'Laying the film', each over the record of a card, with what document 02's
+-- loop (T7.1 to T7.7) and half blocks (ticket 11) make of them.
+use Prim.Native.Nat.{ℕ, zero, suc, _*_}
 use mathlib.Core.Bool.{cond}
 use mathlib.Core.List.{List, [], _∷_}
 use lib.Dec.{eqb}
-use Rattle.numbers.specs.Showings.{onceWord, loopWord}
+use Rattle.numbers.specs.Showings.{onceWord, loopWord, pairsWord}
 use Rattle.card.specs.declared.Figures.{Figures}
 use Rattle.card.specs.declared.Scalars.{Scalars}
 use Rattle.card.specs.Card.{totalPositions}
 use Rattle.card.specs.Read.{blankFigures, figuresFrom}
 use Rattle.placement.specs.Zones.{timeAt}
-use Rattle.placement.specs.Showing.{Showing, one, loop, laying, worstOf, worstAt}
+use Rattle.placement.specs.Showing.{Showing, one, loop, pairs, visitsOf, laying, firstPlace, otherPlaces, blockTime, worstOf, worstAt, walked}
 use Rattle.pacing.specs.Film.{Film, lead}
-use Rattle.pacing.specs.Streams.{overhead, streams, bufferOf}
+use Rattle.pacing.specs.Streams.{overhead, streams, capOf, bufferOf}
 use Rattle.pacing.specs.Laid.{laidFilm, slowest, margin}
 use Rattle.plan.specs.declared.Plan.{Plan}
 use Rattle.plan.specs.declared.Numbers.{Numbers}
@@ -23,10 +23,15 @@ use Rattle.plan.specs.declared.Numbers.{Numbers}
 abbrev pub wordOf : Showing → ℕ
 wordOf one = onceWord
 wordOf loop = loopWord
+wordOf pairs = pairsWord
 
 -- the showing that a word tells; a word that stands for none is compared with 0, and so never passes
 unfoldable pub showingOf : ℕ → Showing
-showingOf w = cond (eqb w loopWord) loop one
+showingOf w = cond (eqb w loopWord) loop (cond (eqb w pairsWord) pairs one)
+
+-- the showing whose blocks are the visits of a word's film
+abbrev pub walkOf : ℕ → Showing
+walkOf w = walked (showingOf w)
 
 -- that of a plan record
 abbrev pub showingIn : Plan → Showing
@@ -38,13 +43,24 @@ showingIn p = showingOf (p .showing)
 abbrev pub timeOn : Figures → ℕ → ℕ
 timeOn f = timeAt (f .positions) (f .times)
 
--- the position of block b (P1, T7.3)
+-- entry v of the positions list: that of block v (P1, T7.3), of half blocks those of block b are 2b and 2b + 1, the lower first
 abbrev pub positionOf : Showing → Figures → ℕ → ℕ
 positionOf x f = laying x (totalPositions f) (f .blocks)
 
+-- how many they are
+abbrev pub entriesOf : Showing → Figures → ℕ
+entriesOf x f = visitsOf x * f .blocks
+
+-- the position of block b, of half blocks that of the first half, and the others
+abbrev pub firstOf : Showing → Figures → ℕ → ℕ
+firstOf x f = firstPlace x (positionOf x f)
+
+abbrev pub othersOf : Showing → Figures → ℕ → List ℕ
+othersOf x f = otherPlaces x (positionOf x f)
+
 -- time(b) (P2)
 abbrev pub timeOf : Showing → Figures → ℕ → ℕ
-timeOf x f b = timeOn f (positionOf x f b)
+timeOf x f = blockTime x (timeOn f) (positionOf x f)
 
 -- worst2 (P3, T7.2)
 unfoldable pub worst2Of : Showing → Figures → ℕ
@@ -54,17 +70,17 @@ worst2Of x f = worstOf x (timeOn f) (positionOf x f) (f .blocks)
 unfoldable pub worstAtOf : Showing → Figures → ℕ
 worstAtOf x f = worstAt x (timeOn f) (positionOf x f) (f .blocks)
 
--- what a sweep takes beside the times of its blocks (D11, T3.5): the table's entry
-abbrev pub overOf : Figures → ℕ → ℕ
-overOf f = overhead (f .table)
+-- what a sweep of k blocks takes beside their times (D11, T3.5): the table's entry for all their visits
+abbrev pub overOf : Showing → Figures → ℕ → ℕ
+overOf x f k = overhead (f .table) (visitsOf x * k)
 
 -- streams (P4, T7.5); 0 where not even one fits
 unfoldable pub streamsOf : Showing → Figures → ℕ
-streamsOf x f = streams (f .rate) (worst2Of x f) (overOf f) (f .bytes)
+streamsOf x f = streams (capOf x) (f .rate) (worst2Of x f) (overOf x f) (f .bytes)
 
 -- the greatest time(b)
 unfoldable pub slowestOf : Showing → Figures → ℕ
-slowestOf x f = slowest (timeOn f) (positionOf x f) (f .blocks)
+slowestOf x f = slowest x (timeOn f) (positionOf x f) (f .blocks)
 
 -- margin (P5, T7.5)
 unfoldable pub marginOf : Showing → Figures → ℕ
@@ -123,7 +139,7 @@ row g b (suc n) = g b ∷ row g (suc b) n
 
 -- what the two lent lists are filled with (P8)
 unfoldable pub positionsOf : Showing → Figures → List ℕ
-positionsOf x f = row (positionOf x f) 0 (f .blocks)
+positionsOf x f = row (positionOf x f) 0 (entriesOf x f)
 
 unfoldable pub leadsOf : Showing → Figures → List ℕ
 leadsOf x f = row (leadOf x f) 0 (f .blocks)

@@ -1,6 +1,6 @@
 -- A scratch in place of the lead list (document 02, ticket 10). A call with a scratch answers what the same call answers with the film's own
 -- leads (T10.2); of the scratch nothing but its length is asked (T10.3).
-use Prim.Native.Nat.{ℕ}
+use Prim.Native.Nat.{ℕ, _*_}
 use mathlib.Core.List.{List, []}
 use mathlib.Core.Bool.{Bool, cond, _||_}
 use lib.ListN.{length}
@@ -50,9 +50,9 @@ lentAfter listed x r ps ls = cond listed (leadsAfter x r ps ls) ls
 abbrev pub entriesAsked : Bool → ℕ → ℕ
 entriesAsked listed n = cond listed n scratchLength
 
--- is it too short, or the positions list of a film of n blocks?
-abbrev pub listsShort : Bool → ℕ → List ℕ → List ℕ → Bool
-listsShort listed n ps ls = ltb (length (wordsOf ps)) n || ltb (length (wordsOf ls)) (entriesAsked listed n)
+-- is it too short, or the positions list of a film of n blocks with v positions each?
+abbrev pub listsShort : Bool → ℕ → ℕ → List ℕ → List ℕ → Bool
+listsShort listed v n ps ls = ltb (length (wordsOf ps)) (v * n) || ltb (length (wordsOf ls)) (entriesAsked listed n)
 
 -- the lead list that a call of the desk goes by
 abbrev pub leadsBy : Bool → Plan → List ℕ → List ℕ

@@ -14,7 +14,7 @@ use Rattle.words.specs.Laws.{words-bytes, bytes-entries}
 use Rattle.card.specs.declared.Figures.{Figures}
 use Rattle.card.specs.Card.{Legal}
 use Rattle.legality.specs.Legality.{Wide}
-use Rattle.placement.specs.Showing.{Showing}
+use Rattle.placement.specs.Showing.{Showing, visitsOf}
 use Rattle.plan.specs.declared.Plan.{Plan}
 use Rattle.plan.specs.Plan.{showingIn, leadOf, row, leadsOf}
 use Rattle.plan.specs.Answer.{begins, hasNumbers, hasPositions, hasLeads, isPlan}
@@ -29,7 +29,7 @@ unfolding ownLeads leadsOf
 own-entries x f = bytes-entries (leadsOf x f) ∙ row-length (leadOf x f) 0 (f .blocks)
 
 -- and says the leads of legal figures
-pub own-words : (x : Showing) (f : Figures) → Legal f → wordsOf (ownLeads x f) ≡ leadsOf x f
+pub own-words : (x : Showing) (f : Figures) → Legal (visitsOf x) f → wordsOf (ownLeads x f) ≡ leadsOf x f
 unfolding ownLeads leadsOf
 own-words x f ok = words-bytes (leadsOf x f) (row-words (leadOf x f) 0 (f .blocks) (λ b u. omega (arith, lead-small x f ok b (omega arith))))
 

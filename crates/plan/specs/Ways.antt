@@ -1,15 +1,16 @@
 -- Each way that the planner can answer.
 -- Assumes nothing.
-use Prim.Native.Nat.{ℕ, zero, suc, _-_, _≤_, _<_}
+use Prim.Native.Nat.{ℕ, zero, suc, _*_, _-_, _/_, _≤_, _<_}
 use mathlib.Core.Path.{_≡_, refl, sym, ap, ap₂, _∙_, subst}
 use mathlib.Core.Bool.{Bool, true, false, cond, _&&_, _||_}
 use mathlib.Core.List.{List}
+use native.Mathlib.Nat.{mul-le-mul, mul-le-mul-right, mul-pos}
 use native.Mathlib.Omega.{arith}
 use lib.ListN.{length}
 use lib.Dec.{ltb}
 use borrow.Author.Tests.{ltb-true, ltb-false, lt-ltb, le-ltb, eq-eqb, ne-eqb}
 use Rattle.laws.specs.Bools.{clash}
-use Rattle.numbers.specs.Limits.{maxPositions, scratchLength}
+use Rattle.numbers.specs.Limits.{maxPositions, maxBlocks, scratchLength}
 use Rattle.numbers.specs.Refusals.{tooShort, noStream}
 use Rattle.card.specs.declared.Figures.{Figures}
 use Rattle.card.specs.declared.CardRead.{CardRead}
@@ -17,13 +18,13 @@ use Rattle.card.specs.declared.Verdict.{Verdict}
 use Rattle.card.specs.Card.{Legal, totalPositions, recordFault, judgeRecord}
 use Rattle.card.specs.Read.{readCard}
 use Rattle.legality.specs.Legality.{Wide, fault-legal}
-use Rattle.placement.specs.Showing.{Showing, laying, worstOf, worstAt}
+use Rattle.placement.specs.Showing.{Showing, visitsOf, visits-few, laying, worstOf, worstAt, walked, walked-laying, walked-worst, walked-at}
 use Rattle.words.specs.Words.{Bytes, wordsOf, withWords}
 use Rattle.plan.specs.declared.Plan.{Plan}
 use Rattle.plan.specs.declared.Planned.{Planned}
-use Rattle.plan.specs.Plan.{showingIn, timeOn, positionOf, worst2Of, worstAtOf, streamsOf, leadOf, planOf, row, positionsOf, leadsOf}
+use Rattle.plan.specs.Plan.{showingIn, timeOn, positionOf, entriesOf, worst2Of, worstAtOf, streamsOf, leadOf, planOf, row, positionsOf, leadsOf}
 use Rattle.plan.specs.Disk.{OnDisk, leadAt}
-use Rattle.plan.specs.Legal.{total-is, legal-disk, lead-is}
+use Rattle.plan.specs.Legal.{total-is, legal-disk, legal-falling, walked-lead}
 use Rattle.plan.specs.Answer.{planFault, faultAfter, refusal, answer, filled, planned, positionsAfter, leadsAfter, judged, sameNumbers, hasNumbers}
 use Rattle.plan.specs.Rows.{row-same}
 use Rattle.plan.specs.Scratch.{scratchLeads, leadsLent, lentAfter, entriesAsked, listsShort}
@@ -90,26 +91,26 @@ outcome-same {x} {y} {r} {s} listed ps ls a qs ms e d o =
     subst (λ (t : CardRead). Outcome listed y t ps ls a qs ms) d (subst (λ (z : Showing). Outcome listed z r ps ls a qs ms) e o)
 
 module _ (x : Showing) (f : Figures) (np nl : ℕ) where
-  pub short-positions : np < f .blocks → planFault x f np nl ≡ tooShort
+  pub short-positions : np < entriesOf x f → planFault x f np nl ≡ tooShort
   unfolding planFault
-  short-positions h = rw (lt-ltb np (f .blocks) h)
+  short-positions h = rw (lt-ltb np (entriesOf x f) h)
 
-  pub short-leads : f .blocks ≤ np → nl < f .blocks → planFault x f np nl ≡ tooShort
+  pub short-leads : entriesOf x f ≤ np → nl < f .blocks → planFault x f np nl ≡ tooShort
   unfolding planFault
-  short-leads l h = rw (le-ltb np (f .blocks) l, lt-ltb nl (f .blocks) h)
+  short-leads l h = rw (le-ltb np (entriesOf x f) l, lt-ltb nl (f .blocks) h)
 
-  pub no-stream : f .blocks ≤ np → f .blocks ≤ nl → streamsOf x f ≡ 0 → planFault x f np nl ≡ noStream
+  pub no-stream : entriesOf x f ≤ np → f .blocks ≤ nl → streamsOf x f ≡ 0 → planFault x f np nl ≡ noStream
   unfolding planFault
-  no-stream l m e = rw (le-ltb np (f .blocks) l, le-ltb nl (f .blocks) m, eq-eqb (streamsOf x f) 0 e)
+  no-stream l m e = rw (le-ltb np (entriesOf x f) l, le-ltb nl (f .blocks) m, eq-eqb (streamsOf x f) 0 e)
 
-  pub some-stream : f .blocks ≤ np → f .blocks ≤ nl → (streamsOf x f ≡ 0 → ⊥) → planFault x f np nl ≡ 0
+  pub some-stream : entriesOf x f ≤ np → f .blocks ≤ nl → (streamsOf x f ≡ 0 → ⊥) → planFault x f np nl ≡ 0
   unfolding planFault
-  some-stream l m e = rw (le-ltb np (f .blocks) l, le-ltb nl (f .blocks) m, ne-eqb (streamsOf x f) 0 e)
+  some-stream l m e = rw (le-ltb np (entriesOf x f) l, le-ltb nl (f .blocks) m, ne-eqb (streamsOf x f) 0 e)
 
 -- the two lengths, with a lead list or with a scratch
 module _ (listed : Bool) (x : Showing) (f : Figures) (ps ls : List ℕ) where
   -- one is too short: 13
-  pub lent-short : 0 < f .blocks → listsShort listed (f .blocks) ps ls ≡ true
+  pub lent-short : 0 < f .blocks → listsShort listed (visitsOf x) (f .blocks) ps ls ≡ true
       → planFault x f (length (wordsOf ps)) (length (wordsOf (leadsLent listed x f ls))) ≡ tooShort
   unfolding planFault
   lent-short some e = go listed e
@@ -120,14 +121,14 @@ module _ (listed : Bool) (x : Showing) (f : Figures) (ps ls : List ℕ) where
           let none = short-leads-none x f ls (scratch-short ls (ltb-true (length (wordsOf ls)) scratchLength h)) in
           lt-ltb (length (wordsOf (scratchLeads x f ls))) (f .blocks) (omega arith)
 
-      go : (b : Bool) → listsShort b (f .blocks) ps ls ≡ true
+      go : (b : Bool) → listsShort b (visitsOf x) (f .blocks) ps ls ≡ true
           → planFault x f (length (wordsOf ps)) (length (wordsOf (leadsLent b x f ls))) ≡ tooShort
       go true h = rw h
-      go false h = rw (alone (ltb (length (wordsOf ps)) (f .blocks)) h)
+      go false h = rw (alone (ltb (length (wordsOf ps)) (entriesOf x f)) h)
 
   -- neither is: each has its entries
-  pub lent-long : listsShort listed (f .blocks) ps ls ≡ false
-      → (f .blocks ≤ length (wordsOf ps)) × (f .blocks ≤ length (wordsOf (leadsLent listed x f ls)))
+  pub lent-long : listsShort listed (visitsOf x) (f .blocks) ps ls ≡ false
+      → (entriesOf x f ≤ length (wordsOf ps)) × (f .blocks ≤ length (wordsOf (leadsLent listed x f ls)))
       × (entriesAsked listed (f .blocks) ≤ length (wordsOf ls))
   lent-long e = go listed e
     where
@@ -135,17 +136,17 @@ module _ (listed : Bool) (x : Showing) (f : Figures) (ps ls : List ℕ) where
       neither true b h = clash refl h
       neither false b h = (refl, h)
 
-      go : (b : Bool) → listsShort b (f .blocks) ps ls ≡ false
-          → (f .blocks ≤ length (wordsOf ps)) × (f .blocks ≤ length (wordsOf (leadsLent b x f ls))) × (entriesAsked b (f .blocks) ≤ length (wordsOf ls))
+      go : (b : Bool) → listsShort b (visitsOf x) (f .blocks) ps ls ≡ false
+          → (entriesOf x f ≤ length (wordsOf ps)) × (f .blocks ≤ length (wordsOf (leadsLent b x f ls))) × (entriesAsked b (f .blocks) ≤ length (wordsOf ls))
       go true h =
-          let n = neither (ltb (length (wordsOf ps)) (f .blocks)) (ltb (length (wordsOf ls)) (f .blocks)) h in
+          let n = neither (ltb (length (wordsOf ps)) (entriesOf x f)) (ltb (length (wordsOf ls)) (f .blocks)) h in
           let l = ltb-false (length (wordsOf ls)) (f .blocks) (n .1) in
-          (ltb-false (length (wordsOf ps)) (f .blocks) (n .0), l, l)
+          (ltb-false (length (wordsOf ps)) (entriesOf x f) (n .0), l, l)
       go false h =
-          let n = neither (ltb (length (wordsOf ps)) (f .blocks)) (ltb (length (wordsOf ls)) scratchLength) h in
+          let n = neither (ltb (length (wordsOf ps)) (entriesOf x f)) (ltb (length (wordsOf ls)) scratchLength) h in
           let l = ltb-false (length (wordsOf ls)) scratchLength (n .1) in
           let all = long-leads-all x f ls (scratch-long ls l) in
-          (ltb-false (length (wordsOf ps)) (f .blocks) (n .0), omega arith, l)
+          (ltb-false (length (wordsOf ps)) (entriesOf x f) (n .0), omega arith, l)
 
 -- ---- the lists, as the code makes them
 
@@ -157,64 +158,96 @@ pub plan-worst2 : (x : Showing) (f : Figures) (p : Plan) → p ≡ planOf x f �
 unfolding planOf
 plan-worst2 x f p e = ap (λ (q : Plan). q .worst2) e
 
-module _ (f : Figures) (ok : Legal f) (t : ℕ) (e : t ≡ totalPositions f) where
-  pub film-on : OnDisk (f .positions) (f .times) t (f .blocks)
+module _ (x : Showing) (f : Figures) (ok : Legal (visitsOf x) f) (t : ℕ) (e : t ≡ totalPositions f) where
+  -- the film's visits, as the code walks them
+  pub film-on : OnDisk (f .positions) (f .times) t (entriesOf x f)
   film-on = record {
     disk = legal-disk f ok;
     whole = e ∙ total-is f ok;
-    some = omega (arith, ok .blocks);
+    some = mul-pos (visits-few x .0) (omega (arith, ok .blocks));
     room = omega (arith, ok .room);
   }
 
   pub small-on : t ≤ maxPositions
   small-on = omega (arith, ok .total)
 
-  pub worst2-is : (x : Showing) → worstOf x (timeOn f) (laying x t (f .blocks)) (f .blocks) ≡ worst2Of x f
+  pub worst2-is : visitsOf x * worstOf (walked x) (timeOn f) (laying (walked x) t (entriesOf x f)) (entriesOf x f) ≡ worst2Of x f
   unfolding worst2Of
-  worst2-is x = ap (λ (n : ℕ). worstOf x (timeOn f) (laying x n (f .blocks)) (f .blocks)) e
+  worst2-is =
+      ap (λ (n : ℕ). visitsOf x * worstOf (walked x) (timeOn f) (laying (walked x) n (entriesOf x f)) (entriesOf x f)) e
+      ∙ walked-worst (totalPositions f) (f .blocks) (timeOn f) (legal-falling f ok) x (ok .room)
 
-  pub worstAt-is : (x : Showing) → worstAt x (timeOn f) (laying x t (f .blocks)) (f .blocks) ≡ worstAtOf x f
+  pub worstAt-is : worstAt (walked x) (timeOn f) (laying (walked x) t (entriesOf x f)) (entriesOf x f) / visitsOf x ≡ worstAtOf x f
   unfolding worstAtOf
-  worstAt-is x = ap (λ (n : ℕ). worstAt x (timeOn f) (laying x n (f .blocks)) (f .blocks)) e
+  worstAt-is =
+      ap (λ (n : ℕ). worstAt (walked x) (timeOn f) (laying (walked x) n (entriesOf x f)) (entriesOf x f) / visitsOf x) e
+      ∙ walked-at (totalPositions f) (f .blocks) (timeOn f) (legal-falling f ok) x (ok .room) (omega (arith, ok .blocks))
 
-  pub positions-are : (x : Showing) → row (laying x t (f .blocks)) 0 (f .blocks) ≡ positionsOf x f
+  pub positions-are : row (laying (walked x) t (entriesOf x f)) 0 (entriesOf x f) ≡ positionsOf x f
   unfolding positionsOf
-  positions-are x = ap (λ (n : ℕ). row (laying x n (f .blocks)) 0 (f .blocks)) e
+  positions-are =
+      ap (λ (n : ℕ). row (laying (walked x) n (entriesOf x f)) 0 (entriesOf x f)) e
+      ∙ ap (λ (l : ℕ → ℕ). row l 0 (entriesOf x f)) (walked-laying x (totalPositions f) (f .blocks))
 
-  pub leads-are : (x : Showing) (w : ℕ) → w ≡ worst2Of x f → row (leadAt (f .positions) (f .times) (laying x t (f .blocks)) w) 0 (f .blocks) ≡ leadsOf x f
-  unfolding leadsOf
-  leads-are x w d =
-      ap₂ (λ (n v : ℕ). row (leadAt (f .positions) (f .times) (laying x n (f .blocks)) v) 0 (f .blocks)) e d
-      ∙ row-same (leadAt (f .positions) (f .times) (positionOf x f) (worst2Of x f)) (leadOf x f) 0 (f .blocks)
-      (λ b l u. sym (lead-is x f ok b (omega arith)))
+  -- of its N blocks alone
+  pub blocks-on : OnDisk (f .positions) (f .times) t (f .blocks)
+  blocks-on = record {
+    disk = legal-disk f ok;
+    whole = e ∙ total-is f ok;
+    some = omega (arith, ok .blocks);
+    room = omega (arith, ok .room, mul-le-mul-right (f .blocks) (visits-few x .0));
+  }
 
--- ---- figures that are judged
+-- the same with the visits of a block as the code has them
+module _ (x : Showing) (f : Figures) (ok : Legal (visitsOf x) f) (t : ℕ) (e : t ≡ totalPositions f) (v : ℕ) (q : v ≡ visitsOf x) where
+  pub all-on : OnDisk (f .positions) (f .times) t (v * f .blocks)
+  all-on = subst (λ (n : ℕ). OnDisk (f .positions) (f .times) t (n * f .blocks)) (sym q) (film-on x f ok t e)
 
-module _ (f : Figures) (v : Verdict) (e : v ≡ judgeRecord f) where
-  pub record-fault : v .number ≡ recordFault f
+  pub all-few : v * f .blocks ≤ 2 * maxBlocks
+  all-few = let few : v ≤ 2 = omega (arith, visits-few x) in mul-le-mul few (ok .blocks .1)
+
+  pub all-positions : row (laying (walked x) t (v * f .blocks)) 0 (v * f .blocks) ≡ positionsOf x f
+  all-positions = ap (λ (n : ℕ). row (laying (walked x) t (n * f .blocks)) 0 (n * f .blocks)) q ∙ positions-are x f ok t e
+
+-- the leads, by the walk of one visit a block: of half blocks each is 0, a half taking less than both
+pub leads-are : (x : Showing) (f : Figures) → Legal (visitsOf x) f → (t : ℕ) → t ≡ totalPositions f → (w : ℕ) → w ≡ worst2Of x f
+    → row (leadAt (f .positions) (f .times) (laying (walked x) t (f .blocks)) w) 0 (f .blocks) ≡ leadsOf x f
+unfolding leadsOf
+leads-are x f ok t e w d =
+    ap₂ (λ (n v : ℕ). row (leadAt (f .positions) (f .times) (laying (walked x) n (f .blocks)) v) 0 (f .blocks)) e d
+    ∙ row-same (leadAt (f .positions) (f .times) (laying (walked x) (totalPositions f) (f .blocks)) (worst2Of x f)) (leadOf x f) 0 (f .blocks)
+    (λ b l u. sym (walked-lead x f ok b (omega arith)))
+
+-- ---- figures that are judged, for blocks of k positions each
+
+module _ (k : ℕ) (f : Figures) (v : Verdict) (e : v ≡ judgeRecord k f) where
+  pub record-fault : v .number ≡ recordFault k f
   unfolding judgeRecord
   record-fault = ap (λ (x : Verdict). x .number) e
 
-  pub judged-is : _≡_ {A = CardRead} (record { verdict = v; figures = f }) (judged f)
+  pub judged-is : _≡_ {A = CardRead} (record { verdict = v; figures = f }) (judged k f)
   unfolding judged
   judged-is = λ i. record { verdict = e i; figures = f }
 
 -- an accepted record has legal figures
-pub judged-legal : (f : Figures) → Wide f → (r : CardRead) → r ≡ judged f → r .verdict .number ≡ 0 → Legal (r .figures)
+pub judged-legal : (k : ℕ) (f : Figures) → Wide f → (r : CardRead) → r ≡ judged k f → r .verdict .number ≡ 0 → Legal k (r .figures)
 unfolding judged
-judged-legal f w r e n =
-    let c = sym (record-fault f (r .verdict) (ap (λ (t : CardRead). t .verdict) e)) ∙ n in
-    subst (λ (t : CardRead). Legal (t .figures)) (sym e) (fault-legal f w c)
+judged-legal k f w r e n =
+    let c = sym (record-fault k f (r .verdict) (ap (λ (t : CardRead). t .verdict) e)) ∙ n in
+    subst (λ (t : CardRead). Legal k (t .figures)) (sym e) (fault-legal k f w c)
 
 -- ---- has a plan the numbers of its figures
 
 module _ (p : Plan) where
-  pub not-legal : (recordFault (p .figures) ≡ 0 → ⊥) → false ≡ hasNumbers p
+  abbrev fault : ℕ
+  fault = recordFault (visitsOf (showingIn p)) (p .figures)
+
+  pub not-legal : (fault ≡ 0 → ⊥) → false ≡ hasNumbers p
   unfolding hasNumbers
-  not-legal n = rw (ne-eqb (recordFault (p .figures)) 0 n)
+  not-legal n = rw (ne-eqb fault 0 n)
 
   -- the plan of legal figures decides
-  pub numbers-decide : recordFault (p .figures) ≡ 0
+  pub numbers-decide : fault ≡ 0
       → (ltb 0 (streamsOf (showingIn p) (p .figures)) && sameNumbers p (planOf (showingIn p) (p .figures))) ≡ hasNumbers p
   unfolding hasNumbers
-  numbers-decide e = rw (eq-eqb (recordFault (p .figures)) 0 e)
+  numbers-decide e = rw (eq-eqb fault 0 e)

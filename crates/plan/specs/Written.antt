@@ -11,14 +11,14 @@ use Rattle.words.specs.Words.{wordsOf, withWords}
 use Rattle.card.specs.declared.Figures.{Figures}
 use Rattle.card.specs.Card.{Legal, totalPositions}
 use Rattle.legality.specs.Legality.{Wide}
-use Rattle.placement.specs.Showing.{laying}
+use Rattle.placement.specs.Showing.{Showing, visitsOf, laying}
 use Rattle.plan.specs.declared.Plan.{Plan}
-use Rattle.plan.specs.Plan.{showingOf, showingIn, leadOf, planOf, row, leadsOf}
+use Rattle.plan.specs.Plan.{walkOf, showingIn, leadOf, planOf, row, leadsOf}
 use Rattle.plan.specs.Answer.{hasNumbers, hasPositions, hasLeads, isPlan}
 use Rattle.plan.specs.Check.{numbered, row-words, written-begins}
 use Rattle.plan.specs.Disk.{OnDisk, leadAt}
 use Rattle.plan.specs.Legal.{lead-small}
-use Rattle.plan.specs.Ways.{plan-worst2, film-on, leads-are}
+use Rattle.plan.specs.Ways.{plan-worst2, blocks-on, leads-are}
 use Rattle.plan.specs.Scratch.{ownLeads}
 
 module _ (p : Plan) (w : Wide (p .figures)) where
@@ -36,13 +36,14 @@ module _ (p : Plan) (w : Wide (p .figures)) where
       (written-begins (leadOf x f) (f .blocks) ls (row-words (leadOf x f) 0 (f .blocks) (λ b u. omega (arith, lead-small x f ok b (omega arith)))) l))
 
   -- its leads as the code writes them, of figures that were read
-  pub written-row : Legal (p .figures) → p ≡ planOf (showingIn p) (p .figures) → {sizes times : List ℕ} {v t n m : ℕ} → sizes ≡ p .figures .positions
+  pub written-row : Legal (visitsOf (showingIn p)) (p .figures) → p ≡ planOf (showingIn p) (p .figures) → {sizes times : List ℕ} {v t n m : ℕ}
+      → sizes ≡ p .figures .positions
       → times ≡ p .figures .times → v ≡ p .showing → t ≡ totalPositions (p .figures) → n ≡ p .figures .blocks → m ≡ p .worst2
-      → row (leadAt sizes times (laying (showingOf v) t n) m) 0 n ≡ leadsOf (showingIn p) (p .figures)
+      → row (leadAt sizes times (laying (walkOf v) t n) m) 0 n ≡ leadsOf (showingIn p) (p .figures)
   written-row ok e a b c d n q =
-      rw (a, b, c, n) (leads-are (p .figures) ok _ d (showingIn p) _ (q ∙ plan-worst2 (showingIn p) (p .figures) p e))
+      rw (a, b, c, n) (leads-are (showingIn p) (p .figures) ok _ d _ (q ∙ plan-worst2 (showingIn p) (p .figures) p e))
 
 -- the zones of legal figures that were read, as the code walks them
-pub read-on : (f : Figures) → Legal f → {sizes times : List ℕ} {t n : ℕ} → sizes ≡ f .positions → times ≡ f .times → t ≡ totalPositions f → n ≡ f .blocks
-    → OnDisk sizes times t n
-read-on f ok a b d n = rw (a, b, n) (film-on f ok _ d)
+pub read-on : (x : Showing) (f : Figures) → Legal (visitsOf x) f → {sizes times : List ℕ} {t n : ℕ} → sizes ≡ f .positions → times ≡ f .times
+    → t ≡ totalPositions f → n ≡ f .blocks → OnDisk sizes times t n
+read-on x f ok a b d n = rw (a, b, n) (blocks-on x f ok _ d)

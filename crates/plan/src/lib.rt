@@ -5,20 +5,21 @@ use card::Figures;
 use card::Scalars;
 use card::Verdict;
 use numbers::limits::SCRATCH_LENGTH;
+use numbers::showings::PAIRS;
 ghost use mathlib.Core.Path.{_≡_};
 ghost use Prim.Native.Nat.{ℕ, _*_, _≤_, _<_};
-ghost use Rattle.numbers.specs.Limits.{maxStreams};
 ghost use Rattle.numbers.specs.Refusals.{noStream};
 ghost use Rattle.numbers.specs.Units.{parts};
 ghost use Rattle.card.specs.declared.Figures.{Figures};
 ghost use Rattle.card.specs.Card.{Legal, totalPositions};
 ghost use Rattle.card.specs.Read.{figuresFrom};
 ghost use Rattle.placement.specs.Placement.{Laying};
-ghost use Rattle.placement.specs.Showing.{Showing, worstOf};
-ghost use Rattle.pacing.specs.Streams.{load};
-ghost use Rattle.plan.specs.Plan.{planFrom, timeOn, positionOf, worst2Of, worstAtOf, overOf, streamsOf, leadOf, blankPlan};
+ghost use Rattle.placement.specs.Showing.{Showing, visitsOf, worstOf};
+ghost use Rattle.pacing.specs.Streams.{capOf, load};
+ghost use Rattle.plan.specs.Plan.{showingOf, planFrom, timeOn, positionOf, entriesOf, worst2Of, worstAtOf, overOf, streamsOf, leadOf, blankPlan};
 ghost use Rattle.plan.specs.Answer.{planFault, judged};
 ghost use Rattle.plan.specs.Greatest.{Starts, GreatestRun, MostStreams, TooMany, EarliestPair};
+ghost use Rattle.plan.specs.Halves.{NoBetter, HalvesPlan};
 ghost use Rattle.plan.specs.Promise.{LeadLaws, Promise};
 ghost use Rattle.plan.specs.Scratch.{scratchShort};
 
@@ -29,11 +30,11 @@ pub struct Plan {
     pub streams: u32,
     // Bytes of a stream's buffer.
     pub buffer: u32,
-    // The greatest time of two successive blocks, in microseconds.
+    // The greatest time of two successive blocks, in microseconds; of half blocks twice the greatest time of a block.
     pub worst2: u32,
     // The most that a lead can be, in half microseconds.
     pub margin: u32,
-    // Which showing it is: 0 once through, 1 round and round.
+    // Which showing it is: 0 once through, 1 round and round, 2 once through in half blocks.
     pub showing: u32,
     // The first block of the worst pair, the earliest where several are equal.
     pub worstat: u32,
@@ -60,6 +61,16 @@ pub fn is_short(scratch: &[u8]) -> bool
     ensures { λ r. ⌜ r ≡ scratchShort (now (scratch .entry)) ⌝ }
 {
     words::entries(scratch) < SCRATCH_LENGTH as usize
+}
+
+// How many positions a block takes in the showing that a word tells: two halves, or one.
+pub fn visits_of(showing: u32) -> u32
+    ensures { λ r. ⌜ r ≡ visitsOf (showingOf showing) ⌝ }
+{
+    if showing == PAIRS {
+        return 2;
+    }
+    1
 }
 
 // The single numbers among a plan's figures.
@@ -116,28 +127,43 @@ pub fn blank_plan() -> Plan
 
 // The figures of a record with their verdict.
 pub fn judged_figures(figures: Figures) -> CardRead
-    ensures { λ r. ⌜ r ≡ judged figures ⌝ }
+    ensures { λ r. ⌜ r ≡ judged 1 figures ⌝ }
+{
+    judged_figures_of(figures, 1)
+}
+
+// The same for blocks of so many positions each, 2 for half blocks.
+pub fn judged_figures_of(figures: Figures, visits: u32) -> CardRead
+    ensures { λ r. ⌜ r ≡ judged visits figures ⌝ }
 {
     CardRead {
-        verdict: card::judge_figures(figures),
+        verdict: card::judge_figures_of(figures, visits),
         figures: figures,
     }
 }
 
-// No laying is better, in either showing: every laying's worst time is at least worst2, and with it no number above the plan's streams meets
+// No laying is better, in any showing: every laying's worst time is at least worst2, and with it no number above the plan's streams meets
 // the formula. The plan's own laying is a laying and reaches worst2.
 pub fn placement_best()
-    ensures best { λ _. ⌜ ((x : Showing) (f : Figures) → Legal f → (l : ℕ → ℕ) → Laying (totalPositions f) (f .blocks) l
+    ensures best { λ _. ⌜ ((x : Showing) (f : Figures) → Legal (visitsOf x) f → (l : ℕ → ℕ) → Laying (totalPositions f) (entriesOf x f) l
         → (worst2Of x f ≤ worstOf x (timeOn f) l (f .blocks))
-        × ((n : ℕ) → streamsOf x f < n → n ≤ maxStreams → parts * f .bytes < load (f .rate) (worstOf x (timeOn f) l (f .blocks)) (overOf f) n)) ⌝ }
-    ensures own { λ _. ⌜ ((x : Showing) (f : Figures) → Legal f
-        → Laying (totalPositions f) (f .blocks) (positionOf x f) × (worstOf x (timeOn f) (positionOf x f) (f .blocks) ≡ worst2Of x f)) ⌝ }
+        × ((n : ℕ) → streamsOf x f < n → n ≤ capOf x → parts * f .bytes < load (f .rate) (worstOf x (timeOn f) l (f .blocks)) (overOf x f) n)) ⌝ }
+    ensures own { λ _. ⌜ ((x : Showing) (f : Figures) → Legal (visitsOf x) f
+        → Laying (totalPositions f) (entriesOf x f) (positionOf x f) × (worstOf x (timeOn f) (positionOf x f) (f .blocks) ≡ worst2Of x f)) ⌝ }
 {}
 
-// The lead laws hold of every legal film in either showing, and of each that feeds a stream all that the desk relies on.
+// Half blocks, in document 02's words: no matching on any 2 × N different positions has a smaller greatest pair time p, and with any matching's p no
+// number above the plan's streams, up to 128, meets c × (n × p + the overhead for 2 × n visits) ≤ 1,000,000 × B, which they meet. The buffer is
+// 3 × B, leads and margin are 0, worst2 is 2 × p, worstat the first block taking p; a block's lower position stands first.
+pub fn halves_matched_best()
+    ensures best { λ _. ⌜ ((f : Figures) → Legal 2 f → (l : ℕ → ℕ) → Laying (totalPositions f) (2 * f .blocks) l → NoBetter f l) ⌝ }
+    ensures own { λ _. ⌜ ((f : Figures) → Legal 2 f → HalvesPlan f) ⌝ }
+{}
+
+// The lead laws hold of every legal film in every showing, and of each that feeds a stream all that the desk relies on.
 pub fn lead_promise()
-    ensures leads { λ _. ⌜ ((x : Showing) (f : Figures) → Legal f → LeadLaws x f) ⌝ }
-    ensures all { λ _. ⌜ ((x : Showing) (f : Figures) → Legal f → 0 < streamsOf x f → Promise x f) ⌝ }
+    ensures leads { λ _. ⌜ ((x : Showing) (f : Figures) → Legal (visitsOf x) f → LeadLaws x f) ⌝ }
+    ensures all { λ _. ⌜ ((x : Showing) (f : Figures) → Legal (visitsOf x) f → 0 < streamsOf x f → Promise x f) ⌝ }
 {}
 
 // A lead is the greatest sum over the runs from its block, the empty run included, and no other number is: runs to the film's end, in a loop
@@ -147,18 +173,18 @@ pub fn lead_is_the_greatest()
     ensures only { λ _. ⌜ ((x : Showing) (f : Figures) (b m : ℕ) → Starts x (f .blocks) b → GreatestRun x f b m → m ≡ leadOf x f b) ⌝ }
 {}
 
-// The streams of a plan are the greatest whole number from 1 to 256 that meets the formula, and no other number is. 12 is answered only
+// The streams of a plan are the greatest whole number from 1 to 256, of half blocks to 128, that meets the formula, and no other number is. 12 is answered only
 // where no number meets it, and for legal figures, where the lists have room, always if not even 1 does.
 pub fn streams_are_the_most()
     ensures most { λ _. ⌜ ((x : Showing) (f : Figures) → 0 < streamsOf x f → MostStreams x f (streamsOf x f)) ⌝ }
     ensures only { λ _. ⌜ ((x : Showing) (f : Figures) (n : ℕ) → MostStreams x f n → n ≡ streamsOf x f) ⌝ }
-    ensures none { λ _. ⌜ ((x : Showing) (f : Figures) (np nl : ℕ) → planFault x f np nl ≡ noStream → (n : ℕ) → 1 ≤ n → n ≤ maxStreams → TooMany x f n) ⌝ }
-    ensures one { λ _. ⌜ ((x : Showing) (f : Figures) → Legal f → (np nl : ℕ) → f .blocks ≤ np → f .blocks ≤ nl → TooMany x f 1
+    ensures none { λ _. ⌜ ((x : Showing) (f : Figures) (np nl : ℕ) → planFault x f np nl ≡ noStream → (n : ℕ) → 1 ≤ n → n ≤ capOf x → TooMany x f n) ⌝ }
+    ensures one { λ _. ⌜ ((x : Showing) (f : Figures) → Legal (visitsOf x) f → (np nl : ℕ) → entriesOf x f ≤ np → f .blocks ≤ nl → TooMany x f 1
         → planFault x f np nl ≡ noStream) ⌝ }
 {}
 
 // The block that a plan names is the first of a pair that takes worst2, no pair before it does, and no other block has both.
 pub fn worst_pair_is_the_earliest()
-    ensures earliest { λ _. ⌜ ((x : Showing) (f : Figures) → Legal f → EarliestPair x f (worstAtOf x f)) ⌝ }
+    ensures earliest { λ _. ⌜ ((x : Showing) (f : Figures) → Legal (visitsOf x) f → EarliestPair x f (worstAtOf x f)) ⌝ }
     ensures only { λ _. ⌜ ((x : Showing) (f : Figures) (b : ℕ) → EarliestPair x f b → b ≡ worstAtOf x f) ⌝ }
 {}

@@ -9,6 +9,7 @@ use plan::Numbers;
 use plan::Plan;
 use plan::numbers_in;
 use plan::scalars_in;
+use plan::visits_of;
 use plan_numbers::plan_numbers;
 use zones::sum_positions;
 ghost use mathlib.Core.Path.{_≡_};
@@ -46,14 +47,15 @@ fn has_numbers<'a>(
     requires { ⌜ (length (now sizes) ≡ maxZones) × (length (now times) ≡ maxZones) × (length (now table) ≡ tableLength) ⌝ }
     ensures { λ r. ⌜ r ≡ hasNumbers (lentPlan figures (now (sizes .entry)) (now (times .entry)) (now (table .entry)) plan) ⌝ }
 {
-    if fault_of_figures(figures, sizes, times, table) != ACCEPTED {
+    let visits = visits_of(plan.showing);
+    if fault_of_figures(visits, figures, sizes, times, table) != ACCEPTED {
         return false;
     }
     let own = plan_numbers(figures, sizes, times, table, plan.showing);
     both(0 < own.streams, same_numbers(plan, own))
 }
 
-// Is a plan, its arrays lent, the plan of its figures, and do the lists begin with its N entries? The leads are looked at where they are asked
+// Is a plan, its arrays lent, the plan of its figures, and do the lists begin with its entries? The leads are looked at where they are asked
 // for.
 fn is_plan_with<'a>(
     figures: Scalars,
@@ -73,7 +75,8 @@ fn is_plan_with<'a>(
         return false;
     }
     let total = sum_positions(sizes, figures.zones);
-    let placed = same_positions(plan.showing, total, figures.blocks, positions);
+    let all = visits_of(plan.showing) * figures.blocks;
+    let placed = same_positions(plan.showing, total, all, positions);
     if !asked {
         return placed;
     }
@@ -89,7 +92,7 @@ fn is_plan_with<'a>(
     both(placed, led)
 }
 
-// Is a plan, its arrays lent, the plan of its figures, and do both lists begin with its N entries? A scratch in the lead list's place, not
+// Is a plan, its arrays lent, the plan of its figures, and do both lists begin with its entries? A scratch in the lead list's place, not
 // `listed`, is asked nothing.
 pub fn is_plan_of<'a>(
     figures: Scalars,
@@ -133,7 +136,7 @@ pub fn is_laid_of<'a>(
     )
 }
 
-// Is this record the plan of its figures, and do both lists begin with its N entries? The same of a scratch.
+// Is this record the plan of its figures, and do both lists begin with its entries? The same of a scratch.
 pub fn is_plan(plan: Plan, positions: &[u8], leads: &[u8], listed: bool) -> bool
     ensures { λ r. ⌜ r ≡ isPlan plan (now (positions .entry)) (leadsBy listed plan (now (leads .entry))) ⌝ }
 {

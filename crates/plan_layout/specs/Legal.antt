@@ -12,8 +12,9 @@ use Rattle.card.specs.declared.Figures.{Figures}
 use Rattle.card.specs.Card.{Legal}
 use Rattle.card.specs.CardLaws.{table-range, table-long}
 use Rattle.placement.specs.Zones.{total, total-turn, total-take}
-use Rattle.placement.specs.Showing.{Showing, one, loop}
-use Rattle.plan.specs.Plan.{wordOf, planOf}
+use Rattle.placement.specs.Showing.{Showing, one, loop, pairs, visitsOf, visits-few}
+use Rattle.pacing.specs.Streams.{cap-visits}
+use Rattle.plan.specs.Plan.{wordOf, streamsOf, planOf}
 use Rattle.plan.specs.Legal.{total-is, worst2-small, worstAt-small, margin-less, streams-few, buffer-small}
 use Rattle.fields.specs.Fields.{_&_}
 use Rattle.fields.specs.FieldLaws.{AllFit, packed-fit}
@@ -23,8 +24,9 @@ use Rattle.plan_layout.specs.RoundTrip.{PlanSized}
 word-small : (x : Showing) → wordOf x < 4294967296
 word-small one = omega arith
 word-small loop = omega arith
+word-small pairs = omega arith
 
-module _ (x : Showing) (f : Figures) (ok : Legal f) where
+module _ (x : Showing) (f : Figures) (ok : Legal (visitsOf x) f) where
   pub legal-sized : PlanSized (planOf x f)
   unfolding planOf
   legal-sized = record { positions = ok .wide .0; times = ok .wide .1; table = ok .wide .2 }
@@ -56,10 +58,10 @@ module _ (x : Showing) (f : Figures) (ok : Legal f) where
       & omega (arith, ok .bytes)
       & omega (arith, ok .rate)
       & table-small
-      & omega (arith, streams-few x f ok)
+      & omega (arith, cap-visits x (streamsOf x f) (streams-few x f ok))
       & omega (arith, ok .bytes, buffer-small x f ok)
-      & omega (arith, worst2-small x f ok)
-      & omega (arith, margin-less x f ok, worst2-small x f ok)
+      & omega (arith, worst2-small x f ok, visits-few x)
+      & omega (arith, margin-less x f ok, worst2-small x f ok, visits-few x)
       & word-small x
       & omega (arith, worstAt-small x f ok, ok .blocks)
       & tt

@@ -8,16 +8,19 @@ use numbers::refusals::ACCEPTED;
 use numbers::refusals::NO_STREAM;
 use numbers::refusals::TOO_SHORT;
 use plan::Numbers;
+use plan::visits_of;
 use plan_numbers::plan_numbers;
 use zones::sum_positions;
 ghost use mathlib.Core.Path.{_≡_};
 ghost use mathlib.Core.Bool.{cond};
-ghost use Prim.Native.Nat.{_<_};
+ghost use Prim.Native.Nat.{_*_, _≤_, _<_};
 ghost use lib.ListN.{length};
+ghost use Rattle.numbers.specs.Limits.{maxNumber};
 ghost use Rattle.numbers.specs.Refusals.{noStream};
 ghost use Rattle.words.specs.Words.{wordsOf};
 ghost use Rattle.card.specs.Card.{Legal};
 ghost use Rattle.card.specs.Read.{figuresFrom};
+ghost use Rattle.placement.specs.Showing.{visitsOf};
 ghost use Rattle.plan.specs.Plan.{showingOf, planOf, planFrom, positionsOf, leadsOf};
 ghost use Rattle.plan.specs.Answer.{planFault, filled};
 ghost use Rattle.plan.specs.Scratch.{leadsLent, entriesAsked, listsShort};
@@ -65,18 +68,19 @@ fn entries_asked(blocks: u32, listed: bool) -> u32
     SCRATCH_LENGTH
 }
 
-// Is the positions list too short, or the lead list or scratch beside it?
-fn lists_short(blocks: u32, positions: &[u8], leads: &[u8], listed: bool) -> bool
-    ensures { λ r. ⌜ r ≡ listsShort listed blocks (now (positions .entry)) (now (leads .entry)) ⌝ }
+// Is the positions list too short for blocks of so many visits each, or the lead list or scratch beside it?
+fn lists_short(blocks: u32, visits: u32, positions: &[u8], leads: &[u8], listed: bool) -> bool
+    requires { ⌜ visits * blocks ≤ maxNumber ⌝ }
+    ensures { λ r. ⌜ r ≡ listsShort listed visits blocks (now (positions .entry)) (now (leads .entry)) ⌝ }
 {
-    if words::entries(positions) < blocks as usize {
+    if words::entries(positions) < (visits * blocks) as usize {
         return true;
     }
     words::entries(leads) < entries_asked(blocks, listed) as usize
 }
 
-// Plans legal figures, their arrays lent, in a showing: 13, then 12. Where it is not `listed`, `leads` is a scratch, which stays as it was. A
-// refusal leaves both lists.
+// Plans legal figures, their arrays lent, in a showing: 13, then 12. The leads of half blocks come out as 0. Where it is not `listed`, `leads` is
+// a scratch, which stays as it was. A refusal leaves both lists.
 pub fn plan_legal<'a>(
     figures: Scalars,
     sizes: &'a [u32; 64],
@@ -87,14 +91,15 @@ pub fn plan_legal<'a>(
     leads: &mut [u8],
     listed: bool,
 ) -> Made
-    requires { ⌜ Legal (figuresFrom figures (now sizes) (now times) (now table)) ⌝ }
+    requires { ⌜ Legal (visitsOf (showingOf showing)) (figuresFrom figures (now sizes) (now times) (now table)) ⌝ }
     ensures { λ r. ⌜ (let x = showingOf showing in let f = figuresFrom figures (now (sizes .entry)) (now (times .entry)) (now (table .entry)) in
         let fault = planFault x f (length (wordsOf (now (positions .entry)))) (length (wordsOf (leadsLent listed x f (now (leads .entry))))) in
         (r .number ≡ fault) × (r .number ≡ 0 → planFrom f (r .plan) ≡ planOf x f)
         × (now (positions .exit) ≡ filled 0 fault (now (positions .entry)) (positionsOf x f))
         × (now (leads .exit) ≡ cond listed (filled 0 fault (now (leads .entry)) (leadsOf x f)) (now (leads .entry)))) ⌝ }
 {
-    if lists_short(figures.blocks, positions, leads, listed) {
+    let visits = visits_of(showing);
+    if lists_short(figures.blocks, visits, positions, leads, listed) {
         return not_made(TOO_SHORT);
     }
     let own = plan_numbers(figures, sizes, times, table, showing);
@@ -108,7 +113,7 @@ pub fn plan_legal<'a>(
         plan: own,
     };
     let total = sum_positions(sizes, figures.zones);
-    write_positions(showing, total, figures.blocks, positions);
+    write_positions(showing, total, visits * figures.blocks, positions);
     if !listed {
         return made;
     }

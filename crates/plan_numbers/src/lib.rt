@@ -2,14 +2,18 @@
 use card::Scalars;
 use numbers::showings::LOOP;
 use numbers::showings::ONCE;
+use numbers::showings::PAIRS;
 use plan::Numbers;
+use plan::visits_of;
 use streams::buffer_size;
 use streams::count_streams;
+use streams::lead;
 use worst_pair::worst_pair;
 use zones::sum_positions;
 use zones::time_at;
 ghost use mathlib.Core.Path.{_≡_};
 ghost use Rattle.card.specs.Card.{Legal};
+ghost use Rattle.placement.specs.Showing.{visitsOf};
 ghost use Rattle.card.specs.Read.{figuresFrom};
 ghost use Rattle.plan.specs.Plan.{wordOf, showingOf, planOf, planFrom};
 
@@ -20,10 +24,14 @@ fn known_word(showing: u32) -> u32
     if showing == LOOP {
         return LOOP;
     }
+    if showing == PAIRS {
+        return PAIRS;
+    }
     ONCE
 }
 
-// The numbers of the plan of legal figures in a showing. The film's innermost position is its slowest.
+// The numbers of the plan of legal figures in a showing. The film's innermost position is its slowest. Half blocks are walked as twice as many blocks:
+// the worst pair of these is the worst block. They have no margin.
 pub fn plan_numbers<'a>(
     figures: Scalars,
     sizes: &'a [u32; 64],
@@ -31,16 +39,18 @@ pub fn plan_numbers<'a>(
     table: &'a [u32; 257],
     showing: u32,
 ) -> Numbers
-    requires { ⌜ Legal (figuresFrom figures (now sizes) (now times) (now table)) ⌝ }
+    requires { ⌜ Legal (visitsOf (showingOf showing)) (figuresFrom figures (now sizes) (now times) (now table)) ⌝ }
     ensures { λ r. ⌜ (let f = figuresFrom figures (now (sizes .entry)) (now (times .entry)) (now (table .entry)) in
         planFrom f r ≡ planOf (showingOf showing) f) ⌝ }
 {
     let total = sum_positions(sizes, figures.zones);
-    let worst = worst_pair(sizes, times, showing, total, figures.blocks);
-    let worst2 = worst.time;
-    let slowest = time_at(sizes, times, total - figures.blocks);
-    let margin = 2 * slowest - worst2;
-    let streams = count_streams(figures.rate, worst2, table, figures.bytes);
+    let visits = visits_of(showing);
+    let all = visits * figures.blocks;
+    let worst = worst_pair(sizes, times, showing, total, all);
+    let worst2 = visits * worst.time;
+    let slowest = time_at(sizes, times, total - all);
+    let margin = lead(slowest, worst2);
+    let streams = count_streams(figures.rate, worst2, table, figures.bytes, visits);
     let buffer = buffer_size(figures.rate, streams, margin, figures.bytes);
     Numbers {
         streams: streams,
@@ -48,6 +58,6 @@ pub fn plan_numbers<'a>(
         worst2: worst2,
         margin: margin,
         showing: known_word(showing),
-        worstat: worst.first,
+        worstat: worst.first / visits,
     }
 }

@@ -16,7 +16,7 @@ use Rattle.card.specs.Read.{blankFigures, refusedCard, readCard}
 use Rattle.card_reader.specs.Refusals.{read-other}
 use Rattle.card_reader.specs.Told.{acceptedCard}
 use Rattle.round_trip.specs.RoundTrip.{card-legal}
-use Rattle.placement.specs.Showing.{Showing}
+use Rattle.placement.specs.Showing.{Showing, visitsOf}
 use Rattle.plan.specs.declared.Plan.{Plan}
 use Rattle.plan.specs.declared.Planned.{Planned}
 use Rattle.plan.specs.Plan.{planOf, blankPlan, positionsOf, leadsOf}
@@ -34,17 +34,17 @@ use Rattle.plan_strings.specs.Calls.{planFaultOf, plannedOf, planFilled,
 abbrev pub withoutRoom : Showing → CardRead → FilmdiskAnswer
 withoutRoom x r = verdictAnswer (answer x (r .verdict .number) tooShort r .verdict)
 
-module _ (x : Showing) (r : CardRead) (s : List ℕ) (e : r ≡ readCard s) (a : FilmdiskAnswer) where
-  pub card-refused : r .verdict .number ≢ 0 → a ≡ verdictAnswer (r .verdict) → a ≡ withoutRoom x (readCard s)
+module _ (k : ℕ) (x : Showing) (r : CardRead) (s : List ℕ) (e : r ≡ readCard k s) (a : FilmdiskAnswer) where
+  pub card-refused : r .verdict .number ≢ 0 → a ≡ verdictAnswer (r .verdict) → a ≡ withoutRoom x (readCard k s)
   unfolding refusal verdictAnswer
   card-refused n q = q ∙ go (r .verdict .number) n ∙ ap (withoutRoom x) e
     where
-      go : (k : ℕ) → k ≢ 0
-          → _≡_ {A = FilmdiskAnswer} (record { number = k; place = r .verdict .place; count = 0; bound = 0 }) (verdictAnswer (answer x k tooShort r .verdict))
+      go : (n : ℕ) → n ≢ 0
+          → _≡_ {A = FilmdiskAnswer} (record { number = n; place = r .verdict .place; count = 0; bound = 0 }) (verdictAnswer (answer x n tooShort r .verdict))
       go zero n = absurd (n refl)
       go (suc k) n = refl
 
-  pub card-accepted : r .verdict .number ≡ 0 → a ≡ verdictAnswer (record { number = tooShort; place = 0 }) → a ≡ withoutRoom x (readCard s)
+  pub card-accepted : r .verdict .number ≡ 0 → a ≡ verdictAnswer (record { number = tooShort; place = 0 }) → a ≡ withoutRoom x (readCard k s)
   unfolding refusal
   card-accepted n q = q ∙ ap (λ (k : ℕ). verdictAnswer (answer x k tooShort r .verdict)) (sym n) ∙ ap (withoutRoom x) e
 
@@ -71,35 +71,35 @@ module _ (p : List ℕ) (l : length p ≡ planSize) (a : Planned) where
 
 module _ (listed : Bool) (x : Showing) (s p ps ls : List ℕ) where
   -- the plan string has another length
-  pub other-length : (length p ≡ planSize → ⊥) → (r : FilmdiskAnswer) → r ≡ withoutRoom x (readCard s)
+  pub other-length : (length p ≡ planSize → ⊥) → (r : FilmdiskAnswer) → r ≡ withoutRoom x (readCard (visitsOf x) s)
       → PlanCall listed x s p ps ls r p ps ls
   unfolding planAnswer planString positionsString leadsString plannedOf planFaultOf planFilled
   other-length n r e =
-      let k = readCard s .verdict .number in
+      let k = readCard (visitsOf x) s .verdict .number in
       rw (ne-eqb (length p) planSize n)
-      (e, refl, none-filled k ps (positionsOf x (readCard s .figures)), none-lent listed k ls (leadsOf x (readCard s .figures)))
+      (e, refl, none-filled k ps (positionsOf x (readCard (visitsOf x) s .figures)), none-lent listed k ls (leadsOf x (readCard (visitsOf x) s .figures)))
 
   -- it has the right one
   module _ (l : length p ≡ planSize) where
     -- an answer to the card as it was read
-    outcome : (a : Planned) (qs ms : List ℕ) → plan.Outcome listed x (readCard s) ps ls a qs ms → (r : FilmdiskAnswer) → r ≡ verdictAnswer (a .verdict)
-        → (q : List ℕ) → q ≡ planFilled p a → PlanCall listed x s p ps ls r q qs ms
+    outcome : (a : Planned) (qs ms : List ℕ) → plan.Outcome listed x (readCard (visitsOf x) s) ps ls a qs ms
+        → (r : FilmdiskAnswer) → r ≡ verdictAnswer (a .verdict) → (q : List ℕ) → q ≡ planFilled p a → PlanCall listed x s p ps ls r q qs ms
     unfolding planAnswer planString planned plannedOf planFaultOf positionsAfter positionsString leadsAfter leadsString
     outcome a qs ms e r v q w = rw (eq-eqb (length p) planSize l)
         (v ∙ ap (λ (b : Planned). verdictAnswer (b .verdict)) (e .0), w ∙ ap (planFilled p) (e .0), e .1, e .2)
 
     -- the card is refused: the plan string is all zero
-    pub refused-card : Bytes s → (k at : ℕ) → refusedCard k at ≡ readCard s → (r : FilmdiskAnswer) → r ≡ verdictAnswer (record { number = k; place = at })
-        → (q : List ℕ) → q ≡ withWords p 0 (planWords blankPlan) → PlanCall listed x s p ps ls r q ps ls
+    pub refused-card : Bytes s → (k at : ℕ) → refusedCard k at ≡ readCard (visitsOf x) s
+        → (r : FilmdiskAnswer) → r ≡ verdictAnswer (record { number = k; place = at }) → (q : List ℕ) → q ≡ withWords p 0 (planWords blankPlan) → PlanCall listed x s p ps ls r q ps ls
     unfolding refusedCard blankFigures refusal
     refused-card y k at e r v q w =
-        let refused : k ≢ 0 = λ z. let ok = card-legal s y (refusedCard k at) e z in omega (arith, ok .blocks) in
-        let other : k ≢ tooShort = λ z. read-other s (sym (ap (λ (c : CardRead). c .verdict .number) e) ∙ z) in
+        let refused : k ≢ 0 = λ z. let ok = card-legal (visitsOf x) s y (refusedCard k at) e z in omega (arith, ok .blocks) in
+        let other : k ≢ tooShort = λ z. read-other (visitsOf x) s (sym (ap (λ (c : CardRead). c .verdict .number) e) ∙ z) in
         let o = plan.outcome-same listed ps ls _ ps ls refl e (plan.by-figures listed x (refusedCard k at) ps ls refused) in
         outcome (refusal k at) ps ls o r v q (filled-plan p l (refusal k at) other q w)
 
     -- it is accepted and planned
-    pub planned-card : (c : CardRead) → c ≡ readCard s → (r : FilmdiskAnswer) (q qs ms : List ℕ) → ReadCall listed x c p ps ls r q qs ms
+    pub planned-card : (c : CardRead) → c ≡ readCard (visitsOf x) s → (r : FilmdiskAnswer) (q qs ms : List ℕ) → ReadCall listed x c p ps ls r q qs ms
         → PlanCall listed x s p ps ls r q qs ms
     planned-card c e r q qs ms o =
         outcome (planned x c ps (leadsLent listed x (c .figures) ls)) qs ms (plan.outcome-same listed ps ls _ qs ms refl e (refl, o .2, o .3)) r (o .0) q (o .1)

@@ -8,6 +8,8 @@ use numbers::refusals::ACCEPTED;
 use numbers::refusals::TOO_SHORT;
 use numbers::showings::LOOP;
 use numbers::showings::ONCE;
+use numbers::showings::PAIRS;
+use plan::visits_of;
 use plan_layout::PLAN_BYTES;
 use plan_layout::clear_plan;
 use plan_layout::write_parts;
@@ -20,7 +22,7 @@ ghost use Rattle.card.specs.Card.{Legal};
 ghost use Rattle.card.specs.Read.{figuresFrom, readCard};
 ghost use Rattle.card_reader.specs.Told.{acceptedCard};
 ghost use Rattle.numbers.specs.Refusals.{tooShort};
-ghost use Rattle.placement.specs.Showing.{Showing, one, loop};
+ghost use Rattle.placement.specs.Showing.{Showing, one, loop, pairs, visitsOf};
 ghost use Rattle.plan.specs.Plan.{showingOf, blankPlan};
 ghost use Rattle.plan.specs.Answer.{answer};
 ghost use Rattle.plan_layout.specs.Layout.{planWords, planSize};
@@ -28,12 +30,12 @@ ghost use Rattle.layout.specs.Answers.{verdictAnswer};
 ghost use Rattle.plan_strings.specs.Calls.{planAnswer, planString, positionsString, leadsString, PlanCall, ReadCall};
 ghost use Rattle.plan_strings.specs.Calls.{planScratchAnswer, planScratchString, positionsScratchString};
 
-// The answer where the plan string has another length, in either showing: the card's refusal, or 13.
-fn unwritten(card: &[u8]) -> FilmdiskAnswer
+// The answer where the plan string has another length, in every showing: the card's refusal for blocks of so many positions each, or 13.
+fn unwritten(card: &[u8], visits: u32) -> FilmdiskAnswer
     ensures { λ r. ⌜ ((x : Showing)
-        → (let read = readCard (now (card .entry)) in r ≡ verdictAnswer (answer x (read .verdict .number) tooShort read .verdict))) ⌝ }
+        → (let read = readCard visits (now (card .entry)) in r ≡ verdictAnswer (answer x (read .verdict .number) tooShort read .verdict))) ⌝ }
 {
-    let read = card_reader::read_card(card);
+    let read = card_reader::read_card_of(card, visits);
     let verdict = read.verdict;
     if verdict.number != ACCEPTED {
         return verdict_answer(verdict);
@@ -70,7 +72,7 @@ fn plan_into<'a>(
     leads: &mut [u8],
     listed: bool,
 ) -> FilmdiskAnswer
-    requires { ⌜ (length (now plan) ≡ planSize) × Legal (figuresFrom figures (now sizes) (now times) (now table)) ⌝ }
+    requires { ⌜ (length (now plan) ≡ planSize) × Legal (visitsOf (showingOf showing)) (figuresFrom figures (now sizes) (now times) (now table)) ⌝ }
     ensures { λ r. ⌜ (let card = acceptedCard (figuresFrom figures (now (sizes .entry)) (now (times .entry)) (now (table .entry))) in
         ReadCall listed (showingOf showing) card (now (plan .entry)) (now (positions .entry)) (now (leads .entry))
         r (now (plan .exit)) (now (positions .exit)) (now (leads .exit))) ⌝ }
@@ -99,7 +101,7 @@ fn plan_into<'a>(
     answer
 }
 
-// Plans a card in a showing, with a lead list or with a scratch in its place: 1 to 11, 25 and 26, then 13, then 12.
+// Plans a card in a showing, with a lead list or with a scratch in its place: 1 to 11, 25, 26 and 28, then 13, then 12.
 fn plan_showing(
     showing: u32,
     card: &[u8],
@@ -111,13 +113,14 @@ fn plan_showing(
     ensures { λ r. ⌜ PlanCall listed (showingOf showing) (now (card .entry)) (now (plan .entry)) (now (positions .entry)) (now (leads .entry))
         r (now (plan .exit)) (now (positions .exit)) (now (leads .exit)) ⌝ }
 {
+    let visits = visits_of(showing);
     if plan.len() != PLAN_BYTES {
-        return unwritten(card);
+        return unwritten(card, visits);
     }
     let mut sizes = [0u32; 64];
     let mut times = [0u32; 64];
     let mut table = [0u32; 257];
-    let told = card_reader::read_into(card, &mut sizes, &mut times, &mut table);
+    let told = card_reader::read_into(card, &mut sizes, &mut times, &mut table, visits);
     match told {
         Told::Refused(number, place) => refused(plan, number, place),
         Told::Figures(kind, zones, blocks, bytes, rate) => plan_into(
@@ -165,6 +168,21 @@ pub fn plan_loop(
     plan_showing(LOOP, card, plan, positions, leads, true)
 }
 
+// Plans a card for one showing of half blocks.
+pub fn plan_pairs(
+    card: &[u8],
+    plan: &mut [u8],
+    positions: &mut [u8],
+    leads: &mut [u8],
+) -> FilmdiskAnswer
+    ensures { λ r. ⌜ (r ≡ planAnswer pairs (now (card .entry)) (now (plan .entry)) (now (positions .entry)) (now (leads .entry)))
+        × (now (plan .exit) ≡ planString pairs (now (card .entry)) (now (plan .entry)) (now (positions .entry)) (now (leads .entry)))
+        × (now (positions .exit) ≡ positionsString pairs (now (card .entry)) (now (plan .entry)) (now (positions .entry)) (now (leads .entry)))
+        × (now (leads .exit) ≡ leadsString pairs (now (card .entry)) (now (plan .entry)) (now (positions .entry)) (now (leads .entry))) ⌝ }
+{
+    plan_showing(PAIRS, card, plan, positions, leads, true)
+}
+
 // Plans a card for one showing with a scratch in place of the lead list; the scratch stays as it was.
 pub fn plan_scratch(
     card: &[u8],
@@ -193,4 +211,19 @@ pub fn plan_loop_scratch(
         × (now (scratch .exit) ≡ now (scratch .entry)) ⌝ }
 {
     plan_showing(LOOP, card, plan, positions, scratch, false)
+}
+
+// Plans a card for one showing of half blocks with a scratch in place of the lead list; the scratch stays as it was.
+pub fn plan_pairs_scratch(
+    card: &[u8],
+    plan: &mut [u8],
+    positions: &mut [u8],
+    scratch: &mut [u8],
+) -> FilmdiskAnswer
+    ensures { λ r. ⌜ (r ≡ planScratchAnswer pairs (now (card .entry)) (now (plan .entry)) (now (positions .entry)) (now (scratch .entry)))
+        × (now (plan .exit) ≡ planScratchString pairs (now (card .entry)) (now (plan .entry)) (now (positions .entry)) (now (scratch .entry)))
+        × (now (positions .exit) ≡ positionsScratchString pairs (now (card .entry)) (now (plan .entry)) (now (positions .entry)) (now (scratch .entry)))
+        × (now (scratch .exit) ≡ now (scratch .entry)) ⌝ }
+{
+    plan_showing(PAIRS, card, plan, positions, scratch, false)
 }

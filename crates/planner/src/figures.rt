@@ -12,6 +12,7 @@ use plan_legal::plan_legal;
 ghost use mathlib.Core.Path.{_≡_};
 ghost use Rattle.card.specs.Card.{Legal};
 ghost use Rattle.card.specs.Read.{accepted};
+ghost use Rattle.placement.specs.Showing.{visitsOf};
 ghost use Rattle.plan.specs.Plan.{showingOf, planFrom};
 ghost use Rattle.plan.specs.Answer.{refusal, planned, positionsAfter};
 ghost use Rattle.plan.specs.Scratch.{leadsLent, lentAfter};
@@ -59,7 +60,7 @@ pub fn plan_figures(
     leads: &mut [u8],
     listed: bool,
 ) -> Planned
-    requires { ⌜ (read .verdict .number ≡ 0 → Legal (read .figures)) ⌝ }
+    requires { ⌜ (read .verdict .number ≡ 0 → Legal (visitsOf (showingOf showing)) (read .figures)) ⌝ }
     ensures { λ r. ⌜ (let x = showingOf showing in let lent = leadsLent listed x (read .figures) (now (leads .entry)) in
         (r ≡ planned x read (now (positions .entry)) lent) × (now (positions .exit) ≡ positionsAfter x read (now (positions .entry)) lent)
         × (now (leads .exit) ≡ lentAfter listed x read (now (positions .entry)) (now (leads .entry)))) ⌝ }

@@ -1,61 +1,82 @@
-// The planner: from the figures of a card it lays the film, for one showing or for a loop, and says how many streams may be fed and with what
-// buffers.
+// The planner: from the figures of a card it lays the film, for one showing, for a loop or for one showing of half blocks, and says how many
+// streams may be fed and with what buffers.
 mod figures; // the answer to figures that were read or judged
 
 use crate::figures::plan_figures;
 use card::Figures;
 use card_reader::read_card;
+use card_reader::read_card_of;
 use numbers::showings::LOOP;
 use numbers::showings::ONCE;
+use numbers::showings::PAIRS;
 use plan::Planned;
 use plan::judged_figures;
+use plan::judged_figures_of;
 ghost use mathlib.Core.Path.{_≡_};
 ghost use Rattle.card.specs.Read.{readCard};
-ghost use Rattle.placement.specs.Showing.{one, loop};
+ghost use Rattle.placement.specs.Showing.{one, loop, pairs, visitsOf};
 ghost use Rattle.plan.specs.Answer.{planned, positionsAfter, leadsAfter, judged};
 ghost use Rattle.plan.specs.Scratch.{plannedScratch, positionsScratch};
 
 // Plans a card for one showing: 1 to 11, 25 and 26 as the reader gives them, then 13, then 12. A refusal leaves both lists.
 pub fn plan_card(card: &[u8], positions: &mut [u8], leads: &mut [u8]) -> Planned
-    ensures { λ r. ⌜ (r ≡ planned one (readCard (now (card .entry))) (now (positions .entry)) (now (leads .entry)))
-        × (now (positions .exit) ≡ positionsAfter one (readCard (now (card .entry))) (now (positions .entry)) (now (leads .entry)))
-        × (now (leads .exit) ≡ leadsAfter one (readCard (now (card .entry))) (now (positions .entry)) (now (leads .entry))) ⌝ }
+    ensures { λ r. ⌜ (r ≡ planned one (readCard 1 (now (card .entry))) (now (positions .entry)) (now (leads .entry)))
+        × (now (positions .exit) ≡ positionsAfter one (readCard 1 (now (card .entry))) (now (positions .entry)) (now (leads .entry)))
+        × (now (leads .exit) ≡ leadsAfter one (readCard 1 (now (card .entry))) (now (positions .entry)) (now (leads .entry))) ⌝ }
 {
     plan_figures(read_card(card), ONCE, positions, leads, true)
 }
 
 // Plans a card for a loop; refused as for one showing.
 pub fn plan_loop_card(card: &[u8], positions: &mut [u8], leads: &mut [u8]) -> Planned
-    ensures { λ r. ⌜ (r ≡ planned loop (readCard (now (card .entry))) (now (positions .entry)) (now (leads .entry)))
-        × (now (positions .exit) ≡ positionsAfter loop (readCard (now (card .entry))) (now (positions .entry)) (now (leads .entry)))
-        × (now (leads .exit) ≡ leadsAfter loop (readCard (now (card .entry))) (now (positions .entry)) (now (leads .entry))) ⌝ }
+    ensures { λ r. ⌜ (r ≡ planned loop (readCard 1 (now (card .entry))) (now (positions .entry)) (now (leads .entry)))
+        × (now (positions .exit) ≡ positionsAfter loop (readCard 1 (now (card .entry))) (now (positions .entry)) (now (leads .entry)))
+        × (now (leads .exit) ≡ leadsAfter loop (readCard 1 (now (card .entry))) (now (positions .entry)) (now (leads .entry))) ⌝ }
 {
     plan_figures(read_card(card), LOOP, positions, leads, true)
 }
 
+// Plans a card for one showing of half blocks, each on two positions: refused as for one showing, 28 in place of 9 where these are more than the disk's.
+pub fn plan_pairs_card(card: &[u8], positions: &mut [u8], leads: &mut [u8]) -> Planned
+    ensures { λ r. ⌜ (r ≡ planned pairs (readCard (visitsOf pairs) (now (card .entry))) (now (positions .entry)) (now (leads .entry)))
+        × (now (positions .exit) ≡ positionsAfter pairs (readCard (visitsOf pairs) (now (card .entry))) (now (positions .entry)) (now (leads .entry)))
+        × (now (leads .exit) ≡ leadsAfter pairs (readCard (visitsOf pairs) (now (card .entry))) (now (positions .entry)) (now (leads .entry))) ⌝ }
+{
+    plan_figures(read_card_of(card, 2), PAIRS, positions, leads, true)
+}
+
 // Plans a record of figures for one showing: 3 to 10, 25 and 26, then 13, then 12, place 0. A refusal leaves both lists.
 pub fn plan_record(figures: Figures, positions: &mut [u8], leads: &mut [u8]) -> Planned
-    ensures { λ r. ⌜ (r ≡ planned one (judged figures) (now (positions .entry)) (now (leads .entry)))
-        × (now (positions .exit) ≡ positionsAfter one (judged figures) (now (positions .entry)) (now (leads .entry)))
-        × (now (leads .exit) ≡ leadsAfter one (judged figures) (now (positions .entry)) (now (leads .entry))) ⌝ }
+    ensures { λ r. ⌜ (r ≡ planned one (judged 1 figures) (now (positions .entry)) (now (leads .entry)))
+        × (now (positions .exit) ≡ positionsAfter one (judged 1 figures) (now (positions .entry)) (now (leads .entry)))
+        × (now (leads .exit) ≡ leadsAfter one (judged 1 figures) (now (positions .entry)) (now (leads .entry))) ⌝ }
 {
     plan_figures(judged_figures(figures), ONCE, positions, leads, true)
 }
 
 // Plans a record of figures for a loop; refused as for one showing.
 pub fn plan_loop_record(figures: Figures, positions: &mut [u8], leads: &mut [u8]) -> Planned
-    ensures { λ r. ⌜ (r ≡ planned loop (judged figures) (now (positions .entry)) (now (leads .entry)))
-        × (now (positions .exit) ≡ positionsAfter loop (judged figures) (now (positions .entry)) (now (leads .entry)))
-        × (now (leads .exit) ≡ leadsAfter loop (judged figures) (now (positions .entry)) (now (leads .entry))) ⌝ }
+    ensures { λ r. ⌜ (r ≡ planned loop (judged 1 figures) (now (positions .entry)) (now (leads .entry)))
+        × (now (positions .exit) ≡ positionsAfter loop (judged 1 figures) (now (positions .entry)) (now (leads .entry)))
+        × (now (leads .exit) ≡ leadsAfter loop (judged 1 figures) (now (positions .entry)) (now (leads .entry))) ⌝ }
 {
     plan_figures(judged_figures(figures), LOOP, positions, leads, true)
+}
+
+// Plans a record of figures for one showing of half blocks; refused as for one showing, 28 in place of 9.
+pub fn plan_pairs_record(figures: Figures, positions: &mut [u8], leads: &mut [u8]) -> Planned
+    ensures { λ r. ⌜ (r ≡ planned pairs (judged (visitsOf pairs) figures) (now (positions .entry)) (now (leads .entry)))
+        × (now (positions .exit) ≡ positionsAfter pairs (judged (visitsOf pairs) figures) (now (positions .entry)) (now (leads .entry)))
+        × (now (leads .exit) ≡ leadsAfter pairs (judged (visitsOf pairs) figures) (now (positions .entry)) (now (leads .entry))) ⌝ }
+{
+    plan_figures(judged_figures_of(figures, 2), PAIRS, positions, leads, true)
 }
 
 // Plans a card for one showing with a scratch in place of the lead list: answered as with the list, 13 where the scratch has under 512
 // entries. The scratch stays as it was.
 pub fn plan_card_scratch(card: &[u8], positions: &mut [u8], scratch: &mut [u8]) -> Planned
-    ensures { λ r. ⌜ (r ≡ plannedScratch one (readCard (now (card .entry))) (now (positions .entry)) (now (scratch .entry)))
-        × (now (positions .exit) ≡ positionsScratch one (readCard (now (card .entry))) (now (positions .entry)) (now (scratch .entry)))
+    ensures { λ r. ⌜ (r ≡ plannedScratch one (readCard 1 (now (card .entry))) (now (positions .entry)) (now (scratch .entry)))
+        × (now (positions .exit) ≡ positionsScratch one (readCard 1 (now (card .entry))) (now (positions .entry)) (now (scratch .entry)))
         × (now (scratch .exit) ≡ now (scratch .entry)) ⌝ }
 {
     plan_figures(read_card(card), ONCE, positions, scratch, false)
@@ -63,18 +84,27 @@ pub fn plan_card_scratch(card: &[u8], positions: &mut [u8], scratch: &mut [u8]) 
 
 // Plans a card for a loop with a scratch; answered as for one showing.
 pub fn plan_loop_card_scratch(card: &[u8], positions: &mut [u8], scratch: &mut [u8]) -> Planned
-    ensures { λ r. ⌜ (r ≡ plannedScratch loop (readCard (now (card .entry))) (now (positions .entry)) (now (scratch .entry)))
-        × (now (positions .exit) ≡ positionsScratch loop (readCard (now (card .entry))) (now (positions .entry)) (now (scratch .entry)))
+    ensures { λ r. ⌜ (r ≡ plannedScratch loop (readCard 1 (now (card .entry))) (now (positions .entry)) (now (scratch .entry)))
+        × (now (positions .exit) ≡ positionsScratch loop (readCard 1 (now (card .entry))) (now (positions .entry)) (now (scratch .entry)))
         × (now (scratch .exit) ≡ now (scratch .entry)) ⌝ }
 {
     plan_figures(read_card(card), LOOP, positions, scratch, false)
 }
 
+// Plans a card for one showing of half blocks with a scratch; answered as with the list.
+pub fn plan_pairs_card_scratch(card: &[u8], positions: &mut [u8], scratch: &mut [u8]) -> Planned
+    ensures { λ r. ⌜ (r ≡ plannedScratch pairs (readCard (visitsOf pairs) (now (card .entry))) (now (positions .entry)) (now (scratch .entry)))
+        × (now (positions .exit) ≡ positionsScratch pairs (readCard (visitsOf pairs) (now (card .entry))) (now (positions .entry)) (now (scratch .entry)))
+        × (now (scratch .exit) ≡ now (scratch .entry)) ⌝ }
+{
+    plan_figures(read_card_of(card, 2), PAIRS, positions, scratch, false)
+}
+
 // Plans a record of figures for one showing with a scratch in place of the lead list: answered as with the list, 13 where the scratch has
 // under 512 entries. The scratch stays as it was.
 pub fn plan_record_scratch(figures: Figures, positions: &mut [u8], scratch: &mut [u8]) -> Planned
-    ensures { λ r. ⌜ (r ≡ plannedScratch one (judged figures) (now (positions .entry)) (now (scratch .entry)))
-        × (now (positions .exit) ≡ positionsScratch one (judged figures) (now (positions .entry)) (now (scratch .entry)))
+    ensures { λ r. ⌜ (r ≡ plannedScratch one (judged 1 figures) (now (positions .entry)) (now (scratch .entry)))
+        × (now (positions .exit) ≡ positionsScratch one (judged 1 figures) (now (positions .entry)) (now (scratch .entry)))
         × (now (scratch .exit) ≡ now (scratch .entry)) ⌝ }
 {
     plan_figures(judged_figures(figures), ONCE, positions, scratch, false)
@@ -86,9 +116,28 @@ pub fn plan_loop_record_scratch(
     positions: &mut [u8],
     scratch: &mut [u8],
 ) -> Planned
-    ensures { λ r. ⌜ (r ≡ plannedScratch loop (judged figures) (now (positions .entry)) (now (scratch .entry)))
-        × (now (positions .exit) ≡ positionsScratch loop (judged figures) (now (positions .entry)) (now (scratch .entry)))
+    ensures { λ r. ⌜ (r ≡ plannedScratch loop (judged 1 figures) (now (positions .entry)) (now (scratch .entry)))
+        × (now (positions .exit) ≡ positionsScratch loop (judged 1 figures) (now (positions .entry)) (now (scratch .entry)))
         × (now (scratch .exit) ≡ now (scratch .entry)) ⌝ }
 {
     plan_figures(judged_figures(figures), LOOP, positions, scratch, false)
+}
+
+// Plans a record of figures for one showing of half blocks with a scratch; answered as with the list.
+pub fn plan_pairs_record_scratch(
+    figures: Figures,
+    positions: &mut [u8],
+    scratch: &mut [u8],
+) -> Planned
+    ensures { λ r. ⌜ (r ≡ plannedScratch pairs (judged (visitsOf pairs) figures) (now (positions .entry)) (now (scratch .entry)))
+        × (now (positions .exit) ≡ positionsScratch pairs (judged (visitsOf pairs) figures) (now (positions .entry)) (now (scratch .entry)))
+        × (now (scratch .exit) ≡ now (scratch .entry)) ⌝ }
+{
+    plan_figures(
+        judged_figures_of(figures, 2),
+        PAIRS,
+        positions,
+        scratch,
+        false,
+    )
 }

@@ -1,4 +1,4 @@
-// The layings of both showings: the position of a block.
+// The layings of one showing and of a loop: the position of a block. Half blocks are laid as one showing of twice as many.
 use numbers::showings::LOOP;
 ghost use mathlib.Core.Path.{_≡_};
 ghost use Prim.Native.Nat.{_≤_, _<_};
@@ -6,7 +6,7 @@ ghost use Rattle.numbers.specs.Limits.{maxPositions};
 ghost use Rattle.placement.specs.Placement.{zigzag};
 ghost use Rattle.placement.specs.Circle.{falls, rank, ring};
 ghost use Rattle.placement.specs.Showing.{laying};
-ghost use Rattle.plan.specs.Plan.{showingOf};
+ghost use Rattle.plan.specs.Plan.{walkOf};
 ghost use Rattle.positions.specs.Position.{Position};
 
 // The position of block b of a film shown once, or of the one that would follow the last; `total` is P.
@@ -56,7 +56,7 @@ fn loop_position(total: u32, blocks: u32, b: u32) -> u32
 // The laying of a showing: the position of block b, or of the one past the last; `total` is P.
 pub fn position_of(showing: u32, total: u32, blocks: u32, b: u32) -> u32
     requires { ⌜ (0 < blocks) × (blocks ≤ total) × (b ≤ blocks) × (total ≤ maxPositions) ⌝ }
-    ensures { λ r. ⌜ Position total blocks (laying (showingOf showing) total blocks) b r ⌝ }
+    ensures { λ r. ⌜ Position total blocks (laying (walkOf showing) total blocks) b r ⌝ }
 {
     if showing == LOOP {
         return loop_position(total, blocks, b);

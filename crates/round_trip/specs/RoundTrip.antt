@@ -21,6 +21,7 @@ use Rattle.card_field.specs.Ranges.{first, faultOf, timeFault, blocksFault}
 use Rattle.card_table.specs.Table.{tableFault, tableNumbers}
 use Rattle.card.specs.Card.{Legal, filmFault, zoneFaults, recordFault, filmNumbers, zoneNumbers, numbersOf, cardOf, writeFault, writtenCard, bufferAfter}
 use Rattle.card.specs.Read.{blankZones, blankFigures, accepted, refusedCard, figuresFrom, cardEnd, filmFrom, zonesFrom, afterZones, readCard}
+use Rattle.card.specs.CardLaws.{legal-fewer}
 use Rattle.card.specs.ReadLaws.{read-holds}
 use Rattle.card_field.specs.RangeLaws.{first-none, first-clear, kind-range, zones-range, positions-range, time-range, kind-legal, zones-legal, time-legal}
 use Rattle.round_trip.specs.Ahead.{Ahead, ahead-next, field-goes, end-goes, Got, got-goes, still-accepted, accepted-field, end-got, ahead-more}
@@ -35,18 +36,18 @@ time-beside innermost other before v h e = let r = time-range before v innermost
 -- ---- what is written is read back
 
 -- N, B and c are read, and the overheads stand after them
-film-goes : (s : List ℕ) (f : Figures) (at total : ℕ) (go : ℕ → ℕ → ℕ → ℕ → CardRead) {r : CardRead}
+film-goes : (k : ℕ) (s : List ℕ) (f : Figures) (at total : ℕ) (go : ℕ → ℕ → ℕ → ℕ → CardRead) {r : CardRead}
     → ((next : ℕ) → Ahead s next (tableNumbers (f .kind) (f .table)) → tableFault (f .kind) (f .table) ≡ 0 → go (f .blocks) (f .bytes) (f .rate) next ≡ r)
-    → length (f .table) ≡ tableLength → Ahead s at (filmNumbers f) → filmFault f total ≡ 0 → filmFrom s at total go ≡ r
+    → length (f .table) ≡ tableLength → Ahead s at (filmNumbers f) → filmFault k f total ≡ 0 → filmFrom k s at total go ≡ r
 unfolding filmFrom filmNumbers filmFault
-film-goes s f at total go on w a e =
-    let l = fault-film f total w e in
-    let n = first-none (blocksFault total (f .blocks)) _ e in
+film-goes k s f at total go on w a e =
+    let l = fault-film k f total w e in
+    let n = first-none (blocksFault k total (f .blocks)) _ e in
     let b = first-none (faultOf Measure maxBytes (f .bytes)) _ (n .1) in
     let c = first-none (faultOf Measure maxRate (f .rate)) _ (b .1) in
     let a₁ = ahead-next a in
     let a₂ = ahead-next a₁ in
-    field-goes a (blocksFault total) _ (omega (arith, l .blocks)) (n .0)
+    field-goes a (blocksFault k total) _ (omega (arith, l .blocks)) (n .0)
     ∙ field-goes a₁ (faultOf Measure maxBytes) _ (omega (arith, l .bytes)) (b .0)
     ∙ field-goes a₂ (faultOf Measure maxRate) _ (omega (arith, l .rate)) (c .0)
     ∙ on _ (ahead-next a₂) (c .1)
@@ -58,14 +59,14 @@ record Filled (i left : ℕ) (ps ts : List ℕ) (f : Figures) : Type 0 where
   innermost : getD ts 0 0 ≤ getD (f .times) 0 0
 
 -- the zones from the i-th on are read, and the film stands after them
-zones-go : (s : List ℕ) (f : Figures) → Wide f → (go : List ℕ → List ℕ → ℕ → ℕ → CardRead) {r : CardRead}
-    → ((total next : ℕ) → Ahead s next (filmNumbers f) → filmFault f total ≡ 0 → go (f .positions) (f .times) total next ≡ r)
+zones-go : (k : ℕ) (s : List ℕ) (f : Figures) → Wide f → (go : List ℕ → List ℕ → ℕ → ℕ → CardRead) {r : CardRead}
+    → ((total next : ℕ) → Ahead s next (filmNumbers f) → filmFault k f total ≡ 0 → go (f .positions) (f .times) total next ≡ r)
     → (left at i : ℕ) (ps ts : List ℕ) (total before : ℕ) → i + left ≤ maxZones → Filled i left ps ts f
-    → Ahead s at (zoneNumbers left i f) → zoneFaults left i f total before ≡ 0 → zonesFrom left s at i ps ts total before go ≡ r
+    → Ahead s at (zoneNumbers left i f) → zoneFaults k left i f total before ≡ 0 → zonesFrom left s at i ps ts total before go ≡ r
 unfolding zonesFrom zoneNumbers zoneFaults
-zones-go s f w go on zero at i ps ts total before b u a e =
+zones-go k s f w go on zero at i ps ts total before b u a e =
     ap₂ (λ (x y : List ℕ). go x y total at) (agree-all i _ _ (u .positions)) (agree-all i _ _ (u .times)) ∙ on total at a e
-zones-go s f w go on (suc left) at i ps ts total before b u a e =
+zones-go k s f w go on (suc left) at i ps ts total before b u a e =
     let p = first-none (faultOf Positions total (getD (f .positions) i 0)) _ e in
     let q = first-none (timeFault (getD (f .times) 0 0) before (getD (f .times) i 0)) _ (p .1) in
     let few = positions-range total (getD (f .positions) i 0) (p .0) in
@@ -79,14 +80,14 @@ zones-go s f w go on (suc left) at i ps ts total before b u a e =
     field-goes a (faultOf Positions total) _ (omega arith) (p .0)
     ∙ field-goes (ahead-next a) (timeFault (getD ts 0 0) before) _ (omega arith)
     (time-beside (getD (f .times) 0 0) (getD ts 0 0) before (getD (f .times) i 0) (omega (arith, u .innermost)) (q .0))
-    ∙ zones-go s f w go on left _ (i + 1) _ _ _ _ (omega arith) next (ahead-next (ahead-next a)) (q .1)
+    ∙ zones-go k s f w go on left _ (i + 1) _ _ _ _ (omega arith) next (ahead-next (ahead-next a)) (q .1)
 
 -- the film, the overheads and the end are read
-rest-goes : (s : List ℕ) (f : Figures) → Wide f → Kinded f → (total at : ℕ) → Ahead s at (filmNumbers f) → filmFault f total ≡ 0
-    → afterZones s (f .kind) (f .zones) (f .positions) (f .times) total at ≡ record { verdict = accepted; figures = f }
-rest-goes s f w k total at a e =
-    film-goes s f at total _ (λ next a₁ e₁.
-    table-goes s (f .table) (w .2) next _ (λ end a₂. end-goes s end f a₂) (f .kind) k a₁ e₁) (w .2) a e
+rest-goes : (k : ℕ) (s : List ℕ) (f : Figures) → Wide f → Kinded f → (total at : ℕ) → Ahead s at (filmNumbers f) → filmFault k f total ≡ 0
+    → afterZones k s (f .kind) (f .zones) (f .positions) (f .times) total at ≡ record { verdict = accepted; figures = f }
+rest-goes k s f w d total at a e =
+    film-goes k s f at total _ (λ next a₁ e₁.
+    table-goes s (f .table) (w .2) next _ (λ end a₂. end-goes s end f a₂) (f .kind) d a₁ e₁) (w .2) a e
 
 -- the entries of a record before any is read
 pub blank-at : (i : ℕ) → getD blankZones i 0 ≡ 0
@@ -102,10 +103,10 @@ kind-small (inl e) = omega arith
 kind-small (inr e) = omega arith
 
 -- A WRITTEN CARD IS READ BACK
-pub card-read : (f : Figures) → Wide f → recordFault f ≡ 0 → readCard (cardOf f) ≡ record { verdict = accepted; figures = f }
+pub card-read : (k : ℕ) (f : Figures) → Wide f → recordFault k f ≡ 0 → readCard k (cardOf f) ≡ record { verdict = accepted; figures = f }
 unfolding readCard cardOf numbersOf
-card-read f w e =
-    let j = fault-judged f e in
+card-read k f w e =
+    let j = fault-judged k f e in
     let a : Ahead (cardOf f) 0 (numbersOf f) = record { inside = omega arith; bytes = refl } in
     let u : Filled 0 (f .zones) blankZones blankZones f = record {
       positions = record { long = blank-long ∙ sym (w .0); low = λ i h. absurd (omega arith); high = λ i h. blank-at i ∙ sym (j .unused i (omega arith) .0) };
@@ -114,29 +115,29 @@ card-read f w e =
     } in
     field-goes a (faultOf Kind 0) _ (kind-small (j .kind)) (kind-legal 0 (f .kind) (j .kind))
     ∙ field-goes (ahead-next a) (faultOf Zones 0) _ (omega (arith, j .zones)) (zones-legal 0 (f .zones) (j .zones .0) (j .zones .1))
-    ∙ zones-go (cardOf f) f w _ (rest-goes (cardOf f) f w (j .kind)) (f .zones) _ 0 _ _ 0 maxTime (omega (arith, j .zones)) u (ahead-next (ahead-next a))
+    ∙ zones-go k (cardOf f) f w _ (rest-goes k (cardOf f) f w (j .kind)) (f .zones) _ 0 _ _ 0 maxTime (omega (arith, j .zones)) u (ahead-next (ahead-next a))
     (j .faults)
 
 -- ---- what is accepted is what would be written
 
 -- N, B and c that are read from an offset on
-record FilmRest (s : List ℕ) (at total : ℕ) : Type 0 where
+record FilmRest (k : ℕ) (s : List ℕ) (at total : ℕ) : Type 0 where
   blocks : ℕ
   bytes : ℕ
   rate : ℕ
   next : ℕ
   inside : next ≤ length s
-  is : (go : ℕ → ℕ → ℕ → ℕ → CardRead) → filmFrom s at total go ≡ go blocks bytes rate next
+  is : (go : ℕ → ℕ → ℕ → ℕ → CardRead) → filmFrom k s at total go ≡ go blocks bytes rate next
   faults : (kind z : ℕ) (ps ts os : List ℕ) → tableFault kind os ≡ 0
-      → filmFault (figuresFrom (record { kind = kind; zones = z; blocks = blocks; bytes = bytes; rate = rate }) ps ts os) total ≡ 0
+      → filmFault k (figuresFrom (record { kind = kind; zones = z; blocks = blocks; bytes = bytes; rate = rate }) ps ts os) total ≡ 0
   ahead : (kind z : ℕ) (ps ts os : List ℕ) → Ahead s next (tableNumbers kind os)
       → Ahead s at (filmNumbers (figuresFrom (record { kind = kind; zones = z; blocks = blocks; bytes = bytes; rate = rate }) ps ts os))
 
 -- an accepted card has them
-film-got : (s : List ℕ) (at total : ℕ) (go : ℕ → ℕ → ℕ → ℕ → CardRead) → Bytes s → filmFrom s at total go .verdict .number ≡ 0 → FilmRest s at total
+film-got : (k : ℕ) (s : List ℕ) (at total : ℕ) (go : ℕ → ℕ → ℕ → ℕ → CardRead) → Bytes s → filmFrom k s at total go .verdict .number ≡ 0 → FilmRest k s at total
 unfolding filmFrom filmFault filmNumbers
-film-got s at total go y e =
-    accepted-field (blocksFault total) s at _ y e (λ n e₁.
+film-got k s at total go y e =
+    accepted-field (blocksFault k total) s at _ y e (λ n e₁.
     accepted-field (faultOf Measure maxBytes) s (n .next) _ y e₁ (λ b e₂.
     accepted-field (faultOf Measure maxRate) s (b .next) _ y e₂ (λ c e₃.
     record {
@@ -145,7 +146,7 @@ film-got s at total go y e =
       rate = c .value;
       next = c .next;
       inside = c .stands .inside;
-      is = λ g. got-goes (blocksFault total) s at _ n ∙ got-goes (faultOf Measure maxBytes) s (n .next) _ b
+      is = λ g. got-goes (blocksFault k total) s at _ n ∙ got-goes (faultOf Measure maxBytes) s (n .next) _ b
           ∙ got-goes (faultOf Measure maxRate) s (b .next) _ c;
       faults = λ kind z ps ts os t. first-clear (n .clear) (first-clear (b .clear) (first-clear (c .clear) t));
       ahead = λ kind z ps ts os a. ahead-more (n .stands) (ahead-more (b .stands) (ahead-more (c .stands) a));
@@ -161,8 +162,8 @@ record ZonesRest (left : ℕ) (s : List ℕ) (at i : ℕ) (ps ts : List ℕ) (to
   placed : Agree i left ps positions
   timed : Agree i left ts times
   is : (go : List ℕ → List ℕ → ℕ → ℕ → CardRead) → zonesFrom left s at i ps ts total before go ≡ go positions times all next
-  faults : (x : Scalars) (os : List ℕ) → filmFault (figuresFrom x positions times os) all ≡ 0
-      → zoneFaults left i (figuresFrom x positions times os) total before ≡ 0
+  faults : (k : ℕ) (x : Scalars) (os : List ℕ) → filmFault k (figuresFrom x positions times os) all ≡ 0
+      → zoneFaults k left i (figuresFrom x positions times os) total before ≡ 0
   ahead : (x : Scalars) (os : List ℕ) → Ahead s next (filmNumbers (figuresFrom x positions times os))
       → Ahead s at (zoneNumbers left i (figuresFrom x positions times os))
 
@@ -192,8 +193,8 @@ zone-rest left s at i ps ts total before b d p t r =
       placed = qs .1;
       timed = us .1;
       is = λ go. got-goes (faultOf Positions total) s at _ p ∙ got-goes (timeFault (getD ts 0 0) before) s (p .next) _ t ∙ r .is go;
-      faults = λ x os e. rw (qs .0, us .0)
-          (first-clear (p .clear) (first-clear (time-beside _ _ before (t .value) (thrice (us .0) (us .1)) (t .clear)) (r .faults x os e)));
+      faults = λ k x os e. rw (qs .0, us .0)
+          (first-clear (p .clear) (first-clear (time-beside _ _ before (t .value) (thrice (us .0) (us .1)) (t .clear)) (r .faults k x os e)));
       ahead = λ x os a. rw (qs .0, us .0) (ahead-more (p .stands) (ahead-more (t .stands) (r .ahead x os a)));
     }
 
@@ -211,7 +212,7 @@ zones-got zero s at i ps ts total before go y l b d e = record {
   placed = agree-self i ps;
   timed = agree-self i ts;
   is = λ g. refl;
-  faults = λ x os h. h;
+  faults = λ k x os h. h;
   ahead = λ x os a. a;
 }
 zones-got (suc left) s at i ps ts total before go y l b d e =
@@ -221,88 +222,95 @@ zones-got (suc left) s at i ps ts total before go y l b d e =
     (zones-got left s (t .next) (i + 1) (set ps i (p .value)) (set ts i (t .value)) (total + p .value) (t .value) go y (t .stands .inside)
     (omega (arith, length-set ps i (p .value))) (omega (arith, length-set ts i (t .value))) e₂)))
 
--- the card s is accepted with the figures g, which the judge does not refuse, and is their card
-pub record AcceptedWith (s : List ℕ) (g : Figures) : Type 0 where
+-- the card s, each block on k positions, is accepted with the figures g, which the judge does not refuse, and is their card
+pub record AcceptedWith (k : ℕ) (s : List ℕ) (g : Figures) : Type 0 where
   pub wide : Wide g
-  pub clear : recordFault g ≡ 0
+  pub clear : recordFault k g ≡ 0
   pub same : s ≡ cardOf g
-  pub whole : readCard s ≡ record { verdict = accepted; figures = g }
+  pub whole : readCard k s ≡ record { verdict = accepted; figures = g }
 
 -- the same, with the figures that it answers
-abbrev pub AcceptedCard : List ℕ → Type 0
-AcceptedCard s = AcceptedWith s (readCard s .figures)
+abbrev pub AcceptedCard : ℕ → List ℕ → Type 0
+AcceptedCard k s = AcceptedWith k s (readCard k s .figures)
 
 -- the parts that are read one after the other are the whole card
-module _ (s : List ℕ) (k : Got (faultOf Kind 0) s 0) (z : Got (faultOf Zones 0) s (k .next))
-    (r : ZonesRest (z .value) s (z .next) 0 blankZones blankZones 0 maxTime) (m : FilmRest s (r .next) (r .all)) (o : TableRest (k .value) s (m .next)) where
+module _ (k : ℕ) (s : List ℕ) (d : Got (faultOf Kind 0) s 0) (z : Got (faultOf Zones 0) s (d .next))
+    (r : ZonesRest (z .value) s (z .next) 0 blankZones blankZones 0 maxTime) (m : FilmRest k s (r .next) (r .all)) (o : TableRest (d .value) s (m .next)) where
   abbrev figuresRead : Figures
   figuresRead =
-      figuresFrom (record { kind = k .value; zones = z .value; blocks = m .blocks; bytes = m .bytes; rate = m .rate }) (r .positions) (r .times) (o .table)
+      figuresFrom (record { kind = d .value; zones = z .value; blocks = m .blocks; bytes = m .bytes; rate = m .rate }) (r .positions) (r .times) (o .table)
 
-  accepted-parts : cardEnd s (o .next) figuresRead .verdict .number ≡ 0 → AcceptedWith s figuresRead
+  accepted-parts : cardEnd s (o .next) figuresRead .verdict .number ≡ 0 → AcceptedWith k s figuresRead
   unfolding readCard cardOf numbersOf
   accepted-parts e =
       let end = end-got s (o .next) figuresRead (o .inside) e in
-      let film = m .ahead (k .value) (z .value) (r .positions) (r .times) (o .table) (o .ahead (end .1)) in
+      let film = m .ahead (d .value) (z .value) (r .positions) (r .times) (o .table) (o .ahead (end .1)) in
       record {
         wide = (sym (r .placed .long) ∙ blank-long, sym (r .timed .long) ∙ blank-long, o .long);
-        clear = judged-fault figuresRead (record {
-          kind = kind-range 0 (k .value) (k .clear);
+        clear = judged-fault k figuresRead (record {
+          kind = kind-range 0 (d .value) (d .clear);
           zones = zones-range 0 (z .value) (z .clear);
           unused = λ i l. (sym (r .placed .high i (omega arith)) ∙ blank-at i, sym (r .timed .high i (omega arith)) ∙ blank-at i);
-          faults = r .faults _ (o .table) (m .faults (k .value) (z .value) (r .positions) (r .times) (o .table) (o .faults));
+          faults = r .faults k _ (o .table) (m .faults (d .value) (z .value) (r .positions) (r .times) (o .table) (o .faults));
         });
-        same = ahead-more (k .stands) (ahead-more (z .stands) (r .ahead _ (o .table) film)) .bytes;
-        whole = got-goes (faultOf Kind 0) s 0 _ k ∙ got-goes (faultOf Zones 0) s (k .next) _ z ∙ r .is _ ∙ m .is _ ∙ o .is _ ∙ end .0;
+        same = ahead-more (d .stands) (ahead-more (z .stands) (r .ahead _ (o .table) film)) .bytes;
+        whole = got-goes (faultOf Kind 0) s 0 _ d ∙ got-goes (faultOf Zones 0) s (d .next) _ z ∙ r .is _ ∙ m .is _ ∙ o .is _ ∙ end .0;
       }
 
 -- AN ACCEPTED CARD IS THE CARD OF ITS FIGURES
-pub read-card : (s : List ℕ) → Bytes s → readCard s .verdict .number ≡ 0 → AcceptedCard s
+pub read-card : (k : ℕ) (s : List ℕ) → Bytes s → readCard k s .verdict .number ≡ 0 → AcceptedCard k s
 unfolding readCard
-read-card s y e =
-    accepted-field (faultOf Kind 0) s 0 _ y e (λ k e₁.
-    accepted-field (faultOf Zones 0) s (k .next) _ y e₁ (λ z e₂.
-    by k z (zones-range 0 (z .value) (z .clear)) e₂))
+read-card k s y e =
+    accepted-field (faultOf Kind 0) s 0 _ y e (λ d e₁.
+    accepted-field (faultOf Zones 0) s (d .next) _ y e₁ (λ z e₂.
+    by d z (zones-range 0 (z .value) (z .clear)) e₂))
   where
     -- the figures found are those of the answer
-    answered : {g : Figures} → AcceptedWith s g → AcceptedCard s
-    answered a = subst (AcceptedWith s) (ap (λ (x : CardRead). x .figures) (sym (a .whole))) a
+    answered : {g : Figures} → AcceptedWith k s g → AcceptedCard k s
+    answered a = subst (AcceptedWith k s) (ap (λ (x : CardRead). x .figures) (sym (a .whole))) a
 
-    by : (k : Got (faultOf Kind 0) s 0) (z : Got (faultOf Zones 0) s (k .next)) → (1 ≤ z .value) × (z .value ≤ maxZones)
-        → zonesFrom (z .value) s (z .next) 0 blankZones blankZones 0 maxTime (afterZones s (k .value) (z .value)) .verdict .number ≡ 0 → AcceptedCard s
-    by k z few e =
+    by : (d : Got (faultOf Kind 0) s 0) (z : Got (faultOf Zones 0) s (d .next)) → (1 ≤ z .value) × (z .value ≤ maxZones)
+        → zonesFrom (z .value) s (z .next) 0 blankZones blankZones 0 maxTime (afterZones k s (d .value) (z .value)) .verdict .number ≡ 0 → AcceptedCard k s
+    by d z few e =
         let fits : 0 + z .value ≤ length blankZones = omega (arith, blank-long) in
         let r = zones-got (z .value) s (z .next) 0 blankZones blankZones 0 maxTime _ y (z .stands .inside) fits fits e in
         let e₁ = still-accepted (r .is _) e in
-        let m = film-got s (r .next) (r .all) _ y e₁ in
+        let m = film-got k s (r .next) (r .all) _ y e₁ in
         let e₂ = still-accepted (m .is _) e₁ in
-        let o = table-got (k .value) s (m .next) _ y (m .inside) (kind-range 0 (k .value) (k .clear)) e₂ in
-        answered (accepted-parts s k z r m o (still-accepted (o .is _) e₂))
+        let o = table-got (d .value) s (m .next) _ y (m .inside) (kind-range 0 (d .value) (d .clear)) e₂ in
+        answered (accepted-parts k s d z r m o (still-accepted (o .is _) e₂))
 
 -- ---- the same of legal figures
 
 -- THE CARD OF LEGAL FIGURES IS READ BACK
-pub legal-read : (f : Figures) → Legal f → readCard (cardOf f) ≡ record { verdict = accepted; figures = f }
-legal-read f l = card-read f (l .wide) (legal-fault f l)
+pub legal-read : (k : ℕ) (f : Figures) → Legal k f → readCard k (cardOf f) ≡ record { verdict = accepted; figures = f }
+legal-read k f l = card-read k f (l .wide) (legal-fault k f l)
 
 -- an accepted card has legal figures
-pub card-legal : (s : List ℕ) → Bytes s → (r : CardRead) → r ≡ readCard s → r .verdict .number ≡ 0 → Legal (r .figures)
-card-legal s y r e n =
-    let a = read-card s y (sym (ap (λ (x : CardRead). x .verdict .number) e) ∙ n) in
-    subst (λ (x : CardRead). Legal (x .figures)) (sym e) (fault-legal (readCard s .figures) (a .wide) (a .clear))
+pub card-legal : (k : ℕ) (s : List ℕ) → Bytes s → (r : CardRead) → r ≡ readCard k s → r .verdict .number ≡ 0 → Legal k (r .figures)
+card-legal k s y r e n =
+    let a = read-card k s y (sym (ap (λ (x : CardRead). x .verdict .number) e) ∙ n) in
+    subst (λ (x : CardRead). Legal k (x .figures)) (sym e) (fault-legal k (readCard k s .figures) (a .wide) (a .clear))
 
 -- THE READER ACCEPTS EXACTLY THE CARDS OF LEGAL FIGURES
-pub reader-legal : (s : List ℕ) → Bytes s → (readCard s .verdict .number ≡ 0) ↔ ((f : Figures) × Legal f × (s ≡ cardOf f))
-reader-legal s y = (λ e. found (readCard s .figures) (read-card s y e), accepts)
+pub reader-legal : (k : ℕ) (s : List ℕ) → Bytes s → (readCard k s .verdict .number ≡ 0) ↔ ((f : Figures) × Legal k f × (s ≡ cardOf f))
+reader-legal k s y = (λ e. found (readCard k s .figures) (read-card k s y e), accepts)
   where
-    found : (g : Figures) → AcceptedWith s g → (f : Figures) × Legal f × (s ≡ cardOf f)
-    found g a = (g, fault-legal g (a .wide) (a .clear), a .same)
+    found : (g : Figures) → AcceptedWith k s g → (f : Figures) × Legal k f × (s ≡ cardOf f)
+    found g a = (g, fault-legal k g (a .wide) (a .clear), a .same)
 
-    accepts : (f : Figures) × Legal f × (s ≡ cardOf f) → readCard s .verdict .number ≡ 0
-    accepts (f, l, e) = ap (λ (x : List ℕ). readCard x .verdict .number) e ∙ ap (λ (r : CardRead). r .verdict .number) (legal-read f l)
+    accepts : (f : Figures) × Legal k f × (s ≡ cardOf f) → readCard k s .verdict .number ≡ 0
+    accepts (f, l, e) = ap (λ (x : List ℕ). readCard k x .verdict .number) e ∙ ap (λ (r : CardRead). r .verdict .number) (legal-read k f l)
+
+-- A CARD THAT IS ACCEPTED FOR MORE POSITIONS A BLOCK IS ACCEPTED FOR FEWER, WITH THE SAME FIGURES
+pub read-fewer : (j k : ℕ) (s : List ℕ) → j ≤ k → Bytes s → readCard k s .verdict .number ≡ 0 → readCard j s ≡ readCard k s
+read-fewer j k s h y e = by (readCard k s .figures) (read-card k s y e)
+  where
+    by : (g : Figures) → AcceptedWith k s g → readCard j s ≡ readCard k s
+    by g a = ap (readCard j) (a .same) ∙ legal-read j g (legal-fewer j k g h (fault-legal k g (a .wide) (a .clear))) ∙ sym (a .whole)
 
 -- the writer puts the card of figures that are not refused in front of what stood past it
-written : (g : Figures) (out : List ℕ) → recordFault g ≡ 0 → length (cardOf g) ≤ length out
+written : (g : Figures) (out : List ℕ) → recordFault 1 g ≡ 0 → length (cardOf g) ≤ length out
     → (writtenCard g out ≡ record { verdict = accepted; length = length (cardOf g) }) × (bufferAfter g out ≡ cardOf g ++ drop (length (cardOf g)) out)
 unfolding writtenCard bufferAfter writeFault first
 written g out e h =
@@ -310,12 +318,12 @@ written g out e h =
     (rw (e, room), rw (e, room))
 
 -- AN ACCEPTED CARD IS WHAT THE WRITER WRITES OF ITS FIGURES
-pub accepted-written : (s : List ℕ) → Bytes s → readCard s .verdict .number ≡ 0 → (out : List ℕ) → length s ≤ length out
-    → (writtenCard (readCard s .figures) out ≡ record { verdict = accepted; length = length s })
-    × (bufferAfter (readCard s .figures) out ≡ s ++ drop (length s) out)
-accepted-written s y e out = by (readCard s .figures) (read-card s y e)
+pub accepted-written : (s : List ℕ) → Bytes s → readCard 1 s .verdict .number ≡ 0 → (out : List ℕ) → length s ≤ length out
+    → (writtenCard (readCard 1 s .figures) out ≡ record { verdict = accepted; length = length s })
+    × (bufferAfter (readCard 1 s .figures) out ≡ s ++ drop (length s) out)
+accepted-written s y e out = by (readCard 1 s .figures) (read-card 1 s y e)
   where
-    by : (g : Figures) → AcceptedWith s g → length s ≤ length out
+    by : (g : Figures) → AcceptedWith 1 s g → length s ≤ length out
         → (writtenCard g out ≡ record { verdict = accepted; length = length s }) × (bufferAfter g out ≡ s ++ drop (length s) out)
     by g a =
         subst (λ (x : List ℕ). length x ≤ length out
@@ -325,14 +333,14 @@ accepted-written s y e out = by (readCard s .figures) (read-card s y e)
 -- ---- a refused card
 
 -- A REFUSED CARD ANSWERS NO FIGURES
-pub refused-blank : (s : List ℕ) (k : ℕ) → readCard s .verdict .number ≡ suc k → readCard s .figures ≡ blankFigures
-refused-blank s = read-holds (λ r. (k : ℕ) → r .verdict .number ≡ suc k → r .figures ≡ blankFigures) (λ k. Unit {0}) (record {
+pub refused-blank : (j : ℕ) (s : List ℕ) (k : ℕ) → readCard j s .verdict .number ≡ suc k → readCard j s .figures ≡ blankFigures
+refused-blank j s = read-holds (λ r. (k : ℕ) → r .verdict .number ≡ suc k → r .figures ≡ blankFigures) (λ k. Unit {0}) (record {
   accepts = λ f k e. absurd (omega arith);
-  refuses = λ j at o. unfold refusedCard in λ k e. refl;
+  refuses = λ number at o. unfold refusedCard in λ k e. refl;
   ends = tt;
   form = tt;
   over = tt;
   rule = λ u bound v. tt;
   time = λ innermost before v. tt;
-  blocks = λ total v. tt;
-}) s
+  blocks = λ k total v. tt;
+}) j s

@@ -58,25 +58,25 @@ table-size kind t w (inl k) l =
     rw k (omega (arith, none, bytes-more 2 (hopIn t) (backIn t ∷ []) (omega (arith, s .hops)), bytes-more 2 (backIn t) [] (omega (arith, s .backs))))
 table-size kind t w (inr k) l = rw k (omega (arith, bytes-all t (λ i h. omega (arith, l .measured k .range i (omega arith)))))
 
-film-size : (f : Figures) (total : ℕ) → length (f .table) ≡ tableLength → Kinded f → filmFault f total ≡ 0
+film-size : (k : ℕ) (f : Figures) (total : ℕ) → length (f .table) ≡ tableLength → Kinded f → filmFault k f total ≡ 0
     → (5 ≤ length (bytesOf (filmNumbers f))) × (length (bytesOf (filmNumbers f)) ≤ 1039)
 unfolding filmNumbers
-film-size f total w k e =
-    let l = fault-film f total w e in
+film-size k f total w d e =
+    let l = fault-film k f total w e in
     let rest = tableNumbers (f .kind) (f .table) in
     omega (
       arith,
       bytes-more 2 (f .blocks) (f .bytes ∷ f .rate ∷ rest) (omega (arith, l .blocks)),
       bytes-more 3 (f .bytes) (f .rate ∷ rest) (omega (arith, l .bytes)),
       bytes-more 3 (f .rate) rest (omega (arith, l .rate)),
-      table-size (f .kind) (f .table) w k (l .table),
+      table-size (f .kind) (f .table) w d (l .table),
     )
 
-zones-size : (left i : ℕ) (f : Figures) (total before : ℕ) → length (f .table) ≡ tableLength → Kinded f → zoneFaults left i f total before ≡ 0
+zones-size : (k left i : ℕ) (f : Figures) (total before : ℕ) → length (f .table) ≡ tableLength → Kinded f → zoneFaults k left i f total before ≡ 0
     → (2 * left + 5 ≤ length (bytesOf (zoneNumbers left i f))) × (length (bytesOf (zoneNumbers left i f)) ≤ 7 * left + 1039)
 unfolding zoneFaults zoneNumbers
-zones-size zero i f total before w k e = film-size f total w k e
-zones-size (suc left) i f total before w k e =
+zones-size k zero i f total before w d e = film-size k f total w d e
+zones-size k (suc left) i f total before w d e =
     let p = first-none (faultOf Positions total (getD (f .positions) i 0)) _ e in
     let q = first-none (timeFault (getD (f .times) 0 0) before (getD (f .times) i 0)) _ (p .1) in
     let few = positions-range total (getD (f .positions) i 0) (p .0) in
@@ -85,20 +85,20 @@ zones-size (suc left) i f total before w k e =
       arith,
       bytes-more 2 (getD (f .positions) i 0) (getD (f .times) i 0 ∷ zoneNumbers left (i + 1) f) (omega arith),
       bytes-more 3 (getD (f .times) i 0) (zoneNumbers left (i + 1) f) (omega arith),
-      zones-size left (i + 1) f (total + getD (f .positions) i 0) (getD (f .times) i 0) w k (q .1),
+      zones-size k left (i + 1) f (total + getD (f .positions) i 0) (getD (f .times) i 0) w d (q .1),
     )
 
 -- THE CARD OF LEGAL FIGURES HAS 9 TO 1,489 BYTES
-pub legal-size : (f : Figures) → Legal f → (minCard ≤ length (cardOf f)) × (length (cardOf f) ≤ maxCard)
+pub legal-size : (k : ℕ) (f : Figures) → Legal k f → (minCard ≤ length (cardOf f)) × (length (cardOf f) ≤ maxCard)
 unfolding cardOf numbersOf
-legal-size f l =
-    let j = fault-judged f (legal-fault f l) in
+legal-size k f l =
+    let j = fault-judged k f (legal-fault k f l) in
     omega (
       arith,
       j .zones,
       bytes-more 0 (f .kind) (f .zones ∷ zoneNumbers (f .zones) 0 f) (kind-small (l .kind)),
       bytes-more 0 (f .zones) (zoneNumbers (f .zones) 0 f) (omega (arith, j .zones)),
-      zones-size (f .zones) 0 f 0 maxTime (l .wide .2) (l .kind) (j .faults),
+      zones-size k (f .zones) 0 f 0 maxTime (l .wide .2) (l .kind) (j .faults),
     )
   where
     kind-small : {v : ℕ} → (v ≡ straightKind) ⊎ (v ≡ measuredKind) → v < 128 ^ 1

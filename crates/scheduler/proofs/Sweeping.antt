@@ -7,19 +7,19 @@ use Rattle.numbers.specs.Slots.{sweeping}
 use Rattle.numbers.specs.Units.{micros}
 use Rattle.desk.specs.declared.Desk.{Desk}
 use Rattle.desk.specs.Shown.{Gathered, Gathers}
-use Rattle.desk.specs.Desk.{supplyOf, slotsIn, viewOf}
+use Rattle.desk.specs.Desk.{visitsIn, supplyOf, slotsIn, viewOf}
 use Rattle.desk.specs.View.{Wide}
-use Rattle.desk.specs.Ready.{Ready, ready-slots, room-left}
+use Rattle.desk.specs.Ready.{Ready, overheads-are, ready-slots, room-left}
 use Rattle.fetches.specs.Told.{Timed}
 use Rattle.draws.specs.Draws.{Sweeps}
 
 module _ (d : Desk) (w : Wide d) (r : Ready d) where
   -- the sweep bound
-  pub timed : (g : Gathered) → Gathers (supplyOf (d .plan)) (d .kinds) (d .next) g
-      → Timed (supplyOf (d .plan)) (d .plan .streams) (d .plan .buffer - d .plan .figures .bytes) (d .plan .figures .table)
+  pub timed : (g : Gathered) → Gathers (supplyOf (d .plan)) (visitsIn (d .plan)) (d .kinds) (d .next) g
+      → Timed (supplyOf (d .plan)) (d .plan .streams) (d .plan .buffer - d .plan .figures .bytes) (visitsIn (d .plan)) (d .plan .figures .table)
       (d .kinds) (d .next) (d .held) (g .times)
   unfolding supplyOf
-  timed g u = record { slots = ready-slots d w r; times = u .times; spare = room-left d r; moves = λ k. refl }
+  timed g u = record { slots = ready-slots d w r; times = u .times; spare = room-left d r; moves = overheads-are d }
 
   -- the judge of the draws: b is the bound and m the most
   pub sweeps : d .phase ≡ sweeping → (b m : ℕ) → b ≡ bound (supplyOf (d .plan)) (slotsIn d) → m ≡ d .plan .figures .rate * b / micros

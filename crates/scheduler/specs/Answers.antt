@@ -1,6 +1,6 @@
 -- The answers of begin and end, a law for each way that their code can take: the rows of 01's table, then what an accepted call makes.
 -- Assumes nothing.
-use Prim.Native.Nat.{ℕ, _≤_, _<_}
+use Prim.Native.Nat.{ℕ, _*_, _≤_, _<_}
 use mathlib.Core.Path.{_≡_, refl, sym, ap, _∙_}
 use mathlib.Core.Logic.{_≢_, by-cases}
 use mathlib.Core.Bool.{Bool, true, false}
@@ -23,7 +23,7 @@ use Rattle.turns.specs.Verdicts.{refusals-strict}
 use Rattle.turns.specs.Rows.{refuse, begin-phase, begin-short, begin-accepted, end-phase}
 use Rattle.desk.specs.declared.Desk.{Desk}
 use Rattle.desk.specs.declared.Answer.{Answer}
-use Rattle.desk.specs.Desk.{supplyOf, rulesOf, orderOf, viewOf, deskOf, verdict, fetchesOf, answerOf, answered, beginDesk, endDesk}
+use Rattle.desk.specs.Desk.{visitsIn, supplyOf, rulesOf, orderOf, viewOf, deskOf, verdict, fetchesOf, answerOf, answered, beginDesk, endDesk}
 use Rattle.desk.specs.View.{Wide, desk-of-view}
 use Rattle.desk.specs.Promise.{supply-named}
 use Rattle.desk.specs.Records.{answers, notBegun}
@@ -82,11 +82,11 @@ module _ (d : Desk) (w : Wide d) (ps ls : List ℕ) where
       unfolding viewOf
       begin-in-sweep h = not-begun wrongPhase (omega arith) (sound-row room begin s ∙ begin-phase (supplyOf (d .plan)) (viewOf d) room h)
 
-      pub begin-no-room : d .phase ≡ between → room < d .plan .streams → notBegun d tooShort ≡ beginDesk d ps ls room
+      pub begin-no-room : d .phase ≡ between → room < visitsIn (d .plan) * d .plan .streams → notBegun d tooShort ≡ beginDesk d ps ls room
       unfolding viewOf supplyOf
       begin-no-room h l = not-begun tooShort (omega arith) (sound-row room begin s ∙ begin-short (supplyOf (d .plan)) (viewOf d) room h (omega arith))
 
-      pub begin-begun : d .phase ≡ between → d .plan .streams ≤ room → begunDesk d ≡ beginDesk d ps ls room
+      pub begin-begun : d .phase ≡ between → visitsIn (d .plan) * d .plan .streams ≤ room → begunDesk d ≡ beginDesk d ps ls room
       unfolding viewOf supplyOf beginDesk begunDesk calls.accepted
       begin-begun h l =
           let p = supplyOf (d .plan) in

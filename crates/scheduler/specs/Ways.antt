@@ -1,6 +1,6 @@
 -- The two ways of a begin and of an end: refused with the desk as it was, or accepted on a desk that is ready.
 -- Assumes nothing.
-use Prim.Native.Nat.{ℕ, _≤_, _<_}
+use Prim.Native.Nat.{ℕ, _*_, _≤_, _<_}
 use mathlib.Core.Path.{_≡_, refl, sym, ap, _∙_}
 use mathlib.Core.Logic.{_≢_, _⊎_, inl, inr, ⊎-elim}
 use mathlib.Core.Bool.{Bool, true, false}
@@ -14,7 +14,7 @@ use Rattle.words.specs.Words.{wordsOf}
 use Rattle.desk.specs.declared.Desk.{Desk}
 use Rattle.desk.specs.declared.Answer.{Answer}
 use Rattle.desk.specs.declared.Begun.{Begun}
-use Rattle.desk.specs.Desk.{beginDesk, endDesk}
+use Rattle.desk.specs.Desk.{visitsIn, beginDesk, endDesk}
 use Rattle.desk.specs.View.{Wide}
 use Rattle.desk.specs.Ready.{Ready}
 use Rattle.desk.specs.Records.{answers, notBegun}
@@ -37,17 +37,17 @@ module _ (d : Desk) (w : Wide d) (z : legality.Wide (d .plan .figures)) (ps ls :
 
     pub record HasBegun : Type 0 where
       pub ready : Ready d
-      pub streams : d .plan .streams ≤ room
+      pub entries : visitsIn (d .plan) * d .plan .streams ≤ room
       pub answer : begunDesk d ≡ beginDesk d ps ls room
 
     pub begin-ways : ((k : ℕ) × NotBegun k) ⊎ HasBegun
-    begin-ways = go (soundDesk d ps ls) refl (ℕ-discrete (d .phase) between) (decLe (d .plan .streams) room)
+    begin-ways = go (soundDesk d ps ls) refl (ℕ-discrete (d .phase) between) (decLe (visitsIn (d .plan) * d .plan .streams) room)
       where
-        go : (t : Bool) → soundDesk d ps ls ≡ t → Dec (d .phase ≡ between) → Dec (d .plan .streams ≤ room) → ((k : ℕ) × NotBegun k) ⊎ HasBegun
+        go : (t : Bool) → soundDesk d ps ls ≡ t → Dec (d .phase ≡ between) → Dec (visitsIn (d .plan) * d .plan .streams ≤ room) → ((k : ℕ) × NotBegun k) ⊎ HasBegun
         go false s p l = inl (notSound, record { some = omega arith; answer = begin-unsound d w ps ls room s })
         go true s (no p) l = inl (wrongPhase, record { some = omega arith; answer = begin-in-sweep d w ps ls room s p })
         go true s (yes p) (no l) = inl (tooShort, record { some = omega arith; answer = begin-no-room d w ps ls room s p (omega arith) })
-        go true s (yes p) (yes l) = inr (record { ready = sound-ready d ps ls z s; streams = l; answer = begin-begun d w ps ls room s p l })
+        go true s (yes p) (yes l) = inr (record { ready = sound-ready d ps ls z s; entries = l; answer = begin-begun d w ps ls room s p l })
 
     number-refused : (k : ℕ) → NotBegun k → beginDesk d ps ls room .verdict .number ≡ k
     unfolding notBegun

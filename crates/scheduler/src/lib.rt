@@ -16,6 +16,7 @@ use desk_columns::overheads;
 use desk_columns::phase_in;
 use desk_columns::rate_in;
 use desk_columns::streams_in;
+use desk_columns::visits_in;
 use desk_record::string_of;
 use draws::judge_draws;
 use draws::most_drawn;
@@ -60,15 +61,26 @@ pub fn judge_begin(desk: &[u8], positions: &[u8], leads: &[u8], listed: bool, ro
     if phase_in(desk) != BETWEEN {
         return not_swept(desk, WRONG_PHASE);
     }
-    let streams = streams_in(desk) as usize;
-    if room < streams {
+    let count = streams_in(desk);
+    let streams = count as usize;
+    let visits = visits_in(desk);
+    if room < (visits * count) as usize {
         return not_swept(desk, TOO_SHORT);
     }
     let mut times = zeros();
     let mut spots = zeros();
-    gather(desk, positions, streams, &mut times, &mut spots);
+    let mut others = zeros();
+    gather(
+        desk,
+        positions,
+        streams,
+        visits,
+        &mut times,
+        &mut spots,
+        &mut others,
+    );
     let sum = sum_times(desk, streams, &times);
-    begin_sweep(desk, &times, &spots, sum)
+    begin_sweep(desk, &times, &spots, &others, sum)
 }
 
 // A begin with its lists, or with a scratch in the lead list's place.
@@ -170,10 +182,20 @@ pub fn judge_end(desk: &[u8], positions: &[u8], leads: &[u8], listed: bool, draw
     let table = overheads(desk);
     let held = all_held(desk);
     let kinds = all_kinds(desk);
+    let visits = visits_in(desk);
     let mut times = zeros();
     let mut spots = zeros();
-    gather(desk, positions, streams, &mut times, &mut spots);
-    let bound = sweep_bound(&kinds, &held, &times, streams, room, &table);
+    let mut others = zeros();
+    gather(
+        desk,
+        positions,
+        streams,
+        visits,
+        &mut times,
+        &mut spots,
+        &mut others,
+    );
+    let bound = sweep_bound(&kinds, &held, &times, streams, room, visits, &table);
     judge_draws(&kinds, &held, streams, most_drawn(rate, bound), draws)
 }
 

@@ -36,7 +36,7 @@ smallFigures z ps ts n = record {
 
 -- a legal card with at most 3 zones, at most 3 positions a zone, times of at most 3, at most 8 blocks, and these measures
 pub record Small (f : Figures) : Type 0 where
-  pub legal : Legal f
+  pub legal : Legal 1 f
   pub zones : f .zones ≤ 3
   pub positions : (i : ℕ) → i < f .zones → getD (f .positions) i 0 ≤ 3
   pub times : (i : ℕ) → i < f .zones → getD (f .times) i 0 ≤ 3

@@ -10,7 +10,7 @@ use Rattle.laws.specs.Members.{upto, each}
 use Rattle.numbers.specs.Limits.{maxZones, maxTime, maxTried, maxBytes, maxRate}
 use Rattle.card.specs.declared.Figures.{Figures}
 use Rattle.card_field.specs.declared.Rule.the-variants.{Zones, Positions, Measure}
-use Rattle.card_field.specs.Ranges.{first, below, above, outside, thenAbove, thenBelow, faultOf, timeFault, blocksFault}
+use Rattle.card_field.specs.Ranges.{first, below, above, outside, thenAbove, thenBelow, faultOf, timeFault, roomFault, blocksFault}
 use Rattle.card.specs.Card.{zerosFrom, unusedZero}
 use Rattle.card.specs.Read.{blankZones, blankFigures}
 use Rattle.small_cards.specs.Cards.{entered, smallFigures, threes, falling, films, smallCards}
@@ -24,7 +24,7 @@ how-many = refl
 -- no refusal from the i-th zone on, `left` more, but for the overheads
 unfoldable pub zonesPass : ℕ → ℕ → Figures → ℕ → ℕ → Bool
 zonesPass zero i f total before =
-    eqb (blocksFault total (f .blocks)) 0 && (eqb (faultOf Measure maxBytes (f .bytes)) 0 && eqb (faultOf Measure maxRate (f .rate)) 0)
+    eqb (blocksFault 1 total (f .blocks)) 0 && (eqb (faultOf Measure maxBytes (f .bytes)) 0 && eqb (faultOf Measure maxRate (f .rate)) 0)
 zonesPass (suc left) i f total before =
     eqb (faultOf Positions total (getD (f .positions) i 0)) 0
     && (eqb (timeFault (getD (f .times) 0 0) before (getD (f .times) i 0)) 0
@@ -44,7 +44,7 @@ hasForm f =
     && (eqb (f .bytes) 1000 && eqb (f .rate) 1000))))
 
 pub all-have-form : allBy hasForm smallCards ≡ true
-unfolding smallCards each threes falling films upto sumBy allBy smallFigures entered blankZones first below above outside thenAbove thenBelow faultOf timeFault blocksFault zerosFrom unusedZero zonesPass passes hasForm
+unfolding smallCards each threes falling films upto sumBy allBy smallFigures entered blankZones first below above outside thenAbove thenBelow faultOf timeFault roomFault blocksFault zerosFrom unusedZero zonesPass passes hasForm
 all-have-form = refl
 
 pub all-in-order : inOrder blankFigures smallCards ≡ true

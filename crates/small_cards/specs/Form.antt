@@ -47,10 +47,10 @@ listed-moves f h =
 -- ---- all else
 
 zones-clear : (f : Figures) → tableFault (f .kind) (f .table) ≡ 0 → (left i total before : ℕ) → zonesPass left i f total before ≡ true
-    → zoneFaults left i f total before ≡ 0
+    → zoneFaults 1 left i f total before ≡ 0
 unfolding zonesPass zoneFaults filmFault
 zones-clear f t zero i total before e =
-    let n = blocksFault total (f .blocks) in
+    let n = blocksFault 1 total (f .blocks) in
     let b = faultOf Measure maxBytes (f .bytes) in
     let c = faultOf Measure maxRate (f .rate) in
     let later = and-right (eqb n 0) _ e in
@@ -64,7 +64,7 @@ zones-clear f t (suc left) i total before e =
     first-clear (eqb-true p 0 (and-left (eqb p 0) _ e))
     (first-clear (eqb-true s 0 (and-left (eqb s 0) _ later)) (zones-clear f t left (i + 1) _ _ (and-right (eqb s 0) _ later)))
 
-passes-clear : (f : Figures) → f .kind ≡ straightKind → f .table ≡ straight 1 1 → passes f ≡ true → recordFault f ≡ 0
+passes-clear : (f : Figures) → f .kind ≡ straightKind → f .table ≡ straight 1 1 → passes f ≡ true → recordFault 1 f ≡ 0
 unfolding passes recordFault
 passes-clear f k t e =
     let z = faultOf Zones 0 (f .zones) in
@@ -86,7 +86,7 @@ form-small f k t e =
     let low = and-left (allBy (λ (p : ℕ). leb p 3) (f .positions) && allBy (λ (t : ℕ). leb t 3) (f .times)) _ e₃ in
     let long = eqb-true (length (f .positions)) maxZones (and-left (eqb (length (f .positions)) maxZones) _ wide) in
     let wide₂ = eqb-true (length (f .times)) maxZones (and-right (eqb (length (f .positions)) maxZones) _ wide) in
-    let ok = fault-legal f (long, wide₂, ap length t ∙ straight-long 1 1) (passes-clear f k t (and-left (passes f) _ e)) in
+    let ok = fault-legal 1 f (long, wide₂, ap length t ∙ straight-long 1 1) (passes-clear f k t (and-left (passes f) _ e)) in
     let ps = and-left (allBy (λ (p : ℕ). leb p 3) (f .positions)) _ low in
     let ts = and-right (allBy (λ (p : ℕ). leb p 3) (f .positions)) _ low in
     record {

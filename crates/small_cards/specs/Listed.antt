@@ -91,7 +91,7 @@ small-listed f s =
     (λ i u. let v : i < z = omega arith in rw (getD-take z (f .times) (suc i) 0 u, getD-take z (f .times) i 0 v) (ok .falling i u)))
     (in-map (smallFigures z ps ts) (f .blocks) (films ps) (unfold films in in-upto minBlocks _ (f .blocks) (ok .blocks .0) (omega (arith, s .blocks, room)))))))
   where
-    ok : Legal f
+    ok : Legal 1 f
     ok = s .legal
 
     z : ℕ
@@ -107,4 +107,4 @@ small-listed f s =
     size xs l = length-take-le z xs (omega (arith, ok .zones))
 
     room : f .blocks ≤ sumBy (λ (p : ℕ). p) ps
-    room = unfold totalPositions in ok .room
+    room = unfold totalPositions in omega (arith, ok .room)

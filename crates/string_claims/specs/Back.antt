@@ -36,7 +36,7 @@ use Rattle.turns.specs.Verdicts.{accepted-was-sound}
 use Rattle.safety.specs.Safety.{accepted-length}
 use Rattle.safety.specs.Claim as K
 use Rattle.desk.specs.declared.Desk.{Desk}
-use Rattle.desk.specs.Desk.{supplyOf, rulesOf, orderOf, Queue, viewOf, deskOf, zeros, freshDesk, openBy, openDesk, answerOf, answered, joinDesk}
+use Rattle.desk.specs.Desk.{visitsIn, supplyOf, rulesOf, orderOf, Queue, viewOf, deskOf, zeros, freshDesk, openBy, openDesk, answerOf, answered, joinDesk}
 use Rattle.desk.specs.Desk.{leaveDesk, endDesk, beginDesk}
 use Rattle.desk.specs.FilmEnd.{end-says}
 use Rattle.desk.specs.Promise.{order-orderly, supply-named}
@@ -70,7 +70,7 @@ places-in p s h = places-say (supplyOf p) (s .slots) (s .queue) (h .queue)
 
 -- a plan that passes the check
 module _ (p : Plan) (ps ls : List ℕ) (w : Wide (p .figures)) (i : isPlan p ps ls ≡ true) where
-  legal : Legal (p .figures)
+  legal : Legal (visitsIn p) (p .figures)
   legal = checked-legal p ps ls w i
 
   plan-fits : Words (planWords p)

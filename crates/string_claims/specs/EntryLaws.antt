@@ -5,6 +5,7 @@ use mathlib.Core.Path.{_≡_, refl, sym, ap, _∙_, subst}
 use mathlib.Core.Logic.{⊎-elim, by-cases}
 use mathlib.Core.List.{List, [], _∷_, _++_}
 use native.Mathlib.Omega.{arith}
+use native.Mathlib.Nat.{mul-le-mul-left}
 use native.Mathlib.Decide.{decLt, ℕ-discrete}
 use borrow.Author.Tests.{eq-eqb, ltb-true}
 use lib.ListN.{length, getD, drop}
@@ -14,8 +15,9 @@ use Rattle.words.specs.Words.{Words, wordsOf, withWords}
 use Rattle.laws.specs.Overwrite.{overwrite-front}
 use Rattle.words.specs.Laws.{words-withWords}
 use Rattle.card.specs.Card.{Legal}
+use Rattle.pacing.specs.Streams.{cap-visits}
 use Rattle.plan.specs.declared.Plan.{Plan}
-use Rattle.plan.specs.Plan.{showingIn, positionOf, planOf}
+use Rattle.plan.specs.Plan.{showingIn, planOf}
 use Rattle.plan.specs.Check.{checked, checked-legal}
 use Rattle.plan.specs.Legal.{position-below, streams-few}
 use Rattle.rules.specs.Scheduler.{Entry, begin, freeSlot, at, leads}
@@ -23,9 +25,9 @@ use Rattle.rules.specs.Order.{Scheduler}
 use Rattle.turns.specs.Facts.{Good, good-free, Sound}
 use Rattle.admission.specs.Refused.{refused-same}
 use Rattle.desk.specs.declared.Desk.{Desk}
-use Rattle.desk.specs.Desk.{supplyOf, orderOf, Queue, deskOf, answerOf, fetchesOf, beginDesk, entriesOf, entryWords, fetchListAfter}
+use Rattle.desk.specs.Desk.{visitsIn, supplyOf, orderOf, Queue, deskOf, answerOf, fetchesOf, beginDesk, entriesOf, entryWords, fetchListAfter}
 use Rattle.desk.specs.Entries.{entriesIn, entries-in}
-use Rattle.trace.specs.Answers.{blankEntry, NeedsBlock}
+use Rattle.trace.specs.Answers.{blankEntry, NeedsBlock, placeOf}
 use Rattle.trace.specs.FetchLaws.{begin-fetched}
 use Rattle.trace.specs.SlotLaws.{kind-at, next-at}
 use Rattle.scheduler.specs.Count.{begin-few}
@@ -81,7 +83,7 @@ module _ (D ps ls F : List ℕ) (l : length D ≡ deskSize) where
     abbrev p : Plan
     p = d .plan
 
-    legal : Legal (p .figures)
+    legal : Legal (visitsIn p) (p .figures)
     legal = checked-legal p ps ls (wide D ps ls (roomIn F) begin l z) (fair D ps ls (roomIn F) begin l z)
 
     abbrev s : Scheduler ℕ Queue
@@ -106,14 +108,15 @@ module _ (D ps ls F : List ℕ) (l : length D ≡ deskSize) where
     streams-small : p .streams ≤ maxStreams
     unfolding planOf
     streams-small =
-        omega (arith, streams-few (showingIn p) (p .figures) legal, ap (λ (q : Plan). q .streams) (checked p ps ls (fair D ps ls (roomIn F) begin l z) .plan))
+        omega (arith, cap-visits (showingIn p) _ (streams-few (showingIn p) (p .figures) legal), ap (λ (q : Plan). q .streams) (checked p ps ls (fair D ps ls (roomIn F) begin l z) .plan))
 
     fetched-fits : (e : Entry) → NeedsBlock (deskOf p s) (e .slot) × (e .block ≡ getD (deskOf p s .next) (e .slot) 0)
-        × (e .position ≡ positionOf (showingIn p) (p .figures) (e .block))
+        × ((v : ℕ) × (v < visitsIn p) × (e .position ≡ placeOf p (e .block) v))
         → Fits e
-    fetched-fits e (h, b, q) =
+    fetched-fits e (h, b, (v, u, q)) =
         let w = fetched-within (e .slot) h in
-        let r = position-below (showingIn p) (p .figures) legal (e .block) (omega (arith, w .1)) in
+        let r = position-below (showingIn p) (p .figures) legal (visitsIn p * e .block + v)
+        (omega (arith, mul-le-mul-left (visitsIn p) (w .1), ap (λ (n : ℕ). visitsIn p * n) b)) in
         (omega (arith, legal .total), omega (arith, w .0, streams-small), omega (arith, w .1, legal .blocks))
 
     entries-fit : Each Fits es

@@ -15,7 +15,7 @@ use Rattle.words.specs.Words.{Bytes, wordsOf, withWords}
 use Rattle.words.specs.Laws.{words-length, withWords-length}
 use Rattle.card.specs.declared.CardRead.{CardRead}
 use Rattle.card.specs.Read.{readCard}
-use Rattle.placement.specs.Showing.{Showing}
+use Rattle.placement.specs.Showing.{Showing, visitsOf}
 use Rattle.plan.specs.declared.Plan.{Plan}
 use Rattle.plan.specs.Plan.{showingIn, planOf, blankPlan, positionsOf, leadsOf}
 use Rattle.plan.specs.Answer.{refusal, answer, filled}
@@ -67,7 +67,7 @@ module _ (x : Showing) (s p ps ls : List ℕ) where
   pub lists-kept : (numberOf x s p ps ls ≡ 0 → ⊥) → (positionsString x s p ps ls ≡ ps) × (leadsString x s p ps ls ≡ ls)
   unfolding planAnswer verdictAnswer plannedOf positionsString leadsString
   lists-kept h =
-      let r = readCard s in
+      let r = readCard (visitsOf x) s in
       let j = r .verdict .number in
       let k = planFaultOf x r p ps ls in
       (refused-kept x r ps (positionsOf x (r .figures)) j k h .0, refused-kept x r ls (leadsOf x (r .figures)) j k h .0)
@@ -75,9 +75,9 @@ module _ (x : Showing) (s p ps ls : List ℕ) where
   -- after 13, and where it has another length, the plan string is as it was
   pub plan-kept : numberOf x s p ps ls ≡ tooShort → planString x s p ps ls ≡ p
   unfolding planAnswer verdictAnswer planString planFilled
-  plan-kept h = rw (eq-eqb (plannedOf x (readCard s) p ps ls .verdict .number) tooShort h) (go (eqb (length p) planSize))
+  plan-kept h = rw (eq-eqb (plannedOf x (readCard (visitsOf x) s) p ps ls .verdict .number) tooShort h) (go (eqb (length p) planSize))
     where
-      go : (t : Bool) → cond (t && false) (withWords p 0 (planWords (plannedOf x (readCard s) p ps ls .plan))) p ≡ p
+      go : (t : Bool) → cond (t && false) (withWords p 0 (planWords (plannedOf x (readCard (visitsOf x) s) p ps ls .plan))) p ≡ p
       go true = refl
       go false = refl
 
@@ -86,18 +86,18 @@ module _ (x : Showing) (s p ps ls : List ℕ) where
   other-kept n = rw (ne-eqb (length p) planSize n)
 
   module _ (l : length p ≡ planSize) (n : numberOf x s p ps ls ≡ tooShort → ⊥) where
-    written : planString x s p ps ls ≡ withWords p 0 (planWords (plannedOf x (readCard s) p ps ls .plan))
+    written : planString x s p ps ls ≡ withWords p 0 (planWords (plannedOf x (readCard (visitsOf x) s) p ps ls .plan))
     unfolding planAnswer verdictAnswer planString planFilled
-    written = rw (eq-eqb (length p) planSize l, ne-eqb (plannedOf x (readCard s) p ps ls .verdict .number) tooShort n)
+    written = rw (eq-eqb (length p) planSize l, ne-eqb (plannedOf x (readCard (visitsOf x) s) p ps ls .verdict .number) tooShort n)
 
     -- after 1 to 12, 25 and 26 it is all zero
     pub plan-cleared : (numberOf x s p ps ls ≡ 0 → ⊥) → planString x s p ps ls ≡ zeroBytes planSize
     unfolding planAnswer verdictAnswer plannedOf
     plan-cleared h =
         written ∙ ap (λ (q : Plan). withWords p 0 (planWords q))
-        (refused-kept x (readCard s) ps ps (readCard s .verdict .number) (planFaultOf x (readCard s) p ps ls) h .1) ∙ plan-zero p l
+        (refused-kept x (readCard (visitsOf x) s) ps ps (readCard (visitsOf x) s .verdict .number) (planFaultOf x (readCard (visitsOf x) s) p ps ls) h .1) ∙ plan-zero p l
 
-  right-length : planFaultOf x (readCard s) p ps ls ≡ 0 → length p ≡ planSize
+  right-length : planFaultOf x (readCard (visitsOf x) s) p ps ls ≡ 0 → length p ≡ planSize
   unfolding planFaultOf
   right-length e = by-cases (ℕ-discrete (length p) planSize) (λ l. l) (λ n. wrong (rw (ne-eqb (length p) planSize n) at e))
     where
@@ -105,13 +105,13 @@ module _ (x : Showing) (s p ps ls : List ℕ) where
       wrong e = absurd (omega arith)
 
   -- an accepted call leaves the plan of the card's figures
-  pub plan-told : Bytes s → numberOf x s p ps ls ≡ 0 → planIn (wordsOf (planString x s p ps ls)) ≡ planOf x (readCard s .figures)
+  pub plan-told : Bytes s → numberOf x s p ps ls ≡ 0 → planIn (wordsOf (planString x s p ps ls)) ≡ planOf x (readCard (visitsOf x) s .figures)
   unfolding planAnswer verdictAnswer plannedOf
   plan-told y h =
-      let r = readCard s in
+      let r = readCard (visitsOf x) s in
       let told = accepted-told x r (r .verdict .number) (planFaultOf x r p ps ls) h in
       let l = right-length (told .1) in
-      let ok = card-legal s y r refl (told .0) in
+      let ok = card-legal (visitsOf x) s y r refl (told .0) in
       ap (λ (t : List ℕ). planIn (wordsOf t)) (written l (λ e. omega arith) ∙ ap (λ (q : Plan). withWords p 0 (planWords q)) (told .2))
       ∙ plan-written p (planOf x (r .figures)) (legal-sized x (r .figures) ok) (legal-words x (r .figures) ok) (omega (arith, words-length p))
 
@@ -120,16 +120,16 @@ module _ (x : Showing) (s p ps ls : List ℕ) where
     planned-opened : openedFrom (planString x s p ps ls) (positionsString x s p ps ls) (leadsString x s p ps ls) .verdict .number ≡ 0
     unfolding planAnswer verdictAnswer plannedOf positionsString leadsString planFaultOf openedFrom
     planned-opened =
-        let r = readCard s in
+        let r = readCard (visitsOf x) s in
         let (j, k, q) = accepted-told x r (r .verdict .number) (planFaultOf x r p ps ls) h in
         let l = right-length k in
         let long : length (planString x s p ps ls) ≡ planSize = ap length (written l (λ e. omega arith)) ∙ withWords-length p 0 _ ∙ l in
-        let o = plan-opens x (r .figures) (card-legal s y r refl j) ps ls (rw (eq-eqb (length p) planSize l) at k) in
+        let o = plan-opens x (r .figures) (card-legal (visitsOf x) s y r refl j) ps ls (rw (eq-eqb (length p) planSize l) at k) in
         rw (eq-eqb (length (planString x s p ps ls)) planSize long, plan-told y h, j, k) (o .0)
 
     pub strings-open : (D : List ℕ) → length D ≡ deskSize
         → (let P = planString x s p ps ls in let qs = positionsString x s p ps ls in let ms = leadsString x s p ps ls in
-        (openAnswer P qs ms D .number ≡ 0) × (said (openString P qs ms D) ≡ freshDesk (planOf x (readCard s .figures))))
+        (openAnswer P qs ms D .number ≡ 0) × (said (openString P qs ms D) ≡ freshDesk (planOf x (readCard (visitsOf x) s .figures))))
     strings-open D l =
         let P = planString x s p ps ls in
         let qs = positionsString x s p ps ls in
@@ -139,13 +139,13 @@ module _ (x : Showing) (s p ps ls : List ℕ) where
 
     -- AND HAS WINDOWS: 27 alone may come
     pub strings-windows : (k : ℕ) → windowCall (planString x s p ps ls) (positionsString x s p ps ls) k .number ≡ cond
-        (isOutside k (readCard s .figures .blocks)) wrongWindow 0
+        (isOutside k (readCard (visitsOf x) s .figures .blocks)) wrongWindow 0
     unfolding planAnswer verdictAnswer plannedOf positionsString planFaultOf
     strings-windows k =
-        let r = readCard s in
+        let r = readCard (visitsOf x) s in
         let (j, z, q) = accepted-told x r (r .verdict .number) (planFaultOf x r p ps ls) h in
         let l = right-length z in
         let long : length (planString x s p ps ls) ≡ planSize = ap length (written l (λ e. omega arith)) ∙ withWords-length p 0 _ ∙ l in
         let (lp, ll, fed) = fault-none x (r .figures) (length (wordsOf ps)) (length (wordsOf ls)) (rw (eq-eqb (length p) planSize l) at z) in
         window-number (planString x s p ps ls) (positionsString x s p ps ls) k long
-        ∙ rw (plan-told y h, j, z) (planned-windows x (r .figures) (card-legal s y r refl j) fed ps lp k)
+        ∙ rw (plan-told y h, j, z) (planned-windows x (r .figures) (card-legal (visitsOf x) s y r refl j) fed ps lp k)

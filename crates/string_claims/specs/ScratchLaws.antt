@@ -15,7 +15,7 @@ use Rattle.numbers.specs.Refusals.{tooShort}
 use Rattle.words.specs.Words.{wordsOf, withWords}
 use Rattle.card.specs.Read.{readCard}
 use Rattle.legality.specs.Legality.{Wide}
-use Rattle.placement.specs.Showing.{Showing}
+use Rattle.placement.specs.Showing.{Showing, visitsOf}
 use Rattle.plan.specs.Plan.{positionsOf}
 use Rattle.plan.specs.Answer.{refusal, answer, filled, hasLeads}
 use Rattle.plan.specs.Scratch.{scratchShort, scratchLeads}
@@ -44,16 +44,16 @@ use Rattle.string_claims.specs.Back.{opened-wide}
 
 module _ (x : Showing) (s p ps t : List ℕ) where
   abbrev own : List ℕ
-  own = scratchLeads x (readCard s .figures) t
+  own = scratchLeads x (readCard (visitsOf x) s .figures) t
 
   abbrev pub PlansAs : List ℕ → Type 0
   PlansAs ls = (planScratchAnswer x s p ps t ≡ planAnswer x s p ps ls) × (planScratchString x s p ps t ≡ planString x s p ps ls)
       × (positionsScratchString x s p ps t ≡ positionsString x s p ps ls)
 
-  pub same-plans : (ls : List ℕ) → scratchLength ≤ length (wordsOf t) → readCard s .figures .blocks ≤ length (wordsOf ls) → PlansAs ls
+  pub same-plans : (ls : List ℕ) → scratchLength ≤ length (wordsOf t) → readCard (visitsOf x) s .figures .blocks ≤ length (wordsOf ls) → PlansAs ls
   unfolding planScratchAnswer planScratchString positionsScratchString planAnswer planString positionsString plannedOf planFaultOf
   same-plans ls long full =
-      let r = readCard s in
+      let r = readCard (visitsOf x) s in
       let e = ap (λ (k : ℕ). cond (eqb (length p) planSize) k tooShort) (same-fault x r ps t ls long full) in (
         ap (λ (k : ℕ). verdictAnswer (answer x (r .verdict .number) k r .verdict)) e,
         ap (λ (k : ℕ). planFilled p (answer x (r .verdict .number) k r)) e,
@@ -61,10 +61,10 @@ module _ (x : Showing) (s p ps t : List ℕ) where
       )
 
   -- 13, where the card is accepted
-  module _ (h : length (wordsOf t) < scratchLength) (some : 0 < readCard s .figures .blocks) (n : readCard s .verdict .number ≡ 0) where
-    short-planned : planFaultOf x (readCard s) p ps own ≡ tooShort
+  module _ (h : length (wordsOf t) < scratchLength) (some : 0 < readCard (visitsOf x) s .figures .blocks) (n : readCard (visitsOf x) s .verdict .number ≡ 0) where
+    short-planned : planFaultOf x (readCard (visitsOf x) s) p ps own ≡ tooShort
     unfolding planFaultOf
-    short-planned = ap (λ (k : ℕ). cond (eqb (length p) planSize) k tooShort) (short-fault x (readCard s) ps t h some) ∙ go (eqb (length p) planSize)
+    short-planned = ap (λ (k : ℕ). cond (eqb (length p) planSize) k tooShort) (short-fault x (readCard (visitsOf x) s) ps t h some) ∙ go (eqb (length p) planSize)
       where
         go : (b : Bool) → cond b tooShort tooShort ≡ tooShort
         go true = refl

@@ -17,7 +17,7 @@ use Rattle.card.specs.declared.CardRead.{CardRead}
 use Rattle.card.specs.Card.{recordFault, cardOf, writeFault, writtenBy, bufferBy, writtenCard, bufferAfter}
 use Rattle.card_field.specs.Ranges.{first}
 use Rattle.card.specs.Read.{readCard}
-use Rattle.placement.specs.Showing.{Showing}
+use Rattle.placement.specs.Showing.{Showing, visitsOf}
 use Rattle.plan.specs.Plan.{positionOf, leadOf, row, positionsOf, leadsOf}
 use Rattle.plan.specs.Rows.{row-length}
 use Rattle.plan.specs.Answer.{faultAfter, filled, positionsAfter, leadsAfter}
@@ -33,7 +33,7 @@ use Rattle.string_claims.specs.Unfilled.{SameFrom}
 written-past : (s vs : List ℕ) (m : ℕ) → 4 * length vs ≤ m → SameFrom m s (withWords s 0 vs)
 written-past s vs m h = (withWords-length s 0 vs, λ j u. withWords-after s 0 vs j (omega arith))
 
--- ---- positions and leads, past N
+-- ---- positions and leads, past those of N blocks
 
 filled-past : (j k : ℕ) (s : List ℕ) (g : ℕ → ℕ) (n : ℕ) → SameFrom (4 * n) s (filled j k s (row g 0 n))
 filled-past zero zero s g n = written-past s (row g 0 n) (4 * n) (omega (arith, row-length g 0 n))
@@ -42,19 +42,20 @@ filled-past (suc j) k s g n = (refl, λ i u. refl)
 
 -- after the planner on a record or a card, and after the plan call
 pub lists-past : (x : Showing) (r : CardRead) (ps ls : List ℕ)
-    → SameFrom (4 * r .figures .blocks) ps (positionsAfter x r ps ls) × SameFrom (4 * r .figures .blocks) ls (leadsAfter x r ps ls)
+    → SameFrom (4 * (visitsOf x * r .figures .blocks)) ps (positionsAfter x r ps ls) × SameFrom (4 * r .figures .blocks) ls (leadsAfter x r ps ls)
 unfolding positionsAfter leadsAfter positionsOf leadsOf
 lists-past x r ps ls = (
-  filled-past (r .verdict .number) (faultAfter x r ps ls) ps (positionOf x (r .figures)) (r .figures .blocks),
+  filled-past (r .verdict .number) (faultAfter x r ps ls) ps (positionOf x (r .figures)) (visitsOf x * r .figures .blocks),
   filled-past (r .verdict .number) (faultAfter x r ps ls) ls (leadOf x (r .figures)) (r .figures .blocks),
 )
 
 pub strings-past : (x : Showing) (s p ps ls : List ℕ)
-    → SameFrom (4 * readCard s .figures .blocks) ps (positionsString x s p ps ls) × SameFrom (4 * readCard s .figures .blocks) ls (leadsString x s p ps ls)
+    → SameFrom (4 * (visitsOf x * readCard (visitsOf x) s .figures .blocks)) ps (positionsString x s p ps ls)
+    × SameFrom (4 * readCard (visitsOf x) s .figures .blocks) ls (leadsString x s p ps ls)
 unfolding positionsString leadsString positionsOf leadsOf
 strings-past x s p ps ls =
-    let r = readCard s in (
-      filled-past (r .verdict .number) (planFaultOf x r p ps ls) ps (positionOf x (r .figures)) (r .figures .blocks),
+    let r = readCard (visitsOf x) s in (
+      filled-past (r .verdict .number) (planFaultOf x r p ps ls) ps (positionOf x (r .figures)) (visitsOf x * r .figures .blocks),
       filled-past (r .verdict .number) (planFaultOf x r p ps ls) ls (leadOf x (r .figures)) (r .figures .blocks),
     )
 
@@ -76,7 +77,7 @@ fetches-past D ps ls F = go (eqb (length D) deskSize)
 
 card-room : (f : Figures) (n : ℕ) → writeFault f n ≡ 0 → length (cardOf f) ≤ n
 unfolding writeFault first
-card-room f n e = go (recordFault f) (leb (length (cardOf f)) n) refl e
+card-room f n e = go (recordFault 1 f) (leb (length (cardOf f)) n) refl e
   where
     go : (k : ℕ) (t : Bool) → leb (length (cardOf f)) n ≡ t → first k (cond t 0 tooShort) ≡ 0 → length (cardOf f) ≤ n
     go zero true q e = leb-true (length (cardOf f)) n q

@@ -11,7 +11,7 @@ ghost use Rattle.card.specs.declared.Figures.{Figures};
 ghost use Rattle.card.specs.declared.CardRead.{CardRead};
 ghost use Rattle.card.specs.Card.{writtenCard, bufferAfter};
 ghost use Rattle.card.specs.Read.{readCard};
-ghost use Rattle.placement.specs.Showing.{Showing};
+ghost use Rattle.placement.specs.Showing.{Showing, visitsOf};
 ghost use Rattle.plan.specs.Plan.{planOf};
 ghost use Rattle.plan.specs.Answer.{positionsAfter, leadsAfter, hasLeads};
 ghost use Rattle.desk.specs.Desk.{freshDesk, joinDesk, leaveDesk, endDesk, beginDesk};
@@ -61,7 +61,7 @@ pub fn accepted_desk_reads_back()
         → said (endString D ps ls draws) ≡ endDesk (said D) ps ls draws .desk) ⌝ }
 {}
 
-// Demand 3 for C: from an accepted opening with the plan string P, of either showing, every list of calls on one desk string, refused calls
+// Demand 3 for C: from an accepted opening with the plan string P, of every showing, every list of calls on one desk string, refused calls
 // included, keeps the string's length and is safe as crate trace says it. Desk, book, numbers and bounds are what the strings and these very
 // answers say.
 pub fn every_list_of_strings_safe()
@@ -77,11 +77,11 @@ pub fn string_requests_are_granted_in_time()
         → InTime (onString P (openString P ps ls D)) G) ⌝ }
 {}
 
-// What the plan call of either showing leaves in the plan string and the lists: accepted, the plan of the card's figures; after 1 to 12, 25 and 26
+// What the plan call of every showing leaves in the plan string and the lists: accepted, the plan of the card's figures; after 1 to 12, 25 and 26
 // zeros; after 13, and where it has another length, what it held. A refused call leaves both lists.
 pub fn plan_call_leaves()
     ensures accepted { λ _. ⌜ ((x : Showing) (s p ps ls : List ℕ) → Bytes s → planAnswer x s p ps ls .number ≡ 0
-        → planIn (wordsOf (planString x s p ps ls)) ≡ planOf x (readCard s .figures)) ⌝ }
+        → planIn (wordsOf (planString x s p ps ls)) ≡ planOf x (readCard (visitsOf x) s .figures)) ⌝ }
     ensures cleared { λ _. ⌜ ((x : Showing) (s p ps ls : List ℕ) → length p ≡ planSize → (planAnswer x s p ps ls .number ≡ tooShort → ⊥)
         → (planAnswer x s p ps ls .number ≡ 0 → ⊥) → planString x s p ps ls ≡ zeroBytes planSize) ⌝ }
     ensures kept { λ _. ⌜ ((x : Showing) (s p ps ls : List ℕ) → planAnswer x s p ps ls .number ≡ tooShort → planString x s p ps ls ≡ p) ⌝ }
@@ -90,29 +90,29 @@ pub fn plan_call_leaves()
         × (leadsString x s p ps ls ≡ ls)) ⌝ }
 {}
 
-// What the plan call of either showing leaves can be opened, into any desk string of the right length: the desk is that of the card's plan, all
+// What the plan call of every showing leaves can be opened, into any desk string of the right length: the desk is that of the card's plan, all
 // slots free.
 pub fn planned_strings_open()
     ensures { λ _. ⌜ ((x : Showing) (s p ps ls : List ℕ) → Bytes s → planAnswer x s p ps ls .number ≡ 0 → (D : List ℕ) → length D ≡ deskSize
         → (openAnswer (planString x s p ps ls) (positionsString x s p ps ls) (leadsString x s p ps ls) D .number ≡ 0)
         × (said (openString (planString x s p ps ls) (positionsString x s p ps ls) (leadsString x s p ps ls) D) ≡ freshDesk
-        (planOf x (readCard s .figures)))) ⌝ }
+        (planOf x (readCard (visitsOf x) s .figures)))) ⌝ }
 {}
 
-// What the plan call of either showing leaves has windows: a window of it is never 14, and each that is in range is accepted.
+// What the plan call of every showing leaves has windows: a window of it is never 14, and each that is in range is accepted.
 pub fn planned_strings_have_windows()
     ensures { λ _. ⌜ ((x : Showing) (s p ps ls : List ℕ) → Bytes s → planAnswer x s p ps ls .number ≡ 0 → (k : ℕ)
-        → windowCall (planString x s p ps ls) (positionsString x s p ps ls) k .number ≡ cond (isOutside k (readCard s .figures .blocks)) wrongWindow 0) ⌝ }
+        → windowCall (planString x s p ps ls) (positionsString x s p ps ls) k .number ≡ cond (isOutside k (readCard (visitsOf x) s .figures .blocks)) wrongWindow 0) ⌝ }
 {}
 
-// Bytes that an answer does not fill keep their contents, spare ones too: of both lists past N entries, of the fetch list past the counted
+// Bytes that an answer does not fill keep their contents, spare ones too: of both lists past those of N blocks, of the fetch list past the counted
 // entries of 12 bytes, of the buffer past the written card. Each keeps its length.
 pub fn unfilled_entries_stay()
     ensures planner { λ _. ⌜ ((x : Showing) (r : CardRead) (ps ls : List ℕ)
-        → SameFrom (4 * r .figures .blocks) ps (positionsAfter x r ps ls) × SameFrom (4 * r .figures .blocks) ls (leadsAfter x r ps ls)) ⌝ }
+        → SameFrom (4 * (visitsOf x * r .figures .blocks)) ps (positionsAfter x r ps ls) × SameFrom (4 * r .figures .blocks) ls (leadsAfter x r ps ls)) ⌝ }
     ensures plans { λ _. ⌜ ((x : Showing) (s p ps ls : List ℕ)
-        → SameFrom (4 * readCard s .figures .blocks) ps (positionsString x s p ps ls)
-        × SameFrom (4 * readCard s .figures .blocks) ls (leadsString x s p ps ls)) ⌝ }
+        → SameFrom (4 * (visitsOf x * readCard (visitsOf x) s .figures .blocks)) ps (positionsString x s p ps ls)
+        × SameFrom (4 * readCard (visitsOf x) s .figures .blocks) ls (leadsString x s p ps ls)) ⌝ }
     ensures begins { λ _. ⌜ ((D ps ls F : List ℕ) → SameFrom (12 * beginAnswer D ps ls F .count) F (fetchString D ps ls F)) ⌝ }
     ensures writer { λ _. ⌜ ((f : Figures) (out : List ℕ) → SameFrom (writtenCard f out .length) out (bufferAfter f out)) ⌝ }
 {}
@@ -130,7 +130,7 @@ pub fn end_judges_by_draw_limit()
 // A scratch of 512 numbers or more (ticket 10 of document 02): each call answers, and leaves in every string, what it does with the full list of
 // leads. The planner's list has room for N entries, the desk's begins with the film's N leads.
 pub fn scratch_strings_equal_lists()
-    ensures plans { λ _. ⌜ ((x : Showing) (s p ps t ls : List ℕ) → scratchLength ≤ length (wordsOf t) → readCard s .figures .blocks ≤ length (wordsOf ls)
+    ensures plans { λ _. ⌜ ((x : Showing) (s p ps t ls : List ℕ) → scratchLength ≤ length (wordsOf t) → readCard (visitsOf x) s .figures .blocks ≤ length (wordsOf ls)
         → PlansAs x s p ps t ls) ⌝ }
     ensures opens { λ _. ⌜ ((P ps ls s D : List ℕ) → hasLeads (planIn (wordsOf P)) ls ≡ true → scratchLength ≤ length (wordsOf s)
         → (openScratchAnswer P ps s D ≡ openAnswer P ps ls D) × (openScratchString P ps s D ≡ openString P ps ls D)) ⌝ }
@@ -141,8 +141,8 @@ pub fn scratch_strings_equal_lists()
 // A scratch below 512 is 13: of a plan call where 13 stands, after the card's own refusals and before 12; of the desk ahead of all else. It leaves
 // every string.
 pub fn short_scratch_keeps_strings()
-    ensures plans { λ _. ⌜ ((x : Showing) (s p ps t : List ℕ) → length (wordsOf t) < scratchLength → 0 < readCard s .figures .blocks
-        → readCard s .verdict .number ≡ 0 → (planScratchAnswer x s p ps t ≡ refusedBy tooShort) × (planScratchString x s p ps t ≡ p)
+    ensures plans { λ _. ⌜ ((x : Showing) (s p ps t : List ℕ) → length (wordsOf t) < scratchLength → 0 < readCard (visitsOf x) s .figures .blocks
+        → readCard (visitsOf x) s .verdict .number ≡ 0 → (planScratchAnswer x s p ps t ≡ refusedBy tooShort) × (planScratchString x s p ps t ≡ p)
         × (positionsScratchString x s p ps t ≡ ps)) ⌝ }
     ensures desk { λ _. ⌜ ((D ps s : List ℕ) → length (wordsOf s) < scratchLength → RefusedStrings D ps s) ⌝ }
 {}

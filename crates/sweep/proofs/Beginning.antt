@@ -9,6 +9,7 @@ use lib.ListN.{length, getD}
 use Rattle.laws.specs.Each.{Both, both-at, both-length}
 use Rattle.numbers.specs.Limits.{maxBytes, maxRate, maxStreams}
 use Rattle.numbers.specs.Units.{parts}
+use Rattle.pacing.specs.Streams.{overhead}
 use Rattle.rules.specs.Scheduler.{Slot, freeSlot, at, leads, lowWater, started, entries, bound}
 use Rattle.rules.specs.Order.{Begun, eldestLead, served, byPlace}
 use Rattle.rules.specs.Calls.{accepted}
@@ -24,10 +25,10 @@ use Rattle.turns.specs.Turns.{leastHeld, started-leads}
 use Rattle.turns.specs.ArrayLaws.{length-slots, slot-at, kinds-of-slots}
 use Rattle.desk.specs.declared.Desk.{Desk}
 use Rattle.desk.specs.declared.Fetches.{Fetches}
-use Rattle.desk.specs.Shown.{Gathered, Slots, OfNext, Gathers}
-use Rattle.desk.specs.Desk.{supplyOf, slotsIn, viewOf, deskOf, verdict, fetchesOf}
+use Rattle.desk.specs.Shown.{Gathered, Slots, OfNext, othersBy, Gathers}
+use Rattle.desk.specs.Desk.{visitsIn, supplyOf, slotsIn, viewOf, deskOf, verdict, fetchesOf}
 use Rattle.desk.specs.View.{Wide}
-use Rattle.desk.specs.Ready.{Ready, ready-slots, room-left}
+use Rattle.desk.specs.Ready.{Ready, overheads-are, ready-slots, room-left}
 use Rattle.desk.specs.Slots.{length-in, slot-in}
 use Rattle.floor.specs.Floor.{mostLead, ample, mark-is}
 use Rattle.floor.specs.Sources.{leadsIn}
@@ -143,25 +144,28 @@ module _ (d : Desk) (w : Wide d) (r : Ready d) (ks qs : List ℕ) (q : Served d 
   slots-begun : Slots (supplyOf (d .plan)) (d .plan .streams) ks (d .next) (d .held)
   slots-begun = slots-kept d w r ks _ (q .slots) (begun-kept d r)
 
-  module _ (g : Gathered) (u : Gathers (supplyOf (d .plan)) (d .kinds) (d .next) g) where
+  -- v is the visits of a block as they were read
+  module _ (g : Gathered) (u : Gathers (supplyOf (d .plan)) (visitsIn (d .plan)) (d .kinds) (d .next) g) (v : ℕ) (seen : v ≡ visitsIn (d .plan)) where
     -- what the sweep bound and the list of fetches are told
-    pub timed-begun : Timed (supplyOf (d .plan)) (d .plan .streams) (d .plan .buffer - d .plan .figures .bytes) (d .plan .figures .table)
+    pub timed-begun : Timed (supplyOf (d .plan)) (d .plan .streams) (d .plan .buffer - d .plan .figures .bytes) v (d .plan .figures .table)
         ks (d .next) (d .held) (g .times)
     unfolding supplyOf
     timed-begun = record {
       slots = slots-begun;
       times = gathered-kept d w r ks _ (q .slots) (begun-kept d r) (supplyOf (d .plan) .time) (g .times) (u .times);
       spare = room-left d r;
-      moves = λ k. refl;
+      moves = λ k. overheads-are d k ∙ ap (λ (n : ℕ). overhead (d .plan .figures .table) (n * k)) (sym seen);
     }
 
-    pub positioned-begun : Positioned (supplyOf (d .plan)) (d .plan .streams) (d .plan .buffer - d .plan .figures .bytes) ks (d .next) (d .held) (g .positions)
+    pub positioned-begun : Positioned (supplyOf (d .plan)) (d .plan .streams) (d .plan .buffer - d .plan .figures .bytes) v ks (d .next)
+        (d .held) (g .positions) (g .others)
     unfolding supplyOf
     positioned-begun = record {
       slots = slots-begun;
       positions = gathered-kept d w r ks _ (q .slots) (begun-kept d r) (supplyOf (d .plan) .position) (g .positions) (u .positions);
+      others = λ i l a b. let k = before d w r ks _ (q .slots) (begun-kept d r) i a b in
+          u .others i l (k .0) (k .1) ∙ ap (λ (n : ℕ). othersBy n (getD (g .others) i 0)) (sym seen);
       spare = room-left d r;
-      alone = λ b. refl;
       own = λ b. refl;
     }
 

@@ -5,7 +5,7 @@ use mathlib.Core.Path.{_≡_}
 use mathlib.Core.List.{List}
 use Rattle.rules.specs.Arrays.{slotsOf}
 use Rattle.desk.specs.declared.Desk.{Desk}
-use Rattle.desk.specs.Desk.{supplyOf}
+use Rattle.desk.specs.Desk.{visitsIn, supplyOf}
 use Rattle.desk.specs.View.{Wide}
 use Rattle.desk.specs.Shown.{Gathers, InRange}
 use Rattle.desk.specs.Ready.{Ready}
@@ -30,10 +30,10 @@ pub record Served (d : Desk) (ks qs : List ℕ) : Type 0 where
   pub slots : slotsOf (supplyOf (d .plan)) ks (d .next) (d .held) ≡ servedIn d .slots
   pub places : qs ≡ servedIn d .queue
 
--- a record that is ready, and what was gathered for its slots: times ts, positions ps, and the sum of the leads
-pub record Begins (d : Desk) (ts ps : List ℕ) (sum : ℕ) : Type 0 where
+-- a record that is ready, and what was gathered for its slots: times ts, positions ps and second ones os, and the sum of the leads
+pub record Begins (d : Desk) (ts ps os : List ℕ) (sum : ℕ) : Type 0 where
   pub wide : Wide d
   pub ready : Ready d
-  pub gathers : Gathers (supplyOf (d .plan)) (d .kinds) (d .next) (record { times = ts; positions = ps })
-  pub range : InRange (record { times = ts; positions = ps })
+  pub gathers : Gathers (supplyOf (d .plan)) (visitsIn (d .plan)) (d .kinds) (d .next) (record { times = ts; positions = ps; others = os })
+  pub range : InRange (record { times = ts; positions = ps; others = os })
   pub leads : LeadsIn d ts sum

@@ -12,6 +12,7 @@ use desk_columns::bytes_in;
 use desk_columns::overheads;
 use desk_columns::rate_in;
 use desk_columns::streams_in;
+use desk_columns::visits_in;
 use desk_columns::worst2_in;
 use desk_record::string_of;
 use ends::end_slots;
@@ -93,17 +94,19 @@ fn serve<'a>(
 }
 
 // A begin of the desk in a lent string: filling slots start to play, asked slots are granted, and the sweep's fetches are listed. The arrays
-// are what was gathered for the slots: times and positions of their next blocks; `sum` is what the leads of filling and playing slots add
-// up to.
+// are what was gathered for the slots: times and positions of their next blocks, second ones in `others`; `sum` is what the leads of filling
+// and playing slots add up to.
 pub fn begin_sweep<'a>(
     desk: &[u8],
     times: &'a [u32; 256],
     positions: &'a [u32; 256],
+    others: &'a [u32; 256],
     sum: u32,
 ) -> Swept
-    requires { ⌜ (deskSize ≤ length (now desk)) × Begins (deskIn (wordsOf (now desk))) (now times) (now positions) sum ⌝ }
+    requires { ⌜ (deskSize ≤ length (now desk)) × Begins (deskIn (wordsOf (now desk))) (now times) (now positions) (now others) sum ⌝ }
     ensures { λ r. ⌜ r ≡ sweptOf (begunDesk (deskIn (wordsOf (now (desk .entry))))) ⌝ }
 {
+    let visits = visits_in(desk);
     let streams = streams_in(desk) as usize;
     let room = buffer_in(desk) - bytes_in(desk);
     let table = overheads(desk);
@@ -112,8 +115,17 @@ pub fn begin_sweep<'a>(
     let mut kinds = all_kinds(desk);
     let mut places = all_places(desk);
     serve(desk, &held, times, sum, &mut kinds, &mut places);
-    let bound = sweep_bound(&kinds, &held, times, streams, room, &table);
-    let fetches = list_fetches(&kinds, &next, &held, positions, streams, room);
+    let bound = sweep_bound(&kinds, &held, times, streams, room, visits, &table);
+    let fetches = list_fetches(
+        &kinds,
+        &next,
+        &held,
+        positions,
+        others,
+        streams,
+        room,
+        visits,
+    );
     Swept {
         verdict: Verdict {
             number: ACCEPTED,

@@ -1,5 +1,5 @@
 -- What the desk's calls answer, in document 01's words, without the functions that find it.
-use Prim.Native.Nat.{ℕ, _+_, _≤_, _<_}
+use Prim.Native.Nat.{ℕ, _+_, _*_, _≤_, _<_}
 use mathlib.Core.Path.{_≡_}
 use mathlib.Core.Logic.{_⊎_}
 use mathlib.Core.List.{List}
@@ -11,7 +11,7 @@ use Rattle.plan.specs.declared.Plan.{Plan}
 use Rattle.plan.specs.Plan.{showingIn, positionOf}
 use Rattle.rules.specs.Scheduler.{Entry, at, mostDrawn, drawLimit}
 use Rattle.desk.specs.declared.Desk.{Desk}
-use Rattle.desk.specs.Desk.{supplyOf, slotsIn, freshDesk, openDesk}
+use Rattle.desk.specs.Desk.{visitsIn, supplyOf, slotsIn, freshDesk, openDesk}
 
 -- ---- an opening
 
@@ -32,15 +32,20 @@ blankEntry = record { position = 0; slot = 0; block = 0 }
 abbrev pub entryAt : List Entry → ℕ → Entry
 entryAt es k = getD es k blankEntry
 
+-- where visit v to block b goes: a block is visited once, and two halves of it are where the plan says so (T11)
+abbrev pub placeOf : Plan → ℕ → ℕ → ℕ
+placeOf p b v = positionOf (showingIn p) (p .figures) (visitsIn p * b + v)
+
 -- D9, D10: d is the desk that a begin left, es are the entries that it answered
 pub record Fetched (d : Desk) (es : List Entry) : Type 0 where
-  -- each such slot has an entry
-  pub each : (i : ℕ) → NeedsBlock d i → (k : ℕ) × (k < length es) × (entryAt es k .slot ≡ i)
-  -- no other has: an entry names such a slot, its next block and where that is laid
+  -- each such slot has an entry for each visit to its next block
+  pub each : (i : ℕ) → NeedsBlock d i → (v : ℕ) → v < visitsIn (d .plan)
+      → (k : ℕ) × (k < length es) × (entryAt es k .slot ≡ i) × (entryAt es k .position ≡ placeOf (d .plan) (getD (d .next) i 0) v)
+  -- no other has: an entry names such a slot, its next block and where a visit to that goes
   pub only : (k : ℕ) → k < length es
       → NeedsBlock d (entryAt es k .slot) × (entryAt es k .block ≡ getD (d .next) (entryAt es k .slot) 0)
-      × (entryAt es k .position ≡ positionOf (showingIn (d .plan)) (d .plan .figures) (entryAt es k .block))
-  -- by rising position, then slot; so no slot has two
+      × ((v : ℕ) × (v < visitsIn (d .plan)) × (entryAt es k .position ≡ placeOf (d .plan) (entryAt es k .block) v))
+  -- by rising position, then slot; so no slot has two at one position
   pub order : (j k : ℕ) → j < k → k < length es
       → (entryAt es j .position < entryAt es k .position) ⊎ ((entryAt es j .position ≡ entryAt es k .position) × (entryAt es j .slot < entryAt es k .slot))
 

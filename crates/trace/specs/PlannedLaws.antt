@@ -15,8 +15,8 @@ use Rattle.card.specs.declared.CardRead.{CardRead}
 use Rattle.card.specs.Card.{Legal, judgeRecord}
 use Rattle.card.specs.Read.{readCard}
 use Rattle.legality.specs.Legality.{Wide, fault-legal}
-use Rattle.placement.specs.Showing.{Showing}
-use Rattle.plan.specs.Plan.{streamsOf, planOf, positionsOf, leadsOf}
+use Rattle.placement.specs.Showing.{Showing, visitsOf}
+use Rattle.plan.specs.Plan.{entriesOf, streamsOf, planOf, positionsOf, leadsOf}
 use Rattle.plan.specs.Answer.{planFault, faultAfter, refusal, answer, filled, planned, positionsAfter, leadsAfter, judged}
 use Rattle.plan.specs.Check.{plan-passes}
 use Rattle.round_trip.specs.RoundTrip.{card-legal}
@@ -46,20 +46,20 @@ lists-kept x r ps ls h =
     (list-kept x r ps (positionsOf x (r .figures)) j k h, list-kept x r ls (leadsOf x (r .figures)) j k h)
 
 -- neither 13 nor 12
-pub fault-none : (x : Showing) (f : Figures) (np nl : ℕ) → planFault x f np nl ≡ 0 → (f .blocks ≤ np) × (f .blocks ≤ nl) × (0 < streamsOf x f)
+pub fault-none : (x : Showing) (f : Figures) (np nl : ℕ) → planFault x f np nl ≡ 0 → (entriesOf x f ≤ np) × (f .blocks ≤ nl) × (0 < streamsOf x f)
 unfolding planFault
-fault-none x f np nl e = go (ltb np (f .blocks)) refl (ltb nl (f .blocks)) refl (eqb (streamsOf x f) 0) refl e
+fault-none x f np nl e = go (ltb np (entriesOf x f)) refl (ltb nl (f .blocks)) refl (eqb (streamsOf x f) 0) refl e
   where
-    go : (s : Bool) → ltb np (f .blocks) ≡ s → (t : Bool) → ltb nl (f .blocks) ≡ t → (u : Bool) → eqb (streamsOf x f) 0 ≡ u
-        → _≡_ {A = ℕ} (cond (s || t) tooShort (cond u noStream 0)) 0 → (f .blocks ≤ np) × (f .blocks ≤ nl) × (0 < streamsOf x f)
+    go : (s : Bool) → ltb np (entriesOf x f) ≡ s → (t : Bool) → ltb nl (f .blocks) ≡ t → (u : Bool) → eqb (streamsOf x f) 0 ≡ u
+        → _≡_ {A = ℕ} (cond (s || t) tooShort (cond u noStream 0)) 0 → (entriesOf x f ≤ np) × (f .blocks ≤ nl) × (0 < streamsOf x f)
     go true a t b u c e = absurd (omega arith)
     go false a true b u c e = absurd (omega arith)
     go false a false b true c e = absurd (omega arith)
     go false a false b false c e =
-        (ltb-false np (f .blocks) a, ltb-false nl (f .blocks) b, omega (arith, eqb-false (streamsOf x f) 0 c))
+        (ltb-false np (entriesOf x f) a, ltb-false nl (f .blocks) b, omega (arith, eqb-false (streamsOf x f) 0 c))
 
 -- the plan of legal figures, with the lists in which it was written
-pub plan-opens : (x : Showing) (f : Figures) → Legal f → (ps ls : List ℕ) → planFault x f (length (wordsOf ps)) (length (wordsOf ls)) ≡ 0
+pub plan-opens : (x : Showing) (f : Figures) → Legal (visitsOf x) f → (ps ls : List ℕ) → planFault x f (length (wordsOf ps)) (length (wordsOf ls)) ≡ 0
     → Opens (planOf x f) (withWords ps 0 (positionsOf x f)) (withWords ls 0 (leadsOf x f))
 unfolding openDesk
 plan-opens x f ok ps ls e =
@@ -67,18 +67,18 @@ plan-opens x f ok ps ls e =
     rw (plan-passes x f ok fed ps ls lp ll) (refl, refl)
 
 module _ (x : Showing) (r : CardRead) (ps ls : List ℕ) (e : planned x r ps ls .verdict .number ≡ 0) where
-  legal-opens : (r .verdict .number ≡ 0 → Legal (r .figures)) → Opens (planned x r ps ls .plan) (positionsAfter x r ps ls) (leadsAfter x r ps ls)
+  legal-opens : (r .verdict .number ≡ 0 → Legal (visitsOf x) (r .figures)) → Opens (planned x r ps ls .plan) (positionsAfter x r ps ls) (leadsAfter x r ps ls)
   unfolding planned positionsAfter leadsAfter
   legal-opens legal =
       let (j, k, p) = accepted-told x r (r .verdict .number) (faultAfter x r ps ls) e in
       rw (p, j, k) (plan-opens x (r .figures) (legal j) ps ls k)
 
 -- A CARD that was planned, and A RECORD
-pub card-opens : (x : Showing) (s ps ls : List ℕ) → Bytes s → planned x (readCard s) ps ls .verdict .number ≡ 0
-    → Opens (planned x (readCard s) ps ls .plan) (positionsAfter x (readCard s) ps ls) (leadsAfter x (readCard s) ps ls)
-card-opens x s ps ls y e = legal-opens x (readCard s) ps ls e (card-legal s y (readCard s) refl)
+pub card-opens : (x : Showing) (s ps ls : List ℕ) → Bytes s → (let r = readCard (visitsOf x) s in planned x r ps ls .verdict .number ≡ 0
+    → Opens (planned x r ps ls .plan) (positionsAfter x r ps ls) (leadsAfter x r ps ls))
+card-opens x s ps ls y e = let k = visitsOf x in legal-opens x (readCard k s) ps ls e (card-legal k s y (readCard k s) refl)
 
-pub record-opens : (x : Showing) (f : Figures) (ps ls : List ℕ) → Wide f → planned x (judged f) ps ls .verdict .number ≡ 0
-    → Opens (planned x (judged f) ps ls .plan) (positionsAfter x (judged f) ps ls) (leadsAfter x (judged f) ps ls)
+pub record-opens : (x : Showing) (f : Figures) (ps ls : List ℕ) → Wide f → (let r = judged (visitsOf x) f in planned x r ps ls .verdict .number ≡ 0
+    → Opens (planned x r ps ls .plan) (positionsAfter x r ps ls) (leadsAfter x r ps ls))
 unfolding judged judgeRecord
-record-opens x f ps ls w e = legal-opens x (judged f) ps ls e (fault-legal f w)
+record-opens x f ps ls w e = legal-opens x (judged (visitsOf x) f) ps ls e (fault-legal (visitsOf x) f w)

@@ -16,10 +16,10 @@ use Rattle.card.specs.declared.Figures.{Figures}
 use Rattle.card.specs.declared.CardRead.{CardRead}
 use Rattle.card.specs.Card.{Legal}
 use Rattle.legality.specs.Legality.{Wide}
-use Rattle.placement.specs.Showing.{Showing}
+use Rattle.placement.specs.Showing.{Showing, visitsOf}
 use Rattle.plan.specs.declared.Plan.{Plan}
 use Rattle.plan.specs.declared.Planned.{Planned}
-use Rattle.plan.specs.Plan.{streamsOf, planOf, positionsOf, leadsOf}
+use Rattle.plan.specs.Plan.{entriesOf, streamsOf, planOf, positionsOf, leadsOf}
 use Rattle.plan.specs.Answer.{planFault, faultAfter, refusal, answer, filled, planned, positionsAfter, hasNumbers, hasPositions, hasLeads, isPlan}
 use Rattle.plan.specs.Scratch.{scratchShort, scratchLeads, plannedScratch, positionsScratch}
 use Rattle.plan.specs.ScratchLaws.{scratch-short, scratch-long, short-leads-none, long-leads-all, own-leads}
@@ -71,7 +71,7 @@ module _ (x : Showing) (r : CardRead) (ps s : List ℕ) where
   module _ (h : length (wordsOf s) < scratchLength) (some : 0 < r .figures .blocks) where
     pub short-fault : faultAfter x r ps (scratchLeads x (r .figures) s) ≡ tooShort
     unfolding planFault
-    short-fault = go (ltb (length (wordsOf ps)) (r .figures .blocks))
+    short-fault = go (ltb (length (wordsOf ps)) (entriesOf x (r .figures)))
       where
         none : ltb (length (wordsOf (scratchLeads x (r .figures) s))) (r .figures .blocks) ≡ true
         none = lt-ltb _ (r .figures .blocks) (omega (arith, short-leads-none x (r .figures) s (scratch-short s h)))
@@ -188,7 +188,7 @@ scratch-fetches-kept d ps s room F n = go (scratchShort s) n
 
 -- ---- what the planner leaves is opened with a scratch t
 
-plan-opens-scratch : (x : Showing) (f : Figures) → Legal f → (ps ls t : List ℕ) → planFault x f (length (wordsOf ps)) (length (wordsOf ls)) ≡ 0
+plan-opens-scratch : (x : Showing) (f : Figures) → Legal (visitsOf x) f → (ps ls t : List ℕ) → planFault x f (length (wordsOf ps)) (length (wordsOf ls)) ≡ 0
     → scratchLength ≤ length (wordsOf t) → (let a = openScratch (planOf x f) (withWords ps 0 (positionsOf x f)) t in
     (a .verdict .number ≡ 0) × (a .desk ≡ freshDesk (planOf x f)))
 unfolding isPlan planOf
@@ -199,7 +199,7 @@ plan-opens-scratch x f ok ps ls t e long =
     let full = and-right (hasPositions (planOf x f) qs) _ (and-right (hasNumbers (planOf x f)) _ (plan-passes x f ok fed ps ls lp ll)) in
     rw (same-opened (planOf x f) qs ms t (ok .wide) long full) (plan-opens x f ok ps ls e)
 
-pub scratch-opens : (x : Showing) (r : CardRead) (ps s t : List ℕ) → (r .verdict .number ≡ 0 → Legal (r .figures))
+pub scratch-opens : (x : Showing) (r : CardRead) (ps s t : List ℕ) → (r .verdict .number ≡ 0 → Legal (visitsOf x) (r .figures))
     → plannedScratch x r ps s .verdict .number ≡ 0 → scratchLength ≤ length (wordsOf t)
     → (let p = plannedScratch x r ps s .plan in let a = openScratch p (positionsScratch x r ps s) t in (a .verdict .number ≡ 0) × (a .desk ≡ freshDesk p))
 unfolding plannedScratch positionsScratch planned positionsAfter

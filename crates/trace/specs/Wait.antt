@@ -7,7 +7,7 @@ use lib.ListN.{getD}
 use Rattle.laws.specs.Bools.{bit}
 use Rattle.numbers.specs.Slots.{waiting, filling}
 use Rattle.plan.specs.declared.Plan.{Plan}
-use Rattle.plan.specs.Plan.{overOf}
+use Rattle.plan.specs.Plan.{showingIn, overOf}
 use Rattle.rules.specs.Scheduler.{join, begin}
 use Rattle.rules.specs.Calls.{isAccepted, isEndCall}
 use Rattle.trace.specs.Safe.{Seen}
@@ -17,7 +17,7 @@ use Rattle.trace.specs.Safe.{Seen}
 module _ (p : Plan) where
   -- worst2 + twice the difference between the overhead for n blocks and that for n − 1
   unfoldable pub sweepGain : ℕ
-  sweepGain = p .worst2 + 2 * (overOf (p .figures) (p .streams) - overOf (p .figures) (p .streams - 1))
+  sweepGain = p .worst2 + 2 * (overOf (showingIn p) (p .figures) (p .streams) - overOf (showingIn p) (p .figures) (p .streams - 1))
 
   -- G is the least number with G times that at least margin
   pub record IsLeast (G : ℕ) : Type 0 where

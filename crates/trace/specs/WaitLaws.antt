@@ -12,7 +12,7 @@ use Rattle.numbers.specs.Slots.{waiting}
 use Rattle.card.specs.declared.Figures.{Figures}
 use Rattle.card.specs.Card.{Legal}
 use Rattle.legality.specs.Legality.{Wide}
-use Rattle.placement.specs.Showing.{Showing}
+use Rattle.placement.specs.Showing.{Showing, visitsOf}
 use Rattle.plan.specs.declared.Plan.{Plan}
 use Rattle.plan.specs.Plan.{showingIn, worst2Of, planOf}
 use Rattle.plan.specs.Answer.{isPlan}
@@ -156,7 +156,7 @@ least-within p h = record { enough = enough (p .margin) (sweepGain p) h; least =
     least m g zero u = omega arith
     least m g (suc H) u = omega arith
 
-pub planned-least : (x : Showing) (f : Figures) → Legal f → IsLeast (planOf x f) (min 1 (planOf x f .margin))
+pub planned-least : (x : Showing) (f : Figures) → Legal (visitsOf x) f → IsLeast (planOf x f) (min 1 (planOf x f .margin))
 unfolding planOf sweepGain
 planned-least x f ok = least-within (planOf x f) (omega (arith, margin-less x f ok))
 

@@ -13,7 +13,7 @@ ghost use Rattle.card.specs.declared.CardRead.{CardRead};
 ghost use Rattle.card.specs.Card.{Legal};
 ghost use Rattle.card.specs.Read.{readCard};
 ghost use Rattle.legality.specs.Legality.{Wide};
-ghost use Rattle.placement.specs.Showing.{Showing};
+ghost use Rattle.placement.specs.Showing.{Showing, visitsOf};
 ghost use Rattle.pacing.specs.Film.{Film, Paced};
 ghost use Rattle.plan.specs.declared.Plan.{Plan};
 ghost use Rattle.plan.specs.Plan.{planOf};
@@ -37,7 +37,7 @@ ghost use Rattle.trace.specs.Safe.{Safe, onRecord};
 ghost use Rattle.trace.specs.Wait.{IsLeast, InTime, InAskingOrder};
 ghost use Rattle.trace.specs.ScratchLaws.{EqualTo, RefusedFor};
 
-// From an accepted opening of either showing's plan every list of joins, leaves, begins and ends is safe, refused calls included. (Wide: the
+// From an accepted opening of a plan of any showing every list of joins, leaves, begins and ends is safe, refused calls included. (Wide: the
 // record has 64 zone entries, as a value of its type has.)
 pub fn every_list_safe()
     ensures { λ _. ⌜ ((p : Plan) (positions leads : List ℕ) → Wide (p .figures) → openDesk p positions leads .verdict .number ≡ 0
@@ -56,15 +56,15 @@ pub fn request_is_granted_in_time()
         → (G : ℕ) → IsLeast p G → InTime (onRecord p) G) ⌝ }
 {}
 
-// That G is 1, or 0 where there is no margin: in every plan of legal figures, of either showing, and so in every plan that is opened.
+// That G is 1, or 0 where there is no margin: in every plan of legal figures, of every showing, and so in every plan that is opened.
 pub fn wait_is_at_most_one_sweep()
-    ensures planned { λ _. ⌜ ((x : Showing) (f : Figures) → Legal f → IsLeast (planOf x f) (min 1 (planOf x f .margin))) ⌝ }
+    ensures planned { λ _. ⌜ ((x : Showing) (f : Figures) → Legal (visitsOf x) f → IsLeast (planOf x f) (min 1 (planOf x f .margin))) ⌝ }
     ensures opened { λ _. ⌜ ((p : Plan) (ps ls : List ℕ) → Wide (p .figures) → openDesk p ps ls .verdict .number ≡ 0 → IsLeast p (min 1 (p .margin))) ⌝ }
 {}
 
 // The facts on floors are of any film whose successive pairs stay within a worst time, with rates within the formulas of streams, margin and
-// buffer: what the desk is told of it keeps the planner's promise, and every list of calls under the rules is safe. A film shown once and one
-// that goes round are two of them.
+// buffer: what the desk is told of it keeps the planner's promise, and every list of calls under the rules is safe. A film shown once, one
+// that goes round and one of half blocks are three of them.
 pub fn paced_film_is_safe()
     ensures lawful { λ _. ⌜ ((film : Film ℕ) (w m : ℕ) (r : Rates) → Paced film w m → Rated film w r m → Lawful (supplied film w r)) ⌝ }
     ensures safe { λ _. ⌜ ((film : Film ℕ) (w m : ℕ) (r : Rates) → Paced film w m → Rated film w r m → Named (supplied film w r) → (gs : List (Given ℕ))
@@ -77,18 +77,19 @@ pub fn accepted_call_stays_sound()
         → sound (supplyOf (d .plan)) (orderOf (d .plan)) (viewOf (called d x .desk)) ≡ true) ⌝ }
 {}
 
-// What the planner leaves can be opened, in either showing: of an accepted card, and of an accepted record. With a scratch, opened with one.
+// What the planner leaves can be opened, in every showing: of an accepted card, and of an accepted record. With a scratch, opened with one.
 pub fn planned_film_opens()
-    ensures card { λ _. ⌜ ((x : Showing) (s ps ls : List ℕ) → Bytes s → planned x (readCard s) ps ls .verdict .number ≡ 0
-        → Opens (planned x (readCard s) ps ls .plan) (positionsAfter x (readCard s) ps ls) (leadsAfter x (readCard s) ps ls)) ⌝ }
-    ensures record { λ _. ⌜ ((x : Showing) (f : Figures) (ps ls : List ℕ) → Wide f → planned x (judged f) ps ls .verdict .number ≡ 0
-        → Opens (planned x (judged f) ps ls .plan) (positionsAfter x (judged f) ps ls) (leadsAfter x (judged f) ps ls)) ⌝ }
-    ensures scratch { λ _. ⌜ ((x : Showing) (r : CardRead) (ps s t : List ℕ) → (r .verdict .number ≡ 0 → Legal (r .figures))
+    ensures card { λ _. ⌜ ((x : Showing) (s ps ls : List ℕ) → Bytes s → (let c = readCard (visitsOf x) s in planned x c ps ls .verdict .number ≡ 0
+        → Opens (planned x c ps ls .plan) (positionsAfter x c ps ls) (leadsAfter x c ps ls))) ⌝ }
+    ensures record { λ _. ⌜ ((x : Showing) (f : Figures) (ps ls : List ℕ) → Wide f → (let r = judged (visitsOf x) f in planned x r ps ls .verdict .number ≡ 0
+        → Opens (planned x r ps ls .plan) (positionsAfter x r ps ls) (leadsAfter x r ps ls))) ⌝ }
+    ensures scratch { λ _. ⌜ ((x : Showing) (r : CardRead) (ps s t : List ℕ) → (r .verdict .number ≡ 0 → Legal (visitsOf x) (r .figures))
         → plannedScratch x r ps s .verdict .number ≡ 0 → scratchLength ≤ length (wordsOf t) → (let p = plannedScratch x r ps s .plan in
         let a = openScratch p (positionsScratch x r ps s) t in (a .verdict .number ≡ 0) × (a .desk ≡ freshDesk p))) ⌝ }
 {}
 
-// An accepted begin fetches one block for each filling or playing slot with room and no other, by rising position, then slot.
+// An accepted begin fetches one block for each filling or playing slot with room and no other, with an entry for each visit to it, by rising
+// position, then slot.
 pub fn fetches_are_whole()
     ensures { λ _. ⌜ ((d : Desk) (positions leads : List ℕ) (room : ℕ) → beginDesk d positions leads room .verdict .number ≡ 0
         → Fetched (beginDesk d positions leads room .desk) (entriesIn (beginDesk d positions leads room .fetches))) ⌝ }
@@ -103,7 +104,7 @@ pub fn refused_draw_is_the_lowest()
 {}
 
 // A refused call leaves all that it was given. A join, leave, begin or end answers the very desk, and no entries; a begin leaves the byte
-// string that is lent for its fetches (a list of entries: crate fetch_list); a planner call leaves both lists, in either showing. With a
+// string that is lent for its fetches (a list of entries: crate fetch_list); a planner call leaves both lists, in every showing. With a
 // scratch the same.
 pub fn refused_call_leaves_all()
     ensures desk { λ _. ⌜ ((d : Desk) (x : Lent) → WideDesk d → (called d x .number ≡ 0 → ⊥) → (called d x .desk ≡ d) × (called d x .entries ≡ [])) ⌝ }

@@ -1,4 +1,4 @@
--- The answers of the second planner for either showing (document 02, ticket 12).
+-- The answers of the second planner for one showing and for a loop (document 02, ticket 12).
 use Prim.Native.Nat.{ℕ, zero, suc, _≤_}
 use mathlib.Core.Path.{_≡_}
 use mathlib.Core.Bool.{cond}
@@ -11,7 +11,7 @@ use Rattle.words.specs.Words.{wordsOf}
 use Rattle.card.specs.declared.Figures.{Figures}
 use Rattle.card.specs.declared.CardRead.{CardRead}
 use Rattle.placement.specs.Showing.{Showing}
-use Rattle.pacing.specs.Streams.{streams}
+use Rattle.pacing.specs.Streams.{streams, capOf}
 use Rattle.plan.specs.Plan.{overOf}
 use Rattle.plan.specs.Answer.{planned}
 use Rattle.layings.specs.Layings.{leastOf, countOf}
@@ -20,7 +20,7 @@ use Rattle.try_all.specs.declared.Tried.{Tried}
 -- after the figures are accepted: 29 where the film has over 8 blocks, in 13's place (T12.4), then 12 where by the formula of streams, with the
 -- smallest worst2 in it, not even one stream fits
 unfoldable pub triedFault : Showing → Figures → ℕ
-triedFault x f = cond (ltb maxTried (f .blocks)) filmTooLong (cond (eqb (streams (f .rate) (leastOf x f) (overOf f) (f .bytes)) 0) noStream 0)
+triedFault x f = cond (ltb maxTried (f .blocks)) filmTooLong (cond (eqb (streams (capOf x) (f .rate) (leastOf x f) (overOf x f) (f .bytes)) 0) noStream 0)
 
 -- a refusal; both figures are 0
 unfoldable pub notTried : ℕ → ℕ → Tried

@@ -1,20 +1,21 @@
 -- Each way that the second planner can answer, and that it answers as the planner does.
 -- Assumes nothing.
-use Prim.Native.Nat.{ℕ, zero, suc, _≤_, _<_}
-use mathlib.Core.Path.{_≡_, refl, ap, ap₂, _∙_}
+use Prim.Native.Nat.{ℕ, zero, suc, _*_, _/_, _≤_, _<_}
+use mathlib.Core.Path.{_≡_, refl, sym, ap, ap₂, _∙_, subst}
 use mathlib.Core.List.{List, map}
 use native.Mathlib.Omega.{arith}
 use lib.ListN.{length, take}
 use borrow.Author.Tests.{lt-ltb, le-ltb, eq-eqb, ne-eqb}
-use Rattle.numbers.specs.Limits.{maxTried}
+use Rattle.numbers.specs.Limits.{maxTime, maxTried, maxStreams}
 use Rattle.numbers.specs.Refusals.{noStream}
 use Rattle.words.specs.Words.{wordsOf}
 use Rattle.card.specs.declared.Figures.{Figures}
 use Rattle.card.specs.declared.CardRead.{CardRead}
 use Rattle.card.specs.Card.{Legal, totalPositions}
-use Rattle.placement.specs.Showing.{Showing}
-use Rattle.pacing.specs.Streams.{streams}
-use Rattle.plan.specs.Plan.{timeOn, overOf, streamsOf, planOf, blankPlan}
+use Rattle.placement.specs.Showing.{Showing, one, loop, pairs, visitsOf}
+use Rattle.pacing.specs.Streams.{overhead, streams, capOf}
+use Rattle.plan.specs.Plan.{timeOn, entriesOf, overOf, streamsOf, planOf, blankPlan}
+use Rattle.plan.specs.Legal.{worst2-small}
 use Rattle.plan.specs.Answer.{planFault, faultAfter, refusal, answer, planned}
 use Rattle.layings.specs.Layings.{filmPositions, smallest, howMany, timesTried, leastOf, countOf}
 use Rattle.layings.specs.Times.{least-is-planned, ordersTried, orders-are}
@@ -39,7 +40,7 @@ module _ (x : Showing) (r : CardRead) where
   module _ (e : r .verdict .number ≡ 0) (few : r .figures .blocks ≤ maxTried) (w : ℕ) (least : w ≡ leastOf x (r .figures)) where
     -- the streams, as the formula gives them
     abbrev fed : ℕ → ℕ
-    fed v = streams (r .figures .rate) v (overOf (r .figures)) (r .figures .bytes)
+    fed v = streams (capOf x) (r .figures .rate) v (overOf x (r .figures)) (r .figures .bytes)
 
     -- 12
     pub by-streams : fed w ≡ 0 → notTried noStream 0 ≡ tried x r
@@ -53,38 +54,56 @@ module _ (x : Showing) (r : CardRead) where
     by-none n d z = rw (e, le-ltb maxTried (r .figures .blocks) few, ne-eqb (fed (leastOf x (r .figures))) 0 (rw least at z))
         (λ i. record { verdict = record { number = 0; place = 0 }; worst2 = least i; count = d i })
 
+-- the streams of blocks that are visited once, as they are counted
+pub fed-once : (x : Showing) → visitsOf x ≡ 1 → (f : Figures) (w : ℕ)
+    → streams (maxStreams / 1) (f .rate) w (λ k. overhead (f .table) (1 * k)) (f .bytes) ≡ streams (capOf x) (f .rate) w (overOf x f) (f .bytes)
+fed-once one v f w = refl
+fed-once loop v f w = refl
+fed-once pairs v f w = absurd (omega arith)
+
+-- their worst2 is small
+pub least-small : (x : Showing) → visitsOf x ≡ 1 → (f : Figures) → Legal 1 f → leastOf x f ≤ 2 * (1 * maxTime)
+least-small x v f ok =
+    let small : leastOf x f ≤ 2 * (visitsOf x * maxTime) =
+    omega (arith, least-is-planned x v f ok, worst2-small x f (subst (λ (k : ℕ). Legal k f) (sym v) ok)) in
+    rw v at small
+
 -- what the search finds, from the times of the film's positions
-pub found-is : (x : Showing) (f : Figures) (times : List ℕ) (w n : ℕ) → take (f .blocks) times ≡ map (timeOn f) (filmPositions (totalPositions f) (f .blocks))
+pub found-is : (x : Showing) → visitsOf x ≡ 1 → (f : Figures) (times : List ℕ) (w n : ℕ)
+    → take (f .blocks) times ≡ map (timeOn f) (filmPositions (totalPositions f) (f .blocks))
     → w ≡ smallest (ordersTried x (f .blocks) (take (f .blocks) times)) → n ≡ howMany w (ordersTried x (f .blocks) (take (f .blocks) times))
     → (w ≡ leastOf x f) × (n ≡ countOf x f)
 unfolding leastOf countOf timesTried
-found-is x f times w n t e d =
-    let q = ap (ordersTried x (f .blocks)) t ∙ orders-are x (timeOn f) (totalPositions f) (f .blocks) in
+found-is x v f times w n t e d =
+    let q = ap (ordersTried x (f .blocks)) t ∙ orders-are x v (timeOn f) (totalPositions f) (f .blocks) in
     let u = e ∙ ap smallest q in
     (u, d ∙ ap₂ howMany u q)
 
 -- ---- both planners
 
 -- the same fault
-fault-same : (x : Showing) (f : Figures) (np nl : ℕ) → Legal f → f .blocks ≤ maxTried → f .blocks ≤ np → f .blocks ≤ nl → triedFault x f ≡ planFault x f np nl
+fault-same : (x : Showing) → visitsOf x ≡ 1 → (f : Figures) (np nl : ℕ) → Legal 1 f → f .blocks ≤ maxTried → f .blocks ≤ np → f .blocks ≤ nl
+    → triedFault x f ≡ planFault x f np nl
 unfolding triedFault planFault streamsOf
-fault-same x f np nl ok few p l = rw (le-ltb maxTried (f .blocks) few, le-ltb np (f .blocks) p, le-ltb nl (f .blocks) l, least-is-planned x f ok)
+fault-same x v f np nl ok few p l =
+    let entries : entriesOf x f ≡ f .blocks = rw v (omega arith) in
+    rw (le-ltb maxTried (f .blocks) few, entries, le-ltb np (f .blocks) p, le-ltb nl (f .blocks) l, least-is-planned x v f ok)
 
-pub same-answer : (x : Showing) (r : CardRead) → (r .verdict .number ≡ 0 → Legal (r .figures)) → SameAnswer x r
+pub same-answer : (x : Showing) → visitsOf x ≡ 1 → (r : CardRead) → (r .verdict .number ≡ 0 → Legal 1 (r .figures)) → SameAnswer x r
 unfolding tried planned
-same-answer x r legal ps ls few p l = go (r .verdict .number) (λ e. legal e)
+same-answer x v r legal ps ls few p l = go (r .verdict .number) (λ e. legal e)
   where
     f : Figures
     f = r .figures
 
     -- by the fault of figures that were accepted
-    by : (j : ℕ) → Legal f → (triedBy x 0 j r .verdict ≡ answer x 0 j r .verdict) × (triedBy x 0 j r .worst2 ≡ answer x 0 j r .plan .worst2)
-    by zero ok = (refl, least-is-planned x f ok ∙ (unfold planOf in refl))
+    by : (j : ℕ) → Legal 1 f → (triedBy x 0 j r .verdict ≡ answer x 0 j r .verdict) × (triedBy x 0 j r .worst2 ≡ answer x 0 j r .plan .worst2)
+    by zero ok = (refl, least-is-planned x v f ok ∙ (unfold planOf in refl))
     by (suc j) ok = (unfold notTried in unfold refusal in refl, unfold notTried in unfold refusal in unfold blankPlan in refl)
 
-    go : (k : ℕ) → (k ≡ 0 → Legal f)
+    go : (k : ℕ) → (k ≡ 0 → Legal 1 f)
         → (triedBy x k (triedFault x f) r .verdict ≡ answer x k (faultAfter x r ps ls) r .verdict)
         × (triedBy x k (triedFault x f) r .worst2 ≡ answer x k (faultAfter x r ps ls) r .plan .worst2)
-    go zero ok = rw (fault-same x f (length (wordsOf ps)) (length (wordsOf ls)) (ok refl) few p l)
+    go zero ok = rw (fault-same x v f (length (wordsOf ps)) (length (wordsOf ls)) (ok refl) few p l)
         (by (planFault x f (length (wordsOf ps)) (length (wordsOf ls))) (ok refl))
     go (suc k) ok = (unfold notTried in unfold refusal in refl, unfold notTried in unfold refusal in unfold blankPlan in refl)

@@ -21,8 +21,8 @@ ghost use Rattle.card.specs.declared.Figures.{Figures};
 ghost use Rattle.card.specs.Card.{Legal};
 ghost use Rattle.card.specs.Read.{readCard};
 ghost use Rattle.legality.specs.Legality.{Wide};
-ghost use Rattle.placement.specs.Showing.{Showing, one, loop};
-ghost use Rattle.plan.specs.Plan.{showingOf};
+ghost use Rattle.placement.specs.Showing.{Showing, one, loop, visitsOf};
+ghost use Rattle.plan.specs.Plan.{walkOf};
 ghost use Rattle.plan.specs.Answer.{judged};
 ghost use Rattle.try_all.specs.Answer.{notTried, tried, SameAnswer};
 
@@ -51,8 +51,8 @@ fn refused(number: u32, place: usize) -> Tried
 
 // Tries figures that were read or judged, in a showing: their refusal, else 29, then 12.
 fn try_figures(read: CardRead, showing: u32) -> Tried
-    requires { ⌜ (read .verdict .number ≡ 0 → Legal (read .figures)) ⌝ }
-    ensures { λ r. ⌜ r ≡ tried (showingOf showing) read ⌝ }
+    requires { ⌜ (read .verdict .number ≡ 0 → Legal 1 (read .figures)) ⌝ }
+    ensures { λ r. ⌜ r ≡ tried (walkOf showing) read ⌝ }
 {
     let verdict = read.verdict;
     if verdict.number != ACCEPTED {
@@ -63,7 +63,7 @@ fn try_figures(read: CardRead, showing: u32) -> Tried
         return refused(FILM_TOO_LONG, 0);
     }
     let found = try_layings(film_times(figures), figures.blocks, showing);
-    let streams = count_streams(figures.rate, found.least, &figures.table, figures.bytes);
+    let streams = count_streams(figures.rate, found.least, &figures.table, figures.bytes, 1);
     if streams == 0 {
         return refused(NO_STREAM, 0);
     }
@@ -79,28 +79,28 @@ fn try_figures(read: CardRead, showing: u32) -> Tried
 
 // Tries every laying of a card's film for one showing: 1 to 11, 25 and 26 as the reader gives them, then 29, then 12.
 pub fn try_card(card: &[u8]) -> Tried
-    ensures { λ r. ⌜ r ≡ tried one (readCard (now (card .entry))) ⌝ }
+    ensures { λ r. ⌜ r ≡ tried one (readCard 1 (now (card .entry))) ⌝ }
 {
     try_figures(card_reader::read_card(card), ONCE)
 }
 
 // The same for a loop.
 pub fn try_loop_card(card: &[u8]) -> Tried
-    ensures { λ r. ⌜ r ≡ tried loop (readCard (now (card .entry))) ⌝ }
+    ensures { λ r. ⌜ r ≡ tried loop (readCard 1 (now (card .entry))) ⌝ }
 {
     try_figures(card_reader::read_card(card), LOOP)
 }
 
 // Tries every laying of a record's film for one showing: 3 to 10, 25 and 26, then 29, then 12, place 0.
 pub fn try_record(figures: Figures) -> Tried
-    ensures { λ r. ⌜ r ≡ tried one (judged figures) ⌝ }
+    ensures { λ r. ⌜ r ≡ tried one (judged 1 figures) ⌝ }
 {
     try_figures(judged_figures(figures), ONCE)
 }
 
 // The same for a loop.
 pub fn try_loop_record(figures: Figures) -> Tried
-    ensures { λ r. ⌜ r ≡ tried loop (judged figures) ⌝ }
+    ensures { λ r. ⌜ r ≡ tried loop (judged 1 figures) ⌝ }
 {
     try_figures(judged_figures(figures), LOOP)
 }
@@ -108,6 +108,6 @@ pub fn try_loop_record(figures: Figures) -> Tried
 // Its worst2 is the planner's, for one showing and for a loop, of any card and any record: where the film has at most 8 blocks and the planner's
 // lists have room, both answer the same verdict too.
 pub fn both_planners_agree()
-    ensures cards { λ _. ⌜ ((x : Showing) (s : List ℕ) → Bytes s → SameAnswer x (readCard s)) ⌝ }
-    ensures records { λ _. ⌜ ((x : Showing) (f : Figures) → Wide f → SameAnswer x (judged f)) ⌝ }
+    ensures cards { λ _. ⌜ ((x : Showing) → visitsOf x ≡ 1 → (s : List ℕ) → Bytes s → SameAnswer x (readCard 1 s)) ⌝ }
+    ensures records { λ _. ⌜ ((x : Showing) → visitsOf x ≡ 1 → (f : Figures) → Wide f → SameAnswer x (judged 1 f)) ⌝ }
 {}

@@ -9,7 +9,7 @@ use lib.ListN.{length, getD, set, take, drop, length-set}
 use lib.Seq.{take-suc, drop-cons, drop-set-lt, drop-set-add, take-suc-set, take-set-le, getD-take, getD-drop}
 use Rattle.laws.specs.Each.{Each, each-set, each-at}
 use Rattle.numbers.specs.Limits.{maxTime, maxTried}
-use Rattle.placement.specs.Showing.{Showing}
+use Rattle.placement.specs.Showing.{Showing, visitsOf}
 use Rattle.layings.specs.Layings.{others, laid, worstIn}
 use Rattle.layings.specs.Numbered.{factorial, factorial-pos, factorial-down, numbered, pick-below, rest-below, numbered-take}
 use Rattle.layings.specs.Smallest.{Best}
@@ -109,10 +109,10 @@ ordering-last count number times row rest size next h o =
 -- ---- what a found order adds to those that were tried
 
 -- its worst time is the next of the list
-pub tried-at : (x : Showing) (N r : ℕ) (times row : List ℕ) → r < factorial N → take N row ≡ numbered N r times
+pub tried-at : (x : Showing) → visitsOf x ≡ 1 → (N r : ℕ) (times row : List ℕ) → r < factorial N → take N row ≡ numbered N r times
     → worstIn x (λ t. t) N row ≡ getD (ordersTried x N (take N times)) r 0
-tried-at x N r times row h e =
-    worst-same x (λ t. t) (λ t. t) (laid row) (laid (take N row)) N (λ b u. sym (getD-take N row b 0 u))
+tried-at x v N r times row h e =
+    worst-same x v (λ t. t) (λ t. t) (laid row) (laid (take N row)) N (λ b u. sym (getD-take N row b 0 u))
     ∙ ap (worstIn x (λ t. t) N) (e ∙ numbered-take N r times h)
     ∙ sym (orders-at x N r (take N times) h)
 

@@ -13,7 +13,7 @@ ghost use Prim.Native.Nat.{ℕ, _≤_, _<_};
 ghost use lib.ListN.{take};
 ghost use Rattle.laws.specs.Each.{Each};
 ghost use Rattle.numbers.specs.Limits.{maxNumber, maxTime, maxTried};
-ghost use Rattle.plan.specs.Plan.{showingOf};
+ghost use Rattle.plan.specs.Plan.{walkOf};
 ghost use Rattle.layings.specs.Layings.{smallest, howMany};
 ghost use Rattle.layings.specs.Smallest.{Best};
 ghost use Rattle.layings.specs.Times.{ordersTried};
@@ -44,11 +44,11 @@ fn met(found: Search, time: u32) -> Search
     }
 }
 
-// Tries every order of the first `blocks` times, as a film of so many blocks in a showing.
+// Tries every order of the first `blocks` times, as a film of so many blocks of one visit each, round and round where the showing is a loop.
 pub fn try_layings(times: [u32; 8], blocks: u32, showing: u32) -> Search
     requires { ⌜ (1 < blocks) × (blocks ≤ maxTried) × Each (λ (t : ℕ). t ≤ maxTime) times ⌝ }
-    ensures least { λ r. ⌜ r .least ≡ smallest (ordersTried (showingOf showing) blocks (take blocks times)) ⌝ }
-    ensures count { λ r. ⌜ r .count ≡ howMany (r .least) (ordersTried (showingOf showing) blocks (take blocks times)) ⌝ }
+    ensures least { λ r. ⌜ r .least ≡ smallest (ordersTried (walkOf showing) blocks (take blocks times)) ⌝ }
+    ensures count { λ r. ⌜ r .count ≡ howMany (r .least) (ordersTried (walkOf showing) blocks (take blocks times)) ⌝ }
 {
     let total = factorial(blocks);
     let mut found = Search {

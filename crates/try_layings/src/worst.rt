@@ -6,7 +6,7 @@ ghost use Rattle.laws.specs.Each.{Each};
 ghost use Rattle.numbers.specs.Limits.{maxTried, maxTime};
 ghost use Rattle.placement.specs.Circle.{round};
 ghost use Rattle.placement.specs.Showing.{pairsOf};
-ghost use Rattle.plan.specs.Plan.{showingOf};
+ghost use Rattle.plan.specs.Plan.{walkOf};
 ghost use Rattle.layings.specs.Layings.{worstIn};
 
 fn greater(a: u32, b: u32) -> u32
@@ -32,7 +32,7 @@ fn next_block(blocks: u32, b: u32) -> u32
 // How many pairs of successive blocks a film has: a loop one more.
 fn count_pairs(blocks: u32, showing: u32) -> u32
     requires { ⌜ 1 < blocks ⌝ }
-    ensures { λ r. ⌜ r ≡ pairsOf (showingOf showing) blocks ⌝ }
+    ensures { λ r. ⌜ r ≡ pairsOf (walkOf showing) blocks ⌝ }
 {
     if showing == LOOP {
         return blocks;
@@ -43,7 +43,7 @@ fn count_pairs(blocks: u32, showing: u32) -> u32
 // The worst time of two successive blocks; the row has each block's time.
 pub fn worst_of(row: [u32; 8], blocks: u32, showing: u32) -> u32
     requires { ⌜ (1 < blocks) × (blocks ≤ maxTried) × Each (λ (t : ℕ). t ≤ maxTime) row ⌝ }
-    ensures worst { λ r. ⌜ r ≡ worstIn (showingOf showing) (λ t. t) blocks row ⌝ }
+    ensures worst { λ r. ⌜ r ≡ worstIn (walkOf showing) (λ t. t) blocks row ⌝ }
     ensures small { λ r. ⌜ r ≤ 2 * maxTime ⌝ }
 {
     let pairs = count_pairs(blocks, showing);

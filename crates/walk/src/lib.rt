@@ -1,4 +1,4 @@
-// One walk over a film in either showing, in runs of blocks that lie in the same two zones: how long each block takes where it lies.
+// One walk over a film, for one showing or a loop, in runs of blocks that lie in the same two zones: how long each block takes where it lies.
 use numbers::showings::LOOP;
 use positions::position_of;
 use zones::Zone;
@@ -10,7 +10,7 @@ ghost use Rattle.numbers.specs.Limits.{maxPositions};
 ghost use Rattle.placement.specs.Placement.{zigzag};
 ghost use Rattle.placement.specs.Circle.{ring};
 ghost use Rattle.placement.specs.Showing.{laying};
-ghost use Rattle.plan.specs.Plan.{showingOf};
+ghost use Rattle.plan.specs.Plan.{walkOf};
 ghost use Rattle.plan.specs.Disk.{Zoned, OnDisk};
 ghost use Rattle.zones.specs.Cursor.{Holds};
 ghost use Rattle.walk.specs.Walk.{Meets, Ends, firstPast, RunEnd, Cursors, sideOf, Runs};
@@ -75,8 +75,8 @@ fn loop_end(total: u32, blocks: u32, b: u32, low: Zone, high: Zone) -> u32
 
 // How far the laying of a showing stays in a zone of the even and one of the odd blocks, from block b on.
 fn run_end(showing: u32, total: u32, blocks: u32, b: u32, low: Zone, high: Zone) -> u32
-    requires { ⌜ Ends total blocks (laying (showingOf showing) total blocks) b low high ⌝ }
-    ensures { λ r. ⌜ RunEnd blocks (laying (showingOf showing) total blocks) b low high r ⌝ }
+    requires { ⌜ Ends total blocks (laying (walkOf showing) total blocks) b low high ⌝ }
+    ensures { λ r. ⌜ RunEnd blocks (laying (walkOf showing) total blocks) b low high r ⌝ }
 {
     if showing == LOOP {
         return loop_end(total, blocks, b, low, high);
@@ -102,7 +102,7 @@ pub fn set_out(sizes: &[u32; 64]) -> Walk
 // The zone of block b of a film, or of the block past the last, from any zone.
 pub fn zone_of(sizes: &[u32; 64], showing: u32, total: u32, blocks: u32, at: Zone, b: u32) -> Zone
     requires { ⌜ Meets (now sizes) total blocks at b ⌝ }
-    ensures { λ r. ⌜ Holds (now (sizes .entry)) r (laying (showingOf showing) total blocks b) ⌝ }
+    ensures { λ r. ⌜ Holds (now (sizes .entry)) r (laying (walkOf showing) total blocks b) ⌝ }
 {
     zone_near(sizes, at, position_of(showing, total, blocks, b))
 }
@@ -119,9 +119,9 @@ pub fn run_from<'a>(
     b: u32,
 ) -> Walk
     requires { ⌜ (OnDisk (now sizes) (now times) total blocks) × (b < blocks)
-        × (Holds (now sizes) low (laying (showingOf showing) total blocks (b + b % 2)))
-        × (Holds (now sizes) high (laying (showingOf showing) total blocks (b + 1 - b % 2))) ⌝ }
-    ensures { λ r. ⌜ Runs (now (sizes .entry)) (now (times .entry)) (laying (showingOf showing) total blocks) blocks b r ⌝ }
+        × (Holds (now sizes) low (laying (walkOf showing) total blocks (b + b % 2)))
+        × (Holds (now sizes) high (laying (walkOf showing) total blocks (b + 1 - b % 2))) ⌝ }
+    ensures { λ r. ⌜ Runs (now (sizes .entry)) (now (times .entry)) (laying (walkOf showing) total blocks) blocks b r ⌝ }
 {
     let inner = low.index;
     let outer = high.index;
@@ -146,7 +146,7 @@ pub fn walk_on<'a>(
     b: u32,
 ) -> Walk
     requires { ⌜ (OnDisk (now sizes) (now times) total blocks) × (Cursors (now sizes) walk) × (b < blocks) ⌝ }
-    ensures { λ r. ⌜ Runs (now (sizes .entry)) (now (times .entry)) (laying (showingOf showing) total blocks) blocks b r ⌝ }
+    ensures { λ r. ⌜ Runs (now (sizes .entry)) (now (times .entry)) (laying (walkOf showing) total blocks) blocks b r ⌝ }
 {
     let low = zone_of(sizes, showing, total, blocks, walk.low, b + b % 2);
     let high = zone_of(sizes, showing, total, blocks, walk.high, b + 1 - b % 2);

@@ -1,7 +1,7 @@
 -- The ways that the call can answer.
 -- Assumes nothing.
-use Prim.Native.Nat.{ℕ, zero, suc, _*_, _≤_, _<_}
-use mathlib.Core.Path.{_≡_, refl, sym, _∙_, subst}
+use Prim.Native.Nat.{ℕ, zero, suc, _*_, _/_, _≤_, _<_}
+use mathlib.Core.Path.{_≡_, refl, sym, ap, _∙_, subst}
 use mathlib.Core.Bool.{Bool, true, false, cond, _||_}
 use mathlib.Core.List.{List}
 use native.Mathlib.Omega.{arith}
@@ -14,10 +14,13 @@ use Rattle.numbers.specs.Refusals.{notSound, wrongWindow}
 use Rattle.card.specs.declared.Figures.{Figures}
 use Rattle.card.specs.Card.{Legal, totalPositions}
 use Rattle.legality.specs.Legality.{Wide}
-use Rattle.placement.specs.Showing.{Showing, laying}
+use Rattle.placement.specs.Placement.{Falling}
+use Rattle.placement.specs.Showing.{Showing, visitsOf, laying, walked, walked-single}
+use Rattle.placement.specs.Zones.{timeAt}
 use Rattle.pacing.specs.Window.{placesOf, windowTime, worstWindow, windowAt}
+use Rattle.pacing.specs.HalfWindows.{walked-window, walked-window-at}
 use Rattle.plan.specs.declared.Plan.{Plan}
-use Rattle.plan.specs.Plan.{showingIn, timeOn, positionOf}
+use Rattle.plan.specs.Plan.{showingIn, timeOn}
 use Rattle.plan.specs.Answer.{hasNumbers}
 use Rattle.plan.specs.Check.{numbered}
 use Rattle.window.specs.declared.Window.{Window}
@@ -25,17 +28,33 @@ use Rattle.worst_row.specs.Rows.{rowTime}
 use Rattle.window.specs.Window.{worstWindowOf, windowAtOf, isLaid, isOutside, windowFault, refusal, answerBy, windowAnswer}
 use Rattle.worst_row.proofs.RowLaws.{row-window}
 
--- the worst row over a showing's n places is the worst window; P is the disk's positions
-pub worst-is : (x : Showing) (f : Figures) (k P n at w : ℕ) → P ≡ totalPositions f → n ≡ placesOf x (f .blocks) k
-    → Peak (rowTime (f .positions) (f .times) (laying x P (f .blocks)) (f .blocks) k) n at w → (w ≡ worstWindowOf x f k) × (at ≡ windowAtOf x f k)
-unfolding worstWindowOf windowAtOf worstWindow windowAt
-worst-is x f k P n at w e d p =
-    let g = windowTime x (timeOn f) (positionOf x f) (f .blocks) k in
-    let m = placesOf x (f .blocks) k in
-    let p₁ = subst (λ (Q : ℕ). Peak (rowTime (f .positions) (f .times) (laying x Q (f .blocks)) (f .blocks) k) n at w) e p in
-    let p₂ = subst (λ (i : ℕ). Peak (rowTime (f .positions) (f .times) (positionOf x f) (f .blocks) k) i at w) d p₁ in
-    let q = peak-same _ g m at w (λ b u. row-window (f .positions) (f .times) (positionOf x f) (f .blocks) x k b u) p₂ in
-    (q .value, peak-earliest g m at w q)
+-- the worst row over all visits of a film of N blocks on P positions is its worst window, and starts at a visit of its first block
+worst-is : (x : Showing) (ps ts : List ℕ) (P N k n at w : ℕ) → visitsOf x * N ≤ P → Falling P (timeAt ps ts) → 0 < k → k ≤ N
+    → n ≡ placesOf (walked x) (visitsOf x * N) (visitsOf x * k)
+    → Peak (rowTime ps ts (laying (walked x) P (visitsOf x * N)) (visitsOf x * N) (visitsOf x * k)) n at w
+    → (w ≡ worstWindow x (timeAt ps ts) (laying x P N) N k) × (at / visitsOf x ≡ windowAt x (timeAt ps ts) (laying x P N) N k)
+unfolding worstWindow windowAt
+worst-is x ps ts P N k n at w np falls some within d p =
+    let l = laying (walked x) P (visitsOf x * N) in
+    let g = windowTime (walked x) (timeAt ps ts) l (visitsOf x * N) (visitsOf x * k) in
+    let m = placesOf (walked x) (visitsOf x * N) (visitsOf x * k) in
+    let p₁ = subst (λ (i : ℕ). Peak (rowTime ps ts l (visitsOf x * N) (visitsOf x * k)) i at w) d p in
+    let q = peak-same _ g m at w (λ b u. row-window ps ts l (visitsOf x * N) (walked x) (walked-single x) (visitsOf x * k) b u) p₁ in (
+      q .value ∙ walked-window x P N np (timeAt ps ts) falls k some within,
+      ap (λ (a : ℕ). a / visitsOf x) (peak-earliest g m at w q) ∙ walked-window-at x P N np (timeAt ps ts) falls k some within,
+    )
+
+-- the same where a block has v visits
+pub worst-visits : (x : Showing) (ps ts : List ℕ) (P N k v n at w : ℕ) → v ≡ visitsOf x → visitsOf x * N ≤ P → Falling P (timeAt ps ts) → 0 < k → k ≤ N
+    → n ≡ placesOf (walked x) (v * N) (v * k) → Peak (rowTime ps ts (laying (walked x) P (v * N)) (v * N) (v * k)) n at w
+    → (w ≡ worstWindow x (timeAt ps ts) (laying x P N) N k) × (at / v ≡ windowAt x (timeAt ps ts) (laying x P N) N k)
+worst-visits x ps ts P N k v n at w e np falls some within d p = rw e (worst-is x ps ts P N k n at w np falls some within (rw e at d) (rw e at p))
+
+-- the same of figures; P is the disk's positions
+pub window-is : (x : Showing) (f : Figures) (k P w at : ℕ) → P ≡ totalPositions f → w ≡ worstWindow x (timeOn f) (laying x P (f .blocks)) (f .blocks) k
+    → at ≡ windowAt x (timeOn f) (laying x P (f .blocks)) (f .blocks) k → (w ≡ worstWindowOf x f k) × (at ≡ windowAtOf x f k)
+unfolding worstWindowOf windowAtOf
+window-is x f k P w at e t d = (rw e at t, rw e at d)
 
 module _ (p : Plan) (ps : List ℕ) (k n : ℕ) (e : n ≡ windowFault p ps k) where
   -- refused
@@ -77,6 +96,6 @@ accepted p ps k e = go (isLaid p ps) refl (eqb k 0) refl (ltb maxWindow k) refl 
         record { laid = l; some = omega (arith, eqb-false k 0 a); most = ltb-false maxWindow k b; within = ltb-false (p .figures .blocks) k c }
 
 -- what is laid has legal figures
-pub laid-legal : (p : Plan) (ps : List ℕ) → Wide (p .figures) → isLaid p ps ≡ true → Legal (p .figures)
+pub laid-legal : (p : Plan) (ps : List ℕ) → Wide (p .figures) → isLaid p ps ≡ true → Legal (visitsOf (showingIn p)) (p .figures)
 unfolding isLaid
 laid-legal p ps w e = numbered p w (and-left (hasNumbers p) _ e) .legal

@@ -1,4 +1,5 @@
-// Rates over longer windows: the worst time of k successive blocks of a planned film, for one showing and for loops.
+// Rates over longer windows: the worst time of k successive blocks of a planned film, for one showing, for loops and for half blocks, whose
+// time is that of both halves.
 use card::Verdict;
 use numbers::limits::MAX_WINDOW;
 use numbers::refusals::ACCEPTED;
@@ -8,17 +9,23 @@ use numbers::showings::LOOP;
 use plan::Plan;
 use plan::numbers_in;
 use plan::scalars_in;
+use plan::visits_of;
 use plan_check::is_laid_of;
+use worst_pair::Pair;
 use worst_row::worst_row;
 use zones::sum_positions;
 ghost use mathlib.Core.Path.{_≡_};
 ghost use mathlib.Core.Bool.{cond};
 ghost use Prim.Native.Nat.{suc, _*_, _≤_, _<_};
-ghost use Rattle.numbers.specs.Limits.{noNumber};
+ghost use Rattle.numbers.specs.Limits.{noNumber, maxWindow};
 ghost use Rattle.numbers.specs.Refusals.{notSound, wrongWindow};
-ghost use Rattle.pacing.specs.Window.{placesOf};
+ghost use Rattle.placement.specs.Placement.{Falling};
+ghost use Rattle.placement.specs.Showing.{visitsOf, laying};
+ghost use Rattle.placement.specs.Zones.{timeAt};
+ghost use Rattle.pacing.specs.Window.{placesOf, worstWindow, windowAt};
+ghost use Rattle.plan.specs.Disk.{OnDisk};
 ghost use Rattle.plan.specs.declared.Plan.{Plan};
-ghost use Rattle.plan.specs.Plan.{showingOf};
+ghost use Rattle.plan.specs.Plan.{showingOf, walkOf};
 ghost use Rattle.window.specs.Window.{isOutside, refusal, windowAnswer};
 
 // The answer: any k successive blocks are read in at most `time` microseconds, and those from block `first` on take it, the earliest where
@@ -79,15 +86,50 @@ fn window_bytes(count: u32, bytes: u32) -> u32
     count * bytes
 }
 
-// The last block that a window may start at.
+// The last of so many visits that a row of `count` may start at.
 fn last_place(showing: u32, blocks: u32, count: u32) -> u32
     requires { ⌜ (0 < count) × (count ≤ blocks) ⌝ }
-    ensures { λ r. ⌜ (suc r ≡ placesOf (showingOf showing) blocks count) × (r < blocks) ⌝ }
+    ensures { λ r. ⌜ (suc r ≡ placesOf (walkOf showing) blocks count) × (r < blocks) ⌝ }
 {
     if showing == LOOP {
         return blocks - 1;
     }
     blocks - count
+}
+
+// The worst window of `count` blocks of a film, the earliest where several are equal: the worst row of all their visits, which starts at a
+// block's first; `total` is P.
+fn worst_blocks<'a>(
+    sizes: &'a [u32; 64],
+    times: &'a [u32; 64],
+    showing: u32,
+    total: u32,
+    blocks: u32,
+    count: u32,
+) -> Pair
+    requires { ⌜ (OnDisk (now sizes) (now times) total (visitsOf (showingOf showing) * blocks)) × (Falling total (timeAt (now sizes) (now times)))
+        × (0 < count) × (count ≤ maxWindow) × (count ≤ blocks) ⌝ }
+    ensures time { λ r. ⌜ r .time ≡ worstWindow (showingOf showing) (timeAt (now (sizes .entry)) (now (times .entry)))
+        (laying (showingOf showing) total blocks) blocks count ⌝ }
+    ensures first { λ r. ⌜ r .first ≡ windowAt (showingOf showing) (timeAt (now (sizes .entry)) (now (times .entry)))
+        (laying (showingOf showing) total blocks) blocks count ⌝ }
+{
+    let visits = visits_of(showing);
+    let all = visits * blocks;
+    let row = visits * count;
+    let worst = worst_row(
+        sizes,
+        times,
+        showing,
+        total,
+        all,
+        row,
+        last_place(showing, all, row),
+    );
+    Pair {
+        time: worst.time,
+        first: worst.first / visits,
+    }
 }
 
 // The worst window of `count` blocks of a plan with this positions list: 14, then 27.
@@ -109,14 +151,13 @@ pub fn worst_window(plan: Plan, positions: &[u8], count: u32) -> Window
         return refused(number);
     }
     let total = sum_positions(&plan.figures.positions, plan.figures.zones);
-    let worst = worst_row(
+    let worst = worst_blocks(
         &plan.figures.positions,
         &plan.figures.times,
         plan.showing,
         total,
         plan.figures.blocks,
         count,
-        last_place(plan.showing, plan.figures.blocks, count),
     );
     Window {
         verdict: Verdict {

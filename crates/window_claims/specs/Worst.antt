@@ -2,7 +2,7 @@
 use Prim.Native.Nat.{ℕ, _+_, _≤_, _<_}
 use mathlib.Core.Path.{_≡_}
 use Rattle.card.specs.declared.Figures.{Figures}
-use Rattle.placement.specs.Showing.{Showing, one, loop}
+use Rattle.placement.specs.Showing.{Showing, one, loop, pairs}
 use Rattle.pacing.specs.Film.{span}
 use Rattle.plan.specs.Plan.{filmOf}
 
@@ -10,6 +10,7 @@ use Rattle.plan.specs.Plan.{filmOf}
 abbrev pub IsPlace : Showing → ℕ → ℕ → ℕ → Type 0
 IsPlace one N k b = b + k ≤ N
 IsPlace loop N k b = b < N
+IsPlace pairs N k b = b + k ≤ N
 
 module _ (x : Showing) (f : Figures) (k : ℕ) where
   -- the times of k successive blocks, b the first, added up (T9.2)

@@ -1,26 +1,26 @@
 -- The worst window is the greatest and the earliest, and no other pair of numbers is; what it is for two blocks; and that a planned film has it.
 -- Assumes nothing.
-use Prim.Native.Nat.{ℕ, _*_, _/_, _%_, _≤_, _<_}
+use Prim.Native.Nat.{ℕ, zero, suc, _*_, _/_, _%_, _≤_, _<_}
 use mathlib.Core.Path.{_≡_, refl, sym, ap, _∙_}
 use mathlib.Core.Bool.{Bool, true, false, cond, _||_}
 use mathlib.Core.List.{List}
 use native.Mathlib.Omega.{arith}
-use native.Mathlib.Nat.{le-antisymm}
+use native.Mathlib.Nat.{le-antisymm, mul-le-mul-right}
 use lib.ListN.{length}
 use lib.Dec.{ltb, eqb}
 use borrow.Author.Tests.{eqb-false, ltb-false}
 use Rattle.laws.specs.Bools.{and-left, and-right, and-both}
-use Rattle.laws.specs.Greatest.{greatestOf, greatestOf-above, greatestOf-least, Earliest, earliest-is, earliest-unique}
+use Rattle.laws.specs.Greatest.{greatestOf, greatestOf-above, greatestOf-least, earliestOf, firstReaching, Earliest, earliest-is, earliest-unique}
 use Rattle.numbers.specs.Limits.{maxWindow}
 use Rattle.numbers.specs.Refusals.{notSound, wrongWindow}
 use Rattle.words.specs.Words.{wordsOf, withWords}
 use Rattle.card.specs.declared.Figures.{Figures}
 use Rattle.card.specs.Card.{Legal}
-use Rattle.placement.specs.Showing.{Showing, one, loop}
+use Rattle.placement.specs.Showing.{Showing, one, loop, pairs, visitsOf, visits-few, worstAt}
 use Rattle.pacing.specs.Window.{placesOf, worstWindow, windowAt}
-use Rattle.pacing.specs.WindowLaws.{even-window, two-worst, two-at}
+use Rattle.pacing.specs.WindowLaws.{even-window, two-worst, two-at, one-worst, one-at}
 use Rattle.plan.specs.declared.Plan.{Plan}
-use Rattle.plan.specs.Plan.{showingIn, timeOn, positionOf, worst2Of, worstAtOf, streamsOf, planOf, positionsOf}
+use Rattle.plan.specs.Plan.{showingIn, timeOn, positionOf, entriesOf, worst2Of, worstAtOf, streamsOf, planOf, positionsOf}
 use Rattle.plan.specs.Answer.{hasNumbers, hasPositions, isPlan}
 use Rattle.plan.specs.Check.{numbers-say, plan-passes}
 use Rattle.window.specs.Window.{worstWindowOf, windowAtOf, isLaid, isOutside, windowFault, refusal, answerBy, windowAnswer}
@@ -30,15 +30,18 @@ use Rattle.window_claims.specs.Worst.{IsPlace, windowOf, WorstWindow}
 place-in : (x : Showing) (N k b : ℕ) → IsPlace x N k b → b < placesOf x N k
 place-in one N k b h = omega arith
 place-in loop N k b h = h
+place-in pairs N k b h = omega arith
 
 in-place : (x : Showing) (N k b : ℕ) → b < placesOf x N k → IsPlace x N k b
 in-place one N k b h = omega arith
 in-place loop N k b h = h
+in-place pairs N k b h = omega arith
 
 -- there is one
 some-place : (x : Showing) (N k : ℕ) → 0 < k → k ≤ N → 0 < placesOf x N k
 some-place one N k some h = omega arith
 some-place loop N k some h = omega arith
+some-place pairs N k some h = omega arith
 
 module _ (x : Showing) (f : Figures) (k : ℕ) where
   -- the worst time and the earliest place are these
@@ -88,24 +91,42 @@ answer-worst p ps k e = go (isLaid p ps) (eqb k 0) refl (ltb maxWindow k) (ltb (
     go true false d false false q e =
         (window-worst (showingIn p) (p .figures) k (omega (arith, eqb-false k 0 d)) (omega (arith, ltb-false (p .figures .blocks) k q)), refl)
 
--- the window of two blocks is the plan's worst pair
-pub two-is-worst2 : (p : Plan) (ps : List ℕ) → isLaid p ps ≡ true
+-- the window of two blocks, each visited once, is the plan's worst pair
+pub two-is-worst2 : (p : Plan) (ps : List ℕ) → visitsOf (showingIn p) ≡ 1 → isLaid p ps ≡ true
     → (worstWindowOf (showingIn p) (p .figures) 2 ≡ p .worst2) × (windowAtOf (showingIn p) (p .figures) 2 ≡ p .worstat)
 unfolding isLaid worstWindowOf windowAtOf planOf worst2Of worstAtOf
-two-is-worst2 p ps e =
+two-is-worst2 p ps v e =
     let x = showingIn p in
     let f = p .figures in
     let q = numbers-say p (and-left (hasNumbers p) _ e) .2 in (
-      two-worst (timeOn f) (positionOf x f) (f .blocks) x ∙ sym (ap (λ (r : Plan). r .worst2) q),
-      two-at (timeOn f) (positionOf x f) (f .blocks) x ∙ sym (ap (λ (r : Plan). r .worstat) q),
+      two-worst (timeOn f) (positionOf x f) (f .blocks) x v ∙ sym (ap (λ (r : Plan). r .worst2) q),
+      two-at (timeOn f) (positionOf x f) (f .blocks) x v ∙ sym (ap (λ (r : Plan). r .worstat) q),
+    )
+
+-- the first block that takes the most, in a film of no block too
+half-at : (τ l : ℕ → ℕ) (N : ℕ) → windowAt pairs τ l N 1 ≡ worstAt pairs τ l N
+unfolding windowAt worstAt earliestOf firstReaching
+half-at τ l zero = refl
+half-at τ l (suc n) = one-at τ l (suc n) (omega arith)
+
+-- of half blocks that of one block takes p, half of worst2, and starts at worstat
+pub one-is-half : (p : Plan) (ps : List ℕ) → showingIn p ≡ pairs → isLaid p ps ≡ true
+    → (2 * worstWindowOf (showingIn p) (p .figures) 1 ≡ p .worst2) × (windowAtOf (showingIn p) (p .figures) 1 ≡ p .worstat)
+unfolding isLaid worstWindowOf windowAtOf planOf worst2Of worstAtOf
+one-is-half p ps s e =
+    let f = p .figures in
+    let q = numbers-say p (and-left (hasNumbers p) _ e) .2 ∙ ap (λ (x : Showing). planOf x f) s in
+    rw s (
+      ap (λ (t : ℕ). 2 * t) (one-worst (timeOn f) (positionOf pairs f) (f .blocks)) ∙ sym (ap (λ (r : Plan). r .worst2) q),
+      half-at (timeOn f) (positionOf pairs f) (f .blocks) ∙ sym (ap (λ (r : Plan). r .worstat) q),
     )
 
 -- what the planner leaves of a legal film is of its figures, so 27 alone may come
-pub planned-windows : (x : Showing) (f : Figures) → Legal f → 0 < streamsOf x f → (ps : List ℕ) → f .blocks ≤ length (wordsOf ps) → (k : ℕ)
+pub planned-windows : (x : Showing) (f : Figures) → Legal (visitsOf x) f → 0 < streamsOf x f → (ps : List ℕ) → entriesOf x f ≤ length (wordsOf ps) → (k : ℕ)
     → windowFault (planOf x f) (withWords ps 0 (positionsOf x f)) k ≡ cond (isOutside k (f .blocks)) wrongWindow 0
 unfolding windowFault isLaid isPlan planOf
 planned-windows x f ok fed ps h k =
-    let e = plan-passes x f ok fed ps ps h h in
+    let e = plan-passes x f ok fed ps ps h (omega (arith, mul-le-mul-right (f .blocks) (visits-few x .0))) in
     let n = and-left (hasNumbers (planOf x f)) _ e in
     let q = and-left (hasPositions (planOf x f) (withWords ps 0 (positionsOf x f))) _ (and-right (hasNumbers (planOf x f)) _ e) in
     rw (and-both n q) refl

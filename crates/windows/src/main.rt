@@ -1,10 +1,11 @@
 // Reads a card from standard input and prints what rates are guaranteed over windows of 1 to 64 blocks of its film, with the argument `loop`
-// those of the film as a loop.
+// those of the film as a loop, with `pairs` those of half blocks.
 use libc::STDIN_FILENO;
-use lines::asks_loop;
+use lines::asked_showing;
 use lines::empty;
 use lines::has_more_arguments;
 use lines::plan_film;
+use lines::position_buffer;
 use lines::print;
 use lines::print_refusal;
 use lines::put_next;
@@ -63,10 +64,10 @@ fn print_windows(plan: Plan, positions: &[u8]) {
 }
 
 // The windows of a card, or the refusal.
-fn list(looped: bool, card: &[u8]) {
-    let mut positions = io::large_buffer();
+fn list(showing: u32, card: &[u8]) {
+    let mut positions = position_buffer();
     let mut leads = io::large_buffer();
-    let planned = plan_film(looped, card, &mut positions, &mut leads);
+    let planned = plan_film(showing, card, &mut positions, &mut leads);
     let verdict = planned.verdict;
     if verdict.number != 0 {
         print_refusal(verdict);
@@ -77,12 +78,12 @@ fn list(looped: bool, card: &[u8]) {
 
 // Every refusal of a card is decided within its first 1,490 bytes, so what is read is enough of any input.
 fn main() {
-    let looped = asks_loop();
-    if has_more_arguments(looped) {
-        print(put_text(empty(), b"usage: windows [loop]"));
+    let showing = asked_showing();
+    if has_more_arguments(showing) {
+        print(put_text(empty(), b"usage: windows [loop|pairs]"));
         return;
     }
     let mut input = io::buffer();
     let count = io::read_full(STDIN_FILENO, &mut input);
-    list(looped, &input[..count]);
+    list(showing, &input[..count]);
 }

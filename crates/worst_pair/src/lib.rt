@@ -8,7 +8,7 @@ ghost use mathlib.Core.Path.{_≡_};
 ghost use Prim.Native.Nat.{_≤_, _<_};
 ghost use Rattle.placement.specs.Showing.{laying, worstOf, worstAt};
 ghost use Rattle.placement.specs.Zones.{timeAt};
-ghost use Rattle.plan.specs.Plan.{showingOf};
+ghost use Rattle.plan.specs.Plan.{walkOf};
 ghost use Rattle.plan.specs.Disk.{OnDisk};
 
 // Successive blocks, two of them for worst2: the time that they take, and the first of them.
@@ -40,10 +40,10 @@ pub fn worst_pair<'a>(
     blocks: u32,
 ) -> Pair
     requires { ⌜ OnDisk (now sizes) (now times) total blocks ⌝ }
-    ensures time { λ r. ⌜ r .time ≡ worstOf (showingOf showing) (timeAt (now (sizes .entry)) (now (times .entry)))
-        (laying (showingOf showing) total blocks) blocks ⌝ }
-    ensures first { λ r. ⌜ r .first ≡ worstAt (showingOf showing) (timeAt (now (sizes .entry)) (now (times .entry)))
-        (laying (showingOf showing) total blocks) blocks ⌝ }
+    ensures time { λ r. ⌜ r .time ≡ worstOf (walkOf showing) (timeAt (now (sizes .entry)) (now (times .entry)))
+        (laying (walkOf showing) total blocks) blocks ⌝ }
+    ensures first { λ r. ⌜ r .first ≡ worstAt (walkOf showing) (timeAt (now (sizes .entry)) (now (times .entry)))
+        (laying (walkOf showing) total blocks) blocks ⌝ }
 {
     let last = blocks - 1;
     let mut walk = set_out(sizes);

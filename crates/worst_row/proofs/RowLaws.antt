@@ -7,10 +7,10 @@ use mathlib.Core.List.{List}
 use native.Mathlib.Omega.{arith}
 use native.Mathlib.Decide.{decLt}
 use Rattle.laws.specs.Greatest.{greatestOf, Peak}
-use Rattle.numbers.specs.Limits.{maxTime, maxWindow}
+use Rattle.numbers.specs.Limits.{maxTime}
 use Rattle.placement.specs.Circle.{round}
 use Rattle.placement.specs.CircleBest.{round-last, round-next}
-use Rattle.placement.specs.Showing.{Showing, one, loop, laying, laying-lays}
+use Rattle.placement.specs.Showing.{Showing, one, loop, pairs, visitsOf, laying, laying-lays}
 use Rattle.placement.specs.Zones.{timeAt, timeAt-zone, zone-of}
 use Rattle.pacing.specs.Film.{span}
 use Rattle.pacing.specs.Shown.{round-below}
@@ -19,7 +19,7 @@ use Rattle.plan.specs.Disk.{OnDisk}
 use Rattle.worst_pair.specs.declared.Pair.{Pair}
 use Rattle.walk.specs.declared.Walk.{Walk}
 use Rattle.walk.specs.Walk.{Cursors}
-use Rattle.worst_row.specs.Rows.{past, Comes, Stands, rowTime, Slides}
+use Rattle.worst_row.specs.Rows.{maxRow, past, Comes, Stands, rowTime, Slides}
 
 module _ (N : ℕ) where
   -- one block further
@@ -82,10 +82,11 @@ module _ (ps ts : List ℕ) (l : ℕ → ℕ) (N : ℕ) where
       let e : round N b ≡ suc b = round-next N b (omega arith) in
       ap (λ (r : ℕ). timeAt ps ts (l b) + r) (ap (rowTime ps ts l N (suc k)) e ∙ once-row (suc k) (suc b) (omega arith))
 
-  -- so it is a window of either showing, where it may start
-  pub row-window : (x : Showing) (k b : ℕ) → b < placesOf x N k → rowTime ps ts l N k b ≡ windowTime x (timeAt ps ts) l N k b
-  row-window one k b u = once-row k b (omega arith)
-  row-window loop k b u = refl
+  -- so it is a window of blocks that are visited once, where it may start
+  pub row-window : (x : Showing) → visitsOf x ≡ 1 → (k b : ℕ) → b < placesOf x N k → rowTime ps ts l N k b ≡ windowTime x (timeAt ps ts) l N k b
+  row-window one e k b u = once-row k b (omega arith)
+  row-window loop e k b u = refl
+  row-window pairs e k b u = absurd (omega arith)
 
 -- a walk may set out at the first block
 pub comes-first : (ps ts : List ℕ) (l : ℕ → ℕ) (N : ℕ) (w : Walk) → Cursors ps w → Comes ps ts l N w 0
@@ -100,10 +101,11 @@ comes-on ps ts l N w b c n s o u e = record {
       (by-cases (decLt (suc c) N) (λ h. omega (arith, round-next N c h)) (λ h. absurd (omega (arith, round-last N c (omega arith))))) v;
 }
 
--- no block of a film takes more than the greatest time
-pub film-quick : (ps ts : List ℕ) (P N : ℕ) → OnDisk ps ts P N → (x : Showing) (b : ℕ) → b < N → timeAt ps ts (laying x P N b) ≤ maxTime
-film-quick ps ts P N f x b u =
-    let q = laying-lays x P N (f .room) .into b u in
+-- no visit of a film takes more than the greatest time
+pub film-quick : (ps ts : List ℕ) (P N : ℕ) → OnDisk ps ts P N → (x : Showing) → visitsOf x ≡ 1 → (b : ℕ) → b < N → timeAt ps ts (laying x P N b) ≤ maxTime
+film-quick ps ts P N f x e b u =
+    let n : visitsOf x * N ≡ N = rw e (omega arith) in
+    let q = laying-lays x P N (omega (arith, f .room)) .into b (omega arith) in
     let (i, r, lo, hi) = zone-of ps (laying x P N b) (omega (arith, q, f .whole)) in
     omega (arith, timeAt-zone ps ts i (laying x P N b) lo hi, f .disk .quick i)
 
@@ -117,7 +119,8 @@ peak-first g = record {
 }
 
 -- both walks stand in a run: the rows slide on as far as both runs go
-module _ (ps ts : List ℕ) (P N : ℕ) (film : OnDisk ps ts P N) (x : Showing) (k : ℕ) (most : k ≤ maxWindow) (ahead behind : Walk) (a b to : ℕ)
+module _ (ps ts : List ℕ) (P N : ℕ) (film : OnDisk ps ts P N) (x : Showing) (single : visitsOf x ≡ 1) (k : ℕ) (most : k ≤ maxRow)
+    (ahead behind : Walk) (a b to : ℕ)
     (front : Stands ps ts (laying x P N) N ahead a) (rear : Stands ps ts (laying x P N) N behind b) (apart : a ≡ past N k b)
     (order : b ≤ to) (last : to < N) (near : a + (to - b) ≤ ahead .until) (far : to ≤ behind .until) where
   -- the block that comes in as block d goes out
@@ -131,7 +134,7 @@ module _ (ps ts : List ℕ) (P N : ℕ) (film : OnDisk ps ts P N) (x : Showing) 
       → Peak (rowTime ps ts (laying x P N) N k) (suc b) (worst .first) (worst .time)
       → Slides (rowTime ps ts (laying x P N) N k) ahead behind a b to sum worst
   slides-run sum worst time found =
-      let quick = film-quick ps ts P N film x in
+      let quick = film-quick ps ts P N film x single in
       record {
         order = order;
         fits = omega (arith, front .film, film .room, film .whole, film .disk .zoned .small);

@@ -13,6 +13,10 @@ use Rattle.worst_pair.specs.declared.Pair.{Pair}
 use Rattle.walk.specs.declared.Walk.{Walk}
 use Rattle.walk.specs.Walk.{Cursors, sideOf}
 
+-- the blocks of a row: those of a window, or its halves
+abbrev pub maxRow : ℕ
+maxRow = 2 * maxWindow
+
 -- the k-th block after b, going round
 unfoldable pub past : ℕ → ℕ → ℕ → ℕ
 past N zero b = b
@@ -41,7 +45,7 @@ rowTime ps ts l N k b = span (laidFilm loop (timeAt ps ts) l N) k b
 pub record Slides (g : ℕ → ℕ) (ahead behind : Walk) (front from to sum : ℕ) (worst : Pair) : Type 0 where
   pub order : from ≤ to
   pub fits : front + (to - from) ≤ maxPositions
-  pub small : (b : ℕ) → from ≤ b → b ≤ to → g b ≤ maxWindow * maxTime
+  pub small : (b : ℕ) → from ≤ b → b ≤ to → g b ≤ maxRow * maxTime
   pub quick : (a b : ℕ) → from ≤ b → b < to → a + from ≡ front + b → sideOf (ahead .even) (ahead .odd) a ≤ maxTime
   pub turn : (a b : ℕ) → from ≤ b → b < to → a + from ≡ front + b
       → g (suc b) + sideOf (behind .even) (behind .odd) b ≡ g b + sideOf (ahead .even) (ahead .odd) a

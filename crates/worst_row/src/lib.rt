@@ -11,13 +11,12 @@ ghost use mathlib.Core.Path.{_≡_};
 ghost use mathlib.Core.List.{List};
 ghost use Prim.Native.Nat.{ℕ, suc, _≤_, _<_};
 ghost use Rattle.laws.specs.Greatest.{Peak};
-ghost use Rattle.numbers.specs.Limits.{maxWindow};
 ghost use Rattle.placement.specs.Circle.{round};
 ghost use Rattle.placement.specs.Showing.{laying};
 ghost use Rattle.placement.specs.Zones.{timeAt};
-ghost use Rattle.plan.specs.Plan.{showingOf};
+ghost use Rattle.plan.specs.Plan.{walkOf};
 ghost use Rattle.plan.specs.Disk.{Zoned, OnDisk};
-ghost use Rattle.worst_row.specs.Rows.{past, Comes, Stands, rowTime, Slides};
+ghost use Rattle.worst_row.specs.Rows.{maxRow, past, Comes, Stands, rowTime, Slides};
 
 // A walk that has passed a block: its time, and the block that comes next.
 pub struct Step {
@@ -67,9 +66,9 @@ fn walk_to<'a>(
     walk: Walk,
     b: u32,
 ) -> Walk
-    requires { ⌜ (OnDisk (now sizes) (now times) total blocks) × (Comes (now sizes) (now times) (laying (showingOf showing) total blocks) blocks walk b)
+    requires { ⌜ (OnDisk (now sizes) (now times) total blocks) × (Comes (now sizes) (now times) (laying (walkOf showing) total blocks) blocks walk b)
         × (b < blocks) ⌝ }
-    ensures { λ r. ⌜ Stands (now (sizes .entry)) (now (times .entry)) (laying (showingOf showing) total blocks) blocks r b ⌝ }
+    ensures { λ r. ⌜ Stands (now (sizes .entry)) (now (times .entry)) (laying (walkOf showing) total blocks) blocks r b ⌝ }
 {
     if 0 < b {
         if b < walk.until {
@@ -89,9 +88,9 @@ fn step_on<'a>(
     at: Step,
 ) -> Step
     requires { ⌜ (OnDisk (now sizes) (now times) total blocks)
-        × (Comes (now sizes) (now times) (laying (showingOf showing) total blocks) blocks (at .walk) (at .next)) × (at .next < blocks) ⌝ }
-    ensures comes { λ r. ⌜ Comes (now (sizes .entry)) (now (times .entry)) (laying (showingOf showing) total blocks) blocks (r .walk) (r .next) ⌝ }
-    ensures time { λ r. ⌜ r .time ≡ timeAt (now (sizes .entry)) (now (times .entry)) (laying (showingOf showing) total blocks (at .next)) ⌝ }
+        × (Comes (now sizes) (now times) (laying (walkOf showing) total blocks) blocks (at .walk) (at .next)) × (at .next < blocks) ⌝ }
+    ensures comes { λ r. ⌜ Comes (now (sizes .entry)) (now (times .entry)) (laying (walkOf showing) total blocks) blocks (r .walk) (r .next) ⌝ }
+    ensures time { λ r. ⌜ r .time ≡ timeAt (now (sizes .entry)) (now (times .entry)) (laying (walkOf showing) total blocks (at .next)) ⌝ }
     ensures next { λ r. ⌜ r .next ≡ round blocks (at .next) ⌝ }
 {
     let b = at.next;
@@ -112,11 +111,11 @@ fn first_row<'a>(
     blocks: u32,
     count: u32,
 ) -> Row
-    requires { ⌜ (OnDisk (now sizes) (now times) total blocks) × (count ≤ maxWindow) ⌝ }
-    ensures comes { λ r. ⌜ Comes (now (sizes .entry)) (now (times .entry)) (laying (showingOf showing) total blocks) blocks (r .ahead .walk)
+    requires { ⌜ (OnDisk (now sizes) (now times) total blocks) × (count ≤ maxRow) ⌝ }
+    ensures comes { λ r. ⌜ Comes (now (sizes .entry)) (now (times .entry)) (laying (walkOf showing) total blocks) blocks (r .ahead .walk)
         (r .ahead .next) ⌝ }
     ensures next { λ r. ⌜ r .ahead .next ≡ past blocks count 0 ⌝ }
-    ensures time { λ r. ⌜ r .time ≡ rowTime (now (sizes .entry)) (now (times .entry)) (laying (showingOf showing) total blocks) blocks count 0 ⌝ }
+    ensures time { λ r. ⌜ r .time ≡ rowTime (now (sizes .entry)) (now (times .entry)) (laying (walkOf showing) total blocks) blocks count 0 ⌝ }
 {
     let mut ahead = start(sizes);
     let mut sum: u32 = 0;
@@ -171,8 +170,8 @@ pub fn worst_row<'a>(
     count: u32,
     last: u32,
 ) -> Pair
-    requires { ⌜ (OnDisk (now sizes) (now times) total blocks) × (count ≤ maxWindow) × (last < blocks) ⌝ }
-    ensures { λ r. ⌜ Peak (rowTime (now (sizes .entry)) (now (times .entry)) (laying (showingOf showing) total blocks) blocks count) (suc last) (r .first)
+    requires { ⌜ (OnDisk (now sizes) (now times) total blocks) × (count ≤ maxRow) × (last < blocks) ⌝ }
+    ensures { λ r. ⌜ Peak (rowTime (now (sizes .entry)) (now (times .entry)) (laying (walkOf showing) total blocks) blocks count) (suc last) (r .first)
         (r .time) ⌝ }
 {
     let first = first_row(sizes, times, showing, total, blocks, count);

@@ -99,6 +99,30 @@ pub fn deskstar() -> Figures {
     figures_of(&[(1000, 52_258)], 1000, 1_829_000, 187_500)
 }
 
+/// A record with another N.
+fn with_blocks(blocks: u32, figures: Figures) -> Figures {
+    Figures { blocks, ..figures }
+}
+
+/// Cards of films that have two positions for each block, or just not.
+pub fn fixed_pairs_cards() -> Vec<Vec<u8>> {
+    let records = [
+        bench_blocks(2),
+        bench_blocks(3),
+        bench_blocks(4),
+        with_blocks(3, bench_bytes(260_820)),
+        with_blocks(3, bench_bytes(260_819)),
+        with_blocks(3, film_of(&[9, 9, 9, 9, 3, 3])),
+        with_blocks(3, film_of(&[9, 8, 8, 7, 4, 3])),
+        with_blocks(3, film_of(&[7, 7, 7, 7, 7, 7, 7])),
+        with_blocks(3, bench_rising(16, 2649)),
+        with_blocks(3, bench_rising(16, 2648)),
+        with_blocks(500, deskstar()),
+        with_blocks(501, deskstar()),
+    ];
+    records.iter().map(card_bytes).collect()
+}
+
 /// Cards that every listing program is run on.
 pub fn fixed_cards() -> Vec<Vec<u8>> {
     let records = [

@@ -3,7 +3,6 @@
 use crate::desk::{
     begin, drawn_in, end, join, leave, Begun, Desk, Entry, FREE, PLAYING, SLOTS, TAIL,
 };
-use crate::pairs::desk::answer_pairs;
 use crate::queue::Queue;
 use crate::refusal::Refusal;
 use crate::scratch::answer_scratch;
@@ -239,12 +238,6 @@ impl Run {
     /// The same with a scratch in place of the step's leads.
     pub fn call_scratch(&mut self, step: &Step, scratch: &[u32]) -> Result<Answer, String> {
         let answer = answer_scratch(&self.desk, &step.positions, scratch, &step.call);
-        self.checked(&step.call, answer)
-    }
-
-    /// The same on a desk of pairs.
-    pub fn call_pairs(&mut self, step: &Step) -> Result<Answer, String> {
-        let answer = answer_pairs(&self.desk, &step.positions, &step.leads, &step.call);
         self.checked(&step.call, answer)
     }
 

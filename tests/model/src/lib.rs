@@ -5,7 +5,7 @@
 //! - `card`: the figures, reading, judging and writing a card.
 //! - `plan`: laying, streams, leads, buffer; the plan of a card or a record, shown once or as a
 //!   loop.
-//! - `pairs`: the plan, the windows and the desk of half blocks on paired tracks.
+//! - `pairs`: the plan and the windows of half blocks on paired tracks. `planner`: which planner call.
 //! - `desk`: soundness and the calls open, join, leave, begin and end.
 //! - `book`: lists of calls, the book of demand 3 and the checker of its claim.
 //! - `queue`: who waits, in the order they asked, and for how many sweeps at most.
@@ -30,6 +30,7 @@ pub mod listing;
 pub mod maker;
 pub mod pairs;
 pub mod plan;
+pub mod planner;
 pub mod programs;
 pub mod queue;
 pub mod refusal;
@@ -43,12 +44,13 @@ pub use batch::{batch, batch_scratch, singly, Item, ItemAnswer};
 pub use book::{answer, check_claim, Answer, Book, Call, Row, Run, Step};
 pub use card::{card_bytes, judge_record, read_card, write_card, Figures};
 pub use desk::{begin, end, is_sound, join, leave, open, Begun, Desk, Entry, SLOTS};
-pub use listing::{listing, loop_listing};
+pub use listing::{listing, loop_listing, pairs_listing};
 pub use pairs::{is_pairs_plan, plan_pairs_card, plan_pairs_record, window_pairs};
 pub use plan::{
     fill_lent, is_plan, plan_card, plan_loop_card, plan_loop_record, plan_record, Plan, Planned,
     Showing,
 };
+pub use planner::Planner;
 pub use queue::Queue;
 pub use refusal::{cause, Refusal};
 pub use rng::Rng;

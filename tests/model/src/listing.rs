@@ -1,13 +1,15 @@
-//! The listing program's text for a card, for one showing and for a loop.
+//! The listing program's text for a card, for one showing, for a loop and for pairs.
 
+use crate::pairs::{plan_pairs_card, PAIRS, VISITS};
 use crate::plan::{plan_card, plan_loop_card, time_at, Planned};
 use crate::refusal::Refusal;
 use std::fmt::Write;
 
-/// What the program says of any argument but `loop`.
-pub const USAGE: &str = "usage: listing [loop]\n";
+/// What the program says of any argument but `loop` and `pairs`.
+pub const USAGE: &str = "usage: listing [loop|pairs]\n";
 
-/// Five named figures, a header, then block, position, time and lead of each block.
+/// Five named figures, a header, then block, position, time and lead of each block. Of pairs a block
+/// has two positions, and its time is that of both halves.
 pub fn plan_text(planned: &Planned) -> String {
     let plan = &planned.plan;
     let mut text = String::new();
@@ -20,10 +22,13 @@ pub fn plan_text(planned: &Planned) -> String {
     ] {
         writeln!(text, "{name} {figure}").unwrap();
     }
-    text.push_str("block position time lead\n");
-    for (block, (position, lead)) in planned.positions.iter().zip(&planned.leads).enumerate() {
-        let time = time_at(&plan.figures, *position);
-        writeln!(text, "{block} {position} {time} {lead}").unwrap();
+    let visits = if plan.showing == PAIRS { VISITS } else { 1 };
+    writeln!(text, "block{} time lead", " position".repeat(visits)).unwrap();
+    let blocks = planned.positions.chunks(visits);
+    for (block, (positions, lead)) in blocks.zip(&planned.leads).enumerate() {
+        let time: u32 = positions.iter().map(|&at| time_at(&plan.figures, at)).sum();
+        let positions: String = positions.iter().map(|at| format!(" {at}")).collect();
+        writeln!(text, "{block}{positions} {time} {lead}").unwrap();
     }
     text
 }
@@ -50,11 +55,17 @@ pub fn loop_listing(card: &[u8]) -> String {
     answer_text(plan_loop_card(card, usize::MAX, usize::MAX))
 }
 
+/// The same of the film as pairs.
+pub fn pairs_listing(card: &[u8]) -> String {
+    answer_text(plan_pairs_card(card, usize::MAX, usize::MAX))
+}
+
 /// What the program prints with these arguments.
 pub fn listing_with(arguments: &[String], card: &[u8]) -> String {
     match arguments {
         [] => listing(card),
         [word] if word == "loop" => loop_listing(card),
+        [word] if word == "pairs" => pairs_listing(card),
         _ => USAGE.to_string(),
     }
 }

@@ -1,9 +1,8 @@
 //! Half blocks on paired tracks (02, ticket 11): each block is stored as two halves, on a slow and
 //! a quick position. The zone times are for a half; a block's time is its pair's.
 //!
-//! The definitions take figures that `judge_pairs_record` accepts.
-
-pub mod desk;
+//! The definitions take figures that `judge_pairs_record` accepts. On the desk a block gives two fetch
+//! entries, and the bound counts both visits; all else is as for one showing.
 
 use crate::card::{judge_record_with, read_card_with, Figures, MAX_BLOCKS, MIN_BLOCKS};
 use crate::plan::{self, narrow, time_at, Plan, Planned, Showing};

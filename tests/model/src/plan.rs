@@ -4,6 +4,7 @@
 //! The definitions take figures that `judge_record` accepts.
 
 use crate::card::{judge_record, read_card, Figures};
+use crate::pairs::{is_pairs_plan, PAIRS};
 use crate::refusal::{cause, refuse, Refusal};
 
 /// Greatest number of streams.
@@ -31,7 +32,7 @@ impl Showing {
         }
     }
 
-    /// The showing that a record's word says; any third word says none.
+    /// The showing that a record's word says; any third word says none of these.
     pub fn of(word: u32) -> Option<Showing> {
         Showing::ALL.into_iter().find(|showing| showing.word() == word)
     }
@@ -349,8 +350,11 @@ pub fn fill_lent<T: Clone>(lent: &mut [T], answer: &[T]) {
 }
 
 /// Is this the plan of its figures for the showing that it says, and do both lists begin with its
-/// N entries?
+/// N entries? A plan of pairs has 2 × N positions.
 pub fn is_plan(plan: &Plan, positions: &[u32], leads: &[u32]) -> bool {
+    if plan.showing == PAIRS {
+        return is_pairs_plan(plan, positions, leads);
+    }
     let Some(showing) = Showing::of(plan.showing) else {
         return false;
     };

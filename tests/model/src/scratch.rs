@@ -5,6 +5,7 @@
 use crate::book::{answer, refused_answer, Answer, Call};
 use crate::card::{judge_record, read_card, Figures};
 use crate::desk::{open, Desk};
+use crate::pairs::{self, judge_pairs_record, PAIRS, VISITS};
 use crate::plan::{leads, plan_of, times, worst2, Plan, Planned, Showing};
 use crate::refusal::{cause, refuse, Refusal};
 
@@ -20,8 +21,12 @@ pub fn judge_scratch(scratch: &[u32]) -> Result<(), Refusal> {
 }
 
 /// The full list of a record, by its figures for the showing that it says. A record whose figures
-/// are refused, or whose word says no showing, has none; it is unsound with every list.
+/// are refused, or whose word says no showing, has none; it is unsound with every list. Pairs have
+/// leads of 0.
 pub fn full_leads(plan: &Plan) -> Vec<u32> {
+    if plan.showing == PAIRS && judge_pairs_record(&plan.figures).is_ok() {
+        return vec![0; plan.figures.blocks as usize];
+    }
     match Showing::of(plan.showing) {
         Some(showing) if judge_record(&plan.figures).is_ok() => {
             let times = times(&plan.figures, showing);
@@ -70,6 +75,42 @@ pub fn plan_card_scratch(
     scratch: usize,
 ) -> Result<Planned, Refusal> {
     plan_judged(&read_card(card)?, showing, positions, scratch)
+}
+
+/// 13, for the scratch too, then 12, of figures judged for pairs.
+fn plan_judged_pairs(
+    figures: &Figures,
+    positions: usize,
+    scratch: usize,
+) -> Result<Planned, Refusal> {
+    if positions < VISITS * figures.blocks as usize || scratch < SCRATCH {
+        return refuse(cause::TOO_SHORT, 0);
+    }
+    match pairs::plan_of(figures) {
+        Some(planned) => Ok(planned),
+        None => refuse(cause::NO_STREAM, 0),
+    }
+}
+
+/// The plan of a record as pairs: 3 to 8, 10, 25, 26 and 28, 13, 12.
+pub fn plan_pairs_record_scratch(
+    figures: &Figures,
+    positions: usize,
+    scratch: usize,
+) -> Result<Planned, Refusal> {
+    if let Err(number) = judge_pairs_record(figures) {
+        return refuse(number, 0);
+    }
+    plan_judged_pairs(figures, positions, scratch)
+}
+
+/// The plan of a card as pairs: 1 to 8, 10, 11, 25, 26 and 28 with offset, 13, 12.
+pub fn plan_pairs_card_scratch(
+    card: &[u8],
+    positions: usize,
+    scratch: usize,
+) -> Result<Planned, Refusal> {
+    plan_judged_pairs(&pairs::read_pairs_card(card)?, positions, scratch)
 }
 
 // The desk: a scratch below 512 is 13 ahead of 14.

@@ -2,6 +2,7 @@
 //! place and the bytes read in it; and the text of the windows program.
 
 use crate::listing::refusal_text;
+use crate::pairs::{pair_times, plan_pairs_card, window_pairs, PAIRS};
 use crate::plan::{plan_card_for, plan_record_for, time_at, Plan, Planned, Showing};
 use crate::refusal::{cause, refuse, Refusal};
 use std::fmt::Write;
@@ -9,8 +10,8 @@ use std::fmt::Write;
 /// Most blocks of a window.
 pub const MAX_WINDOW: u32 = 64;
 
-/// What the windows program says of any argument but `loop`.
-pub const USAGE: &str = "usage: windows [loop]\n";
+/// What the windows program says of any argument but `loop` and `pairs`.
+pub const USAGE: &str = "usage: windows [loop|pairs]\n";
 
 /// The worst of all windows of so many blocks; the guaranteed rate is `bytes` in `time`.
 #[derive(Clone, Copy, Debug, PartialEq, Eq)]
@@ -60,21 +61,31 @@ pub fn worst_window(times: &[u32], showing: Showing, k: usize) -> (u32, usize) {
     (worst, first)
 }
 
-/// time(b) for each block, by the positions list of a plan.
+/// time(b) for each block, by the positions list of a plan; of pairs that of both halves.
 fn laid_times(plan: &Plan, positions: &[u32]) -> Vec<u32> {
+    if plan.showing == PAIRS {
+        return pair_times(&plan.figures, positions);
+    }
     let film = &positions[..plan.figures.blocks as usize];
     film.iter().map(|&position| time_at(&plan.figures, position)).collect()
 }
 
-/// The window of a plan whose blocks take these times; k is from 1 to 64 and to N.
+/// The window of a plan whose blocks take these times; k is from 1 to 64 and to N. Pairs are shown
+/// once.
 fn window_of(plan: &Plan, times: &[u32], k: u32) -> Window {
-    let showing = Showing::of(plan.showing).expect("the word of a plan");
+    let showing = match plan.showing {
+        PAIRS => Showing::Once,
+        word => Showing::of(word).expect("the word of a plan"),
+    };
     let (time, first) = worst_window(times, showing, k as usize);
     Window { time, first: first as u32, bytes: k * plan.figures.block_bytes }
 }
 
 /// The window of k blocks of a plan with its positions list: 14, then 27, each with place 0.
 pub fn window(plan: &Plan, positions: &[u32], k: u32) -> Result<Window, Refusal> {
+    if plan.showing == PAIRS {
+        return window_pairs(plan, positions, k);
+    }
     if !is_plan_with_positions(plan, positions) {
         return refuse(cause::NOT_SOUND, 0);
     }
@@ -98,12 +109,21 @@ fn windows_text(planned: &Planned) -> String {
     text
 }
 
-/// What the windows program prints for its input, its lists being long enough.
-pub fn windows(card: &[u8], showing: Showing) -> String {
-    match plan_card_for(card, showing, usize::MAX, usize::MAX) {
+fn answer_text(answer: Result<Planned, Refusal>) -> String {
+    match answer {
         Ok(planned) => windows_text(&planned),
         Err(refusal) => refusal_text(refusal),
     }
+}
+
+/// What the windows program prints for its input, its lists being long enough.
+pub fn windows(card: &[u8], showing: Showing) -> String {
+    answer_text(plan_card_for(card, showing, usize::MAX, usize::MAX))
+}
+
+/// The same of the film as pairs.
+pub fn windows_of_pairs(card: &[u8]) -> String {
+    answer_text(plan_pairs_card(card, usize::MAX, usize::MAX))
 }
 
 /// What the program prints with these arguments.
@@ -111,6 +131,7 @@ pub fn windows_with(arguments: &[String], card: &[u8]) -> String {
     match arguments {
         [] => windows(card, Showing::Once),
         [word] if word == "loop" => windows(card, Showing::Loop),
+        [word] if word == "pairs" => windows_of_pairs(card),
         _ => USAGE.to_string(),
     }
 }

@@ -3,7 +3,6 @@
 use film_disk_model::bench::{bench_blocks, bench_film, bench_rising, figures_of, film_of};
 use film_disk_model::card::number_bytes;
 use film_disk_model::desk::{FILLING, FREE, PLAYING, SWEEPING, TAIL};
-use film_disk_model::pairs::desk::{answer_pairs, is_pairs_sound, open_pairs};
 use film_disk_model::pairs::{
     greatest_pair_time, halves, is_matching, is_pairs_plan_with_positions, pair_time, pair_times,
     plan_of, positions, read_pairs_card, streams, PAIRS,
@@ -12,11 +11,14 @@ use film_disk_model::plan::{time_at, worst2};
 use film_disk_model::queue::most_sweeps;
 use film_disk_model::rng::cards::any_card;
 use film_disk_model::rng::desks::{
-    alter_plan, longer_list, next_step, sound_desk, spoiled_list, temper,
+    alter_plan, any_step, longer_list, next_step, sound_desk, spoiled_list, temper,
 };
 use film_disk_model::rng::figures::any_figures;
 use film_disk_model::rng::pairs::{
     large_pairs, large_pairs_plan, pairs_plan, small_pairs, tight_pairs,
+};
+use film_disk_model::scratch::{
+    full_leads, plan_pairs_card_scratch, plan_pairs_record_scratch, SCRATCH,
 };
 use film_disk_model::*;
 
@@ -464,6 +466,58 @@ fn bench_windows() {
     assert_eq!(refused(window_pairs(&plan, &positions, 65)), Some((27, 0)));
 }
 
+// The programs.
+
+/// The bench film with N 3 and with the N that it has, which is too many.
+#[test]
+fn bench_texts() {
+    let text = pairs_listing(&card_bytes(&bench_blocks(3)));
+    let expected = "streams 8\nbuffer 786432\nworst2 75980\nworstat 0\nmargin 0\n\
+        block position position time lead\n0 0 5 37990 0\n1 1 4 37250 0\n2 2 3 36900 0\n";
+    assert_eq!(text, expected);
+    let windows = |card: &[u8]| windows_with(&["pairs".to_string()], card);
+    let text = windows(&card_bytes(&bench_blocks(3)));
+    let expected = "blocks time first bytes rate\n1 37990 0 262144 6900342\n\
+        2 75240 0 524288 6968208\n3 112140 0 786432 7012948\n";
+    assert_eq!(text, expected);
+    let too_many = card_bytes(&bench_film());
+    let at = offset_of_blocks(&bench_film());
+    for text in [pairs_listing(&too_many), windows(&too_many)] {
+        assert_eq!(text, format!("refused 28 at {at}\n"));
+    }
+}
+
+// By scratch.
+
+/// With a scratch of 512 all is as with the list; a shorter one is 13, in the planner in its place, on
+/// a desk first of all.
+#[test]
+fn scratch_in_place_of_the_list() {
+    let mut rng = Rng::new(121);
+    let scratch = vec![7; SCRATCH];
+    for case in 0..1000 {
+        let figures = tight_pairs(&mut rng, 40);
+        let (blocks, card) = (figures.blocks as usize, card_bytes(&figures));
+        for positions in [2 * blocks - 1, 2 * blocks] {
+            let by_list = plan_pairs_card(&card, positions, blocks);
+            assert_eq!(plan_pairs_card_scratch(&card, positions, SCRATCH), by_list);
+            assert_eq!(plan_pairs_record_scratch(&figures, positions, SCRATCH), by_list);
+            let short = plan_pairs_card_scratch(&card, positions, SCRATCH - 1);
+            assert_eq!(refused(short), Some((13, 0)), "case {case}");
+        }
+        let planned = pairs_plan(&mut rng);
+        let Planned { plan, positions, leads } = &planned;
+        assert_eq!(full_leads(plan), *leads);
+        assert_eq!(open_scratch(plan, positions, &scratch), open(plan, positions, leads));
+        let short = &scratch[..SCRATCH - 1];
+        assert_eq!(refused(open_scratch(plan, &[], short)), Some((13, 0)));
+        let (desk, step) = any_step(&mut rng, &planned);
+        let made = answer_scratch(&desk, &step.positions, &scratch, &step.call);
+        assert_eq!(made, answer(&desk, &step.positions, &full_leads(&desk.plan), &step.call));
+        assert_eq!(answer_scratch(&desk, &[], short, &step.call).number, 13);
+    }
+}
+
 // The desk.
 
 /// Two rooms of the bench film: four entries by rising position, each block's two visits counted.
@@ -471,10 +525,10 @@ fn bench_windows() {
 fn bench_desk() {
     let planned = planned(&bench_blocks(3));
     let Planned { plan, positions, leads } = &planned;
-    let mut run = Run::new(open_pairs(plan, positions, leads).unwrap());
+    let mut run = Run::new(open(plan, positions, leads).unwrap());
     let mut call = |call| {
         let step = Step { positions: positions.clone(), leads: leads.clone(), call };
-        run.call_pairs(&step).unwrap()
+        run.call(&step).unwrap()
     };
     let of = |entries: &[(u32, u32, u32)]| -> Vec<Entry> {
         entries.iter().map(|&(position, slot, block)| Entry { position, slot, block }).collect()
@@ -539,11 +593,11 @@ fn lists_of_calls() {
         let Planned { plan, positions, leads } = &planned;
         assert_eq!(most_sweeps(plan), 0);
         let temper = temper(&mut rng);
-        let mut run = Run::new(open_pairs(plan, positions, leads).unwrap());
+        let mut run = Run::new(open(plan, positions, leads).unwrap());
         for _ in 0..if case % 100 == 0 { 20 } else { 150 } {
             let step = next_step(&mut rng, &planned, &run.desk, &temper);
-            let answer = run.call_pairs(&step).unwrap();
-            assert!(is_pairs_sound(&run.desk, positions, leads));
+            let answer = run.call(&step).unwrap();
+            assert!(is_sound(&run.desk, positions, leads));
             met[answer.number as usize] += 1;
             if answer.accepted() && matches!(step.call, Call::Begin { .. }) {
                 check_begun(positions, &answer);
@@ -568,9 +622,9 @@ fn begins_on_sound_desks() {
         let planned = pairs_plan(&mut rng);
         let Planned { plan, positions, leads } = &planned;
         let desk = sound_desk(&mut rng, &planned);
-        assert!(is_pairs_sound(&desk, positions, leads));
+        assert!(is_sound(&desk, positions, leads));
         let most = 2 * plan.streams as usize;
-        let of = |fetch_list| answer_pairs(&desk, positions, leads, &Call::Begin { fetch_list });
+        let of = |fetch_list| answer(&desk, positions, leads, &Call::Begin { fetch_list });
         if desk.phase == SWEEPING {
             assert_eq!(of(0).number, 15);
             continue;
@@ -598,20 +652,23 @@ fn records_that_are_not_sound() {
     let planned = planned(&bench_blocks(3));
     let Planned { plan, positions, leads } = &planned;
     let once = plan_record(&bench_blocks(3), 3, 3).unwrap();
-    assert_eq!(refused(open_pairs(&once.plan, &once.positions, &once.leads)), Some((14, 0)));
-    assert_eq!(refused(open_pairs(plan, &positions[..5], leads)), Some((14, 0)));
-    assert_eq!(refused(open_pairs(plan, positions, &leads[..2])), Some((14, 0)));
-    assert_eq!(refused(open_pairs(plan, positions, &[0, 0, 1])), Some((14, 0)));
+    let turned = Plan { showing: PAIRS, ..once.plan.clone() };
+    assert_eq!(refused(open(&turned, &once.positions, &once.leads)), Some((14, 0)));
+    assert_eq!(refused(open(&turned, positions, leads)), Some((14, 0)));
+    assert_eq!(refused(open(plan, &once.positions, &once.leads)), Some((14, 0)));
+    assert_eq!(refused(open(plan, &positions[..5], leads)), Some((14, 0)));
+    assert_eq!(refused(open(plan, positions, &leads[..2])), Some((14, 0)));
+    assert_eq!(refused(open(plan, positions, &[0, 0, 1])), Some((14, 0)));
     let desk = Desk::all_free(plan);
     let begin = Call::Begin { fetch_list: 0 };
-    assert_eq!(answer_pairs(&desk, positions, leads, &begin).number, 13);
+    assert_eq!(answer(&desk, positions, leads, &begin).number, 13);
     let mut playing = desk.clone();
     (playing.kinds[0], playing.held[0]) = (PLAYING, BLOCK);
-    assert!(is_pairs_sound(&playing, positions, leads));
+    assert!(is_sound(&playing, positions, leads));
     playing.held[0] = BLOCK - 1;
-    assert!(!is_pairs_sound(&playing, positions, leads));
+    assert!(!is_sound(&playing, positions, leads));
     let mut unused = desk.clone();
     unused.kinds[8] = TAIL;
-    assert_eq!(answer_pairs(&unused, positions, leads, &begin).number, 14);
+    assert_eq!(answer(&unused, positions, leads, &begin).number, 14);
     assert_eq!(desk.kinds[8], FREE);
 }

@@ -3,7 +3,7 @@
 
 use film_disk_model::bench::bench_film;
 use film_disk_model::listing::listing_with;
-use film_disk_model::{card_bytes, listing, loop_listing};
+use film_disk_model::{card_bytes, listing, loop_listing, pairs_listing};
 use std::process::Command;
 
 const LISTING: &str = env!("CARGO_BIN_EXE_listing");
@@ -25,18 +25,18 @@ fn run(comparison: &str, arguments: &[&str]) -> (String, Option<i32>) {
 #[test]
 fn own_listing_passes() {
     let (text, status) = run(LISTING_CASES, &[LISTING, "5", "300"]);
-    assert_eq!(text, "seed 5\n374 passed, 0 failed\n");
+    assert_eq!(text, "seed 5\n449 passed, 0 failed\n");
     assert_eq!(status, Some(0));
 }
 
 #[test]
 fn own_windows_pass() {
     let (text, status) = run(WINDOWS_CASES, &[WINDOWS, "5", "300"]);
-    assert_eq!(text, "seed 5\n374 passed, 0 failed\n");
+    assert_eq!(text, "seed 5\n449 passed, 0 failed\n");
     assert_eq!(status, Some(0));
 }
 
-/// A loop's listing by its argument, and one line for any other.
+/// The listing of a loop and of pairs by its argument, and one line for any other.
 #[test]
 fn arguments_of_listing() {
     let bench = card_bytes(&bench_film());
@@ -47,8 +47,10 @@ fn arguments_of_listing() {
     assert_eq!(printed(&[]), listing(&bench));
     assert_eq!(printed(&["loop"]), loop_listing(&bench));
     assert!(printed(&["loop"]).starts_with("streams 15\n"));
-    for words in [["once"].as_slice(), &[""], &["loops"]] {
-        assert_eq!(printed(words), "usage: listing [loop]\n");
+    assert_eq!(printed(&["pairs"]), pairs_listing(&bench));
+    assert!(printed(&["pairs"]).starts_with("refused 28 at "));
+    for words in [["once"].as_slice(), &[""], &["loops"], &["pair"], &["loop", "pairs"]] {
+        assert_eq!(printed(words), "usage: listing [loop|pairs]\n");
     }
 }
 
@@ -85,7 +87,7 @@ fn silent_program_fails() {
     assert!(text.starts_with("seed 5\narguments [], input 01 06 01 FE AD 01 "), "{text}");
     assert!(text.contains("line 1: expected \"streams 16\\n\", got nothing\n"), "{text}");
     assert!(text.contains("usage: listing_cases LISTING SEED COUNT\n"), "{text}");
-    assert!(text.ends_with("\n0 passed, 77 failed\n"), "{text}");
+    assert!(text.ends_with("\n0 passed, 152 failed\n"), "{text}");
     assert_eq!(status, Some(1));
 }
 
@@ -108,7 +110,7 @@ fn listing_is_no_windows() {
         ),
         "{text}"
     );
-    assert!(text.ends_with("\n24 passed, 50 failed\n"), "{text}");
+    assert!(text.ends_with("\n54 passed, 95 failed\n"), "{text}");
     assert_eq!(status, Some(1));
 }
 

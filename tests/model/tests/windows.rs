@@ -238,7 +238,7 @@ blocks time first bytes rate
     assert!(looped.contains("\n2 38970 5 524288 13453630\n"), "{looped}");
     assert_eq!(windows_with(&[], &card_bytes(&bench_zero_time())), "refused 6 at 7\n");
     assert_eq!(windows_with(&[], &[]), "refused 1 at 0\n");
-    assert_eq!(windows_with(&["once".to_string()], &card), "usage: windows [loop]\n");
+    assert_eq!(windows_with(&["once".to_string()], &card), "usage: windows [loop|pairs]\n");
     let long = windows_with(&[], &card_bytes(&barracuda(8871)));
     assert_eq!(long.lines().count(), 65);
     assert_eq!(long.lines().nth(2), Some("2 222551 0 2097152 9423242"));

@@ -8,7 +8,7 @@ use Rattle.walk.specs.declared.Walk.{Walk}
 use Rattle.walk.specs.Walk.{Cursors}
 use Rattle.walk.specs.Meets.{meets}
 use Rattle.placement.specs.Showing.{laying}
-use Rattle.plan.specs.Plan.{showingOf}
+use Rattle.plan.specs.Plan.{walkOf}
 use Rattle.plan.specs.Disk.{leadAt}
 use Rattle.plan.specs.Rows.{begins-short}
 use Rattle.block_lists.proofs.Runs.{Compares, compares-start, compares-run, compares-end, has-all, run-leads}
@@ -23,14 +23,14 @@ record LeadsCompared (ps ts : List ℕ) (l : ℕ → ℕ) (N w : ℕ) (ls : List
 
 abbrev Inv-loop : tie.InvT-loop
 Inv-loop sizes times showing total blocks worst2 leads walk₀ same₀ b₀ walk same b =
-    LeadsCompared sizes times (laying (showingOf showing) total blocks) blocks worst2 leads walk same b
+    LeadsCompared sizes times (laying (walkOf showing) total blocks) blocks worst2 leads walk same b
 
 abbrev μ-loop : tie.MeasureT-loop
 μ-loop sizes times showing total blocks worst2 leads walk₀ same₀ b₀ walk same b = blocks - b
 
 returns : tie.Need-returns Inv-loop μ-loop
 returns c = let a = c .before .before .before .args in
-    sym (begins-short (leadAt (a .sizes .now) (a .times .now) (laying (showingOf (a .showing)) (a .total) (a .blocks)) (a .worst2)) 0 (a .blocks)
+    sym (begins-short (leadAt (a .sizes .now) (a .times .now) (laying (walkOf (a .showing)) (a .total) (a .blocks)) (a .worst2)) 0 (a .blocks)
     (wordsOf (a .leads .now)) (omega arith))
 
 loop-holds : tie.Need-loop-holds Inv-loop μ-loop
@@ -38,7 +38,7 @@ loop-holds c = let a = c .before .before .before .before .args in
     record {
       cursors = c .set-out .ensures;
       leads =
-          compares-start (wordsOf (a .leads .now)) (leadAt (a .sizes .now) (a .times .now) (laying (showingOf (a .showing)) (a .total) (a .blocks)) (a .worst2))
+          compares-start (wordsOf (a .leads .now)) (leadAt (a .sizes .now) (a .times .now) (laying (walkOf (a .showing)) (a .total) (a .blocks)) (a .worst2))
           0 (a .blocks) (omega arith);
     }
 
@@ -67,7 +67,7 @@ returns-2 : tie.Need-returns-2 Inv-loop μ-loop
 returns-2 c = let l = c .before in
     let a = l .before .before .before .before .before .args in
     compares-end (l .loop .inv .leads) (omega arith)
-    ∙ has-all (leadAt (a .sizes .now) (a .times .now) (laying (showingOf (a .showing)) (a .total) (a .blocks)) (a .worst2)) (wordsOf (a .leads .now))
+    ∙ has-all (leadAt (a .sizes .now) (a .times .now) (laying (walkOf (a .showing)) (a .total) (a .blocks)) (a .worst2)) (wordsOf (a .leads .now))
     (a .blocks)
 
 pub same-leads-spec : {M : Type 1} → statement M

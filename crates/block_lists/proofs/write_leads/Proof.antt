@@ -6,7 +6,7 @@ use Rattle.walk.specs.declared.Walk.{Walk}
 use Rattle.walk.specs.Walk.{Cursors}
 use Rattle.walk.specs.Meets.{meets}
 use Rattle.placement.specs.Showing.{laying}
-use Rattle.plan.specs.Plan.{showingOf}
+use Rattle.plan.specs.Plan.{walkOf}
 use Rattle.plan.specs.Disk.{leadAt}
 use Rattle.block_lists.proofs.Runs.{Writes, writes-start, writes-run, writes-end, written-all, run-leads}
 use borrow.Author.Needs.{needs}
@@ -19,7 +19,7 @@ record LeadsWritten (ps ts : List ℕ) (l : ℕ → ℕ) (N w : ℕ) (s ls : Lis
 
 abbrev Inv-loop : tie.InvT-loop
 Inv-loop sizes times showing total blocks worst2 leads₀ walk₀ b₀ leads walk b =
-    LeadsWritten sizes times (laying (showingOf showing) total blocks) blocks worst2 leads₀ leads walk b
+    LeadsWritten sizes times (laying (walkOf showing) total blocks) blocks worst2 leads₀ leads walk b
 
 abbrev μ-loop : tie.MeasureT-loop
 μ-loop sizes times showing total blocks worst2 leads₀ walk₀ b₀ leads walk b = blocks - b
@@ -29,7 +29,7 @@ loop-holds c = let a = c .before .before .args in
     record {
       cursors = c .set-out .ensures;
       leads =
-          writes-start (a .leads .now) (leadAt (a .sizes .now) (a .times .now) (laying (showingOf (a .showing)) (a .total) (a .blocks)) (a .worst2))
+          writes-start (a .leads .now) (leadAt (a .sizes .now) (a .times .now) (laying (walkOf (a .showing)) (a .total) (a .blocks)) (a .worst2))
           0 (a .blocks) (omega arith);
     }
 
@@ -66,7 +66,7 @@ same-length c = c .before .loop .inv .leads .kept
 returns : tie.Need-returns Inv-loop μ-loop
 returns c = let l = c .before in
     let a = l .before .before .before .args in
-    let g = leadAt (a .sizes .now) (a .times .now) (laying (showingOf (a .showing)) (a .total) (a .blocks)) (a .worst2) in
+    let g = leadAt (a .sizes .now) (a .times .now) (laying (walkOf (a .showing)) (a .total) (a .blocks)) (a .worst2) in
     writes-end (l .loop .inv .leads) (omega arith) ∙ written-all (a .leads .now) g (a .blocks)
 
 pub write-leads-spec : {M : Type 1} → statement M

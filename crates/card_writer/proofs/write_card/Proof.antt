@@ -29,11 +29,11 @@ returns c =
 abbrev start : tie.Else1 → tie.Start
 start c = c .before .before .before
 
-legal : (c : tie.Else1) → recordFault (start c .args .figures) ≡ 0
+legal : (c : tie.Else1) → recordFault 1 (start c .args .figures) ≡ 0
 legal c = sym (c .before .fault-of-record .ensures) ∙ c .if1 .left
 
 few : (c : tie.Else1) → start c .args .figures .zones ≤ maxZones
-few c = fault-zones _ (legal c)
+few c = fault-zones 1 _ (legal c)
 
 long : (c : tie.Start) → length (c .args .figures .table) ≡ tableLength
 long c = search needs

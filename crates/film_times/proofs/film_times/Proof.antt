@@ -52,7 +52,7 @@ abbrev μ-loop : tie.MeasureT-loop
 μ-loop figures total blocks times₀ i₀ times i = blocks - i
 
 -- the position that is looked at is one of the disk
-on-disk : (f : Figures) → Legal f → (t i : ℕ) → t ≡ totalPositions f → i < f .blocks → (f .blocks ≤ t) × (t - f .blocks + i < totalPositions f)
+on-disk : (f : Figures) → Legal 1 f → (t i : ℕ) → t ≡ totalPositions f → i < f .blocks → (f .blocks ≤ t) × (t - f .blocks + i < totalPositions f)
 on-disk f ok t i e h = omega (arith, ok .room)
 
 sum-positions-requires : tie.Need-sum-positions-requires Inv-loop μ-loop

@@ -26,7 +26,7 @@ time-at-requires c κs = let p = placed (c .before) in rw (c .word-at2 .ensures)
 lead-requires : tie.Need-lead-requires
 lead-requires c κs =
     let p = placed (c .before .before) in
-    rw (c .time-at .ensures, c .before .word-at2 .ensures) (p .quick)
+    rw (c .time-at .ensures, c .before .word-at2 .ensures) (omega (arith, p .quick))
 
 returns-2 : tie.Need-returns-2
 returns-2 c =

@@ -10,18 +10,18 @@ use Rattle.plan.specs.Disk.{Zoned}
 use Rattle.desk.specs.declared.Desk.{Desk}
 use Rattle.desk_layout.specs.Layout.{deskIn}
 use Rattle.gather.specs.Gather.{Reach, NextFound, gathered}
-use Rattle.gather.proofs.Collecting.{Collecting, collecting-none, collecting-next}
+use Rattle.gather.proofs.Collecting.{Collecting, stored, collecting-none, collecting-next}
 use Rattle.gather.proofs.gather.Statement.{statement}
 use Rattle.gather.proofs.gather.Tie as tie
 
 -- the next blocks of the first i slots are collected
 abbrev Inv-loop : tie.InvT-loop
-Inv-loop desk positions streams found₀ spots₀ sizes times i₀ found spots i = (let d = deskIn (wordsOf desk) in
+Inv-loop desk positions streams visits found₀ spots₀ others₀ sizes times i₀ found spots others i = (let d = deskIn (wordsOf desk) in
     let f = d .plan .figures in
-    Collecting (f .positions) (f .times) positions (d .kinds) (d .next) streams (gathered found spots) i)
+    Collecting (f .positions) (f .times) positions visits (d .kinds) (d .next) streams (gathered found spots others) i)
 
 abbrev μ-loop : tie.MeasureT-loop
-μ-loop desk positions streams found₀ spots₀ sizes times i₀ found spots i = streams - i
+μ-loop desk positions streams visits found₀ spots₀ others₀ sizes times i₀ found spots others i = streams - i
 
 -- ---- the places, each from a later one
 
@@ -38,21 +38,21 @@ abbrev given : tie.Start Inv-loop μ-loop → Desk
 given s = deskIn (wordsOf (s .args .desk .now))
 
 -- what is asked for a block, of numbers that are equal
-asked-same : {sizes zs : List ℕ} (ps : List ℕ) {k j x y : ℕ} → sizes ≡ zs → k ≡ j → x ≡ y → Zoned zs → (waiting ≤ j → j ≤ playing → Reach zs ps y)
-    → (Zoned sizes) × (waiting ≤ k → k ≤ playing → Reach sizes ps x)
-asked-same ps a b c z r = rw (a, b, c) (z, r)
+asked-same : {sizes zs times ts : List ℕ} (ps : List ℕ) (v : ℕ) {k j x y : ℕ} → sizes ≡ zs → times ≡ ts → k ≡ j → x ≡ y → Zoned zs
+    → (waiting ≤ j → j ≤ playing → Reach zs ts ps v y) → (Zoned sizes) × (waiting ≤ k → k ≤ playing → Reach sizes times ps v x)
+asked-same ps v a t b c z r = rw (a, t, b, c) (z, r)
 
 -- ---- the needs
 
 loop-holds : tie.Need-loop-holds Inv-loop μ-loop
-loop-holds c = let s = c .before .before .before .before in collecting-none _ _ _ _ _ _ _ (s .pre .4) (s .pre .5)
+loop-holds c = let s = c .before .before .before .before in collecting-none _ _ _ _ _ _ _ _ (s .pre .4) (s .pre .5) (s .pre .6)
 
 next-block-requires : tie.Need-next-block-requires Inv-loop μ-loop
 next-block-requires c κs =
     let k = c .before in
     let t = turn k in
     let s = start (t .before) in
-    asked-same _ (timed (t .before) .before .zone-sizes .ensures) (k .kind-in .ensures) (c .next-in .ensures) (s .pre .2)
+    asked-same _ _ (timed (t .before) .before .zone-sizes .ensures) (timed (t .before) .zone-times .ensures) (k .kind-in .ensures) (c .next-in .ensures) (s .pre .2)
     (s .pre .3 (t .before .loop .i) (t .loop-test .taken))
 
 -- what is found for slot i, said of the desk
@@ -61,7 +61,7 @@ finds : (c : tie.After-next-block Inv-loop μ-loop) → (let t = turn (c .before
     let i = t .before .loop .i in
     let d = given s in
     let f = d .plan .figures in
-    NextFound (f .positions) (f .times) (s .args .positions .now) (getD (d .kinds) i 0) (getD (d .next) i 0) (c .next-block .result))
+    NextFound (f .positions) (f .times) (s .args .positions .now) (s .args .visits) (getD (d .kinds) i 0) (getD (d .next) i 0) (c .next-block .result))
 finds c =
     let k = c .before .before in
     let z = timed (turn k .before) in
@@ -73,7 +73,7 @@ loop-again c =
     let t = turn (c .before .before) in
     let l = t .before .loop in
     let h : l .i < 256 = omega (arith, t .loop-test .taken, start (t .before) .pre .1) in
-    collecting-next _ _ _ _ _ _ (gathered (l .found) (l .spots)) (l .i) (c .next-block .result) (l .inv) (t .loop-test .taken) h (finds c)
+    unfold stored in collecting-next _ _ _ _ _ _ _ (gathered (l .found) (l .spots) (l .others)) (l .i) (c .next-block .result) (l .inv) (t .loop-test .taken) h (finds c)
 
 returns : tie.Need-returns Inv-loop μ-loop
 returns c =
@@ -93,6 +93,8 @@ gather-spec =
     (λ c κs. omega arith)
     (λ c κs. omega arith)
     next-block-requires
+    (λ c. omega arith)
+    (λ c. omega arith)
     (λ c. omega arith)
     (λ c. omega arith)
     (λ c. omega arith)

@@ -22,7 +22,7 @@ returns-3 : tie.Need-returns-3
 returns-3 c = record { here = λ a b. c .block-at3 .ensures; other = λ n. absurd (n (omega arith) (omega arith)) }
 
 returns-4 : tie.Need-returns-4
-returns-4 c = record { here = λ a b. absurd (omega arith); other = λ n. (refl, refl) }
+returns-4 c = record { here = λ a b. absurd (omega arith); other = λ n. record { time = refl; position = refl; other = refl } }
 
 pub next-block-spec : {M : Type 1} → statement M
 next-block-spec =

@@ -20,7 +20,7 @@ use Rattle.grants.proofs.grant_asked.Tie as tie
 
 -- no lead costs more
 abbrev mostCost : ℕ
-mostCost = maxRate * (2 * maxTime)
+mostCost = maxRate * (4 * maxTime)
 
 -- so many of the line are granted, and the mark has their leads
 record Granting (kinds₀ line : List ℕ) (count : ℕ) (g : ℕ → ℕ) (rate floor level : ℕ) (kinds : List ℕ) (mark granted : ℕ) : Type 0 where
@@ -67,7 +67,7 @@ own l = let a = start l .args in leadsIn (a .times .now) (a .worst2) (next l)
 
 small : (l : tie.At-loop Inv-loop μ-loop) → start l .args .rate * own l ≤ mostCost
 small l = let s = start l in
-    let h : own l ≤ 2 * maxTime = omega (arith, s .pre .2 (next l)) in
+    let h : own l ≤ 4 * maxTime = omega (arith, s .pre .2 (next l)) in
     mul-le-mul (s .pre .3) h
 
 cost : (c : tie.After-product Inv-loop μ-loop) → (let l = turn (found c) in c .product .result ≡ start l .args .rate * own l)

@@ -1,5 +1,5 @@
 use Rattle.words.specs.Laws.{bytes-fit}
-use Rattle.placement.specs.Showing.{one, loop}
+use Rattle.placement.specs.Showing.{one, loop, pairs}
 use Rattle.lines.proofs.AcceptedPlan.{accepted-plan}
 use borrow.Author.Needs.{needs}
 use Rattle.lines.proofs.plan_film.Statement.{statement}
@@ -10,12 +10,19 @@ returns c =
     let r = c .before .before .before .before in
     let k = r .before .before .before .before .before .before in
     let s = k .before .args .card .now in
-    accepted-plan loop s (bytes-fit s (k .shared-slice-known .given)) _ _ (r .plan-loop-card .result) _ _ (r .plan-loop-card .ensures)
+    accepted-plan pairs s (bytes-fit s (k .shared-slice-known .given)) _ _ (r .plan-pairs-card .result) _ _ (r .plan-pairs-card .ensures)
 
 returns-2 : tie.Need-returns-2
 returns-2 c =
     let r = c .before .before .before .before in
-    let k = r .before .before .before .before .before .before in
+    let k = r .before .before .before .before .before .before .before in
+    let s = k .before .args .card .now in
+    accepted-plan loop s (bytes-fit s (k .shared-slice-known .given)) _ _ (r .plan-loop-card .result) _ _ (r .plan-loop-card .ensures)
+
+returns-3 : tie.Need-returns-3
+returns-3 c =
+    let r = c .before .before .before .before in
+    let k = r .before .before .before .before .before .before .before in
     let s = k .before .args .card .now in
     accepted-plan one s (bytes-fit s (k .shared-slice-known .given)) _ _ (r .plan-card .result) _ _ (r .plan-card .ensures)
 
@@ -30,4 +37,8 @@ plan-film-spec =
     (λ c κs. search needs)
     (λ c. search needs)
     (λ c. search needs)
-    returns-2)
+    returns-2
+    (λ c κs. search needs)
+    (λ c. search needs)
+    (λ c. search needs)
+    returns-3)

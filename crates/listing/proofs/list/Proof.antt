@@ -1,11 +1,19 @@
+use Rattle.plan.specs.Check.{shows-pairs}
 use borrow.Author.Needs.{needs}
 use Rattle.listing.proofs.list.Statement.{statement}
 use Rattle.listing.proofs.list.Tie as tie
 
+-- where the card was planned
+abbrev made : tie.After-struct-known2 → tie.After-plan-film
+made c = c .before .before .before .before .before .before .before .before
+
+-- an accepted card has a plan with its lists
+print-all-halves-requires : tie.Need-print-all-halves-requires
+print-all-halves-requires c κs = let t = c .before .before in
+    (made (t .before) .plan-film .ensures (t .before .before .before .before .if1 .left), shows-pairs _ (t .if2 .taken))
+
 print-blocks-requires : tie.Need-print-blocks-requires
-print-blocks-requires c κs = let d = c .before .before .before .before in
-    let p = d .before .before .before .before .before in
-    p .plan-film .ensures (d .if1 .left)
+print-blocks-requires c κs = let k = c .before .before .before in made k .plan-film .ensures (k .before .before .before .if1 .left)
 
 pub list-spec : {M : Type 1} → statement M
 list-spec =
@@ -19,6 +27,10 @@ list-spec =
     (λ c κs. search needs)
     (λ c. search needs)
     (λ c κs. search needs)
+    (λ c. search needs)
+    (λ c. search needs)
+    print-all-halves-requires
+    (λ c. search needs)
     (λ c. search needs)
     (λ c. search needs)
     print-blocks-requires

@@ -1,7 +1,8 @@
-use Prim.Native.Nat.{_≤_}
+use Prim.Native.Nat.{_≤_, _<_}
 use native.Mathlib.Omega.{arith}
-use lib.ListN.{length}
+use lib.ListN.{length, getD}
 use Rattle.legality.specs.Legality.{Wide}
+use Rattle.placement.specs.Zones.{total}
 use Rattle.words.specs.Words.{wordsOf}
 use Rattle.plan.specs.Check.{checked}
 use Rattle.listing.proofs.ListedPlan.{plan-zoned, position-on}
@@ -12,19 +13,22 @@ use Rattle.listing.proofs.print_block.Tie as tie
 wide : (c : tie.Start) → Wide (c .args .plan .figures)
 wide c = (search needs, search needs, search needs)
 
-long : (c : tie.Start) → (c .args .plan .figures .blocks ≤ length (wordsOf (c .args .positions .now)))
-    × (c .args .plan .figures .blocks ≤ length (wordsOf (c .args .leads .now)))
-long c = checked (c .args .plan) (c .args .positions .now) (c .args .leads .now) (c .pre .0) .long
+-- each lead is in the list
+long : (c : tie.Start) → c .args .plan .figures .blocks ≤ length (wordsOf (c .args .leads .now))
+long c = checked (c .args .plan) (c .args .positions .now) (c .args .leads .now) (c .pre .0) .long .1
+
+placed : (c : tie.Start) → (let a = c .args in (a .b < length (wordsOf (a .positions .now)))
+    × (getD (wordsOf (a .positions .now)) (a .b) 0 < total (a .plan .figures .positions)))
+placed c = let a = c .args in position-on (a .plan) (a .positions .now) (a .leads .now) (wide c) (c .pre .0) (a .b) (c .pre .1)
 
 word-at-requires : tie.Need-word-at-requires
-word-at-requires c κs = let s = c .before .before .before in omega (arith, long s, s .pre)
+word-at-requires c κs = let s = c .before .before .before in placed s .0
 
 time-at-requires : tie.Need-time-at-requires
 time-at-requires c κs = let w = c .before .before .before in
     let s = w .before .before .before .before in
     let a = s .args in
-    let q = position-on (a .plan) (a .positions .now) (a .leads .now) (wide s) (s .pre .0) (a .b) (s .pre .1) in
-    (plan-zoned (a .plan) (a .positions .now) (a .leads .now) (wide s) (s .pre .0), omega (arith, q, w .word-at .ensures))
+    (plan-zoned (a .plan) (a .positions .now) (a .leads .now) (wide s) (s .pre .0), omega (arith, placed s .1, w .word-at .ensures))
 
 word-at-requires-2 : tie.Need-word-at-requires-2
 word-at-requires-2 c κs = let t = c .before .before .before .before in

@@ -2,6 +2,7 @@ use Prim.Native.Nat.{ℕ}
 use mathlib.Core.Path.{_≡_, sym, ap, ap₂, _∙_}
 use mathlib.Core.Bool.{true, false, _&&_, and-true}
 use mathlib.Core.List.{List}
+use native.Mathlib.Omega.{arith}
 use borrow.Author.Tests.{not-true, not-false}
 use Rattle.words.specs.Words.{wordsOf}
 use Rattle.card.specs.Card.{totalPositions}
@@ -10,7 +11,7 @@ use Rattle.plan.specs.Legal.{legal-zoned, total-zones}
 use Rattle.plan.specs.Plan.{showingIn, lentPlan}
 use Rattle.plan.specs.Answer.{begins, hasNumbers, hasPositions, hasLeads}
 use Rattle.plan.specs.Check.{Numbered, numbered}
-use Rattle.plan.specs.Ways.{plan-worst2, film-on, small-on, positions-are, leads-are}
+use Rattle.plan.specs.Ways.{plan-worst2, blocks-on, small-on, all-on, all-few, all-positions, leads-are}
 use borrow.Author.Needs.{needs}
 use Rattle.plan_check.proofs.is_plan_with.Statement.{statement}
 use Rattle.plan_check.proofs.is_plan_with.Tie as tie
@@ -34,14 +35,17 @@ first c = c .before
 sum : (c : tie.After-sum-positions) → c .sum-positions .result ≡ totalPositions (given (start (first c)) .figures)
 sum c = c .sum-positions .ensures ∙ total-zones (given (start (first c)) .figures) (has (first c) .legal)
 
+abbrev summed : (c : tie.After-same-positions) → tie.After-sum-positions
+summed c = c .before .before .before
+
 -- the positions
-placed : (c : tie.After-same-positions) → (let s = start (first (c .before)) in c .same-positions .result ≡ hasPositions (given s) (s .args .positions .now))
+placed : (c : tie.After-same-positions) → (let s = start (first (summed c)) in c .same-positions .result ≡ hasPositions (given s) (s .args .positions .now))
 unfolding hasPositions
-placed c = let s = start (first (c .before)) in
+placed c = let s = start (first (summed c)) in
     let p = given s in
     c .same-positions .ensures
     ∙ ap (λ (x : List ℕ). begins x (wordsOf (s .args .positions .now)))
-    (positions-are (p .figures) (has (first (c .before)) .legal) _ (sum (c .before)) (showingIn p))
+    (all-positions (showingIn p) (p .figures) (has (first (summed c)) .legal) _ (sum (summed c)) _ (c .before .before .visits-of .ensures))
 
 has-numbers-requires : tie.Need-has-numbers-requires
 has-numbers-requires c κs = c .before .before .pre
@@ -52,20 +56,31 @@ returns c = let e : hasNumbers (given (c .before .before .before .before)) ≡ f
 sum-positions-requires : tie.Need-sum-positions-requires
 sum-positions-requires c κs = let ok = has c .legal in (legal-zoned _ ok, ok .zones .1)
 
+mul-all : tie.Need-mul-all
+mul-all c = let t = c .before .before in
+    let p = given (start (first t)) in
+    omega (arith, all-few (showingIn p) (p .figures) (has (first t) .legal) _ (sum t) _ (c .before .visits-of .ensures))
+
 same-positions-requires : tie.Need-same-positions-requires
-same-positions-requires c κs = let f = film-on _ (has (first c) .legal) _ (sum c) in (f .some, f .room, small-on _ (has (first c) .legal) _ (sum c))
+same-positions-requires c κs = let t = c .before .before in
+    let p = given (start (first t)) in
+    let ok = has (first t) .legal in
+    let f = all-on (showingIn p) (p .figures) ok _ (sum t) _ (c .before .visits-of .ensures) in
+    (f .some, f .room, small-on (showingIn p) (p .figures) ok _ (sum t))
 
 returns-2 : tie.Need-returns-2
-returns-2 c = let d = first (c .before .before) in
+returns-2 c = let d = first (summed (c .before)) in
     rw (passed d, not-true (start d .args .asked) (c .if2 .taken)) (placed (c .before) ∙ sym (and-true _))
 
 same-leads-requires : tie.Need-same-leads-requires
-same-leads-requires c κs = let t = c .before .before in film-on _ (has (first t) .legal) _ (sum t)
+same-leads-requires c κs = let t = summed (c .before) in
+    let p = given (start (first t)) in
+    blocks-on (showingIn p) (p .figures) (has (first t) .legal) _ (sum t)
 
 returns-3 : tie.Need-returns-3
 unfolding hasLeads
 returns-3 c = let e = c .before .before in
-    let t = e .before .before in
+    let t = summed (e .before) in
     let d = first t in
     let a = start d .args in
     let p = given (start d) in
@@ -74,7 +89,7 @@ returns-3 c = let e = c .before .before in
     ∙ ap₂ _&&_ (placed (e .before))
     (c .before .same-leads .ensures
     ∙ ap (λ (x : List ℕ). begins x (wordsOf (a .leads .now)))
-    (leads-are (p .figures) (has d .legal) _ (sum t) (showingIn p) _ (plan-worst2 (showingIn p) (p .figures) p (has d .plan)))))
+    (leads-are (showingIn p) (p .figures) (has d .legal) _ (sum t) _ (plan-worst2 (showingIn p) (p .figures) p (has d .plan)))))
 
 pub is-plan-with-spec : {M : Type 1} → statement M
 is-plan-with-spec =
@@ -83,6 +98,8 @@ is-plan-with-spec =
     has-numbers-requires
     returns
     sum-positions-requires
+    (λ c κs. search needs)
+    mul-all
     same-positions-requires
     returns-2
     same-leads-requires

@@ -1,6 +1,7 @@
 use mathlib.Core.Bool.{false}
 use Rattle.placement.specs.Showing.{loop}
 use Rattle.words.specs.Laws.{bytes-fit}
+use Rattle.plan.specs.Plan.{showingOf}
 use Rattle.plan.specs.Check.{showing-back}
 use Rattle.round_trip.specs.RoundTrip.{card-legal}
 use Rattle.plan.specs.Scratch.{plannedScratch, positionsScratch}
@@ -10,9 +11,10 @@ use Rattle.planner.proofs.plan_loop_card_scratch.Statement.{statement}
 use Rattle.planner.proofs.plan_loop_card_scratch.Tie as tie
 
 plan-figures-requires : tie.Need-plan-figures-requires
+unfolding showingOf
 plan-figures-requires c κs = let k = c .before .before .before .before .before in
     let s = k .before .args .card .now in
-    card-legal s (bytes-fit s (k .shared-slice-known .given)) (c .before .before .read-card .result) (c .before .before .read-card .ensures)
+    card-legal 1 s (bytes-fit s (k .shared-slice-known .given)) (c .before .before .read-card .result) (c .before .before .read-card .ensures)
 
 returns : tie.Need-returns
 unfolding plannedScratch positionsScratch

@@ -1,6 +1,7 @@
 use mathlib.Core.Bool.{false}
 use Rattle.placement.specs.Showing.{loop}
 use Rattle.legality.specs.Legality.{Wide}
+use Rattle.plan.specs.Plan.{showingOf}
 use Rattle.plan.specs.Check.{showing-back}
 use Rattle.plan.specs.Scratch.{plannedScratch, positionsScratch}
 use Rattle.plan.specs.Ways.{outcome-same, judged-legal}
@@ -12,9 +13,10 @@ wide : (c : tie.Start) → Wide (c .args .figures)
 wide c = (search needs, search needs, search needs)
 
 plan-figures-requires : tie.Need-plan-figures-requires
+unfolding showingOf
 plan-figures-requires c κs = let j = c .before .before .judged-figures in
     let s = c .before .before .before .before .before in
-    judged-legal (s .args .figures) (wide s) (j .result) (j .ensures)
+    judged-legal 1 (s .args .figures) (wide s) (j .result) (j .ensures)
 
 returns : tie.Need-returns
 unfolding plannedScratch positionsScratch

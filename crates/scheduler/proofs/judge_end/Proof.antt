@@ -1,4 +1,4 @@
-use Prim.Native.Nat.{ℕ, _≤_}
+use Prim.Native.Nat.{ℕ, _-_, _≤_}
 use mathlib.Core.Path.{_≡_, refl, sym, ap, subst, _∙_}
 use mathlib.Core.Bool.{true}
 use mathlib.Core.List.{List}
@@ -14,15 +14,16 @@ use Rattle.plan.specs.Disk.{Zoned}
 use Rattle.plan.specs.Scratch.{leadsBy}
 use Rattle.desk.specs.declared.Desk.{Desk}
 use Rattle.desk.specs.declared.Answer.{Answer}
-use Rattle.desk.specs.Desk.{supplyOf, viewOf, endDesk}
+use Rattle.desk.specs.Desk.{visitsIn, supplyOf, viewOf, endDesk}
 use Rattle.desk.specs.Records.{withRead, read-same}
 use Rattle.desk.specs.View.{Wide}
-use Rattle.desk.specs.Ready.{Ready, streams-are, buffer-has}
+use Rattle.desk.specs.Ready.{Ready, visits-are, streams-are, buffer-has}
 use Rattle.desk_layout.specs.Layout.{deskIn}
 use Rattle.desk_layout.specs.Sized.{wide-in, slim-in}
 use Rattle.soundness.specs.Facts.{soundDesk}
 use Rattle.soundness.specs.Ready.{sound-ready, sound-plan}
-use Rattle.desk.specs.Shown.{Gathered}
+use Rattle.desk.specs.Shown.{Visits, Gathered}
+use Rattle.fetches.specs.Told.{Timed}
 use Rattle.gather.specs.Gather.{Reached, Collected, gathered}
 use Rattle.scheduler.specs.Gathered.{zoned, reached, gathers, in-range}
 use Rattle.scheduler.specs.Answers.{end-unsound, end-between, end-judged}
@@ -107,27 +108,34 @@ judged c =
 
 -- what was gathered
 abbrev value : tie.After-gather → Gathered
-value c = gathered (c .gather .last .1 .1 .1 .0) (c .gather .last .1 .1 .1 .1 .0)
+value c = gathered (c .gather .last .1 .1 .1 .1 .0) (c .gather .last .1 .1 .1 .1 .1 .0) (c .gather .last .1 .1 .1 .1 .1 .1 .0)
 
 -- where all that is read of the desk is read
+abbrev seen : tie.After-gather → tie.After-visits-in
+seen c = c .before .before .before .before .before .before .before
+
 abbrev read : tie.After-gather → tie.After-all-kinds
-read c = c .before .before .before .before .before
+read c = seen c .before
 
 collected : (c : tie.After-gather) → (let k = read c in
     let d = desk k in
     let f = d .plan .figures in
-    Collected (f .positions) (f .times) (start (tested (passing (buffered k))) .args .positions .now) (d .kinds) (d .next) (d .plan .streams)
-    (value c))
+    Collected (f .positions) (f .times) (start (tested (passing (buffered k))) .args .positions .now) (visitsIn (d .plan)) (d .kinds) (d .next)
+    (d .plan .streams) (value c))
 collected c =
     let k = read c in
     let s = start (tested (passing (buffered k))) in
-    subst (λ (d : Desk). Collected (d .plan .figures .positions) (d .plan .figures .times) (s .args .positions .now) (d .kinds) (d .next)
-    (desk k .plan .streams) (value c))
-    (sym (desk-is k)) (c .gather .ensures)
+    subst (λ (d : Desk). Collected (d .plan .figures .positions) (d .plan .figures .times) (s .args .positions .now) (visitsIn (d .plan))
+    (d .kinds) (d .next) (desk k .plan .streams) (value c))
+    (sym (desk-is k))
+    (subst (λ (v : ℕ). Collected (given s .plan .figures .positions) (given s .plan .figures .times) (s .args .positions .now) v (given s .kinds)
+    (given s .next) (desk k .plan .streams) (value c))
+    (seen c .visits-in .ensures) (c .gather .ensures))
 
 -- what is asked for the gathering
-abbrev Reachable : Desk → ℕ → List ℕ → Type 0
-Reachable d n ps = (n ≤ maxStreams) × Zoned (d .plan .figures .positions) × Reached (d .plan .figures .positions) ps (d .kinds) (d .next) n
+abbrev Reachable : Desk → ℕ → ℕ → List ℕ → Type 0
+Reachable d n v ps =
+    (n ≤ maxStreams) × Zoned (d .plan .figures .positions) × Reached (d .plan .figures .positions) (d .plan .figures .times) ps v (d .kinds) (d .next) n
 
 -- ---- the needs
 
@@ -153,15 +161,17 @@ sub-room c =
 
 gather-requires : tie.Need-gather-requires
 gather-requires c κs =
-    let z = c .before .before in
-    let k = z .before .before in
+    let z = c .before .before .before in
+    let v = z .before .before .before in
+    let k = v .before in
     let s = start (tested (passing (buffered k))) in
     let j = judged k in
     let p = sound-plan _ _ _ (j .sound) in
-    let r = subst (λ (d : Desk). Reachable d (desk k .plan .streams) (s .args .positions .now)) (desk-is k)
-    (streams-are (desk k) (j .ready), zoned (desk k) (j .wide) (j .ready) _ _ p, reached (desk k) (j .wide) (j .ready) _ _ p)
+    let r = subst (λ (n : ℕ). Reachable (given s) (desk k .plan .streams) n (s .args .positions .now)) (sym (v .visits-in .ensures))
+    (subst (λ (d : Desk). Reachable d (desk k .plan .streams) (visitsIn (d .plan)) (s .args .positions .now)) (desk-is k)
+    (streams-are (desk k) (j .ready), zoned (desk k) (j .wide) (j .ready) _ _ p, reached (desk k) (j .wide) (j .ready) _ _ p))
     in
-    (s .pre, r .0, r .1, r .2, z .before .zeros .ensures, z .zeros2 .ensures)
+    (s .pre, r .0, r .1, r .2, z .before .before .zeros .ensures, z .before .zeros2 .ensures, z .zeros3 .ensures)
 
 sweep-bound-requires : tie.Need-sweep-bound-requires
 sweep-bound-requires c κs =
@@ -169,7 +179,7 @@ sweep-bound-requires c κs =
     let k = read g in
     let j = judged k in
     let i = in-range _ (j .wide) (j .ready) _ _ (sound-plan _ _ _ (j .sound)) (value g) (collected g) in
-    (streams-are _ (j .ready), i .times, λ k h. table-range _ (j .ready .legal) k h .1)
+    (subst (λ (v : ℕ). Visits v (desk k .plan .streams)) (sym (seen g .visits-in .ensures)) (visits-are _ (j .ready)), i .times, λ k h. table-range _ (j .ready .legal) k h .1)
 
 judge-draws-requires : tie.Need-judge-draws-requires
 judge-draws-requires c κs = let k = read (bounding (c .before .before .before)) in streams-are _ (judged k .ready)
@@ -186,7 +196,11 @@ returns-3 c =
     let j = judged k in
     let p = supplyOf (d .plan) in
     let f = gathers d (j .wide) (j .ready) _ _ (sound-plan _ _ _ (j .sound)) (value g) (collected g) in
-    let t = b .sweep-bound .ensures p (d .next) (timed d (j .wide) (j .ready) (value g) f) in
+    let told = subst
+    (λ (v : ℕ). Timed p (d .plan .streams) (d .plan .buffer - d .plan .figures .bytes) v (d .plan .figures .table) (d .kinds) (d .next) (d .held) (value g .times))
+    (sym (seen g .visits-in .ensures)) (timed d (j .wide) (j .ready) (value g) f)
+    in
+    let t = b .sweep-bound .ensures p (d .next) told in
     c .judge-draws .ensures p (viewOf d) (d .next) (sweeps d (j .wide) (j .ready) (j .phase) _ _ t (m .most-drawn .ensures))
     ∙ end-judged d (j .wide) _ _ _ (j .sound)
     ∙ ap (λ (e : Desk). endDesk e (a .positions .now) (leads s) (a .draws .now) .verdict) (desk-is k)
@@ -207,6 +221,8 @@ judge-end-spec =
     (λ c. search needs)
     (λ c κs. search needs)
     sub-room
+    (λ c κs. search needs)
+    (λ c κs. search needs)
     (λ c κs. search needs)
     (λ c κs. search needs)
     (λ c κs. search needs)

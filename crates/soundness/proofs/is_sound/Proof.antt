@@ -14,6 +14,7 @@ use Rattle.plan.specs.Answer.{isPlan}
 use Rattle.plan.specs.Check.{checked-legal}
 use Rattle.plan.specs.Scratch.{leadsBy}
 use Rattle.desk.specs.declared.Desk.{Desk}
+use Rattle.desk.specs.Desk.{visitsIn}
 use Rattle.desk.specs.Asked.{askedCount}
 use Rattle.desk.specs.View.{Wide}
 use Rattle.desk_layout.specs.Layout.{deskIn}
@@ -73,7 +74,7 @@ zones c = (read c .before .zone-sizes .ensures, read c .zone-times .ensures)
 passed : (c : tie.Else1) → (let s = start c in isPlan (given s .plan) (s .args .positions .now) (leads s) ≡ true)
 passed c = sym (c .before .has-plan .ensures) ∙ not-false _ (c .if1 .left)
 
-legal : (c : tie.Else1) → Legal (given (start c) .plan .figures)
+legal : (c : tie.Else1) → Legal (visitsIn (given (start c) .plan)) (given (start c) .plan .figures)
 legal c = checked-legal _ _ _ (slim (start c)) (passed c)
 
 few : (c : tie.Else1) → given (start c) .plan .streams ≤ 256

@@ -15,4 +15,4 @@ returns-3 : tie.Need-returns-3
 returns-3 c = (omega arith, λ k i u. absurd (omega arith))
 
 pub highest-tried-spec : {M : Type 1} → statement M
-highest-tried-spec = tie.close (tie.spec returns (λ c. omega arith) (λ c. search needs) (λ c. search needs) returns-2 returns-3)
+highest-tried-spec = tie.close (tie.spec returns (λ c. omega arith) (λ c. search needs) returns-2 returns-3)

@@ -1,13 +1,14 @@
 use native.Mathlib.Omega.{arith}
+use Prim.Native.Nat.{ℕ}
 use mathlib.Core.Path.{_≡_, refl, sym, ap, subst, _∙_}
 use borrow.Author.Needs.{needs}
 use Rattle.card.specs.CardLaws.{table-range}
 use Rattle.words.specs.Words.{wordsOf}
 use Rattle.desk.specs.declared.Desk.{Desk}
-use Rattle.desk.specs.Shown.{Gathered}
-use Rattle.desk.specs.Desk.{supplyOf}
+use Rattle.desk.specs.Shown.{Visits, Gathered}
+use Rattle.desk.specs.Desk.{visitsIn, supplyOf}
 use Rattle.desk.specs.Records.{withRead, read-same}
-use Rattle.desk.specs.Ready.{streams-are, buffer-has}
+use Rattle.desk.specs.Ready.{visits-are, buffer-has}
 use Rattle.desk_layout.specs.Layout.{deskIn}
 use Rattle.sweep.specs.Begins.{Served, Begins}
 use Rattle.sweep.specs.Steps.{begunDesk, sweptOf}
@@ -21,7 +22,7 @@ abbrev sized : tie.After-all-places → tie.After-bytes-in
 sized c = c .before .before .before .before .before
 
 abbrev start : tie.After-bytes-in → tie.Start
-start c = c .before .before .before .before
+start c = c .before .before .before .before .before
 
 -- all that is read of the desk is read
 abbrev read : tie.After-serve → tie.After-all-places
@@ -29,6 +30,9 @@ read c = c .before .before .before .before
 
 abbrev served : tie.After-sweep-bound → tie.After-serve
 served c = c .before .before .before .before
+
+abbrev visits : tie.After-all-places → ℕ
+visits c = sized c .before .before .before .visits-in .result
 
 -- ---- what is known there
 
@@ -55,14 +59,21 @@ desk-is c =
     read-same (given (start b)) (b .bytes-in .ensures) refl (b .before .before .streams-in .ensures) (b .before .buffer-in .ensures)
     (x .before .overheads .ensures) (k .all-kinds .ensures) (x .all-next .ensures) (h .all-held .ensures) (c .all-places .ensures)
 
-told : (c : tie.After-all-places) → (let a = start (sized c) .args in Begins (desk c) (a .times .now) (a .positions .now) (a .sum))
+told : (c : tie.After-all-places) → (let a = start (sized c) .args in Begins (desk c) (a .times .now) (a .positions .now) (a .others .now) (a .sum))
 told c = let s = start (sized c) in
     let a = s .args in
-    subst (λ (d : Desk). Begins d (a .times .now) (a .positions .now) (a .sum)) (sym (desk-is c)) (s .pre .1)
+    subst (λ (d : Desk). Begins d (a .times .now) (a .positions .now) (a .others .now) (a .sum)) (sym (desk-is c)) (s .pre .1)
 
 -- the kinds and places that a begin leaves
 all : (c : tie.After-serve) → Served (desk (read c)) (c .serve .last .1 .1 .1 .1 .0) (c .serve .last .1 .1 .1 .1 .1 .0)
 all c = subst (λ (d : Desk). Served d (c .serve .last .1 .1 .1 .1 .0) (c .serve .last .1 .1 .1 .1 .1 .0)) (sym (desk-is (read c))) (c .serve .ensures)
+
+-- the visits of a block, as they were read
+seen : (c : tie.After-all-places) → visits c ≡ visitsIn (desk c .plan)
+seen c = sized c .before .before .before .visits-in .ensures
+
+visited : (c : tie.After-all-places) → Visits (visits c) (desk c .plan .streams)
+visited c = subst (λ (v : ℕ). Visits v (desk c .plan .streams)) (sym (seen c)) (visits-are (desk c) (told c .ready))
 
 -- ---- the needs
 
@@ -89,12 +100,12 @@ serve-requires c κs =
 sweep-bound-requires : tie.Need-sweep-bound-requires
 sweep-bound-requires c κs = let k = read (c .before .before .before) in
     let b = told k in
-    (streams-are (desk k) (b .ready), b .range .times, λ i h. table-range _ (b .ready .legal) i h .1)
+    (visited k, b .range .times, λ i h. table-range _ (b .ready .legal) i h .1)
 
 list-fetches-requires : tie.Need-list-fetches-requires
 list-fetches-requires c κs = let k = read (served (c .before .before .before)) in
     let b = told k in
-    (streams-are (desk k) (b .ready), b .range .positions)
+    (visited k, b .range .positions, b .range .others)
 
 returns : tie.Need-returns
 returns c =
@@ -102,18 +113,19 @@ returns c =
     let g = served f in
     let k = read g in
     let a = start (sized k) .args in
-    let v : Gathered = record { times = a .times .now; positions = a .positions .now } in
+    let v : Gathered = record { times = a .times .now; positions = a .positions .now; others = a .others .now } in
     let d = desk k in
     let b = told k in
     begun-is d (b .wide) (b .ready) _ _ (all g) (f .sweep-bound .result) (c .list-fetches .result)
-    (f .sweep-bound .ensures (supplyOf (d .plan)) (d .next) (timed-begun d (b .wide) (b .ready) _ _ (all g) v (b .gathers)))
-    (c .list-fetches .ensures (supplyOf (d .plan)) (positioned-begun d (b .wide) (b .ready) _ _ (all g) v (b .gathers)))
+    (f .sweep-bound .ensures (supplyOf (d .plan)) (d .next) (timed-begun d (b .wide) (b .ready) _ _ (all g) v (b .gathers) (visits k) (seen k)))
+    (c .list-fetches .ensures (supplyOf (d .plan)) (positioned-begun d (b .wide) (b .ready) _ _ (all g) v (b .gathers) (visits k) (seen k)))
     ∙ ap (λ (e : Desk). sweptOf (begunDesk e)) (desk-is k)
 
 pub begin-sweep-spec : {M : Type 1} → statement M
 begin-sweep-spec =
     tie.close
     (tie.spec
+    (λ c κs. search needs)
     (λ c κs. search needs)
     (λ c. search needs)
     (λ c κs. search needs)

@@ -8,7 +8,10 @@ use Rattle.try_all.proofs.both_planners_agree.Statement.{statement}
 use Rattle.try_all.proofs.both_planners_agree.Tie as tie
 
 returns : tie.Need-returns
-returns c = (λ x s y. same-answer x (readCard s) (card-legal s y (readCard s) refl), λ x f w. same-answer x (judged f) (judged-legal f w (judged f) refl))
+returns c = (
+  λ x v s y. same-answer x v (readCard 1 s) (card-legal 1 s y (readCard 1 s) refl),
+  λ x v f w. same-answer x v (judged 1 f) (judged-legal 1 f w (judged 1 f) refl),
+)
 
 pub both-planners-agree-spec : {M : Type 1} → statement M
 both-planners-agree-spec = tie.close (tie.spec returns)

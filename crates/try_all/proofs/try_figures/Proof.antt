@@ -1,14 +1,14 @@
-use Prim.Native.Nat.{_≤_}
+use Prim.Native.Nat.{ℕ, _≤_}
 use mathlib.Core.Path.{_≡_, sym, _∙_}
 use native.Mathlib.Omega.{arith}
 use Rattle.numbers.specs.Limits.{maxTried}
 use Rattle.card.specs.Card.{Legal}
 use Rattle.card.specs.CardLaws.{table-range}
-use Rattle.plan.specs.Plan.{showingOf}
-use Rattle.plan.specs.Legal.{worst2-small}
+use Rattle.placement.specs.Showing.{visitsOf, walked-single}
+use Rattle.plan.specs.Plan.{showingOf, walkOf, overOf}
+use Rattle.pacing.specs.Streams.{streams, capOf}
 use Rattle.layings.specs.Layings.{leastOf, countOf}
-use Rattle.layings.specs.Times.{least-is-planned}
-use Rattle.try_all.specs.Ways.{by-figures, by-length, by-streams, by-none, found-is}
+use Rattle.try_all.specs.Ways.{by-figures, by-length, by-streams, by-none, fed-once, least-small, found-is}
 use borrow.Author.Needs.{needs}
 use Rattle.try_all.proofs.try_figures.Statement.{statement}
 use Rattle.try_all.proofs.try_figures.Tie as tie
@@ -23,15 +23,15 @@ accepted c = omega arith
 few : (c : tie.Else2) → start c .args .read .figures .blocks ≤ maxTried
 few c = c .if2 .left
 
-legal : (c : tie.Else2) → Legal (start c .args .read .figures)
+legal : (c : tie.Else2) → Legal 1 (start c .args .read .figures)
 legal c = start c .pre (accepted c)
 
 returns : tie.Need-returns
-returns c = let a = c .before .before .before .before .args in c .refused .ensures ∙ by-figures (showingOf (a .showing)) (a .read) (c .before .if1 .taken)
+returns c = let a = c .before .before .before .before .args in c .refused .ensures ∙ by-figures (walkOf (a .showing)) (a .read) (c .before .if1 .taken)
 
 returns-2 : tie.Need-returns-2
 returns-2 c = let a = c .before .before .before .before .before .before .args in
-    c .refused2 .ensures ∙ by-length (showingOf (a .showing)) (a .read) (omega arith) (c .before .if2 .taken)
+    c .refused2 .ensures ∙ by-length (walkOf (a .showing)) (a .read) (omega arith) (c .before .if2 .taken)
 
 film-times-requires : tie.Need-film-times-requires
 film-times-requires c κs = (legal c, few c)
@@ -41,22 +41,37 @@ try-layings-requires c κs = let e = c .before in (omega (arith, legal e .blocks
 
 -- what was found is the smallest worst2, and how many have it
 found : (c : tie.After-try-layings) → (let a = start (c .before .before) .args in let f = c .try-layings .result in
-    (f .least ≡ leastOf (showingOf (a .showing)) (a .read .figures)) × (f .count ≡ countOf (showingOf (a .showing)) (a .read .figures)))
+    (f .least ≡ leastOf (walkOf (a .showing)) (a .read .figures)) × (f .count ≡ countOf (walkOf (a .showing)) (a .read .figures)))
 found c =
     let a = start (c .before .before) .args in
     let t = c .before .film-times in
-    found-is (showingOf (a .showing)) (a .read .figures) (t .result) _ _ (t .ensures .0) (c .try-layings .ensures .0) (c .try-layings .ensures .1)
+    found-is (walkOf (a .showing)) (walked-single (showingOf (a .showing))) (a .read .figures) (t .result) _ _ (t .ensures .0)
+    (c .try-layings .ensures .0) (c .try-layings .ensures .1)
+
+-- no word tells a search of two visits a block
+abbrev single : (w : ℕ) → visitsOf (walkOf w) ≡ 1
+single w = walked-single (showingOf w)
 
 count-streams-requires : tie.Need-count-streams-requires
 count-streams-requires c κs =
     let t = c .before .before in
     let e = t .before .before in
     let a = start e .args in
-    let x = showingOf (a .showing) in
+    let x = walkOf (a .showing) in
     let f = a .read .figures in (
-      record { pair = omega (arith, found t .0, least-is-planned x f (legal e), worst2-small x f (legal e)); moves = λ k h. table-range f (legal e) k h .1 },
+      record { pair = omega (arith, found t .0, least-small x (single (a .showing)) f (legal e)); moves = λ k h. table-range f (legal e) k h .1 },
       legal e .rate .0,
+      omega arith,
     )
+
+-- the streams of what was found
+counted : (c : tie.After-count-streams) → (let t = c .before .before .before in let a = start (t .before .before) .args in let f = a .read .figures in
+    let x = walkOf (a .showing) in
+    c .count-streams .result ≡ streams (capOf x) (f .rate) (t .try-layings .result .least) (overOf x f) (f .bytes))
+counted c =
+    let t = c .before .before .before in
+    let a = start (t .before .before) .args in
+    c .count-streams .ensures ∙ fed-once (walkOf (a .showing)) (single (a .showing)) (a .read .figures) _
 
 returns-3 : tie.Need-returns-3
 returns-3 c =
@@ -64,8 +79,8 @@ returns-3 c =
     let e = t .before .before in
     let a = start e .args in
     let f = found t in
-    c .refused3 .ensures ∙ by-streams (showingOf (a .showing)) (a .read) (accepted e) (few e) _ (f .0)
-    (sym (c .before .before .count-streams .ensures) ∙ c .before .if3 .taken)
+    c .refused3 .ensures ∙ by-streams (walkOf (a .showing)) (a .read) (accepted e) (few e) _ (f .0)
+    (sym (counted (c .before .before)) ∙ c .before .if3 .taken)
 
 returns-4 : tie.Need-returns-4
 returns-4 c =
@@ -73,7 +88,7 @@ returns-4 c =
     let e = t .before .before in
     let a = start e .args in
     let f = found t in
-    by-none (showingOf (a .showing)) (a .read) (accepted e) (few e) _ (f .0) _ (f .1) (λ z. c .if3 .left (c .before .count-streams .ensures ∙ z))
+    by-none (walkOf (a .showing)) (a .read) (accepted e) (few e) _ (f .0) _ (f .1) (λ z. c .if3 .left (counted (c .before) ∙ z))
 
 pub try-figures-spec : {M : Type 1} → statement M
 try-figures-spec =

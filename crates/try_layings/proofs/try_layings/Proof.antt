@@ -4,7 +4,8 @@ use mathlib.Core.List.{List}
 use native.Mathlib.Omega.{arith}
 use lib.ListN.{take, length-take}
 use lib.Seq.{take-all}
-use Rattle.plan.specs.Plan.{showingOf}
+use Rattle.placement.specs.Showing.{walked-single}
+use Rattle.plan.specs.Plan.{showingOf, walkOf}
 use Rattle.layings.specs.Layings.{howMany}
 use Rattle.layings.specs.Numbered.{factorial, factorial-pos, factorial-most}
 use Rattle.layings.specs.Smallest.{Best, best-none}
@@ -17,7 +18,7 @@ use Rattle.try_layings.proofs.try_layings.Tie as tie
 
 -- the worst times of all orders
 abbrev tries : ℕ → ℕ → List ℕ → List ℕ
-tries showing blocks times = ordersTried (showingOf showing) blocks (take blocks times)
+tries showing blocks times = ordersTried (walkOf showing) blocks (take blocks times)
 
 -- the best of the first so many
 record Trying (showing blocks : ℕ) (times : List ℕ) (total : ℕ) (found : Search) (number : ℕ) : Type 0 where
@@ -63,8 +64,9 @@ loop-again c =
     let l = i .before .loop in
     let a = i .before .before .before .args in
     let ws = tries (a .showing) (a .blocks) (a .times) in
-    let x = showingOf (a .showing) in
-    let e = w .worst-of .ensures .0 ∙ tried-at x (a .blocks) (l .number) (a .times) (o .order .result) (more i .0) (o .order .ensures .0) in
+    let x = walkOf (a .showing) in
+    let e = w .worst-of .ensures .0
+    ∙ tried-at x (walked-single (showingOf (a .showing))) (a .blocks) (l .number) (a .times) (o .order .result) (more i .0) (o .order .ensures .0) in
     record {
       all = l .inv .all;
       within = omega (arith, i .loop-test .taken);
@@ -77,7 +79,7 @@ returns c =
     let l = c .before .loop in
     let a = c .before .before .before .args in
     let ws = tries (a .showing) (a .blocks) (a .times) in
-    let n = orders-length (showingOf (a .showing)) (a .blocks) (take (a .blocks) (a .times)) in
+    let n = orders-length (walkOf (a .showing)) (a .blocks) (take (a .blocks) (a .times)) in
     let b = rw (take-all (l .number) ws (omega (arith, l .inv .all, c .loop-test .left))) at (l .inv .best) in
     let s = b .some (omega (arith, factorial-pos (a .blocks))) in
     (s .0, s .1 ∙ ap (λ (w : ℕ). howMany w ws) (sym (s .0)))

@@ -1,6 +1,6 @@
 use native.Mathlib.Omega.{arith}
 use Rattle.placement.specs.Showing.{laying}
-use Rattle.plan.specs.Plan.{showingOf}
+use Rattle.plan.specs.Plan.{walkOf}
 use Rattle.walk.proofs.Runs.{run-is}
 use borrow.Author.Needs.{needs}
 use Rattle.walk.proofs.run_from.Statement.{statement}
@@ -27,7 +27,7 @@ returns : tie.Need-returns
 returns c = let s = c .before .before .before in
     let a = s .args in
     let p = s .pre in
-    run-is (a .sizes .now) (a .times .now) (a .total) (a .blocks) (laying (showingOf (a .showing)) (a .total) (a .blocks)) (a .b) (p .0) (a .low) (a .high) _
+    run-is (a .sizes .now) (a .times .now) (a .total) (a .blocks) (laying (walkOf (a .showing)) (a .total) (a .blocks)) (a .b) (p .0) (a .low) (a .high) _
     (p .2) (p .3) (c .run-end .ensures)
 
 pub run-from-spec : {M : Type 1} → statement M

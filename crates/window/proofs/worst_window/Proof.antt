@@ -1,4 +1,5 @@
-use mathlib.Core.Path.{_≡_, sym, ap, ap₂, _∙_}
+use Prim.Native.Nat.{ℕ}
+use mathlib.Core.Path.{_≡_, sym, ap, ap₂, _∙_, subst}
 use mathlib.Core.Bool.{Bool, cond}
 use native.Mathlib.Omega.{arith}
 use native.Mathlib.Nat.{mul-le-mul}
@@ -6,13 +7,15 @@ use Rattle.numbers.specs.Refusals.{notSound, wrongWindow}
 use Rattle.card.specs.declared.Figures.{Figures}
 use Rattle.card.specs.Card.{Legal, totalPositions}
 use Rattle.legality.specs.Legality.{Wide}
-use Rattle.plan.specs.Legal.{legal-zoned, total-zones}
+use Rattle.placement.specs.Placement.{Falling}
+use Rattle.placement.specs.Showing.{visitsOf}
+use Rattle.plan.specs.Legal.{legal-zoned, total-zones, legal-falling}
 use Rattle.plan.specs.declared.Plan.{Plan}
-use Rattle.plan.specs.Plan.{planFrom, showingIn}
+use Rattle.plan.specs.Plan.{planFrom, showingIn, timeOn}
 use Rattle.plan.specs.Ways.{film-on}
 use borrow.Author.Needs.{needs}
 use Rattle.window.specs.Window.{isLaid, windowFault}
-use Rattle.window.proofs.Ways.{worst-is, refused-by, answered, Accepted, accepted, laid-legal}
+use Rattle.window.proofs.Ways.{window-is, refused-by, answered, Accepted, accepted, laid-legal}
 use Rattle.window.proofs.worst_window.Statement.{statement}
 use Rattle.window.proofs.worst_window.Tie as tie
 
@@ -47,7 +50,7 @@ judged c = c .fault .ensures ∙ ap₂ (λ (x y : Bool). cond x (cond y wrongWin
 passed : (c : tie.Else1) → (let a = start (c .before) .args in Accepted (a .t1) (a .positions .now) (a .count))
 passed c = let a = start (c .before) .args in accepted (a .t1) (a .positions .now) (a .count) (sym (judged (c .before)) ∙ c .if1 .left)
 
-legal : (c : tie.Else1) → Legal (start (c .before) .args .t1 .figures)
+legal : (c : tie.Else1) → (let p = start (c .before) .args .t1 in Legal (visitsOf (showingIn p)) (p .figures))
 legal c = let s = start (c .before) in laid-legal (s .args .t1) (s .args .positions .now) (wide s) (passed c .laid)
 
 sum : (c : tie.After-sum-positions) → c .sum-positions .result ≡ totalPositions (start (c .before .before .before .before) .args .t1 .figures)
@@ -64,27 +67,27 @@ returns c = let f = c .before .before in
 sum-positions-requires : tie.Need-sum-positions-requires
 sum-positions-requires c κs = let ok = legal (c .before .before) in (legal-zoned _ ok, ok .zones .1)
 
-last-place-requires : tie.Need-last-place-requires
-last-place-requires c κs = let w = passed (c .before .before .before .before .before .before) in (w .some, w .within)
-
-worst-row-requires : tie.Need-worst-row-requires
-worst-row-requires c κs = let t = c .before .before .before .before in
+worst-blocks-requires : tie.Need-worst-blocks-requires
+worst-blocks-requires c κs = let t = c .before .before .before in
     let d = t .before .before .before in
-    (film-on _ (legal d) _ (sum t), passed d .most, c .last-place .ensures .1)
+    let a = start (d .before) .args in
+    let w = passed d in
+    let falls = subst (λ (n : ℕ). Falling n (timeOn (a .t1 .figures))) (sym (sum t)) (legal-falling (a .t1 .figures) (legal d)) in
+    (film-on (showingIn (a .t1)) (a .t1 .figures) (legal d) _ (sum t), falls, w .some, w .most, w .within)
 
 window-bytes-requires : tie.Need-window-bytes-requires
-window-bytes-requires c κs = let t = c .before .before .before .before .before in
+window-bytes-requires c κs = let t = c .before .before .before .before in
     let d = t .before .before .before in
     omega (arith, mul-le-mul (passed d .most) (legal d .bytes .1))
 
 returns-2 : tie.Need-returns-2
 returns-2 c = let r = c .before in
-    let t = r .before .before .before .before .before in
+    let t = r .before .before .before .before in
     let d = t .before .before .before in
     let a = start (d .before) .args in
+    let w = r .worst-blocks .ensures in
     answered (a .t1) (a .positions .now) (a .count) _ (judged (d .before)) _ _ _ (d .if1 .left)
-    (worst-is (showingIn (a .t1)) (a .t1 .figures) (a .count) _ _ _ _ (sum t) (r .before .last-place .ensures .0) (r .worst-row .ensures))
-    (c .window-bytes .ensures)
+    (window-is (showingIn (a .t1)) (a .t1 .figures) (a .count) _ _ _ (sum t) (w .0) (w .1)) (c .window-bytes .ensures)
 
 pub worst-window-spec : {M : Type 1} → statement M
 worst-window-spec =
@@ -98,7 +101,6 @@ worst-window-spec =
     (λ c κs. search needs)
     returns
     sum-positions-requires
-    last-place-requires
-    worst-row-requires
+    worst-blocks-requires
     window-bytes-requires
     returns-2)

@@ -6,8 +6,8 @@ use Rattle.laws.specs.Greatest.{Peak, peak-start, peak-earliest, peak-same}
 use Rattle.placement.specs.Circle.{ring}
 use Rattle.placement.specs.Showing.{Showing, one, loop, laying, worstOf, worstAt, pairTime, pairsOf, worst-pair}
 use Rattle.placement.specs.Zones.{timeAt}
-use Rattle.plan.specs.Plan.{showingOf}
-use Rattle.plan.specs.Check.{shows-loop, shows-once}
+use Rattle.plan.specs.Plan.{walkOf}
+use Rattle.plan.specs.Check.{walks-loop, walks-once}
 use Rattle.worst_pair.specs.declared.Pair.{Pair}
 use Rattle.walk.specs.declared.Walk.{Walk}
 use Rattle.walk.specs.Walk.{Cursors, Runs}
@@ -25,7 +25,7 @@ record PairsBefore (ps ts : List ℕ) (l : ℕ → ℕ) (N : ℕ) (walk : Walk) 
 
 abbrev Inv-loop : tie.InvT-loop
 Inv-loop sizes times showing total blocks last walk₀ worst₀ b₀ walk worst b =
-    PairsBefore sizes times (laying (showingOf showing) total blocks) blocks walk worst b
+    PairsBefore sizes times (laying (walkOf showing) total blocks) blocks walk worst b
 
 abbrev μ-loop : tie.MeasureT-loop
 μ-loop sizes times showing total blocks last walk₀ worst₀ b₀ walk worst b = blocks - b
@@ -62,14 +62,14 @@ loop-again c = let w = c .before .before .before in
 
 -- all pairs but a loop's closing one
 all : (c : tie.After-loop Inv-loop μ-loop) → (let a = c .before .before .before .args in let w = c .before .loop .worst in
-    Peak (pairOf (a .sizes .now) (a .times .now) (laying (showingOf (a .showing)) (a .total) (a .blocks))) (a .blocks - 1) (w .first) (w .time))
+    Peak (pairOf (a .sizes .now) (a .times .now) (laying (walkOf (a .showing)) (a .total) (a .blocks))) (a .blocks - 1) (w .first) (w .time))
 all c =
     let l = c .before in
     let e : l .loop .b ≡ l .before .before .args .blocks - 1 = omega arith in
     rw e at (l .loop .inv .worst)
 
 returns : tie.Need-returns Inv-loop μ-loop
-returns c = let q = shows-once _ (c .if1 .taken) in
+returns c = let q = walks-once _ (c .if1 .taken) in
     let a = c .before .before .before .before .args in
     let w = c .before .before .loop .worst in
     rw q (measured one (timeAt (a .sizes .now) (a .times .now)) (laying one (a .total) (a .blocks)) (a .blocks) w (rw q at (all (c .before))))
@@ -80,7 +80,7 @@ returns-2 c =
     let x = w .before in
     let a = x .before .before .before .before .args in
     let f = x .before .before .loop .worst in
-    let q = shows-loop _ (x .if1 .left) in
+    let q = walks-loop _ (x .if1 .left) in
     let τ = timeAt (a .sizes .now) (a .times .now) in
     let some : 0 < a .blocks = x .before .before .before .before .pre .some in
     let r : Runs (a .sizes .now) (a .times .now) (ring (a .total) (a .blocks)) (a .blocks) (a .blocks - 1) (w .walk-on .result) =

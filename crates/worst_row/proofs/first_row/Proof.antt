@@ -4,10 +4,10 @@ use mathlib.Core.List.{List}
 use native.Mathlib.Omega.{arith}
 use borrow.Author.Needs.{needs}
 use Rattle.placement.specs.Circle.{round}
-use Rattle.placement.specs.Showing.{laying}
+use Rattle.placement.specs.Showing.{laying, walked-single}
 use Rattle.placement.specs.Zones.{timeAt}
 use Rattle.pacing.specs.Film.{span}
-use Rattle.plan.specs.Plan.{showingOf}
+use Rattle.plan.specs.Plan.{showingOf, walkOf}
 use Rattle.worst_row.specs.Rows.{past, Comes, rowTime}
 use Rattle.worst_row.specs.declared.Step.{Step}
 use Rattle.worst_row.proofs.RowLaws.{past-more, past-below, row-more, row-small, film-quick}
@@ -23,7 +23,7 @@ record Grown (ps ts : List ℕ) (l : ℕ → ℕ) (N count : ℕ) (ahead : Step)
 
 abbrev Inv-loop : tie.InvT-loop
 Inv-loop sizes times showing total blocks count ahead₀ sum₀ i₀ ahead sum i =
-    Grown sizes times (laying (showingOf showing) total blocks) blocks count ahead sum i
+    Grown sizes times (laying (walkOf showing) total blocks) blocks count ahead sum i
 
 abbrev μ-loop : tie.MeasureT-loop
 μ-loop sizes times showing total blocks count ahead₀ sum₀ i₀ ahead sum i = count - i
@@ -39,11 +39,11 @@ step-on-requires c κs = let s = c .before .before .before in
 
 -- the time of one block more
 grown : (c : tie.After-struct-known Inv-loop μ-loop) → (let l = c .before .before .before .loop in let a = c .before .before .before .before .before .args in
-    l .sum + c .before .step-on .result .time ≡ rowTime (a .sizes .now) (a .times .now) (laying (showingOf (a .showing)) (a .total) (a .blocks)) (a .blocks)
+    l .sum + c .before .step-on .result .time ≡ rowTime (a .sizes .now) (a .times .now) (laying (walkOf (a .showing)) (a .total) (a .blocks)) (a .blocks)
     (suc (l .i)) 0)
 grown c = let l = c .before .before .before .loop in
     let a = c .before .before .before .before .before .args in
-    let L = laying (showingOf (a .showing)) (a .total) (a .blocks) in
+    let L = laying (walkOf (a .showing)) (a .total) (a .blocks) in
     let e = c .before .step-on .ensures .1 .0 ∙ ap (λ (b : ℕ). timeAt (a .sizes .now) (a .times .now) (L b)) (l .inv .next) in
     omega (arith, l .inv .time, e, row-more (a .sizes .now) (a .times .now) L (a .blocks) (l .i) 0)
 
@@ -51,8 +51,8 @@ add-sum : tie.Need-add-sum Inv-loop μ-loop
 add-sum c = let l = c .before .before .before .loop in
     let s = c .before .before .before .before .before in
     let a = s .args in
-    let x = showingOf (a .showing) in
-    let quick = film-quick (a .sizes .now) (a .times .now) (a .total) (a .blocks) (s .pre .0) x in
+    let x = walkOf (a .showing) in
+    let quick = film-quick (a .sizes .now) (a .times .now) (a .total) (a .blocks) (s .pre .0) x (walked-single (showingOf (a .showing))) in
     omega (
       arith,
       grown c,

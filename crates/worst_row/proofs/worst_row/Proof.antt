@@ -6,8 +6,8 @@ use borrow.Author.Needs.{needs}
 use Rattle.laws.specs.Greatest.{Peak}
 use Rattle.placement.specs.Circle.{round}
 use Rattle.placement.specs.CircleBest.{round-next}
-use Rattle.placement.specs.Showing.{laying}
-use Rattle.plan.specs.Plan.{showingOf}
+use Rattle.placement.specs.Showing.{laying, walked-single}
+use Rattle.plan.specs.Plan.{showingOf, walkOf}
 use Rattle.walk.specs.declared.Walk.{Walk}
 use Rattle.worst_row.specs.Rows.{past, Comes, rowTime, Slides}
 use Rattle.worst_row.specs.declared.Slid.{Slid}
@@ -26,7 +26,7 @@ record At (ps ts : List ℕ) (l : ℕ → ℕ) (N k last : ℕ) (ahead : Walk) (
 
 abbrev Inv-loop : tie.InvT-loop
 Inv-loop sizes times showing total blocks count last ahead₀ a₀ behind₀ b₀ row₀ ahead a behind b row =
-    At sizes times (laying (showingOf showing) total blocks) blocks count last ahead a behind b row
+    At sizes times (laying (walkOf showing) total blocks) blocks count last ahead a behind b row
 
 abbrev μ-loop : tie.MeasureT-loop
 μ-loop sizes times showing total blocks count last ahead₀ a₀ behind₀ b₀ row₀ ahead a behind b row = last - b
@@ -82,14 +82,15 @@ far c = let w = c .before .before .before in
 run : (c : tie.After-lesser2 Inv-loop μ-loop)
     → (let w = c .before .before .before in let l = w .before .before .before .loop in
     let a = w .before .before .before .before .before .before .before .args in
-    Slides (rowTime (a .sizes .now) (a .times .now) (laying (showingOf (a .showing)) (a .total) (a .blocks)) (a .blocks) (a .count))
+    Slides (rowTime (a .sizes .now) (a .times .now) (laying (walkOf (a .showing)) (a .total) (a .blocks)) (a .blocks) (a .count))
     (w .before .walk-to .result) (w .walk-to2 .result) (l .a) (l .b) (c .lesser2 .result) (l .row .sum) (l .row .worst))
 run c = let w = c .before .before .before in
     let l = w .before .before .before .loop in
     let s = w .before .before .before .before .before .before .before in
     let a = s .args in
     let f = far c in
-    slides-run (a .sizes .now) (a .times .now) (a .total) (a .blocks) (s .pre .0) (showingOf (a .showing)) (a .count) (s .pre .1) _ _ (l .a) (l .b) _
+    slides-run (a .sizes .now) (a .times .now) (a .total) (a .blocks) (s .pre .0) (walkOf (a .showing)) (walked-single (showingOf (a .showing)))
+    (a .count) (s .pre .1) _ _ (l .a) (l .b) _
     (w .before .walk-to .ensures) (w .walk-to2 .ensures) (l .inv .apart) (omega (arith, f .on)) (omega (arith, f .within, s .pre .2)) (f .near) (f .far) _ _
     (l .inv .time) (l .inv .found)
 
@@ -110,7 +111,7 @@ loop-again c = let w = c .before .before .before .before .before in
     let l = w .before .before .before .loop in
     let s = w .before .before .before .before .before .before .before in
     let a = s .args in
-    let L = laying (showingOf (a .showing)) (a .total) (a .blocks) in
+    let L = laying (walkOf (a .showing)) (a .total) (a .blocks) in
     let to = c .before .before .lesser2 .result in
     let f = far (c .before .before) in
     let r = c .before .slide .ensures _ (run (c .before .before)) in

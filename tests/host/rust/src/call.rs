@@ -1,6 +1,6 @@
 //! A call, the strings that it is lent, and what comes of it.
 
-use film_disk_model::Showing;
+use film_disk_model::{Planner, Showing};
 
 /// The strings of all calls, by name.
 pub type Strings = [Vec<u8>; 8];
@@ -34,7 +34,7 @@ impl Way {
 
 #[derive(Clone, Copy, Debug, PartialEq, Eq)]
 pub enum Call {
-    Plan(Showing),
+    Plan(Planner),
     Open,
     Join { slot: u32, block: u32 },
     Leave { slot: u32 },
@@ -53,17 +53,18 @@ impl Call {
     /// The place of the call's sort in a tally.
     pub fn sort(&self, way: Way) -> usize {
         let sort = match self {
-            Call::Plan(Showing::Once) => 0,
-            Call::Plan(Showing::Loop) => 1,
-            Call::Open => 2,
-            Call::Join { .. } => 3,
-            Call::Leave { .. } => 4,
-            Call::Begin => 5,
-            Call::End => 6,
-            Call::Window { .. } => return 14,
-            Call::DrawLimit { .. } => return 15,
+            Call::Plan(Planner::Shown(Showing::Once)) => 0,
+            Call::Plan(Planner::Shown(Showing::Loop)) => 1,
+            Call::Plan(Planner::Pairs) => 2,
+            Call::Open => 3,
+            Call::Join { .. } => 4,
+            Call::Leave { .. } => 5,
+            Call::Begin => 6,
+            Call::End => 7,
+            Call::Window { .. } => return 16,
+            Call::DrawLimit { .. } => return 17,
         };
-        sort + 7 * (way == Way::Scratch) as usize
+        sort + 8 * (way == Way::Scratch) as usize
     }
 
     /// The strings that the call is lent; the true ones it may write. A scratch it never may.
@@ -83,9 +84,10 @@ impl Call {
     }
 }
 
-pub const SORTS: [&str; 16] = [
+pub const SORTS: [&str; 18] = [
     "plan",
     "plan_loop",
+    "plan_pairs",
     "open",
     "join",
     "leave",
@@ -93,6 +95,7 @@ pub const SORTS: [&str; 16] = [
     "end",
     "plan_scratch",
     "plan_loop_scratch",
+    "plan_pairs_scratch",
     "open_scratch",
     "join_scratch",
     "leave_scratch",

@@ -9,14 +9,20 @@ use film_disk_model::desk::{
     floor, sweep_bound, ASKED, BETWEEN, FILLING, FREE, PLAYING, SLOTS, TAIL,
 };
 use film_disk_model::plan::TWO_MILLION;
-use film_disk_model::rng::borders::{border_card, border_plan_for};
+use film_disk_model::rng::borders::{
+    border_card, border_pairs_card, border_pairs_plan, border_plan_for,
+};
 use film_disk_model::rng::cards::any_card;
 use film_disk_model::rng::desks::{
-    alter_places, alter_plan, any_step, longer_list, set_places, sound_desk, spoiled_list,
+    alter_places, alter_plan, any_step, longer_list, most_fetches, set_places, sound_desk,
+    spoiled_list,
 };
 use film_disk_model::rng::figures::{desk_plan_for, large_desk_plan_for, uneven_plan_for};
+use film_disk_model::rng::pairs::{
+    any_pairs_card, large_pairs_plan, pairs_plan, uneven_pairs_plan,
+};
 use film_disk_model::rng::tables::{alter_overheads, some_entry};
-use film_disk_model::{card_bytes, read_card, Desk, Plan, Planned, Rng, Showing, Step};
+use film_disk_model::{card_bytes, Desk, Plan, Planned, Planner, Rng, Showing, Step};
 
 /// Bytes of no meaning.
 pub fn noise(rng: &mut Rng, length: usize) -> Vec<u8> {
@@ -120,29 +126,58 @@ fn some_scratch(rng: &mut Rng) -> Vec<u8> {
     noise(rng, short)
 }
 
-/// Any card, for one showing or as a loop; at times of a film that has its worst pair anywhere.
-pub fn plan_case(rng: &mut Rng) -> (Call, Strings) {
-    let showing = rng.pick(&Showing::ALL);
-    let mut strings = Strings::default();
-    strings[CARD] = match rng.below(8) {
+/// Any card for one showing or as a loop; at times of a film that has its worst pair anywhere.
+fn shown_card(rng: &mut Rng, showing: Showing) -> Vec<u8> {
+    match rng.below(8) {
         0 | 1 => border_card(rng),
         2 | 3 => card_bytes(&uneven_plan_for(rng, showing).plan.figures),
         _ => any_card(rng),
+    }
+}
+
+/// Any card for pairs; at times one that was made for one showing.
+fn pairs_card(rng: &mut Rng) -> Vec<u8> {
+    match rng.below(8) {
+        0 | 1 => border_pairs_card(rng),
+        2 | 3 => any_card(rng),
+        _ => any_pairs_card(rng),
+    }
+}
+
+/// Any card, for one showing, as a loop or as pairs. A card for pairs is at times planned as another film, which it may be.
+pub fn plan_case(rng: &mut Rng) -> (Call, Strings) {
+    let planner = rng.pick(&Planner::ALL);
+    let mut strings = Strings::default();
+    strings[CARD] = match planner {
+        Planner::Shown(showing) if !rng.once_in(16) => shown_card(rng, showing),
+        _ => pairs_card(rng),
     };
-    let blocks = match read_card(&strings[CARD]) {
+    let blocks = match planner.read_card(&strings[CARD]) {
         Ok(figures) => figures.blocks as usize,
         Err(_) => 1 + rng.below(10),
     };
     strings[PLAN] = written_string(rng, PLAN_BYTES);
-    strings[POSITIONS] = written_list(rng, blocks);
+    strings[POSITIONS] = written_list(rng, planner.visits() * blocks);
     strings[LEADS] = written_list(rng, blocks);
     strings[SCRATCH] = some_scratch(rng);
-    (Call::Plan(showing), strings)
+    (Call::Plan(planner), strings)
 }
 
-/// A plan for a desk, for one showing or a loop; rarely a great one, often one whose products are great or carry.
+/// A plan for a desk of pairs.
+fn some_pairs_plan(rng: &mut Rng) -> Planned {
+    match rng.below(40) {
+        0 => large_pairs_plan(rng),
+        1..=10 => border_pairs_plan(rng),
+        11..=19 => uneven_pairs_plan(rng),
+        _ => pairs_plan(rng),
+    }
+}
+
+/// A plan for a desk, for one showing, a loop or pairs; rarely a great one, often one whose products are great or carry.
 pub fn some_plan(rng: &mut Rng) -> Planned {
-    let showing = rng.pick(&Showing::ALL);
+    let Planner::Shown(showing) = rng.pick(&Planner::ALL) else {
+        return some_pairs_plan(rng);
+    };
     match rng.below(40) {
         0 => large_desk_plan_for(rng, showing),
         1..=10 => border_plan_for(rng, showing),
@@ -254,19 +289,34 @@ fn opening_or_step(rng: &mut Rng, desk: &Desk, step: &Step) -> (Call, Strings) {
     (Call::Open, strings)
 }
 
-/// An opening or a call on a desk whose showing is another: the word turned over, or a third word. Or there is a tail where a loop
-/// has none, with the word or without.
+/// The lists of a record's figures for the showing that its word says, if it has any.
+fn lists_of(plan: &Plan) -> Option<(Vec<u32>, Vec<u32>)> {
+    let planner = Planner::of(plan.showing)?;
+    let taken = planner.visits() as u64 * plan.figures.blocks as u64;
+    let planned = match taken <= plan.figures.total_positions() {
+        true => planner.plan_of(&plan.figures)?,
+        false => return None,
+    };
+    Some((planned.positions, planned.leads))
+}
+
+/// An opening or a call on a desk whose showing is another, or which has a word that is none. At times the lists are those of the film
+/// as the word has it. Or there is a tail where a loop has none, with the word or without.
 pub fn showing_case(rng: &mut Rng) -> (Call, Strings) {
     let planned = some_plan(rng);
-    let (_, step) = any_step(rng, &planned);
+    let (_, mut step) = any_step(rng, &planned);
     let mut desk = sound_desk(rng, &planned);
     let has_tail = rng.once_in(2);
     if has_tail {
         set_tail(rng, &mut desk);
     }
     if !has_tail || rng.once_in(2) {
-        let turned = 1 - planned.plan.showing;
-        desk.plan.showing = rng.pick(&[turned, turned, turned, 2, 3, 256, 65_536, u32::MAX]);
+        let turned = (planned.plan.showing + rng.between(1, 2)) % 3;
+        desk.plan.showing = rng.pick(&[turned, turned, turned, turned, 3, 256, 65_536, u32::MAX]);
+        if rng.once_in(2) {
+            (step.positions, step.leads) =
+                lists_of(&desk.plan).unwrap_or((step.positions, step.leads));
+        }
     }
     opening_or_step(rng, &desk, &step)
 }
@@ -341,7 +391,7 @@ pub fn edge_case(rng: &mut Rng) -> (Call, Strings) {
     let mut desk = sound_desk(rng, &planned);
     if !rng.once_in(4) {
         desk.phase = BETWEEN;
-        step.call = film_disk_model::Call::Begin { fetch_list: planned.plan.streams as usize };
+        step.call = film_disk_model::Call::Begin { fetch_list: most_fetches(&desk) };
     }
     set_to_edge(rng, &planned, &mut desk);
     step_strings(rng, desk_bytes(&desk), &step, 100)
@@ -389,7 +439,7 @@ pub fn request_case(rng: &mut Rng) -> (Call, Strings) {
     let call = match rng.below(6) {
         0 => film_disk_model::Call::Join { slot: slot_of_kind(rng, &desk, FREE), block: 0 },
         1 => film_disk_model::Call::Leave { slot: slot_of_kind(rng, &desk, ASKED) },
-        _ => film_disk_model::Call::Begin { fetch_list: planned.plan.streams as usize },
+        _ => film_disk_model::Call::Begin { fetch_list: most_fetches(&desk) },
     };
     let Planned { positions, leads, .. } = planned;
     step_strings(rng, desk_bytes(&desk), &Step { positions, leads, call }, 100)

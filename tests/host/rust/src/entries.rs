@@ -1,5 +1,5 @@
 //! The entry points of include/filmdisk.h: those of the static library, and with the feature `earlier` those of an earlier one, whose
-//! names begin with `earlier_`; with `earlier_scratch` it has the calls by scratch too.
+//! names begin with `earlier_`; with `earlier_scratch` it has the calls by scratch too, with `earlier_pairs` those for pairs.
 
 pub type Read = *const u8;
 pub type Write = *mut u8;
@@ -41,6 +41,8 @@ type Windowing = unsafe extern "C" fn(Read, usize, Read, usize, u32) -> Filmdisk
 pub struct Calls {
     pub plan: Planning,
     pub plan_loop: Planning,
+    /// An earlier library may have none.
+    pub plan_pairs: Option<Planning>,
     pub open: Opening,
     pub join: Joining,
     pub leave: Leaving,
@@ -56,9 +58,21 @@ pub struct Entries {
     pub draw_limit: Limiting,
 }
 
+/// The planner call for pairs whose name begins with a prefix and ends with a suffix.
+macro_rules! plan_pairs {
+    ($prefix:literal, $suffix:literal) => {{
+        #[rustfmt::skip]
+        extern "C" {
+            #[link_name = concat!($prefix, "plan_pairs", $suffix)]
+            fn plan_pairs(card: Read, card_len: usize, plan: Write, plan_len: usize, positions: Write, positions_len: usize, lent: Write, lent_len: usize) -> FilmdiskAnswer;
+        }
+        Some(plan_pairs as Planning)
+    }};
+}
+
 /// The calls whose names begin with a prefix and end with a suffix.
 macro_rules! calls {
-    ($prefix:literal, $suffix:literal) => {{
+    ($prefix:literal, $suffix:literal, $plan_pairs:expr) => {{
         #[rustfmt::skip]
         extern "C" {
             #[link_name = concat!($prefix, "plan", $suffix)]
@@ -76,13 +90,13 @@ macro_rules! calls {
             #[link_name = concat!($prefix, "end", $suffix)]
             fn end(desk: Write, desk_len: usize, positions: Read, positions_len: usize, lent: Read, lent_len: usize, draws: Read, draws_len: usize) -> FilmdiskAnswer;
         }
-        Calls { plan, plan_loop, open, join, leave, begin, end }
+        Calls { plan, plan_loop, plan_pairs: $plan_pairs, open, join, leave, begin, end }
     }};
 }
 
 /// The entry points whose names begin with a prefix.
 macro_rules! entries {
-    ($prefix:literal, $by_scratch:expr) => {{
+    ($prefix:literal, $plan_pairs:expr, $by_scratch:expr) => {{
         #[rustfmt::skip]
         extern "C" {
             #[link_name = concat!($prefix, "window")]
@@ -90,16 +104,28 @@ macro_rules! entries {
             #[link_name = concat!($prefix, "draw_limit")]
             fn draw_limit(desk: Read, desk_len: usize, slot: u32, bound: u32) -> u64;
         }
-        Entries { by_list: calls!($prefix, ""), by_scratch: $by_scratch, window, draw_limit }
+        let by_list = calls!($prefix, "", $plan_pairs);
+        Entries { by_list, by_scratch: $by_scratch, window, draw_limit }
     }};
 }
 
-pub const PRESENT: Entries = entries!("filmdisk_", Some(calls!("filmdisk_", "_scratch")));
+pub const PRESENT: Entries = entries!(
+    "filmdisk_",
+    plan_pairs!("filmdisk_", ""),
+    Some(calls!("filmdisk_", "_scratch", plan_pairs!("filmdisk_", "_scratch")))
+);
+#[cfg(feature = "earlier_pairs")]
+const EARLIER_PAIRS: [Option<Planning>; 2] =
+    [plan_pairs!("earlier_filmdisk_", ""), plan_pairs!("earlier_filmdisk_", "_scratch")];
+#[cfg(all(feature = "earlier", not(feature = "earlier_pairs")))]
+const EARLIER_PAIRS: [Option<Planning>; 2] = [None, None];
 #[cfg(feature = "earlier_scratch")]
-const EARLIER_BY_SCRATCH: Option<Calls> = Some(calls!("earlier_filmdisk_", "_scratch"));
+const EARLIER_BY_SCRATCH: Option<Calls> =
+    Some(calls!("earlier_filmdisk_", "_scratch", EARLIER_PAIRS[1]));
 #[cfg(all(feature = "earlier", not(feature = "earlier_scratch")))]
 const EARLIER_BY_SCRATCH: Option<Calls> = None;
 #[cfg(feature = "earlier")]
-pub const EARLIER: Option<Entries> = Some(entries!("earlier_filmdisk_", EARLIER_BY_SCRATCH));
+pub const EARLIER: Option<Entries> =
+    Some(entries!("earlier_filmdisk_", EARLIER_PAIRS[0], EARLIER_BY_SCRATCH));
 #[cfg(not(feature = "earlier"))]
 pub const EARLIER: Option<Entries> = None;

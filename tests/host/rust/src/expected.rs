@@ -9,11 +9,11 @@ use crate::layout::{
     ENTRY_BYTES, FETCH_BYTES, PLAN_BYTES,
 };
 use film_disk_model::desk::{draw_limit, SLOTS};
-use film_disk_model::plan::plan_card_for;
+use film_disk_model::pairs::PAIRS;
 use film_disk_model::scratch::{full_leads, judge_scratch};
 use film_disk_model::{
-    answer, answer_scratch, cause, fill_lent, open, open_scratch, plan_card_scratch, read_card,
-    window, Refusal, Showing, Window,
+    answer, answer_scratch, cause, fill_lent, open, open_scratch, window, Plan, Planner, Refusal,
+    Window,
 };
 
 /// An accepted call with nothing more to say.
@@ -35,9 +35,9 @@ fn cleared(strings: &Strings, refusal: Refusal, which: usize, length: usize) -> 
     outcome
 }
 
-fn expected_plan(showing: Showing, way: Way, strings: &Strings) -> Outcome {
+fn expected_plan(planner: Planner, way: Way, strings: &Strings) -> Outcome {
     let too_short = Refusal { number: cause::TOO_SHORT, place: 0 };
-    if let Err(refusal) = read_card(&strings[CARD]) {
+    if let Err(refusal) = planner.read_card(&strings[CARD]) {
         return cleared(strings, refusal, PLAN, PLAN_BYTES);
     }
     if strings[PLAN].len() != PLAN_BYTES {
@@ -46,8 +46,8 @@ fn expected_plan(showing: Showing, way: Way, strings: &Strings) -> Outcome {
     let entries = |which: usize| strings[which].len() / ENTRY_BYTES;
     let (card, positions) = (&strings[CARD], entries(POSITIONS));
     let planned = match way {
-        Way::List => plan_card_for(card, showing, positions, entries(LEADS)),
-        Way::Scratch => plan_card_scratch(card, showing, positions, entries(SCRATCH)),
+        Way::List => planner.plan_card(card, positions, entries(LEADS)),
+        Way::Scratch => planner.plan_card_scratch(card, positions, entries(SCRATCH)),
     };
     match planned {
         Err(refusal) if refusal == too_short => refused(strings, refusal),
@@ -161,11 +161,23 @@ fn expected_limit(strings: &Strings, slot: u32, bound: u32) -> Outcome {
 
 pub fn expected(call: Call, way: Way, strings: &Strings) -> Outcome {
     match call {
-        Call::Plan(showing) => expected_plan(showing, way, strings),
+        Call::Plan(planner) => expected_plan(planner, way, strings),
         Call::Open => expected_open(way, strings),
         Call::Window { blocks } => expected_window(strings, blocks),
         Call::DrawLimit { slot, bound } => expected_limit(strings, slot, bound),
         _ => expected_desk_call(call, way, strings),
+    }
+}
+
+/// Is the call for pairs: their planner, or one on a record that says so?
+pub fn is_for_pairs(call: Call, strings: &Strings) -> bool {
+    let says = |plan: Plan| plan.showing == PAIRS;
+    match call {
+        Call::Plan(planner) => planner == Planner::Pairs,
+        Call::Open | Call::Window { .. } => {
+            strings[PLAN].len() == PLAN_BYTES && says(read_plan(&strings[PLAN]))
+        }
+        _ => strings[DESK].len() == DESK_BYTES && says(read_desk(&strings[DESK]).plan),
     }
 }
 
@@ -174,7 +186,7 @@ pub fn expected(call: Call, way: Way, strings: &Strings) -> Outcome {
 pub fn is_same_by_scratch(call: Call, strings: &Strings) -> bool {
     let begins = |plan| words_of(&strings[LEADS]).starts_with(&full_leads(&plan));
     let is_full = match call {
-        Call::Plan(_) => match read_card(&strings[CARD]) {
+        Call::Plan(planner) => match planner.read_card(&strings[CARD]) {
             Ok(figures) => strings[LEADS].len() / ENTRY_BYTES >= figures.blocks as usize,
             Err(_) => return true,
         },

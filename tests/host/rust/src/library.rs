@@ -5,11 +5,11 @@ use crate::call::{
     SCRATCH,
 };
 use crate::entries::{Calls, Entries, FilmdiskAnswer, FilmdiskWindowAnswer};
-use film_disk_model::Showing;
+use film_disk_model::{Planner, Showing};
 use std::ffi::{c_char, c_int, CString};
 
 /// Room for the longest string of a case.
-const MOST_BYTES: usize = 80_000;
+const MOST_BYTES: usize = 140_000;
 
 impl From<FilmdiskAnswer> for Answer {
     fn from(answer: FilmdiskAnswer) -> Answer {
@@ -123,9 +123,9 @@ impl Library {
         }
     }
 
-    /// Does the library have this way in?
-    pub fn has(&self, way: Way) -> bool {
-        self.calls(way).is_some()
+    /// Does the library have this way in, and pairs if they are asked for?
+    pub fn has(&self, way: Way, pairs: bool) -> bool {
+        self.calls(way).is_some_and(|calls| !pairs || calls.plan_pairs.is_some())
     }
 
     /// SAFETY: the strings of the call are lent.
@@ -136,8 +136,9 @@ impl Library {
         let n = |which: usize| self.lent[which].length;
         let lent = way.string();
         match call {
-            Call::Plan(Showing::Once) => (e.plan)(p(CARD), n(CARD), p(PLAN), n(PLAN), p(POSITIONS), n(POSITIONS), p(lent), n(lent)).into(),
-            Call::Plan(Showing::Loop) => (e.plan_loop)(p(CARD), n(CARD), p(PLAN), n(PLAN), p(POSITIONS), n(POSITIONS), p(lent), n(lent)).into(),
+            Call::Plan(Planner::Shown(Showing::Once)) => (e.plan)(p(CARD), n(CARD), p(PLAN), n(PLAN), p(POSITIONS), n(POSITIONS), p(lent), n(lent)).into(),
+            Call::Plan(Planner::Shown(Showing::Loop)) => (e.plan_loop)(p(CARD), n(CARD), p(PLAN), n(PLAN), p(POSITIONS), n(POSITIONS), p(lent), n(lent)).into(),
+            Call::Plan(Planner::Pairs) => (e.plan_pairs.expect("a library with pairs"))(p(CARD), n(CARD), p(PLAN), n(PLAN), p(POSITIONS), n(POSITIONS), p(lent), n(lent)).into(),
             Call::Open => (e.open)(p(PLAN), n(PLAN), p(POSITIONS), n(POSITIONS), p(lent), n(lent), p(DESK), n(DESK)).into(),
             Call::Join { slot, block } => (e.join)(p(DESK), n(DESK), p(POSITIONS), n(POSITIONS), p(lent), n(lent), slot, block).into(),
             Call::Leave { slot } => (e.leave)(p(DESK), n(DESK), p(POSITIONS), n(POSITIONS), p(lent), n(lent), slot).into(),

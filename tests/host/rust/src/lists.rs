@@ -10,7 +10,9 @@ use crate::expected::model_call;
 use crate::layout::{bytes_of, read_desk, read_fetches, DESK_BYTES, ENTRY_BYTES, PLAN_BYTES};
 use crate::trial::Trial;
 use film_disk_model::rng::desks::{full_house, next_step, temper, Temper};
-use film_disk_model::{card_bytes, check_claim, Book, Desk, Planned, Queue, Rng, Showing, Step};
+use film_disk_model::{
+    card_bytes, check_claim, Book, Desk, Planned, Planner, Queue, Rng, Showing, Step,
+};
 
 /// The ways in of a list's calls: one, or both at random.
 const WAYS: [&[Way]; 3] = [&[Way::List], &[Way::Scratch], &[Way::List, Way::Scratch]];
@@ -22,17 +24,16 @@ fn open_desk(
     planned: &Planned,
     ways: &[Way],
 ) -> Result<Vec<u8>, String> {
-    let list_bytes = planned.positions.len() * ENTRY_BYTES;
     let mut strings = Strings::default();
     strings[CARD] = card_bytes(&planned.plan.figures);
     strings[PLAN] = noise(rng, PLAN_BYTES);
-    strings[POSITIONS] = noise(rng, list_bytes);
-    strings[LEADS] = noise(rng, list_bytes);
+    strings[POSITIONS] = noise(rng, planned.positions.len() * ENTRY_BYTES);
+    strings[LEADS] = noise(rng, planned.leads.len() * ENTRY_BYTES);
     strings[DESK] = noise(rng, DESK_BYTES);
     strings[SCRATCH] = long_scratch(rng);
-    let showing = Showing::of(planned.plan.showing).expect("the word of a plan");
+    let planner = Planner::of(planned.plan.showing).expect("the word of a plan");
     let way = rng.pick(ways);
-    let mut strings = trial.accepted(rng, Call::Plan(showing), way, &strings)?.strings;
+    let mut strings = trial.accepted(rng, Call::Plan(planner), way, &strings)?.strings;
     strings[CARD].clear();
     // By scratch no call has written them.
     strings[LEADS] = bytes_of(&planned.leads);
@@ -110,10 +111,13 @@ impl<'a> List<'a> {
         Ok(got)
     }
 
-    /// The most times that a slot of a loop has got the whole film; 0 for one showing.
+    /// The most times that a slot of a loop has got the whole film; 0 for any other.
     pub fn rounds(&self) -> u128 {
         let fetched = self.book.rows.iter().map(|row| row.fetched).max().unwrap_or(0);
-        self.planned.plan.showing as u128 * fetched / self.planned.positions.len() as u128
+        match self.planned.plan.showing == Showing::Loop.word() {
+            true => fetched / self.planned.leads.len() as u128,
+            false => 0,
+        }
     }
 }
 
@@ -132,7 +136,7 @@ pub fn house_case(rng: &mut Rng, trial: &mut Trial) -> Result<(), String> {
 fn run_list(rng: &mut Rng, trial: &mut Trial, temper: &Temper) -> Result<(), String> {
     let planned = some_plan(rng);
     let mut list = List::open(rng, trial, &planned)?;
-    let most = if planned.positions.len() > 256 { 20 } else { rng.pick(&[10, 40, 150, 400]) };
+    let most = if planned.leads.len() > 256 { 20 } else { rng.pick(&[10, 40, 150, 400]) };
     for _ in 0..most {
         let step = next_step(rng, &planned, &list.rules, temper);
         list.call(rng, trial, &step, 40)?;

@@ -38,7 +38,7 @@ const SHOWN: u64 = 10;
 
 fn run_case(trial: &mut Trial, seed: u64) -> Result<(), String> {
     let mut rng = Rng::new(seed);
-    let (call, strings) = match rng.below(22) {
+    let (call, strings) = match rng.below(24) {
         0..=2 => plan_case(&mut rng),
         3 => open_case(&mut rng),
         4 | 5 => desk_case(&mut rng),
@@ -50,7 +50,8 @@ fn run_case(trial: &mut Trial, seed: u64) -> Result<(), String> {
         15 => limit_case(&mut rng),
         16 | 17 => request_case(&mut rng),
         18 | 19 => place_case(&mut rng),
-        20 => return house_case(&mut rng, trial),
+        20 | 21 => plan_case(&mut rng),
+        22 => return house_case(&mut rng, trial),
         _ => return list_case(&mut rng, trial),
     };
     trial.both(&mut rng, call, Way::List, &strings).map(|_| ())
@@ -78,9 +79,9 @@ impl Count {
 }
 
 fn run_films(trial: &mut Trial, count: &mut Count) {
-    for (name, blocks, zones, showing) in all_films() {
+    for (name, blocks, zones, planner) in all_films() {
         set_scene(&name);
-        count.note(&name, film_case(trial, blocks, zones, showing));
+        count.note(&name, film_case(trial, blocks, zones, planner));
     }
 }
 

@@ -2,13 +2,13 @@
 
 use crate::call::{Call, Outcome, Strings, Way, DESK, LEADS, NAMES, PLAN, SORTS};
 use crate::entries::{EARLIER, PRESENT};
-use crate::expected::{expected, is_same_by_scratch};
+use crate::expected::{expected, is_for_pairs, is_same_by_scratch};
 use crate::layout::{read_desk, read_plan};
 use crate::library::{Lending, Library};
 use film_disk_model::{Plan, Rng, SLOTS};
 
-/// Numbers of answers, 0 to 27.
-const NUMBERS: usize = 28;
+/// Numbers of answers, 0 to 28.
+const NUMBERS: usize = 29;
 /// A slot of some loop must go round so many times.
 const MANY_ROUNDS: u128 = 5;
 /// Where the worst pair of a film may be.
@@ -21,6 +21,20 @@ const WINDOWS: [&str; 3] = ["at block 0", "in mid film", "past the last block"];
 const LIMITS: [&str; 3] = ["of 0", "of 32 bits", "of more"];
 /// What a begin makes of the requests.
 const REQUESTS: [&str; 4] = ["none there", "all granted", "some granted", "all waiting on"];
+/// What comes of calls for pairs.
+const PAIRS_MET: [&str; 11] = [
+    "the slowest block at block 0",
+    "the slowest block in mid film",
+    "the slowest block at the last",
+    "128 streams",
+    "an opening",
+    "a join",
+    "a leave",
+    "a begin",
+    "a begin with 256 fetches",
+    "an end",
+    "a window",
+];
 /// Calls made in both ways.
 const ALIKE: [&str; 2] = ["with another list or a short scratch", "alike"];
 
@@ -46,6 +60,8 @@ pub struct Trial {
     crowd: u32,
     /// The most sweeps that an eldest request of a list waited for its grant.
     wait: u64,
+    /// For each of these, how often it came of an accepted call for pairs.
+    pairs: [u64; PAIRS_MET.len()],
     /// Calls that answered the same by list and by scratch, and those where the list was not the film's or the scratch short.
     alike: [u64; ALIKE.len()],
 }
@@ -86,6 +102,25 @@ fn requests_left(before: u32, after: u32) -> usize {
     }
 }
 
+/// What came of an accepted call for pairs, as places of `PAIRS_MET`.
+fn pairs_met(call: Call, wanted: &Outcome) -> Vec<usize> {
+    match call {
+        Call::Plan(_) => {
+            let plan = read_plan(&wanted.strings[PLAN]);
+            let full = (plan.streams == 128).then_some(3);
+            [worst_place(&plan)].into_iter().chain(full).collect()
+        }
+        Call::Open => vec![4],
+        Call::Join { .. } => vec![5],
+        Call::Leave { .. } => vec![6],
+        Call::Begin if wanted.answer.count == 256 => vec![7, 8],
+        Call::Begin => vec![7],
+        Call::End => vec![9],
+        Call::Window { .. } => vec![10],
+        Call::DrawLimit { .. } => vec![],
+    }
+}
+
 /// The call and the lengths of what it was lent.
 fn describe(call: Call, way: Way, strings: &Strings) -> String {
     let lent = call.lent(way).into_iter();
@@ -114,6 +149,7 @@ impl Trial {
             requests: [0; REQUESTS.len()],
             crowd: 0,
             wait: 0,
+            pairs: [0; PAIRS_MET.len()],
             alike: [0; ALIKE.len()],
         }
     }
@@ -128,7 +164,9 @@ impl Trial {
     ) -> Result<(Outcome, Outcome), String> {
         let lending = Lending { at_start: rng.once_in(2), empty_is_null: rng.once_in(2) };
         let wanted = match &mut self.earlier {
-            Some(earlier) if earlier.has(way) => earlier.call(call, way, strings, lending)?,
+            Some(earlier) if earlier.has(way, is_for_pairs(call, strings)) => {
+                earlier.call(call, way, strings, lending)?
+            }
             _ => expected(call, way, strings),
         };
         self.note(call, way, strings, &wanted);
@@ -168,6 +206,9 @@ impl Trial {
         self.tally[call.sort(way)][number as usize] += 1;
         if number != 0 {
             return;
+        }
+        if is_for_pairs(call, before) {
+            pairs_met(call, wanted).into_iter().for_each(|met| self.pairs[met] += 1);
         }
         match call {
             Call::Plan(_) => {
@@ -228,18 +269,21 @@ impl Trial {
         println!("plans: {}", tallied(&KINDS, &self.kinds));
         println!("requests at a begin: {}", tallied(&REQUESTS, &self.requests));
         println!("requests: {} at once; the eldest waited {} sweeps", self.crowd, self.wait);
+        println!("pairs: {}", tallied(&PAIRS_MET, &self.pairs));
         println!("by list and by scratch: {}", tallied(&ALIKE, &self.alike));
         println!("loops: a slot went round {} times", self.rounds);
     }
 
     /// The numbers that each sort of call can answer and that no call was answered; places where no
     /// worst pair or window was; a kind of card; a size of a draw limit; requests, of which all slots may be and one has to wait a
-    /// sweep; and loops, if none went round often enough.
+    /// sweep; what was not met of pairs; and loops, if none went round often enough.
     pub fn missing(&self) -> Vec<String> {
         let plan: Vec<usize> = (0..=13).chain([25, 26]).collect();
+        let pairs: Vec<usize> = (0..=8).chain(10..=13).chain([25, 26, 28]).collect();
         let answers: [&[usize]; SORTS.len()] = [
             &plan,
             &plan,
+            &pairs,
             &[0, 13, 14],
             &[0, 14, 15, 16, 17, 18],
             &[0, 14, 15, 16, 17],
@@ -247,6 +291,7 @@ impl Trial {
             &[0, 14, 15, 19, 20, 21],
             &plan,
             &plan,
+            &pairs,
             &[0, 13, 14],
             &[0, 13, 14, 15, 16, 17, 18],
             &[0, 13, 14, 15, 16, 17],
@@ -275,6 +320,9 @@ impl Trial {
         }
         for (how, _) in ALIKE.iter().zip(self.alike).filter(|&(_, count)| count == 0) {
             missing.push(format!("a call in both ways, {how}"));
+        }
+        for (what, _) in PAIRS_MET.iter().zip(self.pairs).filter(|&(_, count)| count == 0) {
+            missing.push(format!("{what} of pairs"));
         }
         for (what, _) in REQUESTS.iter().zip(self.requests).filter(|&(_, count)| count == 0) {
             missing.push(format!("a begin with requests, {what}"));

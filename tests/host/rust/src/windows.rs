@@ -4,10 +4,9 @@ use crate::call::{Call, Strings, Way, PLAN, POSITIONS};
 use crate::cases::{read_string, some_list, some_plan};
 use crate::layout::{bytes_of, plan_bytes};
 use crate::trial::Trial;
-use film_disk_model::plan::plan_of;
 use film_disk_model::rng::desks::alter_plan;
 use film_disk_model::window::MAX_WINDOW;
-use film_disk_model::{Planned, Rng, Showing};
+use film_disk_model::{Planned, Planner, Rng};
 
 /// Up to so many blocks every window is tried.
 const SHORT: u32 = 256;
@@ -25,10 +24,15 @@ fn some_blocks(rng: &mut Rng, film: u32) -> u32 {
 
 /// The list of the film shown the other way, or of another film.
 fn foreign_positions(rng: &mut Rng, planned: &Planned) -> Vec<u32> {
-    let others = Showing::ALL.into_iter().filter(|how| how.word() != planned.plan.showing);
-    let turned = others.flat_map(|how| plan_of(&planned.plan.figures, how)).next();
-    match turned {
-        Some(other) if rng.once_in(2) => other.positions,
+    let figures = &planned.plan.figures;
+    let fits = |how: &Planner| {
+        let taken = how.visits() as u64 * figures.blocks as u64;
+        how.word() != planned.plan.showing && taken <= figures.total_positions()
+    };
+    let others = Planner::ALL.into_iter().filter(fits);
+    let turned: Vec<Planned> = others.flat_map(|how| how.plan_of(figures)).collect();
+    match turned.len() {
+        count if count > 0 && rng.once_in(2) => turned[rng.below(count)].positions.clone(),
         _ => some_plan(rng).positions,
     }
 }

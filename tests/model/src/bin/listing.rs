@@ -1,5 +1,5 @@
 //! The model's own listing program: a card from standard input, its listing on standard output.
-//! With the argument `loop` the film is a loop.
+//! With the argument `loop` the film is a loop, with `pairs` its blocks are two halves each.
 
 use film_disk_model::listing::listing_with;
 use std::io::{Read, Result, Write};

@@ -1,23 +1,27 @@
 //! What the comparisons of listing and windows share: programs that read a card, and take the
-//! argument `loop` or none. The fixed cards of the bench are always run before the random ones, and
+//! argument `loop` or `pairs` or none. The fixed cards of the bench are always run before the random ones, and
 //! arguments that the program does not know.
 
 use super::{Given, Written};
-use crate::bench::{bench_film, fixed_cards};
+use crate::bench::{bench_film, fixed_cards, fixed_pairs_cards};
 use crate::card::card_bytes;
 use crate::rng::cards::any_card;
+use crate::rng::pairs::any_pairs_card;
 use crate::rng::Rng;
 
-/// The arguments of one showing and of a loop.
-const SHOWINGS: [&[&str]; 2] = [&[], &["loop"]];
+/// The arguments of one showing, of a loop and of pairs.
+const SHOWINGS: [&[&str]; 3] = [&[], &["loop"], &["pairs"]];
 
 /// Single arguments that the program does not know.
-const OTHERS: [&str; 8] = ["", "once", "Loop", "loo", "loops", " loop", "loop\n", "-loop"];
+const OTHERS: [&str; 13] = [
+    "", "once", "Loop", "loo", "loops", " loop", "loop\n", "-loop", "Pairs", "pair", "pairss",
+    "pairs ", "pars",
+];
 
-/// The fixed cards for both showings; the bench film and an empty card with other arguments.
+/// The fixed cards for all showings; the bench film and an empty card with other arguments.
 pub fn first_runs(_: &mut Rng) -> Vec<Given> {
     let mut runs = Vec::new();
-    for card in fixed_cards() {
+    for card in fixed_cards().into_iter().chain(fixed_pairs_cards()) {
         runs.extend(SHOWINGS.map(|words| Given::new(words, card.clone())));
     }
     for card in [card_bytes(&bench_film()), Vec::new()] {
@@ -26,8 +30,14 @@ pub fn first_runs(_: &mut Rng) -> Vec<Given> {
     runs
 }
 
+/// Any card; for pairs often one of no more than half the positions.
 pub fn random_run(rng: &mut Rng) -> Given {
-    Given::new(rng.pick(&SHOWINGS), any_card(rng))
+    let words = rng.pick(&SHOWINGS);
+    let card = match words {
+        ["pairs"] if rng.once_in(2) => any_pairs_card(rng),
+        _ => any_card(rng),
+    };
+    Given::new(words, card)
 }
 
 fn hex(bytes: &[u8]) -> String {

@@ -1,12 +1,14 @@
 //! Figures whose products are the greatest there are, or carry between the 16-bit halves of their numbers in every way.
 
 use super::figures::{small_figures, sweep_need};
+use super::pairs::pairs_need;
 use super::Rng;
 use crate::bench::figures_of;
 use crate::card::{
     card_bytes, straight, Figures, ENTRIES, MAX_BLOCK_BYTES, MAX_HOP, MAX_OVERHEAD, MAX_RATE,
-    MAX_RETURN, MAX_TIME, MEASURED, STRAIGHT,
+    MAX_RETURN, MAX_TIME, MEASURED, MIN_BLOCKS, STRAIGHT,
 };
+use crate::pairs::plan_pairs_record;
 use crate::plan::{plan_record_for, Planned, Showing};
 
 /// One zone or two, N 2, the greatest B; rate, and hop and return alike.
@@ -78,6 +80,19 @@ fn set_border_overheads(rng: &mut Rng, figures: &mut Figures) {
     figures.table.sort_unstable();
 }
 
+/// The same with each block as two halves: four positions or eight.
+fn greatest_pairs(rng: &mut Rng) -> Figures {
+    let mut figures = greatest_figures(rng);
+    let times = rng.pick(&[2, 4]);
+    for zone in 0..figures.zones as usize {
+        figures.positions[zone] *= times;
+    }
+    if rng.once_in(4) {
+        figures.rate = figures.rate.div_ceil(2);
+    }
+    figures
+}
+
 /// Figures of a short film with such times, rates and the like. Half of them keep all times above a
 /// third of the greatest, and so are legal.
 fn border_figures(rng: &mut Rng) -> Figures {
@@ -96,9 +111,8 @@ fn border_figures(rng: &mut Rng) -> Figures {
     figures
 }
 
-/// Sets c and B so that n streams fit, c at such a number and B often just enough.
-fn fit(rng: &mut Rng, figures: &mut Figures, showing: Showing, n: u32) {
-    let need = sweep_need(figures, showing, n);
+/// Sets c and B so that c × need is within 2,000,000 × B, c at such a number and B often just enough.
+fn fit(rng: &mut Rng, figures: &mut Figures, need: u64) {
     let most = 2_000_000 * MAX_BLOCK_BYTES as u64 / need;
     figures.rate = border(rng, most.min(MAX_RATE as u64) as u32);
     let least = (figures.rate as u64 * need).div_ceil(2_000_000) as u32;
@@ -113,7 +127,27 @@ fn any_figures(rng: &mut Rng, showing: Showing) -> Figures {
     let mut figures = border_figures(rng);
     if !rng.once_in(4) {
         let n = rng.pick(&[1, 2, 3, 16, 255, 256]);
-        fit(rng, &mut figures, showing, n);
+        let need = sweep_need(&figures, showing, n);
+        fit(rng, &mut figures, need);
+    }
+    figures
+}
+
+/// The same for pairs, the film on all positions but one at most.
+fn any_pairs(rng: &mut Rng) -> Figures {
+    if rng.once_in(4) {
+        return greatest_pairs(rng);
+    }
+    let mut figures = border_figures(rng);
+    let total = figures.total_positions() as u32;
+    if total < 2 * MIN_BLOCKS {
+        figures.positions[0] += 2 * MIN_BLOCKS - total;
+    }
+    figures.blocks = figures.total_positions() as u32 / 2;
+    if !rng.once_in(4) {
+        let n = rng.pick(&[1, 2, 3, 16, 127, 128]);
+        let need = pairs_need(&figures, n);
+        fit(rng, &mut figures, need);
     }
     figures
 }
@@ -121,6 +155,22 @@ fn any_figures(rng: &mut Rng, showing: Showing) -> Figures {
 /// A card of such figures.
 pub fn border_card(rng: &mut Rng) -> Vec<u8> {
     card_bytes(&any_figures(rng, Showing::Once))
+}
+
+/// A card of such figures for pairs.
+pub fn border_pairs_card(rng: &mut Rng) -> Vec<u8> {
+    card_bytes(&any_pairs(rng))
+}
+
+/// A plan of such figures for pairs.
+pub fn border_pairs_plan(rng: &mut Rng) -> Planned {
+    loop {
+        let figures = any_pairs(rng);
+        let blocks = figures.blocks as usize;
+        if let Ok(planned) = plan_pairs_record(&figures, 2 * blocks, blocks) {
+            return planned;
+        }
+    }
 }
 
 /// A plan of such figures.

@@ -183,6 +183,14 @@ fn noise(rng: &mut Rng) -> Vec<u8> {
     bytes
 }
 
+/// A card cut off, or with a byte more.
+pub(super) fn cut_or_longer(rng: &mut Rng, card: Vec<u8>) -> Vec<u8> {
+    match rng.below(2) {
+        0 => cut_off(rng, &card),
+        _ => extra(rng, card),
+    }
+}
+
 /// A card damaged in one way. Some come out legal, at the limit.
 pub fn damaged_card(rng: &mut Rng) -> Vec<u8> {
     let showing = rng.pick(&Showing::ALL);

@@ -123,7 +123,7 @@ pub(super) fn fair_leave(rng: &mut Rng, desk: &Desk) -> Option<Call> {
 }
 
 /// The most fetches of a sweep.
-fn most_fetches(desk: &Desk) -> usize {
+pub fn most_fetches(desk: &Desk) -> usize {
     desk.visits() * desk.plan.streams as usize
 }
 

@@ -187,11 +187,10 @@ fn sinking_times(rng: &mut Rng, zones: u32) -> Vec<u32> {
     (0..zones).map(|zone| slowest - fall * zone * zone).collect()
 }
 
-/// A plan for desks of a film that takes all positions of many small zones: any pair of it may be
-/// the worst.
-pub fn uneven_plan_for(rng: &mut Rng, showing: Showing) -> Planned {
+/// Many small zones, and a film on all their positions.
+pub(super) fn uneven_figures(rng: &mut Rng, least: u32) -> Figures {
     let mut figures = Figures::zero();
-    let zones = rng.between(2, 14);
+    let zones = rng.between(least, 14);
     let counts: Vec<u32> = (0..zones).map(|_| rng.pick(&[1, 1, 1, 2])).collect();
     set_zones(rng, &mut figures, &counts);
     if rng.once_in(2) {
@@ -199,6 +198,13 @@ pub fn uneven_plan_for(rng: &mut Rng, showing: Showing) -> Planned {
     }
     figures.blocks = figures.total_positions() as u32;
     set_others(rng, &mut figures);
+    figures
+}
+
+/// A plan for desks of a film that takes all positions of many small zones: any pair of it may be
+/// the worst.
+pub fn uneven_plan_for(rng: &mut Rng, showing: Showing) -> Planned {
+    let mut figures = uneven_figures(rng, 2);
     let n = rng.pick(&[1, 2, 5, 16, 256]);
     tighten(rng, &mut figures, showing, n);
     plan_of(&figures, showing).expect("n streams fit")

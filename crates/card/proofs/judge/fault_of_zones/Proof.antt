@@ -16,8 +16,8 @@ use Rattle.card.proofs.judge.fault_of_zones.Tie as tie
 record Judging (zones : ℕ) (positions times : List ℕ) (total before i : ℕ) : Type 0 where
   within : i ≤ zones
   few : total ≤ maxPositions
-  same : (x : Scalars) (os : List ℕ)
-      → zoneFaults (zones - i) i (figuresFrom x positions times os) total before ≡ zoneFaults zones 0 (figuresFrom x positions times os) 0 maxTime
+  same : (k : ℕ) (x : Scalars) (os : List ℕ)
+      → zoneFaults k (zones - i) i (figuresFrom x positions times os) total before ≡ zoneFaults k zones 0 (figuresFrom x positions times os) 0 maxTime
 
 abbrev Inv-loop : tie.InvT-loop
 Inv-loop zones positions times innermost total₀ before₀ i₀ total before i = Judging zones positions times total before i
@@ -35,7 +35,7 @@ loop-holds c =
     record {
       within = omega arith;
       few = omega arith;
-      same = λ x os. ap (λ (n : ℕ). zoneFaults n 0 (figuresFrom x (a .positions .now) (a .times .now) os) 0 maxTime) e;
+      same = λ k x os. ap (λ (n : ℕ). zoneFaults k n 0 (figuresFrom x (a .positions .now) (a .times .now) os) 0 maxTime) e;
     }
 
 mul-count : tie.Need-mul-count Inv-loop μ-loop
@@ -57,7 +57,7 @@ returns : tie.Need-returns Inv-loop μ-loop
 unfolding faultWith
 returns c =
     let l = c .before .before .before .before .before .loop in
-    λ x os. zones-few _ _ _ _ _ (omega arith) (c .before .fault .ensures) (c .if1 .taken) ∙ l .inv .same x os
+    λ k x os. zones-few k _ _ _ _ _ (omega arith) (c .before .fault .ensures) (c .if1 .taken) ∙ l .inv .same k x os
 
 fault-of-time-requires : tie.Need-fault-of-time-requires Inv-loop μ-loop
 fault-of-time-requires c κs = search needs
@@ -66,9 +66,9 @@ returns-2 : tie.Need-returns-2 Inv-loop μ-loop
 unfolding faultWith
 returns-2 c =
     let l = c .before .before .before .before .before .before .before .loop in
-    λ x os. zones-slow _ _ _ _ _ (omega arith) (c .before .before .before .fault .ensures) (c .before .before .if1 .left) (c .before .fault-of-time .ensures)
-    (c .if2 .taken)
-    ∙ l .inv .same x os
+    λ k x os. zones-slow k _ _ _ _ _ (omega arith) (c .before .before .before .fault .ensures) (c .before .before .if1 .left)
+    (c .before .fault-of-time .ensures) (c .if2 .taken)
+    ∙ l .inv .same k x os
 
 add-total : tie.Need-add-total Inv-loop μ-loop
 add-total c = let h = positions-range _ _ (sym (c .before .before .before .fault .ensures) ∙ c .before .before .if1 .left) in omega arith
@@ -85,13 +85,13 @@ loop-again c =
     record {
       within = omega arith;
       few = positions-range _ _ (sym (c .before .before .before .fault .ensures) ∙ c .before .before .if1 .left) .1;
-      same = λ x os. zones-more _ _ _ _ _ _ (omega arith) (c .before .before .before .fault .ensures) (c .before .before .if1 .left)
-          (c .before .fault-of-time .ensures) (c .if2 .left) ∙ l .inv .same x os;
+      same = λ k x os. zones-more k _ _ _ _ _ _ (omega arith) (c .before .before .before .fault .ensures) (c .before .before .if1 .left)
+          (c .before .fault-of-time .ensures) (c .if2 .left) ∙ l .inv .same k x os;
     }
 
 returns-3 : tie.Need-returns-3 Inv-loop μ-loop
 unfolding faultWith
-returns-3 c = let l = c .before .loop in λ x os. zones-done _ _ _ _ _ (omega arith) ∙ l .inv .same x os
+returns-3 c = let l = c .before .loop in λ k x os. zones-done k _ _ _ _ _ (omega arith) ∙ l .inv .same k x os
 
 pub fault-of-zones-spec : {M : Type 1} → statement M
 fault-of-zones-spec =

@@ -71,7 +71,7 @@ overheads-left : (c : tie.After-known-told3) (go : ℕ → ℕ → ℕ → ℕ �
     let first = second .before .before .before .before in
     let a = first .before .before .before .before .args in
     go (first .first .given .0 .0) (second .second .given .0 .0) (third .third .given .0 .0) (third .third .given .0 .1 .0)
-    ≡ filmFrom (a .card .now) (a .at) (a .total) go)
+    ≡ filmFrom (a .visits) (a .card .now) (a .at) (a .total) go)
 unfolding filmFrom
 overheads-left c go =
     let bytes = c .before .before .before .before in

@@ -10,23 +10,23 @@ use Rattle.card_reader.proofs.figures.read_zones.Statement.{statement}
 use Rattle.card_reader.proofs.figures.read_zones.Tie as tie
 
 -- the zones before the i-th are read
-record Read (card : List ℕ) (start kind zones : ℕ) (sizes₀ times₀ sizes times : List ℕ) (at total before i : ℕ) : Type 0 where
+record Read (card : List ℕ) (start visits kind zones : ℕ) (sizes₀ times₀ sizes times : List ℕ) (at total before i : ℕ) : Type 0 where
   within : i ≤ zones
   few : total ≤ maxPositions
-  same : zonesFrom (zones - i) card at i sizes times total before (afterZones card kind zones)
-      ≡ zonesFrom zones card start 0 sizes₀ times₀ 0 maxTime (afterZones card kind zones)
+  same : zonesFrom (zones - i) card at i sizes times total before (afterZones visits card kind zones)
+      ≡ zonesFrom zones card start 0 sizes₀ times₀ 0 maxTime (afterZones visits card kind zones)
 
 abbrev Inv-loop : tie.InvT-loop
-Inv-loop card start kind zones sizes₀ times₀ table at₀ total₀ before₀ i₀ sizes times at total before i =
-    Read card start kind zones sizes₀ times₀ sizes times at total before i
+Inv-loop card start visits kind zones sizes₀ times₀ table at₀ total₀ before₀ i₀ sizes times at total before i =
+    Read card start visits kind zones sizes₀ times₀ sizes times at total before i
 
 abbrev μ-loop : tie.MeasureT-loop
-μ-loop card start kind zones sizes₀ times₀ table at₀ total₀ before₀ i₀ sizes times at total before i = zones - i
+μ-loop card start visits kind zones sizes₀ times₀ table at₀ total₀ before₀ i₀ sizes times at total before i = zones - i
 
 loop-holds : tie.Need-loop-holds Inv-loop μ-loop
 loop-holds c =
     let a = c .before .args in
-    let rest = afterZones (a .card .now) (a .kind) (a .zones) in
+    let rest = afterZones (a .visits) (a .card .now) (a .kind) (a .zones) in
     let e : a .zones - 0 ≡ a .zones = omega arith in
     record {
       within = omega arith;

@@ -64,7 +64,7 @@ found-none c =
     let f = c .before .figures-of in
     let l = c .before .before .before .before .loop in
     let s : Small (f .result) = rw (f .ensures) (small (l .tally) (l .card) (l .inv) (omega arith)) in
-    omega (arith, c .compare-card .ensures, agree one (f .result) s, agree loop (f .result) s)
+    omega (arith, c .compare-card .ensures, agree one refl (f .result) s, agree loop refl (f .result) s)
 
 counted-requires : tie.Need-counted-requires Inv-loop μ-loop
 counted-requires c κs = let l = c .before .before .before .before .loop in

@@ -19,8 +19,8 @@ fits c =
     card-fits (c .before .before .before .args .out .now) _ (c .write-words .ensures .0) (c .write-words .ensures .1)
     (omega (arith, card-long (c .before .before .before .args .s), c .before .before .before .pre))
 
-read : (c : tie.After-read-card) → c .read-card .result ≡ readCard (cardOfWords (c .before .before .before .before .before .before .before .args .s))
-read c = c .read-card .ensures ∙ ap readCard (taken (c .before .before .before .before))
+read : (c : tie.After-read-card) → c .read-card .result ≡ readCard 1 (cardOfWords (c .before .before .before .before .before .before .before .args .s))
+read c = c .read-card .ensures ∙ ap (readCard 1) (taken (c .before .before .before .before))
 
 write-words-requires : tie.Need-write-words-requires
 write-words-requires c κs = search needs

@@ -17,6 +17,7 @@ use Rattle.plan.specs.Disk.{Zoned}
 use Rattle.plan.specs.Legal.{legal-zoned, total-zones}
 use Rattle.plan.specs.Written.{written-leads, written-row, read-on}
 use Rattle.desk.specs.declared.Desk.{Desk}
+use Rattle.desk.specs.Desk.{visitsIn}
 use Rattle.desk_layout.specs.Layout.{deskIn}
 use Rattle.desk_layout.specs.Sized.{wide-in, slim-in}
 use Rattle.soundness.specs.Facts.{LeadSource}
@@ -44,7 +45,7 @@ given c = deskIn (wordsOf (c .args .desk .now))
 
 -- ---- what is known there
 
-legal : (c : tie.Start) → Legal (given c .plan .figures)
+legal : (c : tie.Start) → Legal (visitsIn (given c .plan)) (given c .plan .figures)
 legal c = checked-legal _ _ _ (slim-in _ (c .pre .0)) (c .pre .2 .plan)
 
 few : (c : tie.Start) → given c .plan .streams ≤ maxStreams
@@ -105,7 +106,7 @@ write-leads-requires c κs =
     let b = n .before .before in
     let z = zoned n in
     let s = start z in (
-      read-on _ (legal s) (s .pre .2 .zones .0) (s .pre .2 .zones .1) (whole (b .before)) (b .blocks-in .ensures),
+      read-on (showingIn (given s .plan)) _ (legal s) (s .pre .2 .zones .0) (s .pre .2 .zones .1) (whole (b .before)) (b .blocks-in .ensures),
       omega (arith, roomy z, b .blocks-in .ensures),
     )
 

@@ -9,29 +9,34 @@ use Rattle.laws.specs.Greatest.{greatestOf}
 use Rattle.numbers.specs.Limits.{maxTime}
 use Rattle.placement.specs.Circle.{round}
 use Rattle.placement.specs.CircleBest.{round-next}
-use Rattle.placement.specs.Showing.{Showing, one, loop, after, pairsOf, pairTime, worst-pair}
-use Rattle.plan.specs.Plan.{showingOf}
+use Rattle.placement.specs.Showing.{Showing, one, loop, pairs, visitsOf, after, pairsOf, pairTime, worst-pair, walked-single}
+use Rattle.plan.specs.Plan.{showingOf, walkOf}
 use Rattle.layings.specs.Layings.{laid}
-use Rattle.layings.specs.Times.{pair-below}
+use Rattle.layings.specs.Times.{pair-below, pair-of-two}
 use borrow.Author.Needs.{needs}
 use Rattle.try_layings.proofs.worst.worst_of.Statement.{statement}
 use Rattle.try_layings.proofs.worst.worst_of.Tie as tie
 
 -- what the pair of block b takes
 abbrev taken : ℕ → ℕ → List ℕ → ℕ → ℕ
-taken showing blocks row = pairTime (showingOf showing) (λ (t : ℕ). t) (laid row) blocks
+taken showing blocks row = pairTime (walkOf showing) (λ (t : ℕ). t) (laid row) blocks
+
+-- no word tells a search of two visits a block
+abbrev single : (w : ℕ) → visitsOf (walkOf w) ≡ 1
+single w = walked-single (showingOf w)
 
 abbrev Inv-loop : tie.InvT-loop
-Inv-loop blocks showing row pairs worst₀ b₀ worst b = (pairs ≡ pairsOf (showingOf showing) blocks) × (b ≤ pairs)
+Inv-loop blocks showing row count worst₀ b₀ worst b = (count ≡ pairsOf (walkOf showing) blocks) × (b ≤ count)
     × (worst ≡ greatestOf (taken showing blocks row) b) × (worst ≤ 2 * maxTime)
 
 abbrev μ-loop : tie.MeasureT-loop
-μ-loop blocks showing row pairs worst₀ b₀ worst b = pairs - b
+μ-loop blocks showing row count worst₀ b₀ worst b = count - b
 
--- in both showings the block after is the one round the film
-after-round : (x : Showing) (N b : ℕ) → b < pairsOf x N → after x N b ≡ round N b
-after-round one N b h = sym (round-next N b (omega arith))
-after-round loop N b h = refl
+-- where a block is visited once the block after is the one round the film
+after-round : (x : Showing) → visitsOf x ≡ 1 → (N b : ℕ) → b < pairsOf x N → after x N b ≡ round N b
+after-round one v N b h = sym (round-next N b (omega arith))
+after-round loop v N b h = refl
+after-round pairs v N b h = absurd (omega arith)
 
 greatest-next : (g : ℕ → ℕ) (b : ℕ) → greatestOf g (b + 1) ≡ max (g b) (greatestOf g b)
 unfolding greatestOf
@@ -43,14 +48,14 @@ loop-holds c = (c .count-pairs .ensures, omega arith, refl, omega arith)
 
 -- both blocks of the pair are the film's
 inside : (c : tie.In-loop Inv-loop μ-loop) → (let a = c .before .before .before .args in let b = c .before .loop .b in
-    (b < pairsOf (showingOf (a .showing)) (a .blocks)) × (b < a .blocks) × (round (a .blocks) b < a .blocks))
+    (b < pairsOf (walkOf (a .showing)) (a .blocks)) × (b < a .blocks) × (round (a .blocks) b < a .blocks))
 inside c =
     let l = c .before .loop in
     let a = c .before .before .before .args in
-    let x = showingOf (a .showing) in
+    let x = walkOf (a .showing) in
     let h : l .b < pairsOf x (a .blocks) = omega (arith, l .inv .0, c .loop-test .taken) in
-    let p = pair-below x (a .blocks) (l .b) h in
-    (h, p .0, omega (arith, p .1, after-round x (a .blocks) (l .b) h))
+    let p = pair-below x (single (a .showing)) (a .blocks) (l .b) h in
+    (h, p .0, omega (arith, p .1, after-round x (single (a .showing)) (a .blocks) (l .b) h))
 
 next-block-requires : tie.Need-next-block-requires Inv-loop μ-loop
 next-block-requires c κs = (inside c .1, c .before .before .before .pre .1)
@@ -74,10 +79,12 @@ loop-again c =
     let i = n .before in
     let l = i .before .loop in
     let a = i .before .before .before .args in
-    let x = showingOf (a .showing) in
+    let x = walkOf (a .showing) in
     let g = taken (a .showing) (a .blocks) (a .t1) in
-    let e : after x (a .blocks) (l .b) ≡ n .next-block .result = after-round x (a .blocks) (l .b) (inside i .0) ∙ sym (n .next-block .ensures) in
-    let q : g (l .b) ≡ getD (a .t1) (l .b) 0 + getD (a .t1) (n .next-block .result) 0 = ap (λ (k : ℕ). getD (a .t1) (l .b) 0 + getD (a .t1) k 0) e in (
+    let e : after x (a .blocks) (l .b) ≡ n .next-block .result =
+    after-round x (single (a .showing)) (a .blocks) (l .b) (inside i .0) ∙ sym (n .next-block .ensures) in
+    let q : g (l .b) ≡ getD (a .t1) (l .b) 0 + getD (a .t1) (n .next-block .result) 0 =
+    pair-of-two x (single (a .showing)) (λ (t : ℕ). t) (laid (a .t1)) (a .blocks) (l .b) ∙ ap (λ (k : ℕ). getD (a .t1) (l .b) 0 + getD (a .t1) k 0) e in (
       l .inv .0,
       omega (arith, i .loop-test .taken),
       omega (arith, c .greater .ensures, greatest-next g (l .b), q, l .inv .2),
@@ -88,9 +95,9 @@ returns : tie.Need-returns Inv-loop μ-loop
 returns c =
     let l = c .before .loop in
     let a = c .before .before .before .args in
-    let e : l .b ≡ pairsOf (showingOf (a .showing)) (a .blocks) = omega (arith, l .inv .0, l .inv .1, c .loop-test .left) in (
+    let e : l .b ≡ pairsOf (walkOf (a .showing)) (a .blocks) = omega (arith, l .inv .0, l .inv .1, c .loop-test .left) in (
       l .inv .2 ∙ ap (greatestOf (taken (a .showing) (a .blocks) (a .t1))) e
-          ∙ sym (worst-pair (showingOf (a .showing)) (λ (t : ℕ). t) (laid (a .t1)) (a .blocks)),
+          ∙ sym (worst-pair (walkOf (a .showing)) (λ (t : ℕ). t) (laid (a .t1)) (a .blocks)),
       l .inv .3,
     )
 
