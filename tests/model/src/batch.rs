@@ -73,8 +73,8 @@ fn made(desk: &Desk, item: &Item) -> Result<Desk, Refusal> {
 }
 
 /// More than 512 items, or fewer answers than items, is 13.
-fn judge_lengths(items: &[Item], answers: &[ItemAnswer]) -> Result<(), Refusal> {
-    if items.len() > ITEMS || answers.len() < items.len() {
+pub(crate) fn judge_lengths(items: usize, answers: usize) -> Result<(), Refusal> {
+    if items > ITEMS || answers < items {
         return refuse(cause::TOO_SHORT, 0);
     }
     Ok(())
@@ -90,7 +90,7 @@ pub fn batch(
     answers: &mut [ItemAnswer],
 ) -> Result<(), Refusal> {
     judge_sound(desk, positions, leads)?;
-    judge_lengths(items, answers)?;
+    judge_lengths(items.len(), answers.len())?;
     for (item, told) in items.iter().zip(answers) {
         *told = match made(desk, item) {
             Ok(after) => {

@@ -1,7 +1,7 @@
 //! The list of calls and the book of demand 3, with a checker of its claim.
 
 use crate::desk::{
-    begin, drawn_in, end, join, leave, Begun, Desk, Entry, FREE, PLAYING, SLOTS, TAIL,
+    begin, drawn_in, end, join, leave, Begun, Desk, Entry, Slots, FREE, PLAYING, SLOTS, TAIL,
 };
 use crate::queue::Queue;
 use crate::refusal::Refusal;
@@ -164,17 +164,17 @@ impl Book {
 
 /// The claim about one slot: occupied exactly if open; then held + drawn equals fetched × B, and
 /// held is at most buffer.
-fn check_slot(book: &Book, desk: &Desk, slot: usize) -> Result<(), String> {
+fn check_slot(book: &Book, desk: &impl Slots, slot: usize) -> Result<(), String> {
     let row = book.rows[slot];
-    let held = desk.held[slot];
-    let occupied = desk.kinds[slot] > FREE && desk.kinds[slot] <= TAIL;
+    let (kind, held) = (desk.kinds()[slot], desk.held()[slot]);
+    let occupied = kind > FREE && kind <= TAIL;
     if occupied != row.open {
-        return Err(format!("slot {slot}: kind {}, {row:?}", desk.kinds[slot]));
+        return Err(format!("slot {slot}: kind {kind}, {row:?}"));
     }
     if row.open && held as u128 + row.drawn != row.fetched * book.block_bytes as u128 {
         return Err(format!("slot {slot}: held {held}, {row:?}"));
     }
-    if row.open && held > desk.plan.buffer {
+    if row.open && held > desk.buffer() {
         return Err(format!("slot {slot}: held {held} above the buffer"));
     }
     Ok(())
@@ -182,11 +182,12 @@ fn check_slot(book: &Book, desk: &Desk, slot: usize) -> Result<(), String> {
 
 /// Where an accepted begin is the last call, each playing slot holds at least what it may draw
 /// with the bound that was answered.
-fn check_last_begin(desk: &Desk, bound: u32) -> Result<(), String> {
-    let need = drawn_in(desk.plan.figures.rate, bound);
+fn check_last_begin(desk: &impl Slots, bound: u32) -> Result<(), String> {
+    let need = drawn_in(desk.rate(), bound);
     for slot in 0..SLOTS {
-        if desk.kinds[slot] == PLAYING && (desk.held[slot] as u128) < need {
-            return Err(format!("slot {slot}: holds {} of {need} to draw", desk.held[slot]));
+        let held = desk.held()[slot];
+        if desk.kinds()[slot] == PLAYING && (held as u128) < need {
+            return Err(format!("slot {slot}: holds {held} of {need} to draw"));
         }
     }
     Ok(())
@@ -194,16 +195,16 @@ fn check_last_begin(desk: &Desk, bound: u32) -> Result<(), String> {
 
 /// The claim after a list: `desk` is the desk that it left, `rules` the one that the desk's rules
 /// give over the same list, `last_bound` the bound of an accepted begin as last call.
-pub fn check_claim(
+pub fn check_claim<D: Slots>(
     book: &Book,
-    desk: &Desk,
-    rules: &Desk,
+    desk: &D,
+    rules: &D,
     last_bound: Option<u32>,
 ) -> Result<(), String> {
     for slot in 0..SLOTS {
         check_slot(book, desk, slot)?;
-        if desk.kinds[slot] != rules.kinds[slot] {
-            let (got, expected) = (desk.kinds[slot], rules.kinds[slot]);
+        let (got, expected) = (desk.kinds()[slot], rules.kinds()[slot]);
+        if got != expected {
             return Err(format!("slot {slot}: kind {got}, by the rules {expected}"));
         }
     }

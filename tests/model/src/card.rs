@@ -234,13 +234,8 @@ fn unused_zones_zero(figures: &Figures) -> bool {
         && figures.times[used..].iter().all(|&time| time == 0)
 }
 
-/// Judges figures given as a record: 3 to 10, 25 and 26 in the order of the card, zone by zone.
-pub fn judge_record(figures: &Figures) -> Result<(), u32> {
-    judge_record_with(figures, judge_blocks)
-}
-
-/// The same with another judge of N.
-pub(crate) fn judge_record_with(figures: &Figures, judge_blocks: JudgeBlocks) -> Result<(), u32> {
+/// The disk of a record, kind first, zone by zone: 3 to 7 and 26. Its total of positions.
+pub(crate) fn judge_disk(figures: &Figures) -> Result<u64, u32> {
     judge_kind(figures.kind)?;
     judge_zone_count(figures.zones)?;
     if !unused_zones_zero(figures) {
@@ -252,21 +247,41 @@ pub(crate) fn judge_record_with(figures: &Figures, judge_blocks: JudgeBlocks) ->
         judge_time(figures.times[zone], &figures.times[..zone])?;
         total += figures.positions[zone] as u64;
     }
-    judge_blocks(figures.blocks, total)?;
+    Ok(total)
+}
+
+/// What follows N on a card: B, c and the overheads, 10 and 25.
+pub(crate) fn judge_after_blocks(figures: &Figures) -> Result<(), u32> {
     judge_other(figures.block_bytes, MAX_BLOCK_BYTES)?;
     judge_other(figures.rate, MAX_RATE)?;
     judge_table(figures)
 }
 
+/// Judges figures given as a record: 3 to 10, 25 and 26 in the order of the card, zone by zone.
+pub fn judge_record(figures: &Figures) -> Result<(), u32> {
+    judge_record_with(figures, judge_blocks)
+}
+
+/// The same with another judge of N.
+pub(crate) fn judge_record_with(figures: &Figures, judge_blocks: JudgeBlocks) -> Result<(), u32> {
+    let total = judge_disk(figures)?;
+    judge_blocks(figures.blocks, total)?;
+    judge_after_blocks(figures)
+}
+
 /// A card and how far it has been read.
-struct Reader<'a> {
+pub(crate) struct Reader<'a> {
     card: &'a [u8],
     offset: usize,
 }
 
 impl Reader<'_> {
+    pub(crate) fn new(card: &[u8]) -> Reader<'_> {
+        Reader { card, offset: 0 }
+    }
+
     /// The next number, form before range; a range fault has the number's own offset.
-    fn field(&mut self, judge: impl Fn(u32) -> Result<(), u32>) -> Result<u32, Refusal> {
+    pub(crate) fn field(&mut self, judge: impl Fn(u32) -> Result<(), u32>) -> Result<u32, Refusal> {
         let start = self.offset;
         let (value, after) = read_number(self.card, start)?;
         if let Err(number) = judge(value) {
@@ -277,7 +292,7 @@ impl Reader<'_> {
     }
 
     /// 11 if bytes are left over.
-    fn finish(&self) -> Result<(), Refusal> {
+    pub(crate) fn finish(&self) -> Result<(), Refusal> {
         if self.offset < self.card.len() {
             return refuse(cause::LEFT_OVER, self.offset as u64);
         }
@@ -299,14 +314,8 @@ fn read_table(reader: &mut Reader, kind: u32) -> Result<[u32; ENTRIES], Refusal>
     Ok(table)
 }
 
-/// Reads a card number by number; the first fault ends it: 1 to 11, 25 and 26.
-pub fn read_card(card: &[u8]) -> Result<Figures, Refusal> {
-    read_card_with(card, judge_blocks)
-}
-
-/// The same with another judge of N.
-pub(crate) fn read_card_with(card: &[u8], judge_blocks: JudgeBlocks) -> Result<Figures, Refusal> {
-    let mut reader = Reader { card, offset: 0 };
+/// Reads the disk of a card, up to the last zone: the figures so far and the total of positions.
+pub(crate) fn read_disk(reader: &mut Reader) -> Result<(Figures, u64), Refusal> {
     let mut figures = Figures::zero();
     figures.kind = reader.field(judge_kind)?;
     figures.zones = reader.field(judge_zone_count)?;
@@ -316,27 +325,54 @@ pub(crate) fn read_card_with(card: &[u8], judge_blocks: JudgeBlocks) -> Result<F
         total += figures.positions[zone] as u64;
         figures.times[zone] = reader.field(|time| judge_time(time, &figures.times[..zone]))?;
     }
-    figures.blocks = reader.field(|blocks| judge_blocks(blocks, total))?;
+    Ok((figures, total))
+}
+
+/// Reads what follows N, to the card's end.
+pub(crate) fn read_after_blocks(
+    reader: &mut Reader,
+    mut figures: Figures,
+) -> Result<Figures, Refusal> {
     figures.block_bytes = reader.field(|bytes| judge_other(bytes, MAX_BLOCK_BYTES))?;
     figures.rate = reader.field(|rate| judge_other(rate, MAX_RATE))?;
-    figures.table = read_table(&mut reader, figures.kind)?;
+    figures.table = read_table(reader, figures.kind)?;
     reader.finish()?;
     Ok(figures)
 }
 
-/// The numbers of a card in order. Zones past the 64 of a record are left out.
-pub fn card_numbers(figures: &Figures) -> Vec<u32> {
+/// Reads a card number by number; the first fault ends it: 1 to 11, 25 and 26.
+pub fn read_card(card: &[u8]) -> Result<Figures, Refusal> {
+    read_card_with(card, judge_blocks)
+}
+
+/// The same with another judge of N.
+pub(crate) fn read_card_with(card: &[u8], judge_blocks: JudgeBlocks) -> Result<Figures, Refusal> {
+    let mut reader = Reader::new(card);
+    let (mut figures, total) = read_disk(&mut reader)?;
+    figures.blocks = reader.field(|blocks| judge_blocks(blocks, total))?;
+    read_after_blocks(&mut reader, figures)
+}
+
+/// The numbers of a card in order, with these in the place of N. Zones past the 64 of a record are
+/// left out.
+pub(crate) fn card_numbers_with(figures: &Figures, blocks: &[u32]) -> Vec<u32> {
     let mut numbers = vec![figures.kind, figures.zones];
     for zone in 0..figures.zones.min(MAX_ZONES) as usize {
         numbers.push(figures.positions[zone]);
         numbers.push(figures.times[zone]);
     }
-    numbers.extend([figures.blocks, figures.block_bytes, figures.rate]);
+    numbers.extend(blocks);
+    numbers.extend([figures.block_bytes, figures.rate]);
     match figures.kind {
         MEASURED => numbers.extend(figures.table),
         _ => numbers.extend([figures.hop(), figures.ret()]),
     }
     numbers
+}
+
+/// The numbers of a card in order.
+pub fn card_numbers(figures: &Figures) -> Vec<u32> {
+    card_numbers_with(figures, &[figures.blocks])
 }
 
 /// The bytes of a card with these figures, unjudged.

@@ -82,6 +82,39 @@ impl Desk {
     }
 }
 
+/// What the claims about lists of calls read of a desk.
+pub trait Slots {
+    fn kinds(&self) -> &[u32; SLOTS];
+    fn held(&self) -> &[u32; SLOTS];
+    fn places(&self) -> &[u32; SLOTS];
+    /// Bytes of each slot's buffer.
+    fn buffer(&self) -> u32;
+    /// c.
+    fn rate(&self) -> u32;
+}
+
+impl Slots for Desk {
+    fn kinds(&self) -> &[u32; SLOTS] {
+        &self.kinds
+    }
+
+    fn held(&self) -> &[u32; SLOTS] {
+        &self.held
+    }
+
+    fn places(&self) -> &[u32; SLOTS] {
+        &self.places
+    }
+
+    fn buffer(&self) -> u32 {
+        self.plan.buffer
+    }
+
+    fn rate(&self) -> u32 {
+        self.plan.figures.rate
+    }
+}
+
 /// One fetch of a sweep.
 #[derive(Clone, Copy, Debug, PartialEq, Eq, PartialOrd, Ord)]
 pub struct Entry {

@@ -11,6 +11,7 @@
 //! - `queue`: who waits, in the order they asked, and for how many sweeps at most.
 //! - `batch`: several joins and leaves in one call.
 //! - `scratch`: the same calls with a scratch in place of the lead list.
+//! - `shelf`: all of these for up to 16 films on a disk.
 //! - `window`: the worst time of several successive blocks, and the text of the windows program.
 //! - `try_all`: the second planner, which tries every laying, and all small cards.
 //! - `listing`: the text of the listing program. `text`: the card of a text of figures. `maker`: the
@@ -36,6 +37,7 @@ pub mod queue;
 pub mod refusal;
 pub mod rng;
 pub mod scratch;
+pub mod shelf;
 pub mod text;
 pub mod try_all;
 pub mod window;

@@ -163,7 +163,7 @@ fn pair_times(times: &[u32], showing: Showing) -> Vec<u32> {
 }
 
 /// Greatest sum of the times of two successive blocks.
-fn greatest_pair(times: &[u32], showing: Showing) -> u32 {
+pub(crate) fn greatest_pair(times: &[u32], showing: Showing) -> u32 {
     pair_times(times, showing).into_iter().max().expect("two blocks or more")
 }
 

@@ -1,16 +1,21 @@
 //! Rooms served in the order they asked (02, ticket 5): who waits, and how long at most.
 
 use crate::book::Call;
-use crate::desk::{Desk, ASKED, FILLING, SLOTS};
+use crate::card::ENTRIES;
+use crate::desk::{Desk, Slots, ASKED, FILLING, SLOTS};
 use crate::plan::Plan;
 
 /// G: the least number with G × (worst2 + twice the difference between the overhead for n blocks and
 /// that for n - 1) at least margin. All are tried.
+pub fn least_sweeps(table: &[u32; ENTRIES], n: u32, worst2: u32, margin: u32) -> u64 {
+    let step = table[n as usize] - table[n as usize - 1];
+    let gain = worst2 as u64 + 2 * step as u64;
+    (0..).find(|sweeps| sweeps * gain >= margin as u64).expect("a pair takes time")
+}
+
+/// G of a plan.
 pub fn most_sweeps(plan: &Plan) -> u64 {
-    let n = plan.streams as usize;
-    let step = plan.figures.table[n] - plan.figures.table[n - 1];
-    let gain = plan.worst2 as u64 + 2 * step as u64;
-    (0..).find(|sweeps| sweeps * gain >= plan.margin as u64).expect("a pair takes time")
+    least_sweeps(&plan.figures.table, plan.streams, plan.worst2, plan.margin)
 }
 
 /// A slot that has asked.
@@ -40,22 +45,31 @@ pub struct Queue {
 impl Queue {
     /// From an opening.
     pub fn new(plan: &Plan) -> Queue {
-        Queue { waiting: Vec::new(), finished: 0, most: most_sweeps(plan), longest: 0 }
+        Queue::with_most(most_sweeps(plan))
+    }
+
+    /// From an opening of a plan with this G.
+    pub fn with_most(most: u64) -> Queue {
+        Queue { waiting: Vec::new(), finished: 0, most, longest: 0 }
     }
 
     /// From a sound desk between sweeps, whether or not a list reaches it: its requests by their
     /// places, all just made.
     pub fn of(desk: &Desk) -> Queue {
-        let mut slots: Vec<usize> = (0..SLOTS).filter(|&s| desk.kinds[s] == ASKED).collect();
-        slots.sort_by_key(|&slot| desk.places[slot]);
-        let mut queue = Queue::new(&desk.plan);
-        slots.into_iter().for_each(|slot| queue.join(slot));
-        queue
+        Queue::new(&desk.plan).waiting_on(desk)
+    }
+
+    /// With the requests of a sound desk, by their places, all just made.
+    pub fn waiting_on(mut self, desk: &impl Slots) -> Queue {
+        let mut slots: Vec<usize> = (0..SLOTS).filter(|&s| desk.kinds()[s] == ASKED).collect();
+        slots.sort_by_key(|&slot| desk.places()[slot]);
+        slots.into_iter().for_each(|slot| self.join(slot));
+        self
     }
 
     /// Feeds one call, with the desk that it left. An error if a request was granted behind one that
     /// waits, or not in time, or if the places are not those of the order in which the slots asked.
-    pub fn feed(&mut self, call: &Call, accepted: bool, desk: &Desk) -> Result<(), String> {
+    pub fn feed(&mut self, call: &Call, accepted: bool, desk: &impl Slots) -> Result<(), String> {
         if accepted {
             match call {
                 Call::Join { slot, .. } => self.join(*slot as usize),
@@ -90,8 +104,8 @@ impl Queue {
     /// Granted are the eldest ones, none behind one that waits. A request that was the eldest for G
     /// finished sweeps is among them. The next one becomes the eldest in this begin, and its sweep
     /// counts; so whoever asked at place p has not waited for p × G finished sweeps.
-    fn begin(&mut self, desk: &Desk) -> Result<(), String> {
-        let kind = |request: &Request| desk.kinds[request.slot];
+    fn begin(&mut self, desk: &impl Slots) -> Result<(), String> {
+        let kind = |request: &Request| desk.kinds()[request.slot];
         let granted = self.waiting.iter().take_while(|request| kind(request) == FILLING).count();
         let left = &self.waiting[granted..];
         if let Some(request) = left.iter().find(|request| kind(request) != ASKED) {
@@ -113,8 +127,8 @@ impl Queue {
         Ok(())
     }
 
-    fn check_places(&self, desk: &Desk) -> Result<(), String> {
-        for (slot, &place) in desk.places.iter().enumerate() {
+    fn check_places(&self, desk: &impl Slots) -> Result<(), String> {
+        for (slot, &place) in desk.places().iter().enumerate() {
             let index = self.waiting.iter().position(|request| request.slot == slot);
             let expected = index.map_or(0, |index| index as u32 + 1);
             if place != expected {

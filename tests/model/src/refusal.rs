@@ -39,6 +39,8 @@ pub mod cause {
     pub const WINDOW: u32 = 27;
     pub const PAIRS_ABOVE_POSITIONS: u32 = 28;
     pub const TOO_MANY_BLOCKS: u32 = 29;
+    pub const SHELF: u32 = 30;
+    pub const NO_FILM: u32 = 31;
 }
 
 /// The answer of a refused call.

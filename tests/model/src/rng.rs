@@ -7,6 +7,7 @@ pub mod desks;
 pub mod figures;
 pub mod makers;
 pub mod pairs;
+pub mod shelf;
 pub mod tables;
 pub mod texts;
 

@@ -43,7 +43,7 @@ pub fn try_layings(figures: &Figures, showing: Showing) -> Tried {
 }
 
 /// 29, then 12, of judged figures.
-fn try_judged(figures: &Figures, showing: Showing) -> Result<Tried, Refusal> {
+pub(crate) fn try_judged(figures: &Figures, showing: Showing) -> Result<Tried, Refusal> {
     if figures.blocks > MOST_BLOCKS {
         return refuse(cause::TOO_MANY_BLOCKS, 0);
     }

@@ -77,7 +77,8 @@ pub fn any_batch(rng: &mut Rng, planned: &Planned, count: usize) -> Lent {
     let wild = rng.pick(&[2, 5, 20]);
     let items = some_items(rng, &sound, count, wild);
     let desk = if rng.once_in(3) { any_desk(rng, planned) } else { sound };
-    let (positions, leads) = lent_lists(rng, planned, 12);
+    let lists = (&planned.positions[..], &planned.leads[..]);
+    let (positions, leads) = lent_lists(rng, lists, 12);
     let room = match rng.below(8) {
         0 => rng.below(count + 1),
         1 => count.saturating_sub(1),

@@ -43,7 +43,7 @@ fn pieces(numbers: &[u32]) -> Vec<Vec<u8>> {
 }
 
 /// Puts a bad form in the place of one number.
-fn bad_form(rng: &mut Rng, numbers: &[u32]) -> Vec<u8> {
+pub(super) fn bad_form(rng: &mut Rng, numbers: &[u32]) -> Vec<u8> {
     let mut pieces = pieces(numbers);
     let place = rng.below(pieces.len());
     let shortest = pieces[place].len();
@@ -60,7 +60,7 @@ fn bad_form(rng: &mut Rng, numbers: &[u32]) -> Vec<u8> {
 }
 
 /// Cuts the card off, sometimes with continuing bytes at its end.
-fn cut_off(rng: &mut Rng, card: &[u8]) -> Vec<u8> {
+pub(super) fn cut_off(rng: &mut Rng, card: &[u8]) -> Vec<u8> {
     let mut cut = card[..rng.below(card.len())].to_vec();
     if rng.once_in(3) {
         let length = rng.below(6);
@@ -70,7 +70,7 @@ fn cut_off(rng: &mut Rng, card: &[u8]) -> Vec<u8> {
 }
 
 /// Changes up to three bytes.
-fn flip(rng: &mut Rng, mut card: Vec<u8>) -> Vec<u8> {
+pub(super) fn flip(rng: &mut Rng, mut card: Vec<u8>) -> Vec<u8> {
     for _ in 0..=rng.below(3) {
         let place = rng.below(card.len());
         card[place] = match rng.below(3) {
@@ -83,7 +83,7 @@ fn flip(rng: &mut Rng, mut card: Vec<u8>) -> Vec<u8> {
 }
 
 /// Adds bytes after the card, good numbers or not.
-fn extra(rng: &mut Rng, mut card: Vec<u8>) -> Vec<u8> {
+pub(super) fn extra(rng: &mut Rng, mut card: Vec<u8>) -> Vec<u8> {
     match rng.below(4) {
         0 => card.push(b'\n'),
         1 => card.extend(number_bytes(rng.any())),
@@ -98,7 +98,7 @@ fn extra(rng: &mut Rng, mut card: Vec<u8>) -> Vec<u8> {
 }
 
 /// Sets one number of the card to another value.
-fn other_number(rng: &mut Rng, mut numbers: Vec<u32>) -> Vec<u8> {
+pub(super) fn other_number(rng: &mut Rng, mut numbers: Vec<u32>) -> Vec<u8> {
     let place = if rng.once_in(3) { rng.below(2) } else { rng.below(numbers.len()) };
     numbers[place] = rng.other_than(numbers[place]);
     pieces(&numbers).concat()

@@ -55,20 +55,22 @@ fn most_drawn(desk: &Desk, slot: usize, bound: u32) -> u32 {
     draw_limit(desk, slot, bound).min(desk.held[slot] as u128) as u32
 }
 
+/// Draws up to the most that each slot can draw.
+pub(super) fn draws_up_to(rng: &mut Rng, most: &[u32], draw: Draw) -> Vec<u32> {
+    let mut one = |most: u32| match draw {
+        Draw::None => 0,
+        Draw::Full => most,
+        Draw::Any => rng.between(0, most),
+        Draw::Mixed => rng.pick(&[0, most, most / 2, most.saturating_sub(1)]),
+    };
+    most.iter().map(|&most| one(most)).collect()
+}
+
 /// Draws that a sound desk accepts.
 pub fn fair_draws(rng: &mut Rng, desk: &Desk, draw: Draw) -> Vec<u32> {
     let bound = sweep_bound(desk);
-    let mut draws = Vec::new();
-    for slot in desk.used_slots() {
-        let most = most_drawn(desk, slot, bound);
-        draws.push(match draw {
-            Draw::None => 0,
-            Draw::Full => most,
-            Draw::Any => rng.between(0, most),
-            Draw::Mixed => rng.pick(&[0, most, most / 2, most.saturating_sub(1)]),
-        });
-    }
-    draws
+    let most: Vec<u32> = desk.used_slots().map(|slot| most_drawn(desk, slot, bound)).collect();
+    draws_up_to(rng, &most, draw)
 }
 
 /// Draws of which one or two are often at or above what the slot may draw or holds.
@@ -220,18 +222,22 @@ pub fn longer_list(rng: &mut Rng, list: &[u32]) -> Vec<u32> {
     longer
 }
 
-/// The plan's lists, longer ones, or once in `spoiled` times bad ones.
-pub(super) fn lent_lists(rng: &mut Rng, planned: &Planned, spoiled: usize) -> (Vec<u32>, Vec<u32>) {
-    let mut positions = planned.positions.clone();
-    let mut leads = planned.leads.clone();
+/// A plan's positions and leads, longer lists, or once in `spoiled` times bad ones.
+pub(super) fn lent_lists(
+    rng: &mut Rng,
+    lists: (&[u32], &[u32]),
+    spoiled: usize,
+) -> (Vec<u32>, Vec<u32>) {
+    let mut positions = lists.0.to_vec();
+    let mut leads = lists.1.to_vec();
     if rng.once_in(4) {
         positions = longer_list(rng, &positions);
         leads = longer_list(rng, &leads);
     }
     if rng.once_in(spoiled) {
         match rng.below(2) {
-            0 => positions = spoiled_list(rng, &planned.positions),
-            _ => leads = spoiled_list(rng, &planned.leads),
+            0 => positions = spoiled_list(rng, lists.0),
+            _ => leads = spoiled_list(rng, lists.1),
         }
     }
     (positions, leads)
@@ -241,7 +247,8 @@ pub(super) fn lent_lists(rng: &mut Rng, planned: &Planned, spoiled: usize) -> (V
 pub fn next_step(rng: &mut Rng, planned: &Planned, desk: &Desk, temper: &Temper) -> Step {
     let call =
         if rng.once_in(temper.wild) { wild_call(rng, desk) } else { fair_call(rng, desk, temper) };
-    let (positions, leads) = lent_lists(rng, planned, 4 * temper.wild);
+    let lists = (&planned.positions[..], &planned.leads[..]);
+    let (positions, leads) = lent_lists(rng, lists, 4 * temper.wild);
     Step { positions, leads, call }
 }
 
@@ -259,48 +266,66 @@ pub fn reached_desk(rng: &mut Rng, planned: &Planned, calls: usize) -> Desk {
 }
 
 /// Held bytes from `least` to the buffer, the ends and the edge of fetching often.
-fn some_held(rng: &mut Rng, plan: &Plan, least: u32) -> u32 {
-    let edge = plan.buffer - plan.figures.block_bytes;
+fn some_held(rng: &mut Rng, buffer: u32, block_bytes: u32, least: u32) -> u32 {
+    let edge = buffer - block_bytes;
     let held = match rng.below(6) {
         0 => least,
-        1 => plan.buffer,
+        1 => buffer,
         2 => edge,
         3 => edge + 1,
-        _ => rng.between(least, plan.buffer),
+        _ => rng.between(least, buffer),
     };
-    held.clamp(least, plan.buffer)
+    held.clamp(least, buffer)
 }
 
-/// The slots that have asked, of any desk.
-fn asked_slots(desk: &Desk) -> Vec<usize> {
-    (0..SLOTS).filter(|&slot| desk.kinds[slot] == ASKED).collect()
+/// Held bytes of a slot of this kind, where a playing one holds at least `low`.
+pub(super) fn held_of(rng: &mut Rng, kind: u32, buffer: u32, block_bytes: u32, low: u32) -> u32 {
+    match kind {
+        FILLING => some_held(rng, buffer, block_bytes, 0),
+        PLAYING => some_held(rng, buffer, block_bytes, low),
+        TAIL => some_held(rng, buffer, block_bytes, 1),
+        _ => 0,
+    }
+}
+
+/// The slots that have asked.
+fn asked_slots(kinds: &[u32; SLOTS]) -> Vec<usize> {
+    (0..SLOTS).filter(|&slot| kinds[slot] == ASKED).collect()
+}
+
+/// Places of the asked slots, in any order, and 0 of all others.
+pub(super) fn some_places(rng: &mut Rng, kinds: &[u32; SLOTS]) -> [u32; SLOTS] {
+    let mut asked = asked_slots(kinds);
+    let mut places = [0; SLOTS];
+    for place in 1..=asked.len() as u32 {
+        let slot = asked.swap_remove(rng.below(asked.len()));
+        places[slot] = place;
+    }
+    places
 }
 
 /// Gives the asked slots their places, in any order, and all others 0.
 pub fn set_places(rng: &mut Rng, desk: &mut Desk) {
-    let mut asked = asked_slots(desk);
-    desk.places = [0; SLOTS];
-    for place in 1..=asked.len() as u32 {
-        let slot = asked.swap_remove(rng.below(asked.len()));
-        desk.places[slot] = place;
-    }
+    desk.places = some_places(rng, &desk.kinds);
 }
 
-/// Kinds of the slots: any, or mostly asked, or all asked but for one or none.
-fn set_kinds(rng: &mut Rng, desk: &mut Desk) {
-    let any: &[u32] = match desk.goes_round() {
+/// Kinds of n slots: any, or mostly asked, or all asked but for one or none. A loop has no tail.
+pub(super) fn some_kinds(rng: &mut Rng, n: usize, goes_round: bool) -> [u32; SLOTS] {
+    let any: &[u32] = match goes_round {
         false => &[FREE, ASKED, FILLING, FILLING, PLAYING, PLAYING, TAIL],
         true => &[FREE, ASKED, FILLING, FILLING, PLAYING, PLAYING],
     };
     let crowd = rng.below(5);
-    for slot in desk.used_slots() {
+    let mut kinds = [FREE; SLOTS];
+    for kind in &mut kinds[..n] {
         let asks = crowd == 0 || (crowd == 1 && !rng.once_in(6));
-        desk.kinds[slot] = if asks { ASKED } else { rng.pick(any) };
+        *kind = if asks { ASKED } else { rng.pick(any) };
     }
     if crowd == 0 && rng.once_in(2) {
-        let slot = rng.below(desk.plan.streams as usize);
-        desk.kinds[slot] = rng.pick(any);
+        let slot = rng.below(n);
+        kinds[slot] = rng.pick(any);
     }
+    kinds
 }
 
 /// A sound desk whether or not a list reaches it. A loop's has no tail.
@@ -308,7 +333,7 @@ pub fn sound_desk(rng: &mut Rng, planned: &Planned) -> Desk {
     let mut desk = Desk::all_free(&planned.plan);
     let blocks = planned.plan.figures.blocks;
     desk.phase = rng.between(0, 1);
-    set_kinds(rng, &mut desk);
+    desk.kinds = some_kinds(rng, planned.plan.streams as usize, desk.goes_round());
     for slot in desk.used_slots() {
         desk.next[slot] = match desk.kinds[slot] {
             FREE => 0,
@@ -318,12 +343,8 @@ pub fn sound_desk(rng: &mut Rng, planned: &Planned) -> Desk {
     }
     let low = floor(&desk, &planned.leads).div_ceil(TWO_MILLION) as u32;
     for slot in desk.used_slots() {
-        desk.held[slot] = match desk.kinds[slot] {
-            FILLING => some_held(rng, &planned.plan, 0),
-            PLAYING => some_held(rng, &planned.plan, low),
-            TAIL => some_held(rng, &planned.plan, 1),
-            _ => 0,
-        };
+        let Plan { buffer, figures, .. } = &planned.plan;
+        desk.held[slot] = held_of(rng, desk.kinds[slot], *buffer, figures.block_bytes, low);
     }
     set_places(rng, &mut desk);
     desk
@@ -343,9 +364,9 @@ pub fn alter_plan(rng: &mut Rng, plan: &mut Plan) {
     *figure = rng.other_than(*figure);
 }
 
-/// A slot of any desk, mostly a used one.
-fn some_slot(rng: &mut Rng, desk: &Desk) -> usize {
-    let used = (desk.plan.streams as usize).clamp(1, SLOTS);
+/// A slot of any desk of n streams, mostly a used one.
+pub(super) fn some_slot(rng: &mut Rng, n: u32) -> usize {
+    let used = (n as usize).clamp(1, SLOTS);
     if rng.once_in(4) {
         rng.below(SLOTS)
     } else {
@@ -355,7 +376,7 @@ fn some_slot(rng: &mut Rng, desk: &Desk) -> usize {
 
 /// Alters one number of the slots. The record may stay sound.
 fn alter_slot(rng: &mut Rng, desk: &mut Desk) {
-    let slot = some_slot(rng, desk);
+    let slot = some_slot(rng, desk.plan.streams);
     let number = match rng.below(4) {
         0 => &mut desk.kinds[slot],
         1 => &mut desk.next[slot],
@@ -368,19 +389,29 @@ fn alter_slot(rng: &mut Rng, desk: &mut Desk) {
 /// Alters the places of the slots: two are alike, one is left out, one more is there, one is on
 /// another slot, or two change places, which stays sound.
 pub fn alter_places(rng: &mut Rng, desk: &mut Desk) {
-    let asked = asked_slots(desk);
-    let any = some_slot(rng, desk);
-    let count = desk.waiting();
+    let any = some_slot(rng, desk.plan.streams);
+    alter_places_of(rng, &desk.kinds, &mut desk.places, any);
+}
+
+/// The same of the slots of these kinds and one more slot.
+pub(super) fn alter_places_of(
+    rng: &mut Rng,
+    kinds: &[u32; SLOTS],
+    places: &mut [u32; SLOTS],
+    any: usize,
+) {
+    let asked = asked_slots(kinds);
+    let count = asked.len() as u32;
     let mut pick = || if asked.is_empty() { any } else { rng.pick(&asked) };
     let (one, other) = (pick(), pick());
     match rng.below(7) {
-        0 => desk.places[one] = desk.places[other],
-        1 => desk.places[one] = 0,
-        2 => desk.places[one] = rng.pick(&[count + 1, 256, 257, u32::MAX]),
-        3 => desk.places[any] = rng.pick(&[1, count, count + 1]),
-        4 => desk.places.swap(one, any),
-        5 => desk.places.swap(one, other),
-        _ => desk.places[one] = rng.other_than(desk.places[one]),
+        0 => places[one] = places[other],
+        1 => places[one] = 0,
+        2 => places[one] = rng.pick(&[count + 1, 256, 257, u32::MAX]),
+        3 => places[any] = rng.pick(&[1, count, count + 1]),
+        4 => places.swap(one, any),
+        5 => places.swap(one, other),
+        _ => places[one] = rng.other_than(places[one]),
     }
 }
 

@@ -149,7 +149,7 @@ pub fn legal_figures(rng: &mut Rng) -> Figures {
 
 /// Small overheads and times against a great return, so that a sweep with few fetches still
 /// draws much. The kind stays.
-fn set_great_return(rng: &mut Rng, figures: &mut Figures) {
+pub(super) fn set_great_return(rng: &mut Rng, figures: &mut Figures) {
     figures.table = straight(rng.between(1, 1000), MAX_RETURN);
     for zone in 0..figures.zones as usize {
         figures.times[zone] = figures.times[zone].div_ceil(400);
