@@ -49,9 +49,6 @@ pub const MAX_CARD: u32 = 1489;
 // n, and the slots of a desk.
 pub const MAX_STREAMS: u32 = 256;
 
-// n of half blocks.
-pub const MAX_PAIR_STREAMS: u32 = 128;
-
 // Blocks of a window.
 pub const MAX_WINDOW: u32 = 64;
 

@@ -5,4 +5,6 @@ pub mod Streams
 pub mod Laid
 pub mod Window
 pub mod WindowLaws
+pub mod Shelf
+pub mod Shelves
 pub mod HalfWindows

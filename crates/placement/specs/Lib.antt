@@ -8,3 +8,4 @@ pub mod CircleBest
 pub mod CircleRow
 pub mod Pairs
 pub mod Showing
+pub mod Shelf

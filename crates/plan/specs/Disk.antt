@@ -16,10 +16,10 @@ pub record Disk (ps ts : List ℕ) : Type 0 where
   pub zoned : Zoned ps
   pub quick : (i : ℕ) → getD ts i 0 ≤ maxTime
 
--- a film of N blocks on the disk, whose positions are P
+-- a film of N blocks on the first P positions of the disk
 pub record OnDisk (ps ts : List ℕ) (P N : ℕ) : Type 0 where
   pub disk : Disk ps ts
-  pub whole : P ≡ total ps
+  pub whole : P ≤ total ps
   pub some : 0 < N
   pub room : N ≤ P
 

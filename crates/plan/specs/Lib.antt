@@ -9,6 +9,7 @@ pub mod Lent
 pub mod Plan
 pub mod Promise
 pub mod Rows
+pub mod Films
 pub mod Scratch
 pub mod ScratchLaws
 pub mod Ways

@@ -163,7 +163,7 @@ module _ (x : Showing) (f : Figures) (ok : Legal (visitsOf x) f) (t : ℕ) (e : 
   pub film-on : OnDisk (f .positions) (f .times) t (entriesOf x f)
   film-on = record {
     disk = legal-disk f ok;
-    whole = e ∙ total-is f ok;
+    whole = omega (arith, e, total-is f ok);
     some = mul-pos (visits-few x .0) (omega (arith, ok .blocks));
     room = omega (arith, ok .room);
   }
@@ -193,7 +193,7 @@ module _ (x : Showing) (f : Figures) (ok : Legal (visitsOf x) f) (t : ℕ) (e : 
   pub blocks-on : OnDisk (f .positions) (f .times) t (f .blocks)
   blocks-on = record {
     disk = legal-disk f ok;
-    whole = e ∙ total-is f ok;
+    whole = omega (arith, e, total-is f ok);
     some = omega (arith, ok .blocks);
     room = omega (arith, ok .room, mul-le-mul-right (f .blocks) (visits-few x .0));
   }

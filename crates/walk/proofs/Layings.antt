@@ -2,10 +2,13 @@
 -- Assumes nothing.
 use Prim.Native.Nat.{ℕ, _+_, _*_, _-_, _/_, _%_, _≤_, _<_, min}
 use mathlib.Core.Path.{_≡_, ap, _∙_}
+use mathlib.Core.Logic.{by-cases}
 use native.Mathlib.Omega.{arith}
+use native.Mathlib.Decide.{ℕ-discrete}
 use Rattle.placement.specs.Placement.{zigzag, zigzag-even, zigzag-odd}
 use Rattle.placement.specs.Circle.{rank, ring}
-use Rattle.placement.specs.CircleBest.{rank-even, rank-odd, late-even, late-odd}
+use Rattle.placement.specs.CircleBest.{rank-within, rank-even, rank-odd, late-even, late-odd}
+use Rattle.placement.specs.Showing.{Showing, one, loop, pairs, laying, walked}
 use Rattle.zones.specs.declared.Zone.{Zone}
 use Rattle.walk.specs.Walk.{Ends, firstPast, RunEnd}
 
@@ -35,6 +38,18 @@ once-odd P N k np u e =
     let x : zigzag P N k ≡ P - 1 - k / 2 = ap (zigzag P N) (omega arith) ∙ zigzag-odd P N (k / 2) in
     omega arith
 
+-- every block and the one past the last lie below P
+once-past : (P N k : ℕ) → 0 < N → N ≤ P → k ≤ N → zigzag P N k < P
+once-past P N k some np u = by-cases (ℕ-discrete (k % 2) 0)
+    (λ e. omega (arith, once-even P N (P - N) k (omega arith) e))
+    (λ e. omega (arith, once-odd P N k np u (omega arith)))
+
+pub laying-past : (x : Showing) (P N k : ℕ) → 0 < N → N ≤ P → k ≤ N → laying (walked x) P N k < P
+unfolding ring
+laying-past one P N k some np u = once-past P N k some np u
+laying-past loop P N k some np u = omega (arith, rank-within N k some u)
+laying-past pairs P N k some np u = once-past P N k some np u
+
 module _ {P N b : ℕ} {low high : Zone} (e : Ends P N (zigzag P N) b low high) where
   -- the low zone reaches into the film's positions
   pub once-low : P - N ≤ low .end
@@ -55,7 +70,7 @@ module _ {P N b : ℕ} {low high : Zone} (e : Ends P N (zigzag P N) b low high) 
   once-run =
       let x = once-even P N (P - N) (b + b % 2) (omega (arith, e .room)) (omega arith) in
       once-within (P - N) (2 * (low .end - (P - N))) (2 * (P - high .first) + 1) _ (omega (arith, e .room)) (omega (arith, e .low-to))
-      (omega (arith, e .high-end, e .high-from, e .high-to))
+      (omega (arith, e .high-first))
       (least N (2 * (low .end - (P - N))) (2 * (P - high .first) + 1))
 
 -- ---- a loop: up to m even blocks rise from D and odd ones fall from P
@@ -115,23 +130,17 @@ module _ {P N b : ℕ} {low high : Zone} (e : Ends P N (ring P N) b low high) wh
   unfolding ring
   high-room = omega (arith, e .high-to)
 
-  low-first : low .first ≤ P
-  low-first = omega (arith, e .low-from, e .low-to, e .low-end)
-
-  high-first : high .first ≤ P
-  high-first = omega (arith, e .high-from, e .high-to, e .high-end)
-
   -- an odd number of blocks
   pub odd-run : N % 2 ≡ 1 → RunEnd N (ring P N) b low high (min N (firstPast (low .end - (P - N)) (P - high .first)))
   odd-run o =
-      early-within (P - N) N (low .end - (P - N)) (P - high .first) _ (omega (arith, e .room)) (omega (arith, low-room)) (omega (arith, high-first))
+      early-within (P - N) N (low .end - (P - N)) (P - high .first) _ (omega (arith, e .room)) (omega (arith, low-room)) (omega (arith, e .high-first))
       (λ k l u. o) (λ k l u. o) (omega arith) (omega arith) (least N _ _)
 
   -- the first half of an even number
   pub early-run : (N % 2 ≡ 1 → ⊥) → b < N / 2 → RunEnd N (ring P N) b low high (min (N / 2 + 1) (firstPast (low .end - (P - N)) (P - high .first)))
   early-run odd h =
       let two = even-number N odd in
-      early-within (P - N) (N / 2 + 1) (low .end - (P - N)) (P - high .first) _ (omega (arith, e .room)) (omega (arith, low-room)) (omega (arith, high-first))
+      early-within (P - N) (N / 2 + 1) (low .end - (P - N)) (P - high .first) _ (omega (arith, e .room)) (omega (arith, low-room)) (omega (arith, e .high-first))
       (λ k l u. absurd (omega arith)) (λ k l u. absurd (omega arith)) (omega arith) (omega arith) (least (N / 2 + 1) _ _)
 
   -- where it turns
@@ -146,5 +155,5 @@ module _ {P N b : ℕ} {low high : Zone} (e : Ends P N (ring P N) b low high) wh
   -- the second half
   pub late-run : (N % 2 ≡ 1 → ⊥) → N / 2 ≤ b → (b ≡ N / 2 → ⊥) → RunEnd N (ring P N) b low high (min N (firstPast (P - low .first) (high .end - (P - N))))
   late-run odd h n =
-      late-within (P - N) (P - low .first) (high .end - (P - N)) _ (omega (arith, e .room)) (omega (arith, low-first)) (omega (arith, high-room))
+      late-within (P - N) (P - low .first) (high .end - (P - N)) _ (omega (arith, e .room)) (omega (arith, e .low-first)) (omega (arith, high-room))
       (even-number N odd) (past b N h n) (least N _ _)

@@ -11,11 +11,11 @@ use Rattle.zones.specs.declared.Zone.{Zone}
 use Rattle.zones.specs.Cursor.{ZoneOf}
 use Rattle.walk.specs.declared.Walk.{Walk}
 
--- the zone of block b of N, or of the block past the last, is looked for from a zone of a disk of P positions
+-- the zone of block b of N, or of the block past the last, is looked for from a zone of a disk, of whose positions the first P are its
 pub record Meets (ps : List ℕ) (P N : ℕ) (z : Zone) (b : ℕ) : Type 0 where
   pub zoned : Zoned ps
   pub zone : ZoneOf ps z
-  pub whole : P ≡ total ps
+  pub whole : P ≤ total ps
   pub some : 0 < N
   pub room : N ≤ P
   pub block : b ≤ N
@@ -27,12 +27,14 @@ pub record Ends (P N : ℕ) (l : ℕ → ℕ) (b : ℕ) (low high : Zone) : Type
   pub block : b < N
   pub room : N ≤ P
   pub small : P ≤ maxPositions
+  pub low-first : low .first ≤ P
   pub low-from : low .first ≤ l (b + b % 2)
   pub low-to : l (b + b % 2) < low .end
-  pub low-end : low .end ≤ P
+  pub low-end : low .end ≤ maxPositions
+  pub high-first : high .first ≤ P
   pub high-from : high .first ≤ l (b + 1 - b % 2)
   pub high-to : l (b + 1 - b % 2) < high .end
-  pub high-end : high .end ≤ P
+  pub high-end : high .end ≤ maxPositions
 
 -- the first block that is an even one above a or an odd one above z
 abbrev pub firstPast : ℕ → ℕ → ℕ
