@@ -9,4 +9,5 @@ pub mod Members
 pub mod Overwrite
 pub mod Indices
 pub mod Runs
+pub mod Starts
 pub mod Sums

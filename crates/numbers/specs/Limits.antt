@@ -38,6 +38,14 @@ minBlocks = 2
 abbrev pub maxBlocks : ℕ
 maxBlocks = 16384
 
+-- the films of a shelf (document 02, ticket 14); together they have as many blocks as one film may have
+abbrev pub maxFilms : ℕ
+maxFilms = 16
+
+-- a slot names its film and its next block by one number: so many times the film, and the block, of which no film has as many
+abbrev pub nameStep : ℕ
+nameStep = 65536
+
 -- B, the bytes of a block
 abbrev pub maxBytes : ℕ
 maxBytes = 4194304

@@ -116,3 +116,11 @@ halvesAbovePositions = 28
 -- film of more blocks than are tried (document 02, ticket 12)
 abbrev pub filmTooLong : ℕ
 filmTooLong = 29
+
+-- a shelf of 0 or over 16 films, a record's unused films not zero, or blocks past 16,384 (document 02, ticket 14)
+abbrev pub wrongFilms : ℕ
+wrongFilms = 30
+
+-- a join that names no film of the shelf (document 02, ticket 14)
+abbrev pub noSuchFilm : ℕ
+noSuchFilm = 31

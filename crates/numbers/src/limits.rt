@@ -26,6 +26,12 @@ pub const MIN_BLOCKS: u32 = 2;
 
 pub const MAX_BLOCKS: u32 = 16384;
 
+// The films of a shelf; together they have as many blocks as one film may have.
+pub const MAX_FILMS: u32 = 16;
+
+// A slot's word for film and next block: so many times the film, and the block, which is less.
+pub const NAME_STEP: u32 = 65536;
+
 // B, the bytes of a block.
 pub const MAX_BYTES: u32 = 4194304;
 

@@ -66,3 +66,8 @@ pub const HALVES_ABOVE_POSITIONS: u32 = 28;
 
 // The second planner, by document 02.
 pub const FILM_TOO_LONG: u32 = 29;
+
+// Shelves, by document 02: of a card, and of a join.
+pub const WRONG_FILMS: u32 = 30;
+
+pub const NO_SUCH_FILM: u32 = 31;

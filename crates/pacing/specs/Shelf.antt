@@ -7,11 +7,8 @@ use native.Mathlib.Omega.{arith}
 use lib.Dec.{ltb, eqb}
 use borrow.Author.Tests.{ltb-true}
 use Rattle.laws.specs.Bools.{and-left, and-right, and-both}
+use Rattle.numbers.specs.Limits.{nameStep}
 use Rattle.pacing.specs.Film.{Film, Paced}
-
--- more than any film has blocks
-abbrev pub nameStep : ℕ
-nameStep = 65536
 
 -- the name of a block, and of the film's end; a number that no film has stays one
 abbrev pub nameOf : ℕ → ℕ → ℕ

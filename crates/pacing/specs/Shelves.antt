@@ -10,16 +10,18 @@ use native.Mathlib.Nat.{le-antisymm}
 use native.Mathlib.Decide.{ℕ-discrete}
 use borrow.Author.Tests.{ltb-true}
 use Rattle.laws.specs.Greatest.{greatestOf, greatestOf-above, greatestOf-least, greatestOf-same, greatestOf-reached}
+use Rattle.numbers.specs.Limits.{nameStep}
 use Rattle.numbers.specs.Units.{parts}
 use Rattle.placement.specs.Placement.{Laying, Falling}
 use Rattle.placement.specs.Showing.{Showing, one, loop, pairs, visitsOf, blockTime, worstOf, after, slowest-first, greatest-twice}
-use Rattle.placement.specs.Shelf.{startOf, start-next, start-rises, freeFor, layingIn, falling-less, film-room, free-next, film-best}
+use Rattle.laws.specs.Starts.{startOf, start-next, start-rises}
+use Rattle.placement.specs.Shelf.{freeFor, layingIn, falling-less, film-room, free-next, film-best}
 use Rattle.pacing.specs.Film.{Film, Paced, lead}
 use Rattle.pacing.specs.Lead.{lead-closed}
 use Rattle.pacing.specs.Shown.{round-below}
 use Rattle.pacing.specs.Streams.{load, streams, streams-best}
 use Rattle.pacing.specs.Laid.{laidFilm, slowest, slowest-pairs, laid-paced, worst-within, time-below}
-use Rattle.pacing.specs.Shelf.{nameStep, shelf, shelf-paced, paced-more}
+use Rattle.pacing.specs.Shelf.{shelf, shelf-paced, paced-more}
 
 -- F films of N i blocks on P positions, τ being the time of a position
 module _ (x : Showing) (τ : ℕ → ℕ) (P : ℕ) (N : ℕ → ℕ) where

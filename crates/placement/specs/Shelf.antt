@@ -1,32 +1,12 @@
 -- Document 02, ticket 14: films on one disk, laid in list order, each on the highest positions still free. N i is how many blocks film i has.
 -- Assumes nothing.
-use Prim.Native.Nat.{ℕ, zero, suc, _+_, _*_, _-_, _≤_, _<_}
+use Prim.Native.Nat.{ℕ, suc, _*_, _-_, _≤_, _<_}
 use mathlib.Core.Path.{_≡_, ap}
-use mathlib.Core.Logic.{by-cases}
 use native.Mathlib.Omega.{arith}
 use native.Mathlib.Nat.{mul-le-mul-left}
-use native.Mathlib.Decide.{decLe}
+use Rattle.laws.specs.Starts.{startOf, start-next, start-rises}
 use Rattle.placement.specs.Placement.{Laying, Falling}
 use Rattle.placement.specs.Showing.{Showing, visitsOf, laying, worstOf, laying-lays, laying-high, laying-best}
-
--- the blocks of the films before film i: where its entries begin in a list that goes through all films
-unfoldable pub startOf : (ℕ → ℕ) → ℕ → ℕ
-startOf N zero = 0
-startOf N (suc i) = startOf N i + N i
-
-pub start-none : (N : ℕ → ℕ) → startOf N 0 ≡ 0
-unfolding startOf
-start-none N = omega arith
-
-pub start-next : (N : ℕ → ℕ) (i : ℕ) → startOf N (suc i) ≡ startOf N i + N i
-unfolding startOf
-start-next N i = omega arith
-
-pub start-rises : (N : ℕ → ℕ) (i j : ℕ) → i ≤ j → startOf N i ≤ startOf N j
-start-rises N i zero h = let e : i ≡ 0 = omega arith in omega (arith, ap (startOf N) e)
-start-rises N i (suc j) h = by-cases (decLe i j)
-    (λ l. omega (arith, start-rises N i j l, start-next N j))
-    (λ l. let e : i ≡ suc j = omega arith in omega (arith, ap (startOf N) e))
 
 -- the positions that are free for film i
 abbrev pub freeFor : Showing → ℕ → (ℕ → ℕ) → ℕ → ℕ

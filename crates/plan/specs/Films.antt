@@ -12,7 +12,7 @@ use lib.Seq.{getD-drop}
 use Rattle.laws.specs.Bools.{and-left, and-right}
 use Rattle.words.specs.Words.{withWords}
 use Rattle.words.specs.Laws.{withWords-append}
-use Rattle.placement.specs.Shelf.{startOf, start-none, start-next}
+use Rattle.laws.specs.Starts.{startOf, start-none, start-next}
 use Rattle.plan.specs.Plan.{row}
 use Rattle.plan.specs.Answer.{begins}
 use Rattle.plan.specs.Rows.{row-length, begins-append, begins-at}
