@@ -1,16 +1,15 @@
 // The planner and the desk for C: numbers and byte strings, whose layouts docs/LAYOUT.md fixes. Strings lent to one call share no byte.
-use desk_strings::scratch;
 use layout::FilmdiskAnswer;
 use layout::FilmdiskWindowAnswer;
 ghost use mathlib.Core.Path.{_≡_};
 ghost use Rattle.placement.specs.Showing.{one, loop, pairs};
 ghost use Rattle.plan_strings.specs.Calls.{planAnswer, planString, positionsString, leadsString};
 ghost use Rattle.plan_strings.specs.Calls.{planScratchAnswer, planScratchString, positionsScratchString};
-ghost use Rattle.desk_strings.specs.Calls.{openAnswer, openString, joinAnswer, joinString, leaveAnswer, leaveString, beginAnswer, beginString};
-ghost use Rattle.desk_strings.specs.Calls.{fetchString, endAnswer, endString, drawLimitOf};
-ghost use Rattle.desk_strings.specs.Calls.{openScratchAnswer, openScratchString, joinScratchAnswer, joinScratchString, leaveScratchAnswer};
-ghost use Rattle.desk_strings.specs.Calls.{leaveScratchString, beginScratchAnswer, beginScratchString, fetchScratchString, endScratchAnswer};
-ghost use Rattle.desk_strings.specs.Calls.{endScratchString};
+ghost use Rattle.desk_calls.specs.Calls.{openAnswer, openString, joinAnswer, joinString, leaveAnswer, leaveString, beginAnswer, beginString};
+ghost use Rattle.desk_calls.specs.Calls.{fetchString, endAnswer, endString, drawLimitOf};
+ghost use Rattle.desk_calls.specs.Calls.{openScratchAnswer, openScratchString, joinScratchAnswer, joinScratchString, leaveScratchAnswer};
+ghost use Rattle.desk_calls.specs.Calls.{leaveScratchString, beginScratchAnswer, beginScratchString, fetchScratchString, endScratchAnswer};
+ghost use Rattle.desk_calls.specs.Calls.{endScratchString};
 ghost use Rattle.window_strings.specs.Calls.{windowCall};
 
 // Plans a card for one showing: 1 to 11, 25 and 26, then 13, then 12.
@@ -135,7 +134,7 @@ pub extern "C" fn filmdisk_open(
     ensures { λ r. ⌜ (r ≡ openAnswer (now (plan .entry)) (now (positions .entry)) (now (leads .entry)) (now (desk .entry)))
         × (now (desk .exit) ≡ openString (now (plan .entry)) (now (positions .entry)) (now (leads .entry)) (now (desk .entry))) ⌝ }
 {
-    desk_strings::open(plan, positions, leads, desk)
+    open_strings::open(plan, positions, leads, desk)
 }
 
 // A free slot asks to watch from a start block: 14 to 18.
@@ -150,7 +149,7 @@ pub extern "C" fn filmdisk_join(
     ensures { λ r. ⌜ (r ≡ joinAnswer (now (desk .entry)) (now (positions .entry)) (now (leads .entry)) slot block)
         × (now (desk .exit) ≡ joinString (now (desk .entry)) (now (positions .entry)) (now (leads .entry)) slot block) ⌝ }
 {
-    desk_strings::join(desk, positions, leads, slot, block)
+    move_strings::join(desk, positions, leads, slot, block)
 }
 
 // An occupied slot becomes free: 14 to 17.
@@ -164,7 +163,7 @@ pub extern "C" fn filmdisk_leave(
     ensures { λ r. ⌜ (r ≡ leaveAnswer (now (desk .entry)) (now (positions .entry)) (now (leads .entry)) slot)
         × (now (desk .exit) ≡ leaveString (now (desk .entry)) (now (positions .entry)) (now (leads .entry)) slot) ⌝ }
 {
-    desk_strings::leave(desk, positions, leads, slot)
+    move_strings::leave(desk, positions, leads, slot)
 }
 
 // Begins a sweep: 14, 15, 13.
@@ -179,7 +178,7 @@ pub extern "C" fn filmdisk_begin(
         × (now (desk .exit) ≡ beginString (now (desk .entry)) (now (positions .entry)) (now (leads .entry)) (now (fetches .entry)))
         × (now (fetches .exit) ≡ fetchString (now (desk .entry)) (now (positions .entry)) (now (leads .entry)) (now (fetches .entry))) ⌝ }
 {
-    desk_strings::begin(desk, positions, leads, fetches)
+    sweep_strings::begin(desk, positions, leads, fetches)
 }
 
 // Ends a sweep with the draws of its slots: 14, 15, 19, 20, 21.
@@ -193,7 +192,7 @@ pub extern "C" fn filmdisk_end(
     ensures { λ r. ⌜ (r ≡ endAnswer (now (desk .entry)) (now (positions .entry)) (now (leads .entry)) (now (draws .entry)))
         × (now (desk .exit) ≡ endString (now (desk .entry)) (now (positions .entry)) (now (leads .entry)) (now (draws .entry))) ⌝ }
 {
-    desk_strings::end(desk, positions, leads, draws)
+    sweep_strings::end(desk, positions, leads, draws)
 }
 
 // What a slot of a desk may draw in a sweep of this bound: above it an end answers 20. 0 for any other string and any other slot.
@@ -201,7 +200,7 @@ pub extern "C" fn filmdisk_end(
 pub extern "C" fn filmdisk_draw_limit(desk: &[u8], slot: u32, bound: u32) -> u64
     ensures { λ r. ⌜ r ≡ drawLimitOf (now (desk .entry)) slot bound ⌝ }
 {
-    desk_strings::draw_limit(desk, slot, bound)
+    sweep_strings::draw_limit(desk, slot, bound)
 }
 
 // Opens a desk of a plan and its positions, with a scratch in the lead list's place: 13, then 14, then 13.
@@ -215,7 +214,7 @@ pub extern "C" fn filmdisk_open_scratch(
     ensures { λ r. ⌜ (r ≡ openScratchAnswer (now (plan .entry)) (now (positions .entry)) (now (scratch .entry)) (now (desk .entry)))
         × (now (desk .exit) ≡ openScratchString (now (plan .entry)) (now (positions .entry)) (now (scratch .entry)) (now (desk .entry))) ⌝ }
 {
-    scratch::open(plan, positions, scratch, desk)
+    open_strings::scratch::open(plan, positions, scratch, desk)
 }
 
 // A free slot asks to watch from a start block, with a scratch: 13, then 14 to 18.
@@ -230,7 +229,7 @@ pub extern "C" fn filmdisk_join_scratch(
     ensures { λ r. ⌜ (r ≡ joinScratchAnswer (now (desk .entry)) (now (positions .entry)) (now (scratch .entry)) slot block)
         × (now (desk .exit) ≡ joinScratchString (now (desk .entry)) (now (positions .entry)) (now (scratch .entry)) slot block) ⌝ }
 {
-    scratch::join(desk, positions, scratch, slot, block)
+    move_strings::scratch::join(desk, positions, scratch, slot, block)
 }
 
 // An occupied slot becomes free, with a scratch: 13, then 14 to 17.
@@ -244,7 +243,7 @@ pub extern "C" fn filmdisk_leave_scratch(
     ensures { λ r. ⌜ (r ≡ leaveScratchAnswer (now (desk .entry)) (now (positions .entry)) (now (scratch .entry)) slot)
         × (now (desk .exit) ≡ leaveScratchString (now (desk .entry)) (now (positions .entry)) (now (scratch .entry)) slot) ⌝ }
 {
-    scratch::leave(desk, positions, scratch, slot)
+    move_strings::scratch::leave(desk, positions, scratch, slot)
 }
 
 // Begins a sweep, with a scratch: 13, then 14, 15, 13.
@@ -259,7 +258,7 @@ pub extern "C" fn filmdisk_begin_scratch(
         × (now (desk .exit) ≡ beginScratchString (now (desk .entry)) (now (positions .entry)) (now (scratch .entry)) (now (fetches .entry)))
         × (now (fetches .exit) ≡ fetchScratchString (now (desk .entry)) (now (positions .entry)) (now (scratch .entry)) (now (fetches .entry))) ⌝ }
 {
-    scratch::begin(desk, positions, scratch, fetches)
+    sweep_strings::scratch::begin(desk, positions, scratch, fetches)
 }
 
 // Ends a sweep with the draws of its slots, with a scratch: 13, then 14, 15, 19, 20, 21.
@@ -273,5 +272,5 @@ pub extern "C" fn filmdisk_end_scratch(
     ensures { λ r. ⌜ (r ≡ endScratchAnswer (now (desk .entry)) (now (positions .entry)) (now (scratch .entry)) (now (draws .entry)))
         × (now (desk .exit) ≡ endScratchString (now (desk .entry)) (now (positions .entry)) (now (scratch .entry)) (now (draws .entry))) ⌝ }
 {
-    scratch::end(desk, positions, scratch, draws)
+    sweep_strings::scratch::end(desk, positions, scratch, draws)
 }

@@ -50,9 +50,9 @@ use Rattle.desk_layout.specs.Layout.{deskWords, deskIn, deskSize}
 use Rattle.plan_layout.specs.RoundTrip.{PlanSized, plan-sized}
 use Rattle.desk_layout.specs.RoundTrip.{DeskSized, desk-fit, desk-written}
 use Rattle.plan_layout.specs.Legal.{legal-words}
-use Rattle.desk_strings.specs.ByLength.{enough, said-sized, said-wide, right-answer, right-string}
-use Rattle.desk_strings.specs.Calls.{openedFrom, openAnswer, openString, said, answerBy, stringBy, joinAnswer, joinString, leaveAnswer, leaveString}
-use Rattle.desk_strings.specs.Calls.{endAnswer, endString, roomIn, begunAnswer, beginAnswer, beginString}
+use Rattle.desk_calls.specs.ByLength.{enough, said-sized, said-wide, right-answer, right-string}
+use Rattle.desk_calls.specs.Calls.{openedFrom, openAnswer, openString, said, answerBy, stringBy, joinAnswer, joinString, leaveAnswer, leaveString}
+use Rattle.desk_calls.specs.Calls.{endAnswer, endString, roomIn, begunAnswer, beginAnswer, beginString}
 use Rattle.string_claims.specs.Kept.{open-number, open-right, open-other}
 
 -- ---- places

@@ -33,8 +33,8 @@ use Rattle.trace.specs.SlotLaws.{kind-at, next-at}
 use Rattle.scheduler.specs.Count.{begin-few}
 use Rattle.layout.specs.declared.FilmdiskAnswer.{FilmdiskAnswer}
 use Rattle.desk_layout.specs.Layout.{deskSize}
-use Rattle.desk_strings.specs.ByLength.{said-wide, right-answer}
-use Rattle.desk_strings.specs.Calls.{said, roomIn, begunAnswer, beginAnswer, fetchString}
+use Rattle.desk_calls.specs.ByLength.{said-wide, right-answer}
+use Rattle.desk_calls.specs.Calls.{said, roomIn, begunAnswer, beginAnswer, fetchString}
 use Rattle.string_claims.specs.Back.{wide, fair, stays-sound}
 use Rattle.string_claims.specs.Lists.{entriesRead}
 

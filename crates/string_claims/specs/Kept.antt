@@ -26,9 +26,9 @@ use Rattle.layout.specs.Answers.{verdictAnswer}
 use Rattle.desk_layout.specs.Layout.{deskWords, deskSize}
 use Rattle.plan_layout.specs.Layout.{planIn, zeroBytes, planSize}
 use Rattle.desk_layout.specs.RoundTrip.{desk-kept, desk-zero}
-use Rattle.desk_strings.specs.ByLength.{enough, said-wide, right-answer, right-string, other-string}
-use Rattle.desk_strings.specs.Calls.{openedFrom, openVerdict, openAnswer, openString, said, answerBy, stringBy, joinAnswer, joinString, leaveAnswer}
-use Rattle.desk_strings.specs.Calls.{leaveString, endAnswer, endString, roomIn, begunAnswer, beginAnswer, beginString, fetchString}
+use Rattle.desk_calls.specs.ByLength.{enough, said-wide, right-answer, right-string, other-string}
+use Rattle.desk_calls.specs.Calls.{openedFrom, openVerdict, openAnswer, openString, said, answerBy, stringBy, joinAnswer, joinString, leaveAnswer}
+use Rattle.desk_calls.specs.Calls.{leaveString, endAnswer, endString, roomIn, begunAnswer, beginAnswer, beginString, fetchString}
 
 -- ---- a desk string D
 

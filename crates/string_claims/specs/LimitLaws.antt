@@ -34,9 +34,9 @@ use Rattle.trace.specs.DrawLaws.{limit-lowest}
 use Rattle.layout.specs.declared.FilmdiskAnswer.{FilmdiskAnswer}
 use Rattle.layout.specs.Answers.{verdictAnswer}
 use Rattle.desk_layout.specs.Layout.{deskSize}
-use Rattle.desk_strings.specs.ByLength.{said-wide, right-answer, other-answer}
-use Rattle.desk_strings.specs.Limits.{limit-right}
-use Rattle.desk_strings.specs.Calls.{said, answerBy, endAnswer, roomIn, begunAnswer, beginAnswer, beginString, drawLimitOf}
+use Rattle.desk_calls.specs.ByLength.{said-wide, right-answer, other-answer}
+use Rattle.desk_calls.specs.Limits.{limit-right}
+use Rattle.desk_calls.specs.Calls.{said, answerBy, endAnswer, roomIn, begunAnswer, beginAnswer, beginString, drawLimitOf}
 use Rattle.string_claims.specs.Back.{begin-back}
 use Rattle.string_claims.specs.Limits.{sweepBound, ReachesDraws, JudgedBy}
 

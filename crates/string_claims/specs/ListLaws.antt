@@ -30,11 +30,11 @@ use Rattle.layout.specs.declared.FilmdiskAnswer.{FilmdiskAnswer}
 use Rattle.layout.specs.Answers.{verdictAnswer}
 use Rattle.plan_layout.specs.Layout.{planIn}
 use Rattle.desk_layout.specs.Layout.{deskWords, deskSize}
-use Rattle.desk_strings.specs.ByLength.{said-wide, right-answer, right-string}
-use Rattle.desk_strings.specs.Calls.{openAnswer, openString, openedFrom, said, answerBy, stringBy, joinAnswer, joinString, leaveAnswer, leaveString}
-use Rattle.desk_strings.specs.Calls.{endAnswer, endString, roomIn, begunAnswer, beginAnswer, beginString, refusedBy, leadsOfDesk}
-use Rattle.desk_strings.specs.Calls.{joinScratchAnswer, joinScratchString, leaveScratchAnswer, leaveScratchString, beginScratchAnswer}
-use Rattle.desk_strings.specs.Calls.{beginScratchString, fetchScratchString, endScratchAnswer, endScratchString}
+use Rattle.desk_calls.specs.ByLength.{said-wide, right-answer, right-string}
+use Rattle.desk_calls.specs.Calls.{openAnswer, openString, openedFrom, said, answerBy, stringBy, joinAnswer, joinString, leaveAnswer, leaveString}
+use Rattle.desk_calls.specs.Calls.{endAnswer, endString, roomIn, begunAnswer, beginAnswer, beginString, refusedBy, leadsOfDesk}
+use Rattle.desk_calls.specs.Calls.{joinScratchAnswer, joinScratchString, leaveScratchAnswer, leaveScratchString, beginScratchAnswer}
+use Rattle.desk_calls.specs.Calls.{beginScratchString, fetchScratchString, endScratchAnswer, endScratchString}
 use Rattle.admission.specs.Refused.{refused-desk}
 use Rattle.string_claims.specs.Kept.{call-kept, open-right}
 use Rattle.string_claims.specs.Back.{call-back, opened-right, opened-plan, opened-wide, open-back}

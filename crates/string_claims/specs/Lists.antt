@@ -11,9 +11,9 @@ use Rattle.trace.specs.List.{fairTo}
 use Rattle.trace.specs.Safe.{Seen}
 use Rattle.layout.specs.declared.FilmdiskAnswer.{FilmdiskAnswer}
 use Rattle.plan_layout.specs.Layout.{planIn}
-use Rattle.desk_strings.specs.Calls.{said, joinAnswer, joinString, leaveAnswer, leaveString, endAnswer, endString, roomIn, beginAnswer, beginString}
-use Rattle.desk_strings.specs.Calls.{fetchString, joinScratchAnswer, joinScratchString, leaveScratchAnswer, leaveScratchString, beginScratchAnswer}
-use Rattle.desk_strings.specs.Calls.{beginScratchString, fetchScratchString, endScratchAnswer, endScratchString}
+use Rattle.desk_calls.specs.Calls.{said, joinAnswer, joinString, leaveAnswer, leaveString, endAnswer, endString, roomIn, beginAnswer, beginString}
+use Rattle.desk_calls.specs.Calls.{fetchString, joinScratchAnswer, joinScratchString, leaveScratchAnswer, leaveScratchString, beginScratchAnswer}
+use Rattle.desk_calls.specs.Calls.{beginScratchString, fetchScratchString, endScratchAnswer, endScratchString}
 
 -- ---- a call
 

@@ -31,7 +31,7 @@ use Rattle.window.specs.Window as window
 use Rattle.window_claims.specs.WorstLaws.{planned-windows}
 use Rattle.window_strings.specs.Calls.{windowFrom, windowCall}
 use Rattle.desk.specs.Desk.{freshDesk}
-use Rattle.desk_strings.specs.Calls.{openedFrom, openAnswer, openString, said}
+use Rattle.desk_calls.specs.Calls.{openedFrom, openAnswer, openString, said}
 use Rattle.string_claims.specs.Kept.{open-number}
 use Rattle.string_claims.specs.Back.{open-back}
 use Rattle.plan_strings.specs.Calls.{planFaultOf, plannedOf, planFilled, planAnswer, planString, positionsString, leadsString}

@@ -31,12 +31,12 @@ use Rattle.desk.specs.Scratch.{openScratch, planLeads}
 use Rattle.desk_layout.specs.Layout.{deskWords, deskSize}
 use Rattle.layout.specs.declared.FilmdiskAnswer.{FilmdiskAnswer}
 use Rattle.layout.specs.Answers.{verdictAnswer}
-use Rattle.desk_strings.specs.Calls.{refusedBy, openedFrom, openVerdict, openAnswer, openString, said, answerBy, stringBy, joinAnswer, joinString}
-use Rattle.desk_strings.specs.Calls.{leaveAnswer, leaveString, endAnswer, endString, roomIn, begunAnswer, beginAnswer, beginString, fetchString}
-use Rattle.desk_strings.specs.Calls.{leadsOfPlan, leadsOfDesk, openScratchAnswer, openScratchString, joinScratchAnswer, joinScratchString}
-use Rattle.desk_strings.specs.Calls.{leaveScratchAnswer, leaveScratchString, beginScratchAnswer, beginScratchString, fetchScratchString}
-use Rattle.desk_strings.specs.Calls.{endScratchAnswer, endScratchString}
-use Rattle.desk_strings.specs.ByLength.{said-sized, other-answer, other-string}
+use Rattle.desk_calls.specs.Calls.{refusedBy, openedFrom, openVerdict, openAnswer, openString, said, answerBy, stringBy, joinAnswer, joinString}
+use Rattle.desk_calls.specs.Calls.{leaveAnswer, leaveString, endAnswer, endString, roomIn, begunAnswer, beginAnswer, beginString, fetchString}
+use Rattle.desk_calls.specs.Calls.{leadsOfPlan, leadsOfDesk, openScratchAnswer, openScratchString, joinScratchAnswer, joinScratchString}
+use Rattle.desk_calls.specs.Calls.{leaveScratchAnswer, leaveScratchString, beginScratchAnswer, beginScratchString, fetchScratchString}
+use Rattle.desk_calls.specs.Calls.{endScratchAnswer, endScratchString}
+use Rattle.desk_calls.specs.ByLength.{said-sized, other-answer, other-string}
 use Rattle.trace.specs.ScratchLaws.{same-check, same-fault, short-fault, same-opened, same-join, same-leave, same-end, same-begin, same-fetches}
 use Rattle.string_claims.specs.Back.{opened-wide}
 

@@ -25,7 +25,7 @@ use Rattle.desk.specs.Desk.{fetchesOf, beginDesk, entriesOf, entryWords, fetchL
 use Rattle.layout.specs.Answers.{verdictAnswer}
 use Rattle.desk_layout.specs.Layout.{deskSize}
 use Rattle.plan_strings.specs.Calls.{planFaultOf, positionsString, leadsString}
-use Rattle.desk_strings.specs.Calls.{refusedBy, said, answerBy, roomIn, begunAnswer, beginAnswer, fetchString}
+use Rattle.desk_calls.specs.Calls.{refusedBy, said, answerBy, roomIn, begunAnswer, beginAnswer, fetchString}
 use Rattle.string_claims.specs.EntryLaws.{entry-length}
 use Rattle.string_claims.specs.Unfilled.{SameFrom}
 

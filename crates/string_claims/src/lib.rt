@@ -23,11 +23,11 @@ ghost use Rattle.window.specs.Window.{isOutside};
 ghost use Rattle.window_strings.specs.Calls.{windowCall};
 ghost use Rattle.plan_strings.specs.Calls.{planAnswer, planString, positionsString, leadsString};
 ghost use Rattle.plan_strings.specs.Calls.{planScratchAnswer, planScratchString, positionsScratchString};
-ghost use Rattle.desk_strings.specs.Calls.{openAnswer, openString, said, joinAnswer, joinString, leaveAnswer, leaveString, endAnswer, endString};
-ghost use Rattle.desk_strings.specs.Calls.{roomIn, beginAnswer, beginString, fetchString, drawLimitOf};
+ghost use Rattle.desk_calls.specs.Calls.{openAnswer, openString, said, joinAnswer, joinString, leaveAnswer, leaveString, endAnswer, endString};
+ghost use Rattle.desk_calls.specs.Calls.{roomIn, beginAnswer, beginString, fetchString, drawLimitOf};
 ghost use Rattle.string_claims.specs.Limits.{sweepBound, ReachesDraws, JudgedBy};
 ghost use Rattle.string_claims.specs.Lists.{StringCall, stringsAfter, onString};
-ghost use Rattle.desk_strings.specs.Calls.{refusedBy, openScratchAnswer, openScratchString};
+ghost use Rattle.desk_calls.specs.Calls.{refusedBy, openScratchAnswer, openScratchString};
 ghost use Rattle.string_claims.specs.ScratchLaws.{PlansAs, EqualStrings, RefusedStrings};
 ghost use Rattle.string_claims.specs.Unfilled.{SameFrom};
 

@@ -1,5 +1,5 @@
 use mathlib.Core.Path.{refl}
-use Rattle.desk_strings.specs.Calls.{beginString}
+use Rattle.desk_calls.specs.Calls.{beginString}
 use Rattle.string_claims.specs.LimitLaws.{judged-by, begun-sweep}
 use Rattle.string_claims.proofs.end_judges_by_draw_limit.Statement.{statement}
 use Rattle.string_claims.proofs.end_judges_by_draw_limit.Tie as tie
