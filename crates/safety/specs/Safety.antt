@@ -1,64 +1,35 @@
 -- An accepted call keeps the record sound, over any lawful supply and any orderly order.
 -- Assumes nothing.
-use Prim.Native.Nat.{ℕ, zero, suc, _+_, _*_, _-_, _/_, _≤_, _<_}
+use Prim.Native.Nat.{ℕ, zero, suc, _+_, _*_, _-_, _/_, _≤_}
 use mathlib.Core.Path.{_≡_, refl, sym, ap, _∙_}
-use mathlib.Core.Bool.{Bool, true, false, cond, _&&_, _||_}
+use mathlib.Core.Bool.{Bool, true, false, cond, _&&_}
 use mathlib.Core.List.{List, [], _∷_}
 use native.Mathlib.Omega.{arith}
-use native.Mathlib.Nat.{pos-of-ne-zero, mul-le-mul-left}
-use lib.ListN.{length, getD, set, length-set}
-use lib.Seq.{getD-set-other}
+use native.Mathlib.Nat.{pos-of-ne-zero}
+use lib.ListN.{length, getD, length-set}
 use lib.Dec.{eqb}
-use borrow.Author.Tests.{leb-true, eqb-true, eq-eqb, ne-eqb}
-use Rattle.laws.specs.Bools.{bit, bit-le, clash, and-left, and-right, and-both, cond-le}
+use borrow.Author.Tests.{eqb-true, eq-eqb, ne-eqb}
+use Rattle.laws.specs.Bools.{bit, clash, and-left, and-both}
 use Rattle.laws.specs.Map.{mapFrom}
 use Rattle.laws.specs.Runs.{sumBy}
-use Rattle.laws.specs.Each.{Each, EachFrom, Both, each-set, each-map, both-at, both-length}
-use Rattle.laws.specs.Indices.{allFrom, length-mapFrom}
+use Rattle.laws.specs.Each.{Each, Both, each-map, both-length}
+use Rattle.laws.specs.Indices.{length-mapFrom}
 use Rattle.numbers.specs.Units.{parts, micros}
 use Rattle.rules.specs.Supply.{Supply, Lawful}
 use Rattle.numbers.specs.Slots.{free, waiting, playing, draining}
-use Rattle.rules.specs.Scheduler.{Slot, Call, join, leave, begin, end, freeSlot, waitingSlot, at}
+use Rattle.rules.specs.Scheduler.{Slot, Call, join, leave, begin, end, freeSlot, waitingSlot}
 use Rattle.rules.specs.Scheduler.{reads, leadOf, leads, lowWater, joined, left, isFetched, timeOf, times, fetchCount, bound}
-use Rattle.rules.specs.Scheduler.{sweptBy, releaseBy, released, endedSlot, ended, mostDrawn, drawLimit}
+use Rattle.rules.specs.Scheduler.{sweptBy, releaseBy, released, endedSlot, ended, mostDrawn}
 use Rattle.rules.specs.Order.{Scheduler, Order}
-use Rattle.turns.specs.Facts.{Good, good-block, good-free, FreeFrom, Sound}
+use Rattle.turns.specs.Facts.{Good, good-free, FreeFrom, Sound}
+use Rattle.turns.specs.Moves.{join-keeps, leave-keeps}
 use Rattle.turns.specs.Orderly.{Kept, SameWaiting, Floored, Orderly}
 use Rattle.turns.specs.Sweeps.{kept-free, fetches-le, Drawable, Drawables, drawables-of}
 use Rattle.turns.specs.Slots.{reads-kind, reading-lead, other-lead, fetched-other, fetched-kind, fetched-room, unfetched-full}
-use Rattle.rules.specs.Refusals.{drawAllowed, drawHeld}
 use Rattle.rules.specs.Calls.{Allowed, accepted}
 use Rattle.safety.specs.Floors.{room-of-streams, fetched-stays, full-stays, sweep-within}
 
 module _ {A : Type 0} (p : Supply A) where
-  -- ---- join and leave
-
-  pub good-waiting : (L : ℕ) (b : A) → p .isBlock b ≡ true → Good p L (waitingSlot p b)
-  good-waiting L b e = good-block p L (waitingSlot p b) (omega arith) (omega arith) e (λ _. refl) (omega arith) (λ z. absurd (omega arith))
-
-  -- a good slot stays good where the leads fall
-  pub good-lower : (L M : ℕ) → M ≤ L → (s : Slot A) → Good p L s → Good p M s
-  unfolding lowWater
-  good-lower L M u s g =
-      let f : s .kind ≡ playing → lowWater p M ≤ parts * s .buffered = λ k. omega (arith, g .floored k, mul-le-mul-left (p .c) u) in
-      search
-
-  pub leads-set : (ss : List (Slot A)) (i : ℕ) (a : Slot A) → leadOf p a ≡ 0 → leads p (set ss i a) ≤ leads p ss
-  unfolding leads sumBy
-  leads-set [] i a z = omega arith
-  leads-set (s ∷ ss) zero a z = omega arith
-  leads-set (s ∷ ss) (suc i) a z = omega (arith, leads-set ss i a z)
-
-  free-set : (m i : ℕ) (ss : List (Slot A)) (a : Slot A) → i < m → FreeFrom p m ss → FreeFrom p m (set ss i a)
-  free-set m i ss a h u j l = ap (λ (s : Slot A). s .kind) (getD-set-other ss i j a (freeSlot p) (λ e. omega arith)) ∙ u j l
-
-  -- a slot that adds no lead is put in place of another
-  goods-set : (ss : List (Slot A)) (i : ℕ) (a : Slot A) → leadOf p a ≡ 0 → ((L : ℕ) → Good p L a)
-      → Each (Good p (leads p ss)) ss → Each (Good p (leads p (set ss i a))) (set ss i a)
-  goods-set ss i a z g h =
-      let M : ℕ = leads p (set ss i a) in
-      each-set (Good p M) ss i a (each-map _ _ ss (good-lower (leads p ss) M (leads-set ss i a z)) h) (g M)
-
   -- ---- begin
 
   kept-good : (L M : ℕ) (s t : Slot A) → Kept s t → (t .kind ≡ playing → lowWater p M ≤ parts * t .buffered) → Good p L s → Good p M t
@@ -290,19 +261,9 @@ module _ {A : Type 0} (p : Supply A) where
     module _ {Q : Type 0} (o : Order A Q) (orderly : Orderly p o) where
       -- an accepted call keeps the record sound
       pub accepted-keeps : (d : Scheduler A Q) (c : Call A) → Sound p o d → Allowed p o d c → Sound p o (accepted p o d c .scheduler)
-      unfolding accepted joined left ended mostDrawn bound
-      accepted-keeps d (join i b) h a = record {
-        phase = omega arith;
-        slots = goods-set (d .slots) i (waitingSlot p b) (other-lead p (waitingSlot p b) (λ x y. omega arith)) (λ L. good-waiting L b (a .3)) (h .slots);
-        unused = free-set (p .n) i (d .slots) (waitingSlot p b) (a .1) (h .unused);
-        queue = orderly .queue-joined (d .queue) (d .slots) i b (a .2) (h .queue);
-      }
-      accepted-keeps d (leave i) h a = record {
-        phase = omega arith;
-        slots = goods-set (d .slots) i (freeSlot p) (other-lead p (freeSlot p) (λ x y. omega arith)) (good-free p) (h .slots);
-        unused = free-set (p .n) i (d .slots) (freeSlot p) (a .1) (h .unused);
-        queue = orderly .queue-left (d .queue) (d .slots) i (a .2) (h .queue);
-      }
+      unfolding accepted ended mostDrawn bound
+      accepted-keeps d (join i b) h a = join-keeps p o orderly d i b h a
+      accepted-keeps d (leave i) h a = leave-keeps p o orderly d i h a
       accepted-keeps d begin h a =
           let ss = d .slots in
           let ts = o .begins (d .queue) ss .slots in

@@ -20,6 +20,7 @@ use Rattle.rules.specs.Scheduler.{Slot, Call, join, leave, begin, end, freeSlot
 use Rattle.rules.specs.Scheduler.{sweptBy, released, endedSlot, ended, mostDrawn}
 use Rattle.rules.specs.Order.{Scheduler, Order, dropped, waitingCount, eldestLead, byPlace}
 use Rattle.rules.specs.Calls.{State, Rules, Allowed, isAccepted, isEndCall, accepted, opening, answerBy, answer, turn, after}
+use Rattle.turns.specs.Moves.{leads-set}
 use Rattle.turns.specs.Facts.{Good, good-free, Sound}
 use Rattle.turns.specs.Slots.{other-lead, fetched-other}
 use Rattle.turns.specs.Turns.{started-leads}
@@ -30,7 +31,6 @@ use Rattle.turns.specs.Sweeps.{drawables-of}
 use Rattle.turns.specs.Places.{set-past, get-self, get-other, get-map, drop-less, in-range, Places}
 use Rattle.turns.specs.ByPlace.{queue-places, byPlace-orderly}
 use Rattle.turns.specs.Eldest.{eldest-here, eldest-lead, started-asked, served-yes, served-no}
-use Rattle.safety.specs.Safety.{leads-set}
 use Rattle.safety.specs.Gain.{gain, players-of-floored, floored-lower, sweep-gains}
 use Rattle.safety.specs.Lists.{InStep, turn-keeps, every-list-in-step}
 

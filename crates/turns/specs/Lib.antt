@@ -4,6 +4,7 @@ pub mod Rows
 pub mod ArrayLaws
 pub mod Turns
 pub mod Sorting
+pub mod Moves
 pub mod Orderly
 pub mod Begins
 pub mod Places
