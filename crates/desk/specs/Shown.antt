@@ -5,7 +5,7 @@ use mathlib.Core.Path.{_≡_}
 use mathlib.Core.List.{List, [], _∷_}
 use lib.ListN.{length, getD}
 use Rattle.numbers.specs.Limits.{maxPositions, maxTime, maxStreams}
-use Rattle.numbers.specs.Slots.{waiting, playing}
+use Rattle.numbers.specs.Slots.{filling, playing}
 use Rattle.rules.specs.Supply.{Supply}
 use Rattle.rules.specs.Arrays.{slotsOf}
 use Rattle.turns.specs.ArrayLaws.{SameLength}
@@ -17,9 +17,9 @@ pub record Slots (p : Supply ℕ) (n : ℕ) (ks xs hs : List ℕ) : Type 0 where
   pub same : SameLength p ks xs hs
   pub unused : FreeFrom p n (slotsOf p ks xs hs)
 
--- vs has f of the next block of each asked, filling or playing slot
+-- vs has f of the next block of each filling or playing slot
 abbrev pub OfNext : Supply ℕ → (ℕ → ℕ) → List ℕ → List ℕ → List ℕ → Type 0
-OfNext p f ks xs vs = (i : ℕ) → i < maxStreams → waiting ≤ getD ks i 0 → getD ks i 0 ≤ playing → getD vs i 0 ≡ f (getD xs i (p .none))
+OfNext p f ks xs vs = (i : ℕ) → i < maxStreams → filling ≤ getD ks i 0 → getD ks i 0 ≤ playing → getD vs i 0 ≡ f (getD xs i (p .none))
 
 -- a block takes one visit or two, and n blocks no more than 256
 pub record Visits (visits n : ℕ) : Type 0 where
@@ -37,7 +37,7 @@ othersBy (suc (suc v)) q = q ∷ []
 -- vs has that of the next block of each such slot
 abbrev pub OthersOfNext : Supply ℕ → ℕ → List ℕ → List ℕ → List ℕ → Type 0
 OthersOfNext p visits ks xs vs =
-    (i : ℕ) → i < maxStreams → waiting ≤ getD ks i 0 → getD ks i 0 ≤ playing → p .others (getD xs i (p .none)) ≡ othersBy visits (getD vs i 0)
+    (i : ℕ) → i < maxStreams → filling ≤ getD ks i 0 → getD ks i 0 ≤ playing → p .others (getD xs i (p .none)) ≡ othersBy visits (getD vs i 0)
 
 -- what is gathered of the list of positions and the zones for the slots: time, position and second position of the next block of each
 pub record Gathered : Type 0 where

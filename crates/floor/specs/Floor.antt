@@ -40,6 +40,11 @@ pub record Added (g : ℕ → ℕ) (ks xs : List ℕ) (n sum : ℕ) : Type 0 whe
   pub sums : (p : Supply ℕ) (hs : List ℕ) → Slots p n ks xs hs → LeadsOf p g ks xs n → sum ≡ leads p (slotsOf p ks xs hs)
   pub most : sum ≤ maxStreams * mostLead
 
+-- sum is what the leads of a record add up to, and in its range
+pub record LeadsSummed (d : Desk) (sum : ℕ) : Type 0 where
+  pub sums : sum ≡ leadSum d
+  pub most : sum ≤ maxStreams * mostLead
+
 -- the floor as the code computes it
 pub mark-is : (p : Plan) (L : ℕ) → lowWater (supplyOf p) L ≡ parts * p .figures .bytes + p .figures .rate * L
 unfolding supplyOf lowWater

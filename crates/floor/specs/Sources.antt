@@ -5,15 +5,12 @@ use mathlib.Core.Path.{_≡_}
 use mathlib.Core.Bool.{Bool, true, false, cond}
 use mathlib.Core.List.{List}
 use lib.ListN.{length, getD}
-use Rattle.numbers.specs.Limits.{maxTime, maxStreams}
+use Rattle.numbers.specs.Limits.{maxTime}
 use Rattle.numbers.specs.Slots.{waiting, playing}
 use Rattle.words.specs.Words.{wordsOf}
 use Rattle.placement.specs.Zones.{total, timeAt}
 use Rattle.plan.specs.Disk.{Zoned}
-use Rattle.rules.specs.Supply.{Supply}
-use Rattle.rules.specs.Scheduler.{leads}
-use Rattle.rules.specs.Arrays.{slotsOf}
-use Rattle.floor.specs.Floor.{mostLead, Small}
+use Rattle.floor.specs.Floor.{Small}
 
 -- block b is in the list of positions ps, its position on the disk and its time in its range
 pub record Placed (sizes times ps : List ℕ) (b : ℕ) : Type 0 where
@@ -39,20 +36,3 @@ leadsNext listed sizes times w ps ls xs i = leadFrom listed sizes times w ps ls 
 pub record Found (listed : Bool) (sizes times : List ℕ) (w : ℕ) (ps ls ks xs : List ℕ) (n : ℕ) : Type 0 where
   pub here : (i : ℕ) → i < n → waiting ≤ getD ks i 0 → getD ks i 0 ≤ playing → Sourced listed sizes times ps ls (getD xs i 0)
   pub small : Small (leadsNext listed sizes times w ps ls xs) ks n
-
--- ---- the leads of slots whose next blocks take the times ts
-
-abbrev pub leadsIn : List ℕ → ℕ → ℕ → ℕ
-leadsIn ts w i = 2 * getD ts i 0 - w
-
--- the times and the leads of the first n slots are in their range
-pub record Timely (ts : List ℕ) (w n : ℕ) : Type 0 where
-  pub quick : (i : ℕ) → getD ts i 0 ≤ 2 * maxTime
-  pub small : (i : ℕ) → i < n → leadsIn ts w i ≤ mostLead
-
--- they are the leads of the next blocks of a supply's slots, w being worst2; sum is what filling and playing ones add up to
-pub record Leads (p : Supply ℕ) (n : ℕ) (ks xs hs ts : List ℕ) (w sum : ℕ) : Type 0 where
-  pub each : (i : ℕ) → i < maxStreams → waiting ≤ getD ks i 0 → getD ks i 0 ≤ playing → leadsIn ts w i ≡ p .lead (getD xs i (p .none))
-  pub timely : Timely ts w n
-  pub sums : sum ≡ leads p (slotsOf p ks xs hs)
-  pub most : sum ≤ maxStreams * mostLead

@@ -11,8 +11,8 @@ use words::word_at;
 use zones::time_at;
 ghost use mathlib.Core.Path.{_≡_};
 ghost use mathlib.Core.List.{List};
-ghost use Prim.Native.Nat.{ℕ, _+_, _*_, _≤_, min};
-ghost use lib.ListN.{length};
+ghost use Prim.Native.Nat.{ℕ, _+_, _*_, _≤_, _<_, min};
+ghost use lib.ListN.{length, getD};
 ghost use Rattle.words.specs.Words.{wordsOf};
 ghost use Rattle.numbers.specs.Limits.{maxBytes, maxRate, maxStreams};
 ghost use Rattle.numbers.specs.Slots.{filling, playing};
@@ -23,7 +23,7 @@ ghost use Rattle.turns.specs.Turns.{leastHeld};
 ghost use Rattle.desk.specs.Shown.{Slots};
 ghost use Rattle.desk_layout.specs.Layout.{deskIn, deskSize};
 ghost use Rattle.floor.specs.Floor.{ample, Added};
-ghost use Rattle.floor.specs.Sources.{Sourced, leadFrom, leadsNext, Found, leadsIn, Timely};
+ghost use Rattle.floor.specs.Sources.{Sourced, leadFrom, leadsNext, Found};
 
 // Stands for the least that a playing slot holds where none plays, in two-millionths of a byte: above every floor.
 const AMPLE: u64 = 2000000000000000000;
@@ -107,33 +107,30 @@ pub fn sum_leads<'a>(
     sum
 }
 
-// What a slot with this lead adds to the sum.
-fn counted_lead(kind: u32, own: u32) -> u32
-    ensures block { λ r. ⌜ (filling ≤ kind → kind ≤ playing → r ≡ own) ⌝ }
-    ensures none { λ r. ⌜ ((filling ≤ kind → kind ≤ playing → ⊥) → r ≡ 0) ⌝ }
-{
-    match kind {
-        FILLING => own,
-        PLAYING => own,
-        _ => 0,
-    }
-}
-
-// The leads of the filling and playing slots of a desk, by the times of their next blocks, added up. The slots from `streams` on are free.
-pub fn sum_times(desk: &[u8], streams: usize, times: &[u32; 256]) -> u32
-    requires { ⌜ (let d = deskIn (wordsOf (now desk)) in
-        (streams ≤ maxStreams) × (deskSize ≤ length (now desk)) × Timely (now times) (d .plan .worst2) streams) ⌝ }
+// The lead of the next block of a slot of a desk.
+pub fn next_lead<'a>(
+    desk: &[u8],
+    slot: usize,
+    sizes: &'a [u32; 64],
+    times: &'a [u32; 64],
+    positions: &[u8],
+    leads: &[u8],
+    listed: bool,
+) -> u32
+    requires { ⌜ (slot < maxStreams) × (deskSize ≤ length (now desk))
+        × Sourced listed (now sizes) (now times) (now positions) (now leads) (getD (deskIn (wordsOf (now desk)) .next) slot 0) ⌝ }
     ensures { λ r. ⌜ (let d = deskIn (wordsOf (now (desk .entry))) in
-        Added (leadsIn (now (times .entry)) (d .plan .worst2)) (d .kinds) (d .next) streams r) ⌝ }
+        r ≡ leadsNext listed (now (sizes .entry)) (now (times .entry)) (d .plan .worst2) (now (positions .entry)) (now (leads .entry)) (d .next) slot) ⌝ }
 {
-    let worst2 = worst2_in(desk);
-    let mut sum: u32 = 0;
-    let mut i: usize = 0;
-    while i < streams {
-        sum += counted_lead(kind_in(desk, i), lead(times[i], worst2));
-        i += 1;
-    }
-    sum
+    lead_from(
+        sizes,
+        times,
+        worst2_in(desk),
+        positions,
+        leads,
+        listed,
+        next_in(desk, slot),
+    )
 }
 
 // The floor in two-millionths of a byte, for leads that add up to `leads`: B plus c / 2,000,000 times the leads.

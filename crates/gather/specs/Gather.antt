@@ -6,7 +6,7 @@ use mathlib.Core.Logic.{_≢_}
 use mathlib.Core.List.{List}
 use lib.ListN.{length, getD}
 use Rattle.numbers.specs.Limits.{maxTime}
-use Rattle.numbers.specs.Slots.{waiting, playing}
+use Rattle.numbers.specs.Slots.{filling, playing}
 use Rattle.words.specs.Words.{wordsOf}
 use Rattle.placement.specs.Zones.{total, timeAt}
 use Rattle.desk.specs.Shown.{Gathered}
@@ -46,14 +46,14 @@ pub record Nothing (r : Block) : Type 0 where
   pub position : r .position ≡ 0
   pub other : r .other ≡ 0
 
--- what is found for a slot of kind k with next block x: nothing for a free slot or a tail
+-- what is found for a slot of kind k with next block x: nothing where it neither fills nor plays
 pub record NextFound (sizes times ps : List ℕ) (visits k x : ℕ) (r : Block) : Type 0 where
-  pub here : waiting ≤ k → k ≤ playing → Here sizes times ps visits x r
-  pub other : (waiting ≤ k → k ≤ playing → ⊥) → Nothing r
+  pub here : filling ≤ k → k ≤ playing → Here sizes times ps visits x r
+  pub other : (filling ≤ k → k ≤ playing → ⊥) → Nothing r
 
--- the list has the next block of each asked, filling or playing slot among the first n; kinds ks, next blocks xs
+-- the list has the next block of each filling or playing slot among the first n; kinds ks, next blocks xs
 abbrev pub Reached : List ℕ → List ℕ → List ℕ → ℕ → List ℕ → List ℕ → ℕ → Type 0
-Reached sizes times ps visits ks xs n = (i : ℕ) → i < n → waiting ≤ getD ks i 0 → getD ks i 0 ≤ playing → Reach sizes times ps visits (getD xs i 0)
+Reached sizes times ps visits ks xs n = (i : ℕ) → i < n → filling ≤ getD ks i 0 → getD ks i 0 ≤ playing → Reach sizes times ps visits (getD xs i 0)
 
 -- what three arrays hold
 abbrev pub gathered : List ℕ → List ℕ → List ℕ → Gathered

@@ -1,11 +1,9 @@
 // What is gathered of the list of positions and the zones for the slots of a desk.
-use desk_columns::kind_in;
 use desk_columns::next_in;
 use desk_columns::zone_sizes;
 use desk_columns::zone_times;
 use numbers::slots::FILLING;
 use numbers::slots::PLAYING;
-use numbers::slots::WAITING;
 use words::word_at;
 use zones::time_at;
 ghost use mathlib.Core.Path.{_≡_};
@@ -13,7 +11,7 @@ ghost use Prim.Native.Nat.{_≤_};
 ghost use lib.ListN.{length};
 ghost use Rattle.words.specs.Words.{wordsOf};
 ghost use Rattle.numbers.specs.Limits.{maxStreams};
-ghost use Rattle.numbers.specs.Slots.{waiting, playing};
+ghost use Rattle.numbers.specs.Slots.{filling, playing};
 ghost use Rattle.plan.specs.Disk.{Zoned};
 ghost use Rattle.desk.specs.Desk.{zeros};
 ghost use Rattle.desk_layout.specs.Layout.{deskIn, deskSize};
@@ -63,7 +61,7 @@ fn block_at<'a>(
     }
 }
 
-// The next block of a slot that is asked, filling or playing; all zero for another kind.
+// The next block of a slot that is filling or playing; all zero for another kind.
 fn next_block<'a>(
     sizes: &'a [u32; 64],
     times: &'a [u32; 64],
@@ -72,11 +70,10 @@ fn next_block<'a>(
     kind: u32,
     next: u32,
 ) -> Block
-    requires { ⌜ (Zoned (now sizes)) × (waiting ≤ kind → kind ≤ playing → Reach (now sizes) (now times) (now positions) visits next) ⌝ }
+    requires { ⌜ (Zoned (now sizes)) × (filling ≤ kind → kind ≤ playing → Reach (now sizes) (now times) (now positions) visits next) ⌝ }
     ensures { λ r. ⌜ NextFound (now (sizes .entry)) (now (times .entry)) (now (positions .entry)) visits kind next r ⌝ }
 {
     match kind {
-        WAITING => block_at(sizes, times, positions, visits, next),
         FILLING => block_at(sizes, times, positions, visits, next),
         PLAYING => block_at(sizes, times, positions, visits, next),
         _ => Block {
@@ -87,10 +84,11 @@ fn next_block<'a>(
     }
 }
 
-// Time and positions of the next block of each of the first `streams` slots of a desk, where a block takes so many visits, go into three
-// arrays that are all zero; nothing for free slots and tails.
+// Time and positions of the next block of each of the first `streams` slots of a desk that fill or play, by these kinds, go into three arrays
+// that are all zero; nothing for the others. A block takes so many visits.
 pub fn gather<'a>(
     desk: &[u8],
+    kinds: &[u32; 256],
     positions: &[u8],
     streams: usize,
     visits: u32,
@@ -99,10 +97,10 @@ pub fn gather<'a>(
     others: &'a mut [u32; 256],
 )
     requires { ⌜ (let d = deskIn (wordsOf (now desk)) in (let f = d .plan .figures in (deskSize ≤ length (now desk)) × (streams ≤ maxStreams)
-        × (Zoned (f .positions)) × (Reached (f .positions) (f .times) (now positions) visits (d .kinds) (d .next) streams)
+        × (Zoned (f .positions)) × (Reached (f .positions) (f .times) (now positions) visits (now kinds) (d .next) streams)
         × (now found ≡ zeros) × (now spots ≡ zeros) × (now others ≡ zeros))) ⌝ }
     ensures { λ _. ⌜ (let d = deskIn (wordsOf (now (desk .entry))) in (let f = d .plan .figures in
-        Collected (f .positions) (f .times) (now (positions .entry)) visits (d .kinds) (d .next) streams
+        Collected (f .positions) (f .times) (now (positions .entry)) visits (now (kinds .entry)) (d .next) streams
         (gathered (now (found .exit)) (now (spots .exit)) (now (others .exit))))) ⌝ }
 {
     let sizes = zone_sizes(desk);
@@ -114,7 +112,7 @@ pub fn gather<'a>(
             &times,
             positions,
             visits,
-            kind_in(desk, i),
+            kinds[i],
             next_in(desk, i),
         );
         found[i] = b.time;

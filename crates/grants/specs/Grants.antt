@@ -1,7 +1,8 @@
 -- What the grants are told of the slots of a supply: kinds ks, next blocks xs, held bytes hs, places qs.
 -- Assumes nothing.
-use Prim.Native.Nat.{ℕ, _+_, _*_, _<_}
+use Prim.Native.Nat.{ℕ, _+_, _*_, _≤_, _<_}
 use mathlib.Core.Path.{_≡_}
+use mathlib.Core.Bool.{Bool}
 use mathlib.Core.List.{List}
 use lib.ListN.{getD}
 use Rattle.numbers.specs.Limits.{maxBytes, maxRate, maxStreams}
@@ -13,11 +14,22 @@ use Rattle.rules.specs.Order.{Begun}
 use Rattle.rules.specs.Arrays.{slotsOf}
 use Rattle.turns.specs.Turns.{leastHeld}
 use Rattle.turns.specs.Places.{Places}
+use Rattle.desk.specs.declared.Desk.{Desk}
 use Rattle.floor.specs.Floor.{mostLead, ample}
+use Rattle.floor.specs.Sources.{Sourced, leadsNext}
 
 -- no floor is above it
 abbrev pub mostFloor : ℕ
 mostFloor = parts * maxBytes + maxRate * (maxStreams * mostLead)
+
+-- the leads of the next blocks of a record's slots, by the slot, from a list or without one
+abbrev pub leadsBySlot : Bool → Desk → List ℕ → List ℕ → List ℕ → List ℕ → ℕ → ℕ
+leadsBySlot listed d sizes times ps ls = leadsNext listed sizes times (d .plan .worst2) ps ls (d .next)
+
+-- the source has those of so many slots in a line, and they are in their range
+pub record InLine (listed : Bool) (d : Desk) (sizes times ps ls line : List ℕ) (count : ℕ) : Type 0 where
+  pub here : (k : ℕ) → 0 < k → k ≤ count → Sourced listed sizes times ps ls (getD (d .next) (getD line k 0) 0)
+  pub small : (k : ℕ) → 0 < k → k ≤ count → leadsBySlot listed d sizes times ps ls (getD line k 0) ≤ mostLead
 
 -- the places are sound, and g has the lead of each asked slot's next block, by the slot
 pub record Asked (p : Supply ℕ) (g : ℕ → ℕ) (ks xs hs qs : List ℕ) : Type 0 where

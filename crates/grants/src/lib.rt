@@ -1,22 +1,25 @@
 // Begin: filling slots start to play, then asked slots are granted in the order of asking, none behind one that has to wait.
+use desk_columns::rate_in;
+use floor::next_lead;
 use numbers::slots::FILLING;
 use numbers::slots::PLAYING;
 use numbers::units::PARTS;
-use streams::lead;
 use streams::product;
 ghost use mathlib.Core.Path.{_≡_};
 ghost use mathlib.Core.List.{List};
-ghost use Prim.Native.Nat.{ℕ, _-_, _*_, _≤_, _<_};
+ghost use Prim.Native.Nat.{ℕ, _-_, _≤_, _<_};
 ghost use lib.ListN.{length, getD};
-ghost use Rattle.numbers.specs.Limits.{maxRate, maxTime, maxStreams};
+ghost use Rattle.words.specs.Words.{wordsOf};
+ghost use Rattle.numbers.specs.Limits.{maxRate, maxStreams};
 ghost use Rattle.rules.specs.Supply.{Supply};
 ghost use Rattle.rules.specs.Scheduler.{startedSlot, started};
 ghost use Rattle.rules.specs.Order.{eldestLead, served};
 ghost use Rattle.rules.specs.Arrays.{slotOf, slotsOf};
 ghost use Rattle.turns.specs.Served.{droppedBy};
 ghost use Rattle.desk.specs.Shown.{Slots};
-ghost use Rattle.floor.specs.Sources.{leadsIn};
-ghost use Rattle.grants.specs.Grants.{mostFloor, Asked, Asks, servedTo};
+ghost use Rattle.desk_layout.specs.Layout.{deskIn, deskSize};
+ghost use Rattle.floor.specs.Floor.{mostLead};
+ghost use Rattle.grants.specs.Grants.{mostFloor, leadsBySlot, InLine, Asked, Asks, servedTo};
 ghost use Rattle.grants.specs.Line.{taken, Queued, Lined};
 
 // The kind of a slot after it was tested against the mark: a filling one that holds it plays.
@@ -96,41 +99,69 @@ fn slot_at(line: &[u8; 257], place: usize) -> usize
     wide(line[place])
 }
 
-// The lead of the eldest of so many requests, 0 where none asks. A slot's lead is that of the time of its next block.
-pub fn eldest_lead(line: &[u8; 257], count: usize, times: &[u32; 256], worst2: u32) -> u32
-    requires { ⌜ (count ≤ maxStreams) × ((i : ℕ) → getD (now times) i 0 ≤ 2 * maxTime) ⌝ }
-    ensures lead { λ r. ⌜ ((p : Supply ℕ) (n : ℕ) (ks xs hs qs : List ℕ) → Slots p n ks xs hs → Asked p (leadsIn (now (times .entry)) worst2) ks xs hs qs
+// The lead of the eldest of so many requests to a desk, 0 where none asks. It is found here, by the list or without one.
+pub fn eldest_lead<'a>(
+    desk: &[u8],
+    line: &[u8; 257],
+    count: usize,
+    sizes: &'a [u32; 64],
+    times: &'a [u32; 64],
+    positions: &[u8],
+    leads: &[u8],
+    listed: bool,
+) -> u32
+    requires { ⌜ (deskSize ≤ length (now desk)) × (count ≤ maxStreams)
+        × InLine listed (deskIn (wordsOf (now desk))) (now sizes) (now times) (now positions) (now leads) (now line) count ⌝ }
+    ensures lead { λ r. ⌜ (let g = leadsBySlot listed (deskIn (wordsOf (now (desk .entry)))) (now (sizes .entry)) (now (times .entry)) (now (positions .entry))
+        (now (leads .entry)) in (p : Supply ℕ) (n : ℕ) (ks xs hs qs : List ℕ) → Slots p n ks xs hs → Asked p g ks xs hs qs
         → Lined qs (now (line .entry)) count → r ≡ eldestLead p (slotsOf p ks xs hs) qs) ⌝ }
-    ensures most { λ r. ⌜ r ≤ 4 * maxTime ⌝ }
+    ensures most { λ r. ⌜ r ≤ mostLead ⌝ }
 {
     if count == 0 {
         return 0;
     }
-    lead(times[slot_at(line, 1)], worst2)
+    next_lead(
+        desk,
+        slot_at(line, 1),
+        sizes,
+        times,
+        positions,
+        leads,
+        listed,
+    )
 }
 
-// So many asked slots become filling in their line, eldest first, up to the first that has to wait; the answer is how many do. `floor` is the
-// low-water mark of the leads before, and `level` the least that a playing slot holds.
-pub fn grant_asked(
+// So many asked slots of a desk become filling in their line, eldest first, up to the first that has to wait; the answer is how many do. The lead
+// of each is found as it is tried. `floor` is the low-water mark of the leads before, and `level` the least that a playing slot holds.
+pub fn grant_asked<'a>(
+    desk: &[u8],
     kinds: &mut [u32; 256],
     line: &[u8; 257],
     count: usize,
-    times: &[u32; 256],
-    worst2: u32,
-    rate: u32,
+    sizes: &'a [u32; 64],
+    times: &'a [u32; 64],
+    positions: &[u8],
+    leads: &[u8],
+    listed: bool,
     floor: u64,
     level: u64,
 ) -> u32
-    requires { ⌜ (length (now kinds) ≡ 256) × (count ≤ maxStreams) × ((i : ℕ) → getD (now times) i 0 ≤ 2 * maxTime) × (rate ≤ maxRate) × (floor ≤ mostFloor) ⌝ }
-    ensures { λ r. ⌜ ((p : Supply ℕ) (n : ℕ) (xs hs qs : List ℕ) → Slots p n (now (kinds .entry)) xs hs
-        → Asks p rate floor level (leadsIn (now (times .entry)) worst2) (now (kinds .entry)) xs hs qs → Lined qs (now (line .entry)) count
-        → served p 256 (slotsOf p (now (kinds .entry)) xs hs) qs ≡ servedTo (slotsOf p (now (kinds .exit)) xs hs) (droppedBy r qs)) ⌝ }
+    requires { ⌜ (deskSize ≤ length (now desk)) × (length (now kinds) ≡ 256) × (count ≤ maxStreams)
+        × InLine listed (deskIn (wordsOf (now desk))) (now sizes) (now times) (now positions) (now leads) (now line) count
+        × (deskIn (wordsOf (now desk)) .plan .figures .rate ≤ maxRate) × (floor ≤ mostFloor) ⌝ }
+    ensures { λ r. ⌜ (let d = deskIn (wordsOf (now (desk .entry))) in
+        (let g = leadsBySlot listed d (now (sizes .entry)) (now (times .entry)) (now (positions .entry)) (now (leads .entry)) in
+        (p : Supply ℕ) (n : ℕ) (xs hs qs : List ℕ) → Slots p n (now (kinds .entry)) xs hs
+        → Asks p (d .plan .figures .rate) floor level g (now (kinds .entry)) xs hs qs → Lined qs (now (line .entry)) count
+        → served p 256 (slotsOf p (now (kinds .entry)) xs hs) qs ≡ servedTo (slotsOf p (now (kinds .exit)) xs hs) (droppedBy r qs))) ⌝ }
 {
+    let rate = rate_in(desk);
     let mut mark = floor;
     let mut granted: usize = 0;
     while granted < count {
         let slot = slot_at(line, granted + 1);
-        mark += product(rate, lead(times[slot], worst2));
+        let lead = next_lead(desk, slot, sizes, times, positions, leads, listed);
+        mark += product(rate, lead);
         if level < mark {
             return granted as u32;
         }

@@ -1,4 +1,3 @@
 pub mod Answers
 pub mod Count
-pub mod Gathered
 pub mod Ways

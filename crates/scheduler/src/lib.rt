@@ -22,7 +22,6 @@ use draws::judge_draws;
 use draws::most_drawn;
 use entry_layout::write_entries;
 use fetches::sweep_bound;
-use floor::sum_times;
 use gather::gather;
 use numbers::refusals::ACCEPTED;
 use numbers::refusals::NOT_SOUND;
@@ -32,6 +31,7 @@ use numbers::slots::BETWEEN;
 use numbers::slots::SWEEPING;
 use plan::is_short;
 use soundness::is_sound;
+use soundness::test_desk;
 use sweep::Swept;
 use sweep::begin_sweep;
 use sweep::end_sweep;
@@ -55,32 +55,17 @@ pub fn judge_begin(desk: &[u8], positions: &[u8], leads: &[u8], listed: bool, ro
     ensures { λ r. ⌜ (let d = deskIn (wordsOf (now (desk .entry))) in
         r ≡ sweptOf (beginDesk d (now (positions .entry)) (leadsBy listed (d .plan) (now (leads .entry))) room)) ⌝ }
 {
-    if !is_sound(desk, positions, leads, listed) {
+    let test = test_desk(desk, positions, leads, listed);
+    if !test.sound {
         return not_swept(desk, NOT_SOUND);
     }
     if phase_in(desk) != BETWEEN {
         return not_swept(desk, WRONG_PHASE);
     }
-    let count = streams_in(desk);
-    let streams = count as usize;
-    let visits = visits_in(desk);
-    if room < (visits * count) as usize {
+    if room < (visits_in(desk) * streams_in(desk)) as usize {
         return not_swept(desk, TOO_SHORT);
     }
-    let mut times = zeros();
-    let mut spots = zeros();
-    let mut others = zeros();
-    gather(
-        desk,
-        positions,
-        streams,
-        visits,
-        &mut times,
-        &mut spots,
-        &mut others,
-    );
-    let sum = sum_times(desk, streams, &times);
-    begin_sweep(desk, &times, &spots, &others, sum)
+    begin_sweep(desk, positions, leads, listed, test.leads)
 }
 
 // A begin with its lists, or with a scratch in the lead list's place.
@@ -188,6 +173,7 @@ pub fn judge_end(desk: &[u8], positions: &[u8], leads: &[u8], listed: bool, draw
     let mut others = zeros();
     gather(
         desk,
+        &kinds,
         positions,
         streams,
         visits,

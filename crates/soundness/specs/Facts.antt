@@ -18,8 +18,9 @@ use Rattle.rules.specs.Sound.{sound}
 use Rattle.desk.specs.declared.Desk.{Desk}
 use Rattle.desk.specs.Desk.{supplyOf, orderOf, viewOf}
 use Rattle.desk.specs.Asked.{askedCount}
-use Rattle.floor.specs.Floor.{mostLead}
+use Rattle.floor.specs.Floor.{mostLead, LeadsSummed}
 use Rattle.floor.specs.Sources.{Sourced, leadFrom}
+use Rattle.soundness.specs.declared.Test.{Test}
 
 -- the phase and the slots are sound
 abbrev pub slotsSound : Desk → Bool
@@ -28,6 +29,11 @@ slotsSound d = sound (supplyOf (d .plan)) (orderOf (d .plan)) (viewOf d)
 -- THE RECORD IS SOUND with its lent lists
 abbrev pub soundDesk : Desk → List ℕ → List ℕ → Bool
 soundDesk d ps ls = isPlan (d .plan) ps ls && slotsSound d
+
+-- what the test of a record answers: whether it is sound, and then the sum of its leads
+pub record TestIs (d : Desk) (ps ls : List ℕ) (r : Test) : Type 0 where
+  pub sound : r .sound ≡ soundDesk d ps ls
+  pub leads : r .sound ≡ true → LeadsSummed d (r .leads)
 
 -- a test tells whether a fact holds
 pub record Tells (r : Bool) (P : Type 0) : Type 0 where

@@ -25,7 +25,7 @@ use Rattle.desk.specs.Shown.{Slots}
 use Rattle.desk.specs.FilmEnd.{end-says, end-at}
 use Rattle.desk.specs.Promise.{supply-named}
 use Rattle.desk.specs.Slots.{length-in, slot-in, kind-in}
-use Rattle.floor.specs.Floor.{leadSum, Added, mark-is}
+use Rattle.floor.specs.Floor.{leadSum, Added, LeadsSummed, mark-is}
 use Rattle.floor.specs.Sources.{leadsNext, Found}
 use Rattle.soundness.specs.Facts.{slotsSound, Tells, Tidy, AllTidy, OthersIdle, PlayersHold, LeadSource, ZonesRead}
 use Rattle.soundness.specs.Places.{AllPlaced, sound-idle, sound-placed, placed-sound}
@@ -106,7 +106,7 @@ module _ (d : Desk) (w : Wide d) where
       abbrev lead : ℕ → ℕ
       lead = leadsNext listed sizes times (d .plan .worst2) ps ls (d .next)
 
-      lead-says : (i : ℕ) → i < m → waiting ≤ getD (d .kinds) i 0 → getD (d .kinds) i 0 ≤ playing
+      pub lead-says : (i : ℕ) → i < m → waiting ≤ getD (d .kinds) i 0 → getD (d .kinds) i 0 ≤ playing
           → lead i ≡ leadOf (showingIn (d .plan)) (d .plan .figures) (getD (d .next) i 0)
       lead-says i l a b = rw (z .0, z .1) (q .says _ (block i (omega arith) a b))
 
@@ -116,9 +116,9 @@ module _ (d : Desk) (w : Wide d) where
         small = λ i l a b. omega (arith, lead-says i l a b, q .small _ (block i (omega arith) a b));
       }
 
-      pub tidy-sum : (sum : ℕ) → Added lead (d .kinds) (d .next) m sum → sum ≡ leadSum d
+      pub tidy-sum : (sum : ℕ) → Added lead (d .kinds) (d .next) m sum → LeadsSummed d sum
       unfolding supplyOf
-      tidy-sum sum a = a .sums (supplyOf (d .plan)) (d .held) (rw e (tidy-slots t)) lead-says
+      tidy-sum sum a = record { sums = a .sums (supplyOf (d .plan)) (d .held) (rw e (tidy-slots t)) lead-says; most = a .most }
 
   sound-players : IsSound → PlayersHold (d .plan .streams) (d .kinds) (d .held) mark
   sound-players h i l k = good-at h i .floored k

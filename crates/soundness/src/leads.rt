@@ -12,7 +12,7 @@ ghost use Prim.Native.Nat.{_≤_};
 ghost use lib.ListN.{length};
 ghost use Rattle.words.specs.Words.{wordsOf};
 ghost use Rattle.desk_layout.specs.Layout.{deskIn, deskSize};
-ghost use Rattle.floor.specs.Floor.{leadSum};
+ghost use Rattle.floor.specs.Floor.{LeadsSummed};
 ghost use Rattle.soundness.specs.Facts.{Summable};
 
 // A film of at most so many blocks is short.
@@ -35,7 +35,7 @@ fn sum_short<'a>(
 ) -> u32
     requires { ⌜ (let d = deskIn (wordsOf (now desk)) in (deskSize ≤ length (now desk)) × (d .plan .figures .blocks ≤ 64)
         × Summable false d streams (now sizes) (now times) (now positions) (now positions)) ⌝ }
-    ensures { λ r. ⌜ r ≡ leadSum (deskIn (wordsOf (now (desk .entry)))) ⌝ }
+    ensures { λ r. ⌜ LeadsSummed (deskIn (wordsOf (now (desk .entry)))) r ⌝ }
 {
     let mut leads = room();
     let total = sum_positions(sizes, zones_in(desk));
@@ -66,7 +66,7 @@ pub fn sum_next<'a>(
 ) -> u32
     requires { ⌜ (let d = deskIn (wordsOf (now desk)) in (deskSize ≤ length (now desk))
         × Summable listed d streams (now sizes) (now times) (now positions) (now leads)) ⌝ }
-    ensures { λ r. ⌜ r ≡ leadSum (deskIn (wordsOf (now (desk .entry)))) ⌝ }
+    ensures { λ r. ⌜ LeadsSummed (deskIn (wordsOf (now (desk .entry)))) r ⌝ }
 {
     if !listed {
         if blocks_in(desk) <= SHORT {

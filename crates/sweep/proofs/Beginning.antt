@@ -1,13 +1,17 @@
 -- The steps of a begin, one after the other.
 -- Assumes nothing.
-use Prim.Native.Nat.{ℕ, _+_, _*_, _-_, _≤_}
+use Prim.Native.Nat.{ℕ, _+_, _*_, _-_, _≤_, _<_}
 use mathlib.Core.Path.{_≡_, refl, sym, ap, subst, _∙_}
+use mathlib.Core.Logic.{by-cases}
+use mathlib.Core.Bool.{Bool}
 use mathlib.Core.List.{List, map}
 use native.Mathlib.Omega.{arith}
+use native.Mathlib.Decide.{decLt, ℕ-discrete}
 use native.Mathlib.Nat.{mul-le-mul}
 use lib.ListN.{length, getD}
 use Rattle.laws.specs.Each.{Both, both-at, both-length}
 use Rattle.numbers.specs.Limits.{maxBytes, maxRate, maxStreams}
+use Rattle.numbers.specs.Slots.{waiting, playing}
 use Rattle.numbers.specs.Units.{parts}
 use Rattle.pacing.specs.Streams.{overhead}
 use Rattle.rules.specs.Scheduler.{Slot, freeSlot, at, leads, lowWater, started, entries, bound}
@@ -25,18 +29,20 @@ use Rattle.turns.specs.Turns.{leastHeld, started-leads}
 use Rattle.turns.specs.ArrayLaws.{length-slots, slot-at, kinds-of-slots}
 use Rattle.desk.specs.declared.Desk.{Desk}
 use Rattle.desk.specs.declared.Fetches.{Fetches}
-use Rattle.desk.specs.Shown.{Gathered, Slots, OfNext, othersBy, Gathers}
+use Rattle.desk.specs.Shown.{Gathered, Slots, othersBy, Gathers}
 use Rattle.desk.specs.Desk.{visitsIn, supplyOf, slotsIn, viewOf, deskOf, verdict, fetchesOf}
 use Rattle.desk.specs.View.{Wide}
-use Rattle.desk.specs.Ready.{Ready, overheads-are, ready-slots, room-left}
-use Rattle.desk.specs.Slots.{length-in, slot-in}
-use Rattle.floor.specs.Floor.{mostLead, ample, mark-is}
-use Rattle.floor.specs.Sources.{leadsIn}
-use Rattle.grants.specs.Grants.{mostFloor, Asked, Asks, servedTo}
+use Rattle.desk.specs.Ready.{Ready, streams-are, overheads-are, ready-slots, room-left}
+use Rattle.desk.specs.Slots.{length-in, slot-in, kind-in}
+use Rattle.floor.specs.Floor.{mostLead, ample, LeadsSummed, mark-is}
+use Rattle.soundness.specs.Facts.{LeadSource, ZonesRead}
+use Rattle.soundness.specs.Tests.{sound-tidy, lead-says, tidy-found}
+use Rattle.grants.specs.Grants.{mostFloor, leadsBySlot, InLine, Asked, Asks, servedTo}
 use Rattle.grants.specs.Laws.{places-queued}
-use Rattle.grants.specs.Line.{Queued}
+use Rattle.grants.specs.Line.{Queued, Lined}
 use Rattle.fetches.specs.Told.{Timed, Positioned}
-use Rattle.sweep.specs.Begins.{LeadsIn, Served}
+use Rattle.sweep.specs.Begins.{Served}
+use Rattle.sweep.specs.Gathered.{Reading}
 use Rattle.sweep.specs.Steps.{servedIn, begunDesk, sweptOf}
 use Rattle.sweep.specs.Kept.{begun-kept}
 
@@ -58,13 +64,38 @@ module _ (d : Desk) (w : Wide d) (r : Ready d) where
   ready-queued =
       places-queued (supplyOf (d .plan)) (d .plan .streams) (slotsIn d) (d .places) (length-in d w) (ready-slots d w r .unused) ready-places
 
-  -- the leads of its requests, v being worst2 as it was read
-  pub ready-asked : (ts : List ℕ) (v sum : ℕ) → v ≡ d .plan .worst2 → LeadsIn d ts sum
-      → Asked (supplyOf (d .plan)) (leadsIn ts v) (d .kinds) (d .next) (d .held) (d .places)
-  ready-asked ts v sum e f = record {
-    places = ready-places;
-    own = λ i h k. ap (λ (m : ℕ). leadsIn ts m i) e ∙ f .each i h (omega arith) (omega arith);
-  }
+  -- the leads of its requests, by a source of them and the zones as they were read
+  module _ (listed : Bool) (ps ls : List ℕ) (q : LeadSource listed (d .plan) ps ls) (sizes times : List ℕ) (z : ZonesRead d sizes times) where
+    abbrev lead : ℕ → ℕ
+    lead = leadsBySlot listed d sizes times ps ls
+
+    -- a slot that is not free is one of the first n
+    below : (i : ℕ) → waiting ≤ getD (d .kinds) i 0 → i < d .plan .streams
+    below i a = by-cases (decLt i (d .plan .streams)) (λ h. h)
+        (λ h. absurd (omega (arith, a, kind-in d w i, ready-slots d w r .unused i (omega arith))))
+
+    pub own-lead : (i : ℕ) → waiting ≤ getD (d .kinds) i 0 → getD (d .kinds) i 0 ≤ playing
+        → lead i ≡ supplyOf (d .plan) .lead (getD (d .next) i (supplyOf (d .plan) .none))
+    unfolding supplyOf
+    own-lead i a b = lead-says d w (sound-tidy d w (r .sound)) (streams-are d r) listed ps ls q sizes times z _ refl i (below i a) a b
+
+    pub ready-asked : Asked (supplyOf (d .plan)) lead (d .kinds) (d .next) (d .held) (d .places)
+    ready-asked = record { places = ready-places; own = λ i h k. own-lead i (omega arith) (omega arith) }
+
+    -- each slot in the line of its requests is one
+    in-line : (line : List ℕ) (count : ℕ) → Lined (d .places) line count → (k : ℕ) → 0 < k → k ≤ count → getD (d .kinds) (getD line k 0) 0 ≡ waiting
+    in-line line count o k h m =
+        let i = getD line k 0 in
+        sym (kind-in d w i) ∙ by-cases (ℕ-discrete (at (supplyOf (d .plan)) (slotsIn d) i .kind) waiting) (λ e. e)
+        (λ e. absurd (omega (arith, ready-places .idle i e, o .slot k h m)))
+
+    pub ready-line : (line : List ℕ) (count : ℕ) → Lined (d .places) line count → InLine listed d sizes times ps ls line count
+    ready-line line count o =
+        let f = tidy-found d w (sound-tidy d w (r .sound)) (streams-are d r) listed ps ls q sizes times z _ refl in
+        record {
+          here = λ k h m. let e = in-line line count o k h m in f .here _ (below _ (omega arith)) (omega arith) (omega arith);
+          small = λ k h m. let e = in-line line count o k h m in f .small _ (below _ (omega arith)) (omega arith) (omega arith);
+        }
 
 -- d has other kinds ks, and so the slots ts, which a step of a begin may leave
 module _ (d : Desk) (w : Wide d) (r : Ready d) (ks : List ℕ) (ts : List (Slot ℕ)) (q : slotsOf (supplyOf (d .plan)) ks (d .next) (d .held) ≡ ts)
@@ -91,9 +122,8 @@ module _ (d : Desk) (w : Wide d) (r : Ready d) (ks : List ℕ) (ts : List (Slot 
       let was = ap (λ (s : Slot ℕ). s .kind) (slot-in d w i) in
       omega (arith, now, was, k .occupied, k .rises)
 
-  -- so what was gathered for it stays true
-  pub gathered-kept : (f : ℕ → ℕ) (vs : List ℕ) → OfNext (supplyOf (d .plan)) f (d .kinds) (d .next) vs → OfNext (supplyOf (d .plan)) f ks (d .next) vs
-  gathered-kept f vs u i l a b = let k = before i a b in u i l (k .0) (k .1)
+  pub reading : Reading d ks
+  reading i a b = before i (omega arith) b
 
 -- filling slots have started to play: d has the kinds ks
 module _ (d : Desk) (w : Wide d) (r : Ready d) (x : ℕ) (ks : List ℕ)
@@ -101,22 +131,23 @@ module _ (d : Desk) (w : Wide d) (r : Ready d) (x : ℕ) (ks : List ℕ)
   pub slots-started : Slots (supplyOf (d .plan)) (d .plan .streams) ks (d .next) (d .held)
   slots-started = slots-kept d w r ks _ q (started-kept (supplyOf (d .plan)) x (slotsIn d))
 
-  -- what the grants are told: the times ts give the leads, v being worst2 as it was read
-  pub asks-started : (ts : List ℕ) (v sum floor level : ℕ) → v ≡ d .plan .worst2 → LeadsIn d ts sum
+  -- what the grants are told: g has the leads by the slot, and c is the rate
+  pub asks-started : (g : ℕ → ℕ) (c sum floor level : ℕ) → c ≡ d .plan .figures .rate
+      → ((i : ℕ) → waiting ≤ getD (d .kinds) i 0 → getD (d .kinds) i 0 ≤ playing → g i ≡ supplyOf (d .plan) .lead (getD (d .next) i (supplyOf (d .plan) .none)))
+      → LeadsSummed d sum
       → floor ≡ parts * d .plan .figures .bytes + d .plan .figures .rate * sum
       → level ≡ parts * leastHeld (supplyOf (d .plan)) ample (slotsOf (supplyOf (d .plan)) ks (d .next) (d .held))
-      → Asks (supplyOf (d .plan)) (d .plan .figures .rate) floor level (leadsIn ts v) ks (d .next) (d .held) (d .places)
+      → Asks (supplyOf (d .plan)) c floor level g ks (d .next) (d .held) (d .places)
   unfolding supplyOf
-  asks-started ts v sum floor level e f m l =
+  asks-started g c sum floor level e own f m l =
       let p = supplyOf (d .plan) in
       record {
         asked = record {
           places = subst (λ (ss : List (Slot ℕ)). Places p ss (d .places)) (sym q)
               (places-same p (slotsIn d) _ (d .places) (started-waits p x (slotsIn d)) (ready-places d w r));
-          own = λ i h k. let b = before d w r ks _ q (started-kept p x (slotsIn d)) i (omega arith) (omega arith) in
-              ap (λ (m : ℕ). leadsIn ts m i) e ∙ f .each i h (b .0) (b .1);
+          own = λ i h k. let b = before d w r ks _ q (started-kept p x (slotsIn d)) i (omega arith) (omega arith) in own i (b .0) (b .1);
         };
-        rate = refl;
+        rate = e;
         mark = floor-is d floor sum _ m (f .sums ∙ sym (started-leads p x (slotsIn d)) ∙ ap (leads p) (sym q));
         least = l;
       }
@@ -141,18 +172,22 @@ module _ (d : Desk) (w : Wide d) (r : Ready d) (x : ℕ) (ks : List ℕ)
 
 -- both steps are done: d has the kinds ks and the places qs
 module _ (d : Desk) (w : Wide d) (r : Ready d) (ks qs : List ℕ) (q : Served d ks qs) where
+  -- who reads now asked, filled or played before
+  pub reading-begun : Reading d ks
+  reading-begun = reading d w r ks _ (q .slots) (begun-kept d r)
+
   slots-begun : Slots (supplyOf (d .plan)) (d .plan .streams) ks (d .next) (d .held)
   slots-begun = slots-kept d w r ks _ (q .slots) (begun-kept d r)
 
   -- v is the visits of a block as they were read
-  module _ (g : Gathered) (u : Gathers (supplyOf (d .plan)) (visitsIn (d .plan)) (d .kinds) (d .next) g) (v : ℕ) (seen : v ≡ visitsIn (d .plan)) where
+  module _ (g : Gathered) (u : Gathers (supplyOf (d .plan)) (visitsIn (d .plan)) ks (d .next) g) (v : ℕ) (seen : v ≡ visitsIn (d .plan)) where
     -- what the sweep bound and the list of fetches are told
     pub timed-begun : Timed (supplyOf (d .plan)) (d .plan .streams) (d .plan .buffer - d .plan .figures .bytes) v (d .plan .figures .table)
         ks (d .next) (d .held) (g .times)
     unfolding supplyOf
     timed-begun = record {
       slots = slots-begun;
-      times = gathered-kept d w r ks _ (q .slots) (begun-kept d r) (supplyOf (d .plan) .time) (g .times) (u .times);
+      times = u .times;
       spare = room-left d r;
       moves = λ k. overheads-are d k ∙ ap (λ (n : ℕ). overhead (d .plan .figures .table) (n * k)) (sym seen);
     }
@@ -162,9 +197,8 @@ module _ (d : Desk) (w : Wide d) (r : Ready d) (ks qs : List ℕ) (q : Served d 
     unfolding supplyOf
     positioned-begun = record {
       slots = slots-begun;
-      positions = gathered-kept d w r ks _ (q .slots) (begun-kept d r) (supplyOf (d .plan) .position) (g .positions) (u .positions);
-      others = λ i l a b. let k = before d w r ks _ (q .slots) (begun-kept d r) i a b in
-          u .others i l (k .0) (k .1) ∙ ap (λ (n : ℕ). othersBy n (getD (g .others) i 0)) (sym seen);
+      positions = u .positions;
+      others = λ i l a b. u .others i l a b ∙ ap (λ (n : ℕ). othersBy n (getD (g .others) i 0)) (sym seen);
       spare = room-left d r;
       own = λ b. refl;
     }

@@ -3,6 +3,8 @@ use card::Verdict;
 use desk::Desk;
 use desk::Fetches;
 use desk::no_fetches;
+use desk::verdict;
+use desk::zeros;
 use desk_columns::all_held;
 use desk_columns::all_kinds;
 use desk_columns::all_next;
@@ -13,13 +15,15 @@ use desk_columns::overheads;
 use desk_columns::rate_in;
 use desk_columns::streams_in;
 use desk_columns::visits_in;
-use desk_columns::worst2_in;
+use desk_columns::zone_sizes;
+use desk_columns::zone_times;
 use desk_record::string_of;
 use ends::end_slots;
 use fetches::list_fetches;
 use fetches::sweep_bound;
 use floor::least_level;
 use floor::low_water;
+use gather::gather;
 use grants::drop_places;
 use grants::eldest_lead;
 use grants::empty_line;
@@ -36,7 +40,8 @@ ghost use Rattle.desk.specs.Ready.{Ready};
 ghost use Rattle.desk_layout.specs.Layout.{deskIn, deskSize};
 ghost use Rattle.ends.specs.Ends.{Drawn};
 ghost use Rattle.sweep.specs.Steps.{begunDesk, sweptOf, notSwept, endedDesk};
-ghost use Rattle.sweep.specs.Begins.{Serves, Served, Begins};
+ghost use Rattle.sweep.specs.Begins as begins;
+ghost use Rattle.sweep.specs.Begins.{Serves, Begins};
 
 // What a begin answers of itself and changes of the desk; the rest of the desk stays, but for the phase.
 pub struct Swept {
@@ -64,46 +69,63 @@ pub fn not_swept(desk: &[u8], number: u32) -> Swept
     }
 }
 
-// The kinds and places of the desk in a lent string become those that a begin leaves: while a request waits a filling slot starts to play only
-// with the eldest's lead added to the floor, then asked slots are granted, eldest first. `times` are those of the slots' next blocks; `sum` is what
-// the leads of filling and playing slots add up to.
-fn serve<'a>(
+// The kinds and places that a begin leaves.
+struct Served {
+    kinds: [u32; 256],
+    places: [u32; 256],
+}
+
+// What a begin makes of the slots of the desk in a lent string: while a request waits a filling slot starts to play only with the eldest's lead
+// added to the floor, then asked slots are granted, eldest first. `sum` is what the leads of filling and playing slots add up to.
+fn serve(
     desk: &[u8],
-    held: &'a [u32; 256],
-    times: &'a [u32; 256],
+    held: &[u32; 256],
+    positions: &[u8],
+    leads: &[u8],
+    listed: bool,
     sum: u32,
-    kinds: &mut [u32; 256],
-    places: &mut [u32; 256],
-)
-    requires { ⌜ (deskSize ≤ length (now desk)) × Serves (deskIn (wordsOf (now desk))) (now held) (now times) sum (now kinds) (now places) ⌝ }
-    ensures { λ _. ⌜ Served (deskIn (wordsOf (now (desk .entry)))) (now (kinds .exit)) (now (places .exit)) ⌝ }
+) -> Served
+    requires { ⌜ (deskSize ≤ length (now desk)) × Serves (deskIn (wordsOf (now desk))) listed (now held) (now positions) (now leads) sum ⌝ }
+    ensures { λ r. ⌜ begins.Served (deskIn (wordsOf (now (desk .entry)))) (r .kinds) (r .places) ⌝ }
 {
+    let sizes = zone_sizes(desk);
+    let times = zone_times(desk);
     let bytes = bytes_in(desk);
     let rate = rate_in(desk);
     let streams = streams_in(desk) as usize;
-    let worst2 = worst2_in(desk);
+    let mut kinds = all_kinds(desk);
+    let mut places = all_places(desk);
     let mut line = empty_line();
-    let count = line_up(places, streams, &mut line);
-    let eldest = eldest_lead(&line, count, times, worst2);
+    let count = line_up(&places, streams, &mut line);
+    let eldest = eldest_lead(desk, &line, count, &sizes, &times, positions, leads, listed);
     let mark = low_water(bytes, rate, sum + eldest);
-    start_playing(kinds, held, streams, mark);
-    let level = least_level(kinds, held, streams);
+    start_playing(&mut kinds, held, streams, mark);
+    let level = least_level(&kinds, held, streams);
     let floor = low_water(bytes, rate, sum);
-    let granted = grant_asked(kinds, &line, count, times, worst2, rate, floor, level);
-    drop_places(places, streams, granted);
+    let granted = grant_asked(
+        desk,
+        &mut kinds,
+        &line,
+        count,
+        &sizes,
+        &times,
+        positions,
+        leads,
+        listed,
+        floor,
+        level,
+    );
+    drop_places(&mut places, streams, granted);
+    Served {
+        kinds: kinds,
+        places: places,
+    }
 }
 
-// A begin of the desk in a lent string: filling slots start to play, asked slots are granted, and the sweep's fetches are listed. The arrays
-// are what was gathered for the slots: times and positions of their next blocks, second ones in `others`; `sum` is what the leads of filling
-// and playing slots add up to.
-pub fn begin_sweep<'a>(
-    desk: &[u8],
-    times: &'a [u32; 256],
-    positions: &'a [u32; 256],
-    others: &'a [u32; 256],
-    sum: u32,
-) -> Swept
-    requires { ⌜ (deskSize ≤ length (now desk)) × Begins (deskIn (wordsOf (now desk))) (now times) (now positions) (now others) sum ⌝ }
+// A begin of the desk in a lent string: filling slots start to play, asked slots are granted, and the sweep's fetches are listed; `sum` is what
+// the leads of filling and playing slots add up to. The next blocks are gathered once it is known which slots read.
+pub fn begin_sweep(desk: &[u8], positions: &[u8], leads: &[u8], listed: bool, sum: u32) -> Swept
+    requires { ⌜ (deskSize ≤ length (now desk)) × Begins (deskIn (wordsOf (now desk))) listed (now positions) (now leads) sum ⌝ }
     ensures { λ r. ⌜ r ≡ sweptOf (begunDesk (deskIn (wordsOf (now (desk .entry))))) ⌝ }
 {
     let visits = visits_in(desk);
@@ -112,25 +134,26 @@ pub fn begin_sweep<'a>(
     let table = overheads(desk);
     let next = all_next(desk);
     let held = all_held(desk);
-    let mut kinds = all_kinds(desk);
-    let mut places = all_places(desk);
-    serve(desk, &held, times, sum, &mut kinds, &mut places);
-    let bound = sweep_bound(&kinds, &held, times, streams, room, visits, &table);
-    let fetches = list_fetches(
+    let served = serve(desk, &held, positions, leads, listed, sum);
+    let kinds = served.kinds;
+    let places = served.places;
+    let mut times = zeros();
+    let mut spots = zeros();
+    let mut others = zeros();
+    gather(
+        desk,
         &kinds,
-        &next,
-        &held,
         positions,
-        others,
         streams,
-        room,
         visits,
+        &mut times,
+        &mut spots,
+        &mut others,
     );
+    let bound = sweep_bound(&kinds, &held, &times, streams, room, visits, &table);
+    let fetches = list_fetches(&kinds, &next, &held, &spots, &others, streams, room, visits);
     Swept {
-        verdict: Verdict {
-            number: ACCEPTED,
-            place: 0,
-        },
+        verdict: verdict(ACCEPTED, 0),
         kinds: kinds,
         places: places,
         bound: bound,

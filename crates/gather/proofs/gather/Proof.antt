@@ -4,7 +4,7 @@ use mathlib.Core.List.{List}
 use native.Mathlib.Omega.{arith}
 use lib.ListN.{getD}
 use borrow.Author.Needs.{needs}
-use Rattle.numbers.specs.Slots.{waiting, playing}
+use Rattle.numbers.specs.Slots.{filling, playing}
 use Rattle.words.specs.Words.{wordsOf}
 use Rattle.plan.specs.Disk.{Zoned}
 use Rattle.desk.specs.declared.Desk.{Desk}
@@ -16,12 +16,12 @@ use Rattle.gather.proofs.gather.Tie as tie
 
 -- the next blocks of the first i slots are collected
 abbrev Inv-loop : tie.InvT-loop
-Inv-loop desk positions streams visits found₀ spots₀ others₀ sizes times i₀ found spots others i = (let d = deskIn (wordsOf desk) in
+Inv-loop desk kinds positions streams visits found₀ spots₀ others₀ sizes times i₀ found spots others i = (let d = deskIn (wordsOf desk) in
     let f = d .plan .figures in
-    Collecting (f .positions) (f .times) positions visits (d .kinds) (d .next) streams (gathered found spots others) i)
+    Collecting (f .positions) (f .times) positions visits kinds (d .next) streams (gathered found spots others) i)
 
 abbrev μ-loop : tie.MeasureT-loop
-μ-loop desk positions streams visits found₀ spots₀ others₀ sizes times i₀ found spots others i = streams - i
+μ-loop desk kinds positions streams visits found₀ spots₀ others₀ sizes times i₀ found spots others i = streams - i
 
 -- ---- the places, each from a later one
 
@@ -31,16 +31,16 @@ timed c = c .before
 abbrev start : tie.At-loop Inv-loop μ-loop → tie.Start Inv-loop μ-loop
 start c = timed c .before .before .before .before
 
-abbrev turn : tie.After-kind-in Inv-loop μ-loop → tie.In-loop Inv-loop μ-loop
-turn c = c .before .before .before
+abbrev turn : tie.After-next-in Inv-loop μ-loop → tie.In-loop Inv-loop μ-loop
+turn c = c .before .before .before .before
 
 abbrev given : tie.Start Inv-loop μ-loop → Desk
 given s = deskIn (wordsOf (s .args .desk .now))
 
 -- what is asked for a block, of numbers that are equal
-asked-same : {sizes zs times ts : List ℕ} (ps : List ℕ) (v : ℕ) {k j x y : ℕ} → sizes ≡ zs → times ≡ ts → k ≡ j → x ≡ y → Zoned zs
-    → (waiting ≤ j → j ≤ playing → Reach zs ts ps v y) → (Zoned sizes) × (waiting ≤ k → k ≤ playing → Reach sizes times ps v x)
-asked-same ps v a t b c z r = rw (a, t, b, c) (z, r)
+asked-same : {sizes zs times ts : List ℕ} (ps : List ℕ) (v k : ℕ) {x y : ℕ} → sizes ≡ zs → times ≡ ts → x ≡ y → Zoned zs
+    → (filling ≤ k → k ≤ playing → Reach zs ts ps v y) → (Zoned sizes) × (filling ≤ k → k ≤ playing → Reach sizes times ps v x)
+asked-same ps v k a t c z r = rw (a, t, c) (z, r)
 
 -- ---- the needs
 
@@ -49,31 +49,30 @@ loop-holds c = let s = c .before .before .before .before in collecting-none _ _ 
 
 next-block-requires : tie.Need-next-block-requires Inv-loop μ-loop
 next-block-requires c κs =
-    let k = c .before in
-    let t = turn k in
+    let t = turn c in
     let s = start (t .before) in
-    asked-same _ _ (timed (t .before) .before .zone-sizes .ensures) (timed (t .before) .zone-times .ensures) (k .kind-in .ensures) (c .next-in .ensures) (s .pre .2)
+    asked-same _ _ _ (timed (t .before) .before .zone-sizes .ensures) (timed (t .before) .zone-times .ensures) (c .next-in .ensures) (s .pre .2)
     (s .pre .3 (t .before .loop .i) (t .loop-test .taken))
 
 -- what is found for slot i, said of the desk
-finds : (c : tie.After-next-block Inv-loop μ-loop) → (let t = turn (c .before .before) in
+finds : (c : tie.After-next-block Inv-loop μ-loop) → (let t = turn (c .before) in
     let s = start (t .before) in
     let i = t .before .loop .i in
     let d = given s in
     let f = d .plan .figures in
-    NextFound (f .positions) (f .times) (s .args .positions .now) (s .args .visits) (getD (d .kinds) i 0) (getD (d .next) i 0) (c .next-block .result))
+    NextFound (f .positions) (f .times) (s .args .positions .now) (s .args .visits) (getD (s .args .kinds .now) i 0) (getD (d .next) i 0)
+    (c .next-block .result))
 finds c =
-    let k = c .before .before in
-    let z = timed (turn k .before) in
-    rw (sym (z .before .zone-sizes .ensures), sym (z .zone-times .ensures), sym (k .kind-in .ensures), sym (c .before .next-in .ensures))
-    (c .next-block .ensures)
+    let z = timed (turn (c .before) .before) in
+    rw (sym (z .before .zone-sizes .ensures), sym (z .zone-times .ensures), sym (c .before .next-in .ensures)) (c .next-block .ensures)
 
 loop-again : tie.Need-loop-again Inv-loop μ-loop
 loop-again c =
-    let t = turn (c .before .before) in
+    let t = turn (c .before) in
     let l = t .before .loop in
     let h : l .i < 256 = omega (arith, t .loop-test .taken, start (t .before) .pre .1) in
-    unfold stored in collecting-next _ _ _ _ _ _ _ (gathered (l .found) (l .spots) (l .others)) (l .i) (c .next-block .result) (l .inv) (t .loop-test .taken) h (finds c)
+    unfold stored in
+    collecting-next _ _ _ _ _ _ _ (gathered (l .found) (l .spots) (l .others)) (l .i) (c .next-block .result) (l .inv) (t .loop-test .taken) h (finds c)
 
 returns : tie.Need-returns Inv-loop μ-loop
 returns c =
@@ -90,7 +89,8 @@ gather-spec =
     (λ c κs. omega arith)
     (λ c κs. omega arith)
     loop-holds
-    (λ c κs. omega arith)
+    (λ c. omega arith)
+    (λ c. omega arith)
     (λ c κs. omega arith)
     next-block-requires
     (λ c. omega arith)

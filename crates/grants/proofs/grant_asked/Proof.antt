@@ -1,18 +1,21 @@
 use native.Mathlib.Omega.{arith}
 use native.Mathlib.Nat.{mul-le-mul}
 use Prim.Native.Nat.{ℕ, _+_, _*_, _-_, _≤_, _<_}
-use mathlib.Core.Path.{_≡_, ap, _∙_}
+use mathlib.Core.Path.{_≡_, sym, ap, ap₂, subst, _∙_}
 use mathlib.Core.List.{List}
 use lib.ListN.{length, getD, set, length-set}
 use borrow.Author.Needs.{needs}
-use Rattle.numbers.specs.Limits.{maxRate, maxTime}
+use Rattle.words.specs.Words.{wordsOf}
+use Rattle.numbers.specs.Limits.{maxRate}
 use Rattle.numbers.specs.Slots.{filling}
 use Rattle.numbers.specs.Units.{parts}
 use Rattle.rules.specs.Supply.{Supply}
 use Rattle.desk.specs.Shown.{Slots}
-use Rattle.floor.specs.Floor.{ample}
-use Rattle.floor.specs.Sources.{leadsIn}
-use Rattle.grants.specs.Grants.{mostFloor, Asks}
+use Rattle.desk.specs.declared.Desk.{Desk}
+use Rattle.desk_layout.specs.Layout.{deskIn}
+use Rattle.floor.specs.Floor.{mostLead, ample}
+use Rattle.floor.specs.Sources.{Sourced}
+use Rattle.grants.specs.Grants.{mostFloor, leadsBySlot, Asks}
 use Rattle.grants.specs.Line.{Lined}
 use Rattle.grants.proofs.Granting.{Granted, none-granted, all-granted, next-waits, next-granted}
 use Rattle.grants.proofs.grant_asked.Statement.{statement}
@@ -20,7 +23,7 @@ use Rattle.grants.proofs.grant_asked.Tie as tie
 
 -- no lead costs more
 abbrev mostCost : ℕ
-mostCost = maxRate * (4 * maxTime)
+mostCost = maxRate * mostLead
 
 -- so many of the line are granted, and the mark has their leads
 record Granting (kinds₀ line : List ℕ) (count : ℕ) (g : ℕ → ℕ) (rate floor level : ℕ) (kinds : List ℕ) (mark granted : ℕ) : Type 0 where
@@ -31,54 +34,62 @@ record Granting (kinds₀ line : List ℕ) (count : ℕ) (g : ℕ → ℕ) (rate
       → Granted p rate floor level g n kinds₀ xs hs qs line count w a o kinds mark granted
 
 abbrev Inv-loop : tie.InvT-loop
-Inv-loop kinds₀ line count times worst2 rate floor level mark₀ granted₀ kinds mark granted =
-    Granting kinds₀ line count (leadsIn times worst2) rate floor level kinds mark granted
+Inv-loop desk kinds₀ line count sizes times positions leads listed floor level rate mark₀ granted₀ kinds mark granted = (let d = deskIn (wordsOf desk) in
+    Granting kinds₀ line count (leadsBySlot listed d sizes times positions leads) (d .plan .figures .rate) floor level kinds mark granted)
 
 abbrev μ-loop : tie.MeasureT-loop
-μ-loop kinds₀ line count times worst2 rate floor level mark₀ granted₀ kinds mark granted = count - granted
+μ-loop desk kinds₀ line count sizes times positions leads listed floor level rate mark₀ granted₀ kinds mark granted = count - granted
 
 loop-holds : tie.Need-loop-holds Inv-loop μ-loop
-loop-holds c = record {
-  few = omega arith;
-  long = c .pre .0;
-  most = omega (arith, c .pre .4);
-  so-far = λ p n xs hs qs w a o. none-granted p _ _ _ _ n _ xs hs qs _ _ w a o;
-}
+loop-holds c = let s = c .before .before .before .before in
+    record {
+      few = omega arith;
+      long = s .pre .1;
+      most = omega (arith, s .pre .5);
+      so-far = λ p n xs hs qs w a o. none-granted p _ _ _ _ n _ xs hs qs _ _ w a o;
+    }
 
 -- ---- the places, each from a later one
 
 abbrev found : tie.After-product Inv-loop μ-loop → tie.After-slot-at Inv-loop μ-loop
-found c = c .before .before .before
+found c = c .before .before
 
 abbrev turn : tie.After-slot-at Inv-loop μ-loop → tie.At-loop Inv-loop μ-loop
 turn c = c .before .before
 
 abbrev start : tie.At-loop Inv-loop μ-loop → tie.Start Inv-loop μ-loop
-start l = l .before
+start l = l .before .before .before .before .before
 
 -- ---- what is known there
+
+-- the desk, and the leads of its slots
+abbrev given : tie.Start Inv-loop μ-loop → Desk
+given s = deskIn (wordsOf (s .args .desk .now))
+
+abbrev lead : tie.Start Inv-loop μ-loop → ℕ → ℕ
+lead s = let a = s .args in leadsBySlot (a .listed) (given s) (a .sizes .now) (a .times .now) (a .positions .now) (a .leads .now)
 
 -- the next slot, and its lead
 abbrev next : tie.At-loop Inv-loop μ-loop → ℕ
 next l = getD (start l .args .line .now) (l .loop .granted + 1) 0
 
 abbrev own : tie.At-loop Inv-loop μ-loop → ℕ
-own l = let a = start l .args in leadsIn (a .times .now) (a .worst2) (next l)
+own l = lead (start l) (next l)
 
-small : (l : tie.At-loop Inv-loop μ-loop) → start l .args .rate * own l ≤ mostCost
-small l = let s = start l in
-    let h : own l ≤ 4 * maxTime = omega (arith, s .pre .2 (next l)) in
-    mul-le-mul (s .pre .3) h
+abbrev rate : tie.At-loop Inv-loop μ-loop → ℕ
+rate l = given (start l) .plan .figures .rate
 
-cost : (c : tie.After-product Inv-loop μ-loop) → (let l = turn (found c) in c .product .result ≡ start l .args .rate * own l)
+small : (l : tie.At-loop Inv-loop μ-loop) → l .loop .granted < start l .args .count → rate l * own l ≤ mostCost
+small l h = let s = start l in mul-le-mul (s .pre .4) (s .pre .3 .small (l .loop .granted + 1) (omega arith) (omega arith))
+
+cost : (c : tie.After-product Inv-loop μ-loop) → (let l = turn (found c) in c .product .result ≡ rate l * own l)
 cost c =
     let f = found c in
-    let a = start (turn f) .args in
-    c .product .ensures
-    ∙ ap (λ (m : ℕ). a .rate * m) (c .before .lead .ensures ∙ ap (leadsIn (a .times .now) (a .worst2)) (f .slot-at .ensures .0))
+    let l = turn f in
+    c .product .ensures ∙ ap₂ (λ (r m : ℕ). r * m) (l .before .rate-in .ensures) (c .before .next-lead .ensures ∙ ap (lead (start l)) (f .slot-at .ensures .0))
 
-below : (l : tie.At-loop Inv-loop μ-loop) → l .loop .granted < start l .args .count → l .loop .mark + start l .args .rate * own l ≤ parts * ample
-below l h = omega (arith, l .loop .inv .most, small l, start l .pre .1)
+below : (l : tie.At-loop Inv-loop μ-loop) → l .loop .granted < start l .args .count → l .loop .mark + rate l * own l ≤ parts * ample
+below l h = omega (arith, l .loop .inv .most, small l h, start l .pre .2)
 
 -- the slot and the cost as the code has them
 as-found : {kinds₀ line : List ℕ} {count : ℕ} {g : ℕ → ℕ} {rate floor level : ℕ} (kinds : List ℕ) (mark : ℕ) {granted i j x y : ℕ} → i ≡ j → x ≡ y
@@ -88,8 +99,17 @@ as-found kinds mark e q h = rw (e, q) h
 
 -- ---- the needs
 
-lead-requires : tie.Need-lead-requires Inv-loop μ-loop
-lead-requires c κs = start (turn (c .before)) .pre .2 _
+next-lead-requires : tie.Need-next-lead-requires Inv-loop μ-loop
+next-lead-requires c κs =
+    let l = turn c in
+    let s = start l in
+    let a = s .args in
+    let e = c .slot-at .ensures in (
+      e .1,
+      s .pre .0,
+      subst (λ (i : ℕ). Sourced (a .listed) (a .sizes .now) (a .times .now) (a .positions .now) (a .leads .now) (getD (given s .next) i 0)) (sym (e .0))
+          (s .pre .3 .here (l .loop .granted + 1) (omega arith) (omega (arith, c .before .loop-test .taken))),
+    )
 
 add-mark : tie.Need-add-mark Inv-loop μ-loop
 add-mark c = let f = found c in omega (arith, cost c, below (turn f) (f .before .loop-test .taken))
@@ -112,7 +132,7 @@ loop-again c =
     as-found (l .kinds) (l .mark) (f .slot-at .ensures .0) (cost b) (record {
       few = omega (arith, f .before .loop-test .taken);
       long = length-set (l .kinds) (next t) filling ∙ l .inv .long;
-      most = omega (arith, l .inv .most, small t);
+      most = omega (arith, l .inv .most, small t (f .before .loop-test .taken));
       so-far = λ p n xs hs qs w a o.
           next-granted p _ _ _ _ n _ xs hs qs _ _ w a o (l .kinds) (l .inv .long) (l .mark) (l .granted) (l .inv .so-far p n xs hs qs w a o)
           (f .before .loop-test .taken) (omega (arith, f .slot-at .ensures)) (below t (f .before .loop-test .taken)) (omega (arith, cost b, c .if1 .left));
@@ -130,12 +150,11 @@ grant-asked-spec =
     (tie.spec
     Inv-loop
     μ-loop
+    (λ c κs. search needs)
     loop-holds
     (λ c. omega arith)
     (λ c κs. omega arith)
-    (λ c. omega arith)
-    (λ c. omega arith)
-    lead-requires
+    next-lead-requires
     (λ c κs. search needs)
     add-mark
     (λ c. omega arith)

@@ -25,7 +25,7 @@ use Rattle.soundness.specs.Ready.{sound-ready, sound-plan}
 use Rattle.desk.specs.Shown.{Visits, Gathered}
 use Rattle.fetches.specs.Told.{Timed}
 use Rattle.gather.specs.Gather.{Reached, Collected, gathered}
-use Rattle.scheduler.specs.Gathered.{zoned, reached, gathers, in-range}
+use Rattle.sweep.specs.Gathered.{Reading, zoned, reached, gathers, in-range}
 use Rattle.scheduler.specs.Answers.{end-unsound, end-between, end-judged}
 use Rattle.scheduler.proofs.Sweeping.{timed, sweeps}
 use Rattle.scheduler.proofs.judge_end.Statement.{statement}
@@ -108,34 +108,34 @@ judged c =
 
 -- what was gathered
 abbrev value : tie.After-gather → Gathered
-value c = gathered (c .gather .last .1 .1 .1 .1 .0) (c .gather .last .1 .1 .1 .1 .1 .0) (c .gather .last .1 .1 .1 .1 .1 .1 .0)
+value c = gathered (c .gather .last .1 .1 .1 .1 .1 .0) (c .gather .last .1 .1 .1 .1 .1 .1 .0) (c .gather .last .1 .1 .1 .1 .1 .1 .1 .0)
 
 -- where all that is read of the desk is read
 abbrev seen : tie.After-gather → tie.After-visits-in
-seen c = c .before .before .before .before .before .before .before
+seen c = c .before .before .before .before .before .before .before .before
 
 abbrev read : tie.After-gather → tie.After-all-kinds
 read c = seen c .before
 
-collected : (c : tie.After-gather) → (let k = read c in
-    let d = desk k in
-    let f = d .plan .figures in
-    Collected (f .positions) (f .times) (start (tested (passing (buffered k))) .args .positions .now) (visitsIn (d .plan)) (d .kinds) (d .next)
-    (d .plan .streams) (value c))
-collected c =
-    let k = read c in
-    let s = start (tested (passing (buffered k))) in
-    subst (λ (d : Desk). Collected (d .plan .figures .positions) (d .plan .figures .times) (s .args .positions .now) (visitsIn (d .plan))
-    (d .kinds) (d .next) (desk k .plan .streams) (value c))
-    (sym (desk-is k))
-    (subst (λ (v : ℕ). Collected (given s .plan .figures .positions) (given s .plan .figures .times) (s .args .positions .now) v (given s .kinds)
-    (given s .next) (desk k .plan .streams) (value c))
-    (seen c .visits-in .ensures) (c .gather .ensures))
+-- of a desk d, whose kinds are as they were read
+abbrev Collects : Desk → ℕ → tie.After-gather → Type 0
+Collects d v c = let k = read c in
+    Collected (d .plan .figures .positions) (d .plan .figures .times) (start (tested (passing (buffered k))) .args .positions .now) v (desk k .kinds) (d .next)
+    (desk k .plan .streams) (value c)
+
+collected : (c : tie.After-gather) → (let d = desk (read c) in Collects d (visitsIn (d .plan)) c)
+collected c = let k = read c in
+    subst (λ (v : ℕ). Collects (desk k) v c) (seen c .visits-in .ensures)
+    (subst (λ (d : Desk). Collects d (seen c .visits-in .result) c) (sym (desk-is k)) (c .gather .ensures))
+
+-- they are its own
+same : (d : Desk) → Reading d (d .kinds)
+same d i a b = (omega arith, b)
 
 -- what is asked for the gathering
-abbrev Reachable : Desk → ℕ → ℕ → List ℕ → Type 0
-Reachable d n v ps =
-    (n ≤ maxStreams) × Zoned (d .plan .figures .positions) × Reached (d .plan .figures .positions) (d .plan .figures .times) ps v (d .kinds) (d .next) n
+abbrev Reachable : Desk → ℕ → ℕ → List ℕ → List ℕ → Type 0
+Reachable d n v ks ps =
+    (n ≤ maxStreams) × Zoned (d .plan .figures .positions) × Reached (d .plan .figures .positions) (d .plan .figures .times) ps v ks (d .next) n
 
 -- ---- the needs
 
@@ -161,15 +161,16 @@ sub-room c =
 
 gather-requires : tie.Need-gather-requires
 gather-requires c κs =
-    let z = c .before .before .before in
+    let z = c .before .before .before .before in
     let v = z .before .before .before in
     let k = v .before in
     let s = start (tested (passing (buffered k))) in
     let j = judged k in
     let p = sound-plan _ _ _ (j .sound) in
-    let r = subst (λ (n : ℕ). Reachable (given s) (desk k .plan .streams) n (s .args .positions .now)) (sym (v .visits-in .ensures))
-    (subst (λ (d : Desk). Reachable d (desk k .plan .streams) (visitsIn (d .plan)) (s .args .positions .now)) (desk-is k)
-    (streams-are (desk k) (j .ready), zoned (desk k) (j .wide) (j .ready) _ _ p, reached (desk k) (j .wide) (j .ready) _ _ p))
+    let d = desk k in
+    let r = subst (λ (n : ℕ). Reachable (given s) (d .plan .streams) n (d .kinds) (s .args .positions .now)) (sym (v .visits-in .ensures))
+    (subst (λ (e : Desk). Reachable e (d .plan .streams) (visitsIn (e .plan)) (d .kinds) (s .args .positions .now)) (desk-is k)
+    (streams-are d (j .ready), zoned d (j .wide) (j .ready) _ _ p, reached d (j .wide) (j .ready) _ _ p (d .kinds) (same d)))
     in
     (s .pre, r .0, r .1, r .2, z .before .before .zeros .ensures, z .before .zeros2 .ensures, z .zeros3 .ensures)
 
@@ -178,7 +179,7 @@ sweep-bound-requires c κs =
     let g = c .before .before .before .before in
     let k = read g in
     let j = judged k in
-    let i = in-range _ (j .wide) (j .ready) _ _ (sound-plan _ _ _ (j .sound)) (value g) (collected g) in
+    let i = in-range (desk k) (j .wide) (j .ready) _ _ (sound-plan _ _ _ (j .sound)) _ (same (desk k)) (value g) (collected g) in
     (subst (λ (v : ℕ). Visits v (desk k .plan .streams)) (sym (seen g .visits-in .ensures)) (visits-are _ (j .ready)), i .times, λ k h. table-range _ (j .ready .legal) k h .1)
 
 judge-draws-requires : tie.Need-judge-draws-requires
@@ -195,7 +196,7 @@ returns-3 c =
     let d = desk k in
     let j = judged k in
     let p = supplyOf (d .plan) in
-    let f = gathers d (j .wide) (j .ready) _ _ (sound-plan _ _ _ (j .sound)) (value g) (collected g) in
+    let f = gathers d (j .wide) (j .ready) _ _ (sound-plan _ _ _ (j .sound)) _ (same d) (value g) (collected g) in
     let told = subst
     (λ (v : ℕ). Timed p (d .plan .streams) (d .plan .buffer - d .plan .figures .bytes) v (d .plan .figures .table) (d .kinds) (d .next) (d .held) (value g .times))
     (sym (seen g .visits-in .ensures)) (timed d (j .wide) (j .ready) (value g) f)

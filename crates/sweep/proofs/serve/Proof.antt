@@ -1,11 +1,9 @@
-use Prim.Native.Nat.{ℕ, _+_, _*_, _≤_}
+use Prim.Native.Nat.{ℕ, _+_}
 use native.Mathlib.Omega.{arith}
-use mathlib.Core.Path.{_≡_, refl, sym, ap, ap₂, subst, _∙_}
+use mathlib.Core.Path.{_≡_, refl, sym, ap₂, subst, _∙_}
 use mathlib.Core.List.{List}
-use lib.ListN.{length}
 use borrow.Author.Needs.{needs}
 use Rattle.words.specs.Words.{wordsOf}
-use Rattle.numbers.specs.Units.{parts}
 use Rattle.rules.specs.Scheduler.{started, leads, lowWater}
 use Rattle.rules.specs.Order.{eldestLead}
 use Rattle.rules.specs.Arrays.{slotsOf}
@@ -16,22 +14,27 @@ use Rattle.desk.specs.Desk.{supplyOf, slotsIn}
 use Rattle.desk.specs.Records.{withRead, read-same}
 use Rattle.desk.specs.Ready.{streams-are, ready-slots}
 use Rattle.desk_layout.specs.Layout.{deskIn}
+use Rattle.soundness.specs.Facts.{ZonesRead}
+use Rattle.grants.specs.Grants.{InLine}
 use Rattle.sweep.specs.Begins.{Serves, Served}
-use Rattle.sweep.proofs.Beginning.{floor-is, floor-most, ready-queued, ready-asked, slots-started, asks-started, begun-all}
+use Rattle.sweep.proofs.Beginning.{floor-is, floor-most, ready-queued, own-lead, ready-asked, ready-line, slots-started, asks-started, begun-all}
 use Rattle.sweep.proofs.serve.Statement.{statement}
 use Rattle.sweep.proofs.serve.Tie as tie
 
 -- ---- the places, each from a later one
 
 -- all that is read of the desk is read
-abbrev start : tie.After-worst2-in → tie.Start
-start c = c .before .before .before .before .before
+abbrev zoned : tie.After-all-places → tie.After-zone-times
+zoned c = c .before .before .before .before .before
 
-abbrev lined : tie.After-line-up → tie.After-worst2-in
+abbrev start : tie.After-all-places → tie.Start
+start c = zoned c .before .before .before .before .before
+
+abbrev lined : tie.After-line-up → tie.After-all-places
 lined c = c .before .before .before .before
 
 abbrev led : tie.After-eldest-lead → tie.After-line-up
-led c = c .before .before
+led c = c .before .before .before .before
 
 abbrev marked : tie.After-start-playing → tie.After-low-water
 marked c = c .before .before
@@ -39,8 +42,8 @@ marked c = c .before .before
 abbrev played : tie.After-least-level → tie.After-start-playing
 played c = c .before .before
 
-abbrev floored : tie.After-grant-asked → tie.After-low-water2
-floored c = c .before .before .before
+abbrev floored : tie.After-times2 → tie.After-low-water2
+floored c = c .before .before .before .before
 
 -- ---- what is known there
 
@@ -48,24 +51,46 @@ floored c = c .before .before .before
 abbrev given : tie.Start → Desk
 given s = deskIn (wordsOf (s .args .desk .now))
 
-abbrev desk : tie.After-worst2-in → Desk
+abbrev desk : tie.After-all-places → Desk
 desk c =
     let s = start c in
     let d = given s in
-    withRead d (c .before .before .before .bytes-in .result) (c .before .before .rate-in .result) (c .before .streams-in .result) (d .plan .buffer)
-    (d .plan .figures .table) (s .args .kinds .now) (d .next) (s .args .held .now) (s .args .places .now)
+    let k = c .before in
+    let n = k .before in
+    withRead d (n .before .before .bytes-in .result) (n .before .rate-in .result) (n .streams-in .result) (d .plan .buffer) (d .plan .figures .table)
+    (k .all-kinds .result) (d .next) (s .args .held .now) (c .all-places .result)
 
-desk-is : (c : tie.After-worst2-in) → desk c ≡ given (start c)
+desk-is : (c : tie.After-all-places) → desk c ≡ given (start c)
 desk-is c =
     let s = start c in
-    let p = s .pre .1 in
-    read-same (given s) (c .before .before .before .bytes-in .ensures) (c .before .before .rate-in .ensures) (c .before .streams-in .ensures) refl refl
-    (p .kinds) refl (p .held) (p .places)
+    let k = c .before in
+    let n = k .before in
+    read-same (given s) (n .before .before .bytes-in .ensures) (n .before .rate-in .ensures) (n .streams-in .ensures) refl refl (k .all-kinds .ensures) refl
+    (s .pre .1 .held) (c .all-places .ensures)
 
-told : (c : tie.After-worst2-in) → (let a = start c .args in Serves (desk c) (a .held .now) (a .times .now) (a .sum) (a .kinds .now) (a .places .now))
-told c = let s = start c in
-    let a = s .args in
-    subst (λ (d : Desk). Serves d (a .held .now) (a .times .now) (a .sum) (a .kinds .now) (a .places .now)) (sym (desk-is c)) (s .pre .1)
+abbrev Told : Desk → tie.Start → Type 0
+Told d s = let a = s .args in Serves d (a .listed) (a .held .now) (a .positions .now) (a .leads .now) (a .sum)
+
+told : (c : tie.After-all-places) → Told (desk c) (start c)
+told c = let s = start c in subst (λ (d : Desk). Told d s) (sym (desk-is c)) (s .pre .1)
+
+zones : (c : tie.After-all-places) → (let z = zoned c in ZonesRead (desk c) (z .before .zone-sizes .result) (z .zone-times .result))
+zones c = let z = zoned c in
+    subst (λ (d : Desk). ZonesRead d (z .before .zone-sizes .result) (z .zone-times .result)) (sym (desk-is c))
+    (z .before .zone-sizes .ensures, z .zone-times .ensures)
+
+-- the leads in the line
+abbrev Leads : Desk → tie.After-line-up → Type 0
+Leads d l =
+    let z = zoned (lined l) in
+    let a = start (lined l) .args in
+    InLine (a .listed) d (z .before .zone-sizes .result) (z .zone-times .result) (a .positions .now) (a .leads .now) (l .line-up .last .1 .1 .0)
+    (l .line-up .result)
+
+in-line : (l : tie.After-line-up) → Leads (given (start (lined l))) l
+in-line l = let k = lined l in
+    let b = told k in
+    subst (λ (d : Desk). Leads d l) (desk-is k) (ready-line (desk k) (b .wide) (b .ready) _ _ _ (b .source) _ _ (zones k) _ _ (l .line-up .ensures))
 
 -- the eldest's lead
 eldest-is : (c : tie.After-eldest-lead) → (let d = desk (lined (led c)) in c .eldest-lead .result ≡ eldestLead (supplyOf (d .plan)) (slotsIn d) (d .places))
@@ -75,7 +100,7 @@ eldest-is c =
     let d = desk k in
     let b = told k in
     c .eldest-lead .ensures .0 (supplyOf (d .plan)) (d .plan .streams) (d .kinds) (d .next) (d .held) (d .places) (ready-slots d (b .wide) (b .ready))
-    (ready-asked d (b .wide) (b .ready) _ _ _ (k .worst2-in .ensures) (b .leads)) (l .line-up .ensures)
+    (ready-asked d (b .wide) (b .ready) _ _ _ (b .source) _ _ (zones k)) (l .line-up .ensures)
 
 -- what a filling slot must hold
 mark-is : (c : tie.After-low-water) → (let d = desk (lined (led (c .before))) in
@@ -101,10 +126,10 @@ slots c = let k = lined (led (marked c .before)) in
     slots-started (desk k) (b .wide) (b .ready) _ _ (first c)
 
 -- both steps are done
-all : (c : tie.After-grant-asked) → (let d = desk (lined (led (marked (played (floored c .before)) .before))) in
-    Served d (c .grant-asked .last .0) (droppedBy (c .grant-asked .result) (d .places)))
+all : (c : tie.After-grant-asked) → (let d = desk (lined (led (marked (played (floored (c .before) .before)) .before))) in
+    Served d (c .grant-asked .last .1 .0) (droppedBy (c .grant-asked .result) (d .places)))
 all c =
-    let f = floored c in
+    let f = floored (c .before) in
     let l = f .before in
     let s = played l in
     let m = marked s in
@@ -115,21 +140,24 @@ all c =
     let p = supplyOf (d .plan) in
     begun-all d (b .wide) (b .ready) _ _ (first s) _ (c .grant-asked .result)
     (c .grant-asked .ensures p (d .plan .streams) (d .next) (d .held) (d .places) (slots s)
-    (asks-started d (b .wide) (b .ready) _ _ (first s) _ _ _ _ _ (k .worst2-in .ensures) (b .leads) (f .low-water2 .ensures)
-    (l .least-level .ensures p (d .next) (slots s)))
+    (asks-started d (b .wide) (b .ready) _ _ (first s) _ _ _ _ _ (sym (k .before .before .before .rate-in .ensures))
+    (own-lead d (b .wide) (b .ready) _ _ _ (b .source) _ _ (zones k)) (b .leads)
+    (f .low-water2 .ensures) (l .least-level .ensures p (d .next) (slots s)))
     (n .line-up .ensures))
     (mark-is m)
 
 -- ---- the needs
 
 line-up-requires : tie.Need-line-up-requires
-line-up-requires c κs = let k = c .before .before .before in
+line-up-requires c κs = let e = c .before .before in
+    let k = e .before in
     let d = desk k in
     let b = told k in
-    (streams-are d (b .ready), ready-queued d (b .wide) (b .ready), c .before .before .empty-line .ensures)
+    (streams-are d (b .ready), ready-queued d (b .wide) (b .ready), e .empty-line .ensures)
 
 eldest-lead-requires : tie.Need-eldest-lead-requires
-eldest-lead-requires c κs = let l = c .before in (l .line-up .ensures .few, told (lined l) .leads .timely .quick)
+eldest-lead-requires c κs = let l = c .before .before .before in
+    (start (lined l) .pre .0, l .line-up .ensures .few, in-line l)
 
 add-low-water : tie.Need-add-low-water
 add-low-water c = omega (arith, c .eldest-lead .ensures .1, told (lined (led c)) .leads .most)
@@ -150,22 +178,23 @@ low-water-requires-2 c κs = let h = told (lined (led (marked (played c) .before
 
 grant-asked-requires : tie.Need-grant-asked-requires
 grant-asked-requires c κs =
-    let f = c .before .before in
+    let f = floored c in
     let s = played (f .before) in
     let n = led (marked s .before) in
     let k = lined n in
     let b = told k in
     let h = b .ready .legal in (
+      start k .pre .0,
       slots s .long,
       n .line-up .ensures .few,
-      b .leads .timely .quick,
-      h .rate .1,
+      in-line n,
+      start k .pre .1 .ready .legal .rate .1,
       floor-most _ _ _ _ (f .low-water2 .ensures) (h .bytes .1) (h .rate .1) (b .leads .most),
     )
 
 drop-places-requires : tie.Need-drop-places-requires
 drop-places-requires c κs =
-    let k = lined (led (marked (played (floored (c .before) .before)) .before)) in
+    let k = lined (led (marked (played (floored (c .before .before) .before)) .before)) in
     let d = desk k in
     let b = told k in
     let q = ready-queued d (b .wide) (b .ready) in
@@ -174,9 +203,9 @@ drop-places-requires c κs =
 returns : tie.Need-returns
 returns c =
     let g = c .before .before in
-    let k = lined (led (marked (played (floored g .before)) .before)) in
-    subst (λ (d : Desk). Served d (g .grant-asked .last .0) (c .drop-places .last .0)) (desk-is k)
-    (subst (Served (desk k) (g .grant-asked .last .0)) (sym (c .drop-places .ensures)) (all g))
+    let k = lined (led (marked (played (floored (g .before) .before)) .before)) in
+    subst (λ (d : Desk). Served d (g .grant-asked .last .1 .0) (c .drop-places .last .0)) (desk-is k)
+    (subst (Served (desk k) (g .grant-asked .last .1 .0)) (sym (c .drop-places .ensures)) (all g))
 
 pub serve-spec : {M : Type 1} → statement M
 serve-spec =
@@ -185,7 +214,10 @@ serve-spec =
     (λ c κs. search needs)
     (λ c κs. search needs)
     (λ c κs. search needs)
+    (λ c κs. search needs)
+    (λ c κs. search needs)
     (λ c. search needs)
+    (λ c κs. search needs)
     (λ c κs. search needs)
     (λ c κs. search needs)
     line-up-requires

@@ -1,11 +1,12 @@
 use Prim.Native.Nat.{ℕ, _≤_}
 use mathlib.Core.Path.{_≡_, sym, subst, _∙_}
-use mathlib.Core.Bool.{true}
+use mathlib.Core.Bool.{true, false}
 use mathlib.Core.List.{List}
 use native.Mathlib.Omega.{arith}
 use lib.ListN.{take}
 use borrow.Author.Needs.{needs}
 use borrow.Author.Tests.{not-true, not-false}
+use Rattle.laws.specs.Bools.{clash}
 use Rattle.words.specs.Words.{wordsOf}
 use Rattle.words.specs.Laws.{words-length}
 use Rattle.legality.specs.Legality as legality
@@ -19,13 +20,14 @@ use Rattle.desk.specs.Asked.{askedCount}
 use Rattle.desk.specs.View.{Wide}
 use Rattle.desk_layout.specs.Layout.{deskIn}
 use Rattle.desk_layout.specs.RoundTrip.{DeskSized, desk-sized}
-use Rattle.soundness.specs.Facts.{Tells, ZonesRead, AllTidy, OthersIdle, Placed}
+use Rattle.soundness.specs.Facts.{soundDesk, TestIs, Tells, ZonesRead, AllTidy, OthersIdle, Placed}
+use Rattle.soundness.specs.declared.Test.{Test}
 use Rattle.soundness.specs.Places.{AllPlaced}
 use Rattle.soundness.specs.Tests.{unsound-phase, unsound-slots, unsound-places, sound-told}
 use Rattle.soundness.specs.Ready.{plan-streams}
 use Rattle.soundness.proofs.Tells.{fails-first, then-second}
-use Rattle.soundness.proofs.is_sound.Statement.{statement}
-use Rattle.soundness.proofs.is_sound.Tie as tie
+use Rattle.soundness.proofs.test_desk.Statement.{statement}
+use Rattle.soundness.proofs.test_desk.Tie as tie
 
 -- the desk that is tested
 abbrev given : tie.Start → Desk
@@ -102,23 +104,32 @@ placed c = told (c .before) .yes (not-false _ (c .if4 .left))
 
 -- ---- the needs
 
+-- a record that is not sound
+refuses : {d : Desk} {ps ls : List ℕ} {r : Test} → r .sound ≡ false → false ≡ soundDesk d ps ls → TestIs d ps ls r
+refuses e q = record { sound = e ∙ q; leads = λ t. clash t e }
+
 returns : tie.Need-returns
-returns c = fails-first _ _ (sym (c .before .has-plan .ensures) ∙ not-true _ (c .if1 .taken))
+returns c = let t = c .before in refuses (c .unsound .ensures) (fails-first _ _ (sym (t .before .has-plan .ensures) ∙ not-true _ (t .if1 .taken)))
 
 returns-2 : tie.Need-returns-2
 returns-2 c =
-    let e = c .before .before in
-    then-second _ _ _ (passed e) (unsound-phase (given (start e)) (wide (start e)) (omega (arith, c .if2 .taken, c .before .phase-in .ensures)))
+    let t = c .before in
+    let e = t .before .before in
+    refuses (c .unsound2 .ensures)
+    (then-second _ _ _ (passed e) (unsound-phase (given (start e)) (wide (start e)) (omega (arith, t .if2 .taken, t .before .phase-in .ensures))))
 
 test-slots-requires : tie.Need-test-slots-requires
 test-slots-requires c κs = let e = planned c in
     (omega (arith, few e, c .streams-in .ensures), start e .pre, c .streams-in .ensures)
 
 returns-3 : tie.Need-returns-3
-returns-3 c = let e = planned (c .before .before .before) in
+returns-3 c =
+    let u = c .before in
+    let e = planned (u .before .before .before) in
     let s = start e in
-    then-second _ _ _ (passed e) (unsound-slots (given s) (wide s) (λ t. c .before .before .test-slots .ensures .slots .no (not-true _ (c .if3 .taken))
-    (t .0, rw (c .before .before .before .streams-in .ensures) (t .1))))
+    refuses (c .unsound3 .ensures)
+    (then-second _ _ _ (passed e) (unsound-slots (given s) (wide s) (λ t. u .before .before .test-slots .ensures .slots .no (not-true _ (u .if3 .taken))
+    (t .0, rw (u .before .before .before .streams-in .ensures) (t .1)))))
 
 all-placed-requires : tie.Need-all-placed-requires
 all-placed-requires c κs = let k = counted c in
@@ -126,9 +137,12 @@ all-placed-requires c κs = let k = counted c in
     (omega (arith, few (planned k), k .streams-in .ensures), start (planned k) .pre, a .0, a .1, slots c .1)
 
 returns-4 : tie.Need-returns-4
-returns-4 c = let e = planned (counted (c .before .before)) in
+returns-4 c =
+    let u = c .before in
+    let e = planned (counted (u .before .before)) in
     let s = start e in
-    then-second _ _ _ (passed e) (unsound-places (given s) (wide s) (told (c .before) .no (not-true _ (c .if4 .taken))))
+    refuses (c .unsound4 .ensures)
+    (then-second _ _ _ (passed e) (unsound-places (given s) (wide s) (told (u .before) .no (not-true _ (u .if4 .taken)))))
 
 has-plan-requires : tie.Need-has-plan-requires
 has-plan-requires c κs = (first c .pre, zones c)
@@ -157,26 +171,33 @@ returns-5 c =
     let k = counted t in
     let e = planned k in
     let s = start e in
-    then-second _ _ _ (passed e)
-    (sound-told (given s) (wide s) _ _ _ (l .sum-next .ensures) (m .low-water .ensures ∙ rw (b .bytes-in .ensures, m .before .rate-in .ensures))
-    (omega (arith, k .before .if2 .left, k .before .before .phase-in .ensures)) (tidy t) (placed q)
-    (rw (k .streams-in .ensures) at (c .players-hold .ensures)))
+    record {
+      sound = then-second _ _ _ (passed e)
+          (sound-told (given s) (wide s) _ _ _ (l .sum-next .ensures .sums) (m .low-water .ensures ∙ rw (b .bytes-in .ensures, m .before .rate-in .ensures))
+          (omega (arith, k .before .if2 .left, k .before .before .phase-in .ensures)) (tidy t) (placed q)
+          (rw (k .streams-in .ensures) at (c .players-hold .ensures)));
+      leads = λ _. l .sum-next .ensures;
+    }
 
-pub is-sound-spec : {M : Type 1} → statement M
-is-sound-spec =
+pub test-desk-spec : {M : Type 1} → statement M
+test-desk-spec =
     tie.close
     (tie.spec
     (λ c κs. search needs)
     (λ c κs. search needs)
     has-plan-requires
+    (λ c κs. search needs)
     returns
+    (λ c κs. search needs)
     (λ c κs. search needs)
     returns-2
     (λ c κs. search needs)
     (λ c. search needs)
     test-slots-requires
+    (λ c κs. search needs)
     returns-3
     all-placed-requires
+    (λ c κs. search needs)
     returns-4
     sum-next-requires
     (λ c κs. search needs)
