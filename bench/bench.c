@@ -19,7 +19,7 @@ enum { REPETITIONS = 101, BATCH_NS = 30000, MAX_BATCH = 4096 };
 /* The series of a case: a call of both twins, and after them the same call by scratch. */
 enum { LIBRARY_SCRATCH = TWINS, PLAIN_C_SCRATCH, SERIES };
 
-static struct input input;
+static struct input input, old_input;
 static struct strings strings[SERIES];
 
 /* Measured times of a case: nanoseconds a call in each repetition. */
@@ -74,19 +74,38 @@ static int best_copy(int series)
     return best;
 }
 
-static void lend_desks(struct strings *s)
+/* Has the implementation plans of one film, without its number? So an earlier library from before 0.12.0. */
+static bool is_old(int twin)
+{
+    return twins[twin][0].plan_len == OLD_PLAN_BYTES;
+}
+
+/* What is lent to the calls of a series. */
+static const struct input *input_of(int series)
+{
+    return is_old(series % TWINS) ? &old_input : &input;
+}
+
+static void renew_old_input(void)
+{
+    if (is_old(PLAIN_C))
+        make_old(&old_input, &input);
+}
+
+static void lend_desks(int series)
 {
     for (size_t i = 0; i < DESKS; i++)
-        memcpy(s->desks[i], input.desk, sizeof input.desk);
+        memcpy(strings[series].desks[i], input_of(series)->desk, sizeof input.desk);
 }
 
 /* Nanoseconds a call over a batch; desks are made fresh before it and not within its time. */
 static double time_batch(call *c, int series, int copy, size_t batch, filmdisk_answer *a)
 {
-    lend_desks(&strings[series]);
+    lend_desks(series);
+    const struct input *in = input_of(series);
     double start = now();
     for (size_t i = 0; i < batch; i++)
-        *a = c(&twins[series % TWINS][copy], &input, &strings[series], i % DESKS);
+        *a = c(&twins[series % TWINS][copy], in, &strings[series], i % DESKS);
     return (now() - start) / (double)batch;
 }
 
@@ -95,39 +114,32 @@ static bool same_answer(filmdisk_answer a, filmdisk_answer b)
     return a.number == b.number && a.place == b.place && a.count == b.count && a.bound == b.bound;
 }
 
-/* Does the implementation have places in its desk? An earlier library from before 0.10.0 has not, and serves by slot. */
-static bool has_places(int twin)
+/* What the two wrote, an old one's plan and desks in the new form; its plan counts where the call was accepted. */
+static bool same_strings(int one, int other, bool accepted)
 {
-    return twins[twin][0].desk_len == FILMDISK_DESK_BYTES;
-}
-
-static void clear_places(struct strings *s)
-{
-    for (size_t i = 0; i < DESKS; i++)
-        memset(s->desks[i] + FILMDISK_DESK_PLACES * FILMDISK_WORD_BYTES, 0, FILMDISK_MAX_STREAMS * FILMDISK_WORD_BYTES);
-}
-
-/* What the two wrote; where one of them has no places, all but these. */
-static bool same_strings(int one, int other)
-{
-    static struct strings a, b;
-    if (has_places(PLAIN_C))
+    static struct strings renewed;
+    if (!is_old(PLAIN_C))
         return memcmp(&strings[one], &strings[other], sizeof strings[one]) == 0;
-    a = strings[one];
-    b = strings[other];
-    clear_places(&a);
-    clear_places(&b);
-    return memcmp(&a, &b, sizeof a) == 0;
+    renewed = strings[other];
+    from_old(renewed.plan, strings[other].plan, OLD_PLAN_BYTES);
+    for (size_t i = 0; i < DESKS; i++)
+        from_old(renewed.desks[i], strings[other].desks[i], OLD_DESK_BYTES);
+    if (!accepted || filmdisk_word(strings[one].plan, 0) == UINT32_C(0xA5A5A5A5))
+        memcpy(renewed.plan, strings[one].plan, sizeof renewed.plan);
+    return memcmp(&strings[one], &renewed, sizeof renewed) == 0;
 }
 
-/* Ends the run where the two differ, or do not answer as they should. */
+/* Ends the run where the two differ, or do not answer as they should. An old card is a byte shorter, which the place of its end says. */
 static void compare(const char *name, int library, const filmdisk_answer answers[SERIES], uint32_t expected)
 {
     int other = library + PLAIN_C;
-    if (answers[other].number == expected && same_answer(answers[library], answers[other]) && same_strings(library, other))
+    filmdisk_answer others = answers[other];
+    if (is_old(PLAIN_C) && others.number == FILMDISK_REFUSED_CARD_ENDS)
+        others.place++;
+    if (others.number == expected && same_answer(answers[library], others) && same_strings(library, other, expected == FILMDISK_ACCEPTED))
         return;
     fprintf(stderr, "bench: %s: the library answers %u, %s %u, expected %u; or they write other bytes\n", name,
-            answers[library].number, other_name, answers[other].number, expected);
+            answers[library].number, other_name, others.number, expected);
     exit(1);
 }
 
@@ -159,6 +171,7 @@ static void repeat(const char *name, call *c, call *by_scratch, bool in_place, u
 {
     call *const calls[] = { c, by_scratch };
     int series_count = by_scratch == NULL ? TWINS : SERIES;
+    renew_old_input();
     size_t batch = batch_size(c, in_place);
     filmdisk_answer answers[SERIES];
     memset(strings, 0xA5, sizeof strings);
@@ -317,8 +330,6 @@ static void measure_line(uint32_t blocks, uint32_t zones, uint32_t count, const 
 
 static void measure_requests(void)
 {
-    if (!has_places(PLAIN_C))
-        return;
     head("Slots that ask (256 streams), the others playing: join, leave, begin");
     EACH(count, request_counts) {
         measure_line(6, 7, *count, "", call_join, call_leave, call_begin);
@@ -372,17 +383,10 @@ static void measure_loops(void)
     }
 }
 
-static bool has_pairs(int twin)
-{
-    return twins[twin][0].plan_pairs != NULL;
-}
-
 /* The calls whose work depends on half blocks: planning, the check behind 14, begins with two fetches a slot, and windows. */
 static void measure_pairs(void)
 {
     static const uint32_t windows[] = { 2, 64 };
-    if (!has_pairs(PLAIN_C))
-        return;
     head("Pairs (16 streams): planning; leave of a free slot, 17; open; begin and end, all slots playing and fetched for; windows");
     EACH(blocks, sizes) EACH(zones, zone_counts) {
         make_pairs(&input, *blocks, *zones, 16);
@@ -405,6 +409,50 @@ static void measure_pairs(void)
         make_pairs(&input, 1000, *zones, FILMDISK_MAX_PAIR_STREAMS);
         measure_half("begin", call_begin, FILMDISK_BETWEEN, 1000, *zones, FILMDISK_MAX_PAIR_STREAMS);
         measure_half("end", call_end, FILMDISK_SWEEPING, 1000, *zones, FILMDISK_MAX_PAIR_STREAMS);
+    }
+}
+
+/* A shelf's calls, or those of one film of as many blocks. */
+static void measure_shelf(uint32_t films, uint32_t blocks)
+{
+    make_shelf(&input, FILMDISK_ONCE, films, blocks, 7, 16);
+    measure(call_read, false, FILMDISK_REFUSED_TOO_SHORT, "read, %u films, %u blocks", films, blocks);
+    measure(call_plan, false, FILMDISK_ACCEPTED, "plan, %u films, %u blocks", films, blocks);
+    measure(call_open, false, FILMDISK_ACCEPTED, "open, %u films, %u blocks", films, blocks);
+    input.window = 2;
+    measure(call_window, false, FILMDISK_ACCEPTED, "window of 2, %u films, %u blocks", films, blocks);
+    make_players(&input, FILMDISK_BETWEEN, 15);
+    measure(call_join, true, FILMDISK_ACCEPTED, "join, %u films, %u blocks", films, blocks);
+    measure(call_join_scratch, true, FILMDISK_ACCEPTED, "join by scratch, %u films, %u blocks", films, blocks);
+    make_shelf(&input, FILMDISK_LOOP, films, blocks, 7, 16);
+    measure(call_plan_loop, false, FILMDISK_ACCEPTED, "plan of loops, %u films, %u blocks", films, blocks);
+    make_shelf(&input, FILMDISK_PAIRS, films, blocks, 7, 16);
+    measure(call_plan_pairs, false, FILMDISK_ACCEPTED, "plan of pairs, %u films, %u blocks", films, blocks);
+}
+
+/* Sweeps of a full desk whose slots watch all its films. */
+static void measure_shelf_sweeps(uint32_t films, uint32_t blocks, uint32_t streams)
+{
+    make_shelf(&input, FILMDISK_ONCE, films, blocks, 7, streams);
+    make_players(&input, FILMDISK_BETWEEN, streams);
+    measure(call_begin, true, FILMDISK_ACCEPTED, "begin, %u films, %u blocks, %u streams", films, blocks, streams);
+    make_players(&input, FILMDISK_SWEEPING, streams);
+    make_draws(&input, 1000);
+    measure(call_end, true, FILMDISK_ACCEPTED, "end, %u films, %u blocks, %u streams", films, blocks, streams);
+}
+
+/* 16 films beside one of as many blocks, long ones and the shortest. */
+static void measure_shelves(void)
+{
+    static const uint32_t shelf_blocks[] = { 32, 16384 }, film_counts[] = { 1, 16 };
+    if (is_old(PLAIN_C))
+        return;
+    head("Shelves (7 zones, 16 streams or as they say): one film and 16 of as many blocks in all");
+    EACH(blocks, shelf_blocks) EACH(films, film_counts)
+        measure_shelf(*films, *blocks);
+    EACH(blocks, shelf_blocks) EACH(films, film_counts) {
+        measure_shelf_sweeps(*films, *blocks, 16);
+        measure_shelf_sweeps(*films, *blocks, 256);
     }
 }
 
@@ -497,25 +545,17 @@ static double measure_scratch_pairs(const struct scratch_film *film)
     return greater(worst, measure_ways("end of pairs", &pairs, call_end, call_end_scratch, true));
 }
 
-static bool has_scratch(int twin)
-{
-    return twins[twin][0].plan_scratch != NULL;
-}
-
 static void measure_scratch(void)
 {
     static const struct scratch_film films[] = { { 16384, 7, 16, 1.0 }, { 16384, 64, 16, 1.0 }, { 6, 64, 256, 1.2 } };
     double worst[sizeof films / sizeof films[0]];
-    if (!has_scratch(PLAIN_C))
-        return;
     printf("\nA scratch in the lead list's place, each call beside the same with the list; all slots playing and fetched for\n\n");
     printf("| Case | List, ns | Scratch / list | over places | Scratch, ns | %s by scratch, ns | Library / %s | over places |\n", other_name,
            other_name);
     printf("|---|---|---|---|---|---|---|---|\n");
     for (size_t i = 0; i < sizeof films / sizeof films[0]; i++) {
         worst[i] = measure_scratch_film(&films[i]);
-        if (has_pairs(PLAIN_C))
-            worst[i] = greater(worst[i], measure_scratch_pairs(&films[i]));
+        worst[i] = greater(worst[i], measure_scratch_pairs(&films[i]));
     }
     printf("\n");
     for (size_t i = 0; i < sizeof films / sizeof films[0]; i++)
@@ -556,8 +596,7 @@ static void measure_growth(void)
         measure_sweep("begin", call_begin, FILMDISK_BETWEEN, 1000, 7, *streams);
         measure_sweep("end", call_end, FILMDISK_SWEEPING, 1000, 7, *streams);
     }
-    if (has_places(PLAIN_C))
-        measure_growing_line();
+    measure_growing_line();
 }
 
 /* What runs on the painted stack, which is given no words. */
@@ -566,7 +605,7 @@ static int painted_twin;
 
 static void run_painted(void)
 {
-    painted_call(&twins[painted_twin][0], &input, &strings[painted_twin], 0);
+    painted_call(&twins[painted_twin][0], input_of(painted_twin), &strings[painted_twin], 0);
 }
 
 /* Of the film that was made the slots from `first_free` on are free, so many before them ask, the others play. */
@@ -576,9 +615,10 @@ static void print_stack_on(const char *name, call *c, uint32_t phase, uint32_t f
     make_requests(&input, first_free - asked, asked);
     make_draws(&input, 1000);
     painted_call = c;
+    renew_old_input();
     printf("| %s |", name);
     for (painted_twin = 0; painted_twin < TWINS; painted_twin++) {
-        lend_desks(&strings[painted_twin]);
+        lend_desks(painted_twin);
         printf(" %zu |", stack_of(run_painted));
     }
     printf("\n");
@@ -593,6 +633,12 @@ static void print_stack_of(const char *name, call *c, uint32_t phase, uint32_t f
 static void print_stack_of_pairs(const char *name, call *c, uint32_t phase, uint32_t first_free)
 {
     make_pairs(&input, 1000, 64, FILMDISK_MAX_PAIR_STREAMS);
+    print_stack_on(name, c, phase, first_free, 0);
+}
+
+static void print_stack_of_shelf(const char *name, call *c, uint32_t phase, uint32_t first_free)
+{
+    make_shelf(&input, FILMDISK_ONCE, FILMDISK_MAX_FILMS, 1000, 64, 256);
     print_stack_on(name, c, phase, first_free, 0);
 }
 
@@ -622,6 +668,15 @@ static void print_pairs_stacks(void)
     print_stack_of_pairs("window of pairs", call_window, FILMDISK_BETWEEN, 0);
 }
 
+static void print_shelf_stacks(void)
+{
+    print_stack_of_shelf("plan of 16 films", call_plan, FILMDISK_BETWEEN, 0);
+    print_stack_of_shelf("join, 16 films", call_join, FILMDISK_BETWEEN, 255);
+    print_stack_of_shelf("begin, 16 films", call_begin, FILMDISK_BETWEEN, 256);
+    print_stack_of_shelf("end, 16 films", call_end, FILMDISK_SWEEPING, 256);
+    print_stack_of_shelf("window, 16 films", call_window, FILMDISK_BETWEEN, 0);
+}
+
 static void print_stacks(void)
 {
     printf("\nStack of an accepted call, in bytes (N 1000, 64 zones, 256 streams)\n\n");
@@ -634,32 +689,33 @@ static void print_stacks(void)
     print_stack("begin", call_begin, FILMDISK_BETWEEN, 256);
     print_stack("end", call_end, FILMDISK_SWEEPING, 256);
     print_stack("window", call_window, FILMDISK_BETWEEN, 0);
-    if (has_places(PLAIN_C)) {
-        print_stack_of("leave, 128 waiting", call_leave, FILMDISK_BETWEEN, 256, 128);
-        print_stack_of("begin, 128 waiting", call_begin, FILMDISK_BETWEEN, 256, 128);
-    }
-    if (has_scratch(PLAIN_C))
-        print_scratch_stacks();
-    if (has_pairs(PLAIN_C))
-        print_pairs_stacks();
+    print_stack_of("leave, 128 waiting", call_leave, FILMDISK_BETWEEN, 256, 128);
+    print_stack_of("begin, 128 waiting", call_begin, FILMDISK_BETWEEN, 256, 128);
+    print_scratch_stacks();
+    print_pairs_stacks();
+    if (!is_old(PLAIN_C))
+        print_shelf_stacks();
 }
 
-/* The length of an earlier library's desk string is the one that its opening accepts: 4,660 bytes before 0.10.0. */
-static void find_desk_length(void)
+/* An earlier library that opens no desk of a plan as it is now has the form of before 0.12.0. */
+static void find_form(void)
 {
     filmdisk_answer a;
     make_film(&input, 6, 7, 16);
     a = call_open(&twins[PLAIN_C][0], &input, &strings[PLAIN_C], 0);
-    for (int copy = 0; copy < COPIES; copy++)
-        if (a.number == FILMDISK_REFUSED_TOO_SHORT)
-            twins[PLAIN_C][copy].desk_len = FILMDISK_DESK_PLACES * FILMDISK_WORD_BYTES;
+    for (int copy = 0; copy < COPIES; copy++) {
+        if (a.number == FILMDISK_ACCEPTED)
+            continue;
+        twins[PLAIN_C][copy].plan_len = OLD_PLAN_BYTES;
+        twins[PLAIN_C][copy].desk_len = OLD_DESK_BYTES;
+    }
 }
 
 int main(int argc, char **argv)
 {
     if (argc > 1)
         other_name = argv[1];
-    find_desk_length();
+    find_form();
     printf("Median nanoseconds a call, and ratios (median, quartiles) of %d repetitions, all in turn in each.\n", REPETITIONS);
     printf("Each implementation stands at three places in memory; times are of its best one.\n");
     printf("Strings are not cleared between calls; each in-place call gets a fresh desk, copied outside the time.\n");
@@ -671,6 +727,7 @@ int main(int argc, char **argv)
     measure_sweeps();
     measure_loops();
     measure_pairs();
+    measure_shelves();
     measure_measured();
     measure_windows();
     measure_scratch();

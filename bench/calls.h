@@ -28,7 +28,13 @@ call call_plan_scratch, call_plan_loop_scratch, call_plan_pairs_scratch, call_op
 /* The last of the used slots: join and leave are tried on it. */
 static inline uint32_t last_slot(const struct input *in)
 {
-    return filmdisk_word(in->plan, FILMDISK_PLAN_STREAMS) - 1;
+    return in->streams - 1;
+}
+
+/* The last of the films: joins are to it. */
+static inline uint32_t last_film(const struct input *in)
+{
+    return in->films - 1;
 }
 
 #endif

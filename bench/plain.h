@@ -14,7 +14,7 @@
     filmdisk_answer prefix##_open(const uint8_t *plan, size_t plan_len, const uint8_t *positions, size_t positions_len, \
                                   const uint8_t *leads, size_t leads_len, uint8_t *desk, size_t desk_len); \
     filmdisk_answer prefix##_join(uint8_t *desk, size_t desk_len, const uint8_t *positions, size_t positions_len, \
-                                  const uint8_t *leads, size_t leads_len, uint32_t slot, uint32_t block); \
+                                  const uint8_t *leads, size_t leads_len, uint32_t slot, uint32_t block, uint32_t film); \
     filmdisk_answer prefix##_leave(uint8_t *desk, size_t desk_len, const uint8_t *positions, size_t positions_len, \
                                    const uint8_t *leads, size_t leads_len, uint32_t slot); \
     filmdisk_answer prefix##_begin(uint8_t *desk, size_t desk_len, const uint8_t *positions, size_t positions_len, \
@@ -30,7 +30,7 @@
     filmdisk_answer prefix##_open_scratch(const uint8_t *plan, size_t plan_len, const uint8_t *positions, size_t positions_len, \
                                           const uint8_t *scratch, size_t scratch_len, uint8_t *desk, size_t desk_len); \
     filmdisk_answer prefix##_join_scratch(uint8_t *desk, size_t desk_len, const uint8_t *positions, size_t positions_len, \
-                                          const uint8_t *scratch, size_t scratch_len, uint32_t slot, uint32_t block); \
+                                          const uint8_t *scratch, size_t scratch_len, uint32_t slot, uint32_t block, uint32_t film); \
     filmdisk_answer prefix##_leave_scratch(uint8_t *desk, size_t desk_len, const uint8_t *positions, size_t positions_len, \
                                            const uint8_t *scratch, size_t scratch_len, uint32_t slot); \
     filmdisk_answer prefix##_begin_scratch(uint8_t *desk, size_t desk_len, const uint8_t *positions, size_t positions_len, \

@@ -15,16 +15,9 @@ DECLARE_TWIN(plain2)
     prefix##_plan_scratch, prefix##_plan_loop_scratch, prefix##_open_scratch, prefix##_join_scratch, prefix##_leave_scratch, \
         prefix##_begin_scratch, prefix##_end_scratch
 #define PAIRED(prefix) prefix##_plan_pairs, prefix##_plan_pairs_scratch
-#define TWIN(prefix) { FILMDISK_DESK_BYTES, LISTED(prefix), SCRATCHED(prefix), PAIRED(prefix) }
-#if defined OTHER_WITHOUT_SCRATCH /* an earlier library from before 0.9.0 */
-#define OTHER(prefix) { FILMDISK_DESK_BYTES, LISTED(prefix), NULL, NULL, NULL, NULL, NULL, NULL, NULL, NULL, NULL }
-#elif defined OTHER_WITHOUT_PAIRS /* one from before 0.11.0 */
-#define OTHER(prefix) { FILMDISK_DESK_BYTES, LISTED(prefix), SCRATCHED(prefix), NULL, NULL }
-#else
-#define OTHER(prefix) TWIN(prefix)
-#endif
+#define TWIN(prefix) { FILMDISK_PLAN_BYTES, FILMDISK_DESK_BYTES, LISTED(prefix), SCRATCHED(prefix), PAIRED(prefix) }
 
 struct twin twins[TWINS][COPIES] = {
     { TWIN(library0), TWIN(library1), TWIN(library2) },
-    { OTHER(plain0), OTHER(plain1), OTHER(plain2) },
+    { TWIN(plain0), TWIN(plain1), TWIN(plain2) },
 };

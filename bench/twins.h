@@ -13,24 +13,24 @@ enum { LIBRARY, PLAIN_C, TWINS };
 enum { COPIES = 3 };
 
 struct twin {
-    size_t desk_len; /* of its desk string */
+    size_t plan_len, desk_len; /* of its strings */
     filmdisk_answer (*plan)(const uint8_t *, size_t, uint8_t *, size_t, uint8_t *, size_t, uint8_t *, size_t);
     filmdisk_answer (*plan_loop)(const uint8_t *, size_t, uint8_t *, size_t, uint8_t *, size_t, uint8_t *, size_t);
     filmdisk_answer (*open)(const uint8_t *, size_t, const uint8_t *, size_t, const uint8_t *, size_t, uint8_t *, size_t);
-    filmdisk_answer (*join)(uint8_t *, size_t, const uint8_t *, size_t, const uint8_t *, size_t, uint32_t, uint32_t);
+    filmdisk_answer (*join)(uint8_t *, size_t, const uint8_t *, size_t, const uint8_t *, size_t, uint32_t, uint32_t, uint32_t);
     filmdisk_answer (*leave)(uint8_t *, size_t, const uint8_t *, size_t, const uint8_t *, size_t, uint32_t);
     filmdisk_answer (*begin)(uint8_t *, size_t, const uint8_t *, size_t, const uint8_t *, size_t, uint8_t *, size_t);
     filmdisk_answer (*end)(uint8_t *, size_t, const uint8_t *, size_t, const uint8_t *, size_t, const uint8_t *, size_t);
     filmdisk_window_answer (*window)(const uint8_t *, size_t, const uint8_t *, size_t, uint32_t);
-    /* With a scratch in the lead list's place; an earlier library may have none of these. */
+    /* With a scratch in the lead list's place. */
     filmdisk_answer (*plan_scratch)(const uint8_t *, size_t, uint8_t *, size_t, uint8_t *, size_t, uint8_t *, size_t);
     filmdisk_answer (*plan_loop_scratch)(const uint8_t *, size_t, uint8_t *, size_t, uint8_t *, size_t, uint8_t *, size_t);
     filmdisk_answer (*open_scratch)(const uint8_t *, size_t, const uint8_t *, size_t, const uint8_t *, size_t, uint8_t *, size_t);
-    filmdisk_answer (*join_scratch)(uint8_t *, size_t, const uint8_t *, size_t, const uint8_t *, size_t, uint32_t, uint32_t);
+    filmdisk_answer (*join_scratch)(uint8_t *, size_t, const uint8_t *, size_t, const uint8_t *, size_t, uint32_t, uint32_t, uint32_t);
     filmdisk_answer (*leave_scratch)(uint8_t *, size_t, const uint8_t *, size_t, const uint8_t *, size_t, uint32_t);
     filmdisk_answer (*begin_scratch)(uint8_t *, size_t, const uint8_t *, size_t, const uint8_t *, size_t, uint8_t *, size_t);
     filmdisk_answer (*end_scratch)(uint8_t *, size_t, const uint8_t *, size_t, const uint8_t *, size_t, const uint8_t *, size_t);
-    /* For half blocks; an earlier library may have none. */
+    /* For half blocks. */
     filmdisk_answer (*plan_pairs)(const uint8_t *, size_t, uint8_t *, size_t, uint8_t *, size_t, uint8_t *, size_t);
     filmdisk_answer (*plan_pairs_scratch)(const uint8_t *, size_t, uint8_t *, size_t, uint8_t *, size_t, uint8_t *, size_t);
 };

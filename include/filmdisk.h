@@ -7,24 +7,29 @@
  * Order: slots that have asked are served in the order they asked, eldest first and none behind one that has to wait. The eldest waits for
  * one finished sweep at most, where the margin is 0 for none: it is granted at the first begin after it.
  *
- * Films: a plan is for one showing, for a loop, or for pairs, by its planner call; a word of the plan says which, and all calls on its desk
- * go by it. Pairs are for a drive that stores each block as two halves, on a slow and a quick position: one showing, and the card's zone
- * times are for a half. Two things are longer there. The positions list has 2 x N entries, those of a block together, the lower first; and
- * a block gives two fetch entries, so that the fetch list has room for 2 x n. The lead list has N entries, all 0.
+ * Films: a disk has a shelf of 1 to FILMDISK_MAX_FILMS films, numbered from 0 as the card lists them, each laid on the highest positions that
+ * those before it left. Both lists hold the films one after the other; all films together have A blocks. Blocks are counted in two ways: joins,
+ * slots and fetch entries count them within a film, of an entry that of its slot; worstat and a window's place count them through the lists,
+ * where a film begins at filmdisk_film_start.
+ *
+ * Showings: a plan is for one showing of each film, for loops, or for pairs, by its planner call; a word of the plan says which, and all calls
+ * on its desk go by it. Pairs are for a drive that stores each block as two halves, on a slow and a quick position: one showing, and the card's
+ * zone times are for a half. Two things are longer there. The positions list has 2 x A entries, those of a block together, the lower first; and
+ * a block gives two fetch entries, so that the fetch list has room for 2 x n. The lead list has A entries, all 0.
  *
  * Scratch: each call that takes the lead list has a second way in, by its name with _scratch, that takes a scratch in its place, for boards
  * without room for the leads of a long film. A scratch has FILMDISK_SCRATCH_WORDS whole words or more; fewer are 13, which a call on a desk,
- * an opening too, judges first of all. All else is as with the film's own leads, the answer and the desk that is left. No call reads or
+ * an opening too, judges first of all. All else is as with the plan's own leads, the answer and the desk that is left. No call reads or
  * writes a byte of the scratch, and calls of both ways may be mixed on one desk.
  *
- * Refused calls leave all that they were lent as it was, but for two: a plan call that is refused by 1 to 12, 25, 26 or 28 fills a
+ * Refused calls leave all that they were lent as it was, but for two: a plan call that is refused by 1 to 12, 25, 26, 28 or 30 fills a
  * plan string of the right length with zeros, and an opening that is refused by 14 a desk string of the right length.
  *
  * Threads: the library has no globals and keeps nothing between calls, so calls on different strings may run at once. A string that is
  * only read, such as the lists of several desks, may be lent to several calls at a time.
  *
- * Cost: each call on a desk but a draw limit judges its plan and its lists anew, so its time grows with N; so does that of a window.
- * Microseconds by docs/BENCH.md: with 16 streams about 1 at N 1,000 and 10 at N 16,384, and 24 for a begin with 256 streams or a window there.
+ * Cost: each call on a desk but a draw limit judges its plan and its lists anew, so its time grows with A; so does that of a window.
+ * Microseconds by docs/BENCH.md: with 16 streams about 1 at A 1,000 and 10 at A 16,384, and 24 for a begin with 256 streams or a window there.
  *
  * Memory: the stack alone, for each call at most FILMDISK_STACK_ bytes below the caller's frame.
  */
@@ -38,15 +43,16 @@
 extern "C" {
 #endif
 
-#define FILMDISK_VERSION "0.11.0"
+#define FILMDISK_VERSION "0.12.0"
 #define FILMDISK_VERSION_MAJOR 0
-#define FILMDISK_VERSION_MINOR 11
+#define FILMDISK_VERSION_MINOR 12
 #define FILMDISK_VERSION_PATCH 0
 
 /* Limits. */
-#define FILMDISK_MAX_CARD_BYTES 1489
+#define FILMDISK_MAX_CARD_BYTES 1519
 #define FILMDISK_MAX_ZONES 64
-#define FILMDISK_MAX_BLOCKS 16384
+#define FILMDISK_MAX_FILMS 16
+#define FILMDISK_MAX_BLOCKS 16384 /* of all films together */
 #define FILMDISK_MAX_STREAMS 256
 #define FILMDISK_MAX_PAIR_STREAMS 128 /* of pairs; their desks have FILMDISK_MAX_STREAMS slots too */
 #define FILMDISK_PAIR_VISITS 2 /* of pairs: positions of a block, and fetch entries that it gives */
@@ -60,8 +66,9 @@ enum filmdisk_plan_word {
     FILMDISK_PLAN_ZONES,
     FILMDISK_PLAN_POSITIONS, /* a word for each zone */
     FILMDISK_PLAN_TIMES = FILMDISK_PLAN_POSITIONS + FILMDISK_MAX_ZONES, /* a word for each zone */
-    FILMDISK_PLAN_BLOCKS = FILMDISK_PLAN_TIMES + FILMDISK_MAX_ZONES,
-    FILMDISK_PLAN_BLOCK_BYTES,
+    FILMDISK_PLAN_FILMS = FILMDISK_PLAN_TIMES + FILMDISK_MAX_ZONES, /* how many there are */
+    FILMDISK_PLAN_BLOCKS, /* a word for each film: its blocks, 0 past the last film */
+    FILMDISK_PLAN_BLOCK_BYTES = FILMDISK_PLAN_BLOCKS + FILMDISK_MAX_FILMS,
     FILMDISK_PLAN_RATE,
     FILMDISK_PLAN_TABLE, /* a word for each overhead: that of a sweep of k visits is word k */
     FILMDISK_PLAN_STREAMS = FILMDISK_PLAN_TABLE + FILMDISK_OVERHEADS,
@@ -69,7 +76,7 @@ enum filmdisk_plan_word {
     FILMDISK_PLAN_WORST2,
     FILMDISK_PLAN_MARGIN,
     FILMDISK_PLAN_SHOWING,
-    FILMDISK_PLAN_WORSTAT, /* the first block of the worst pair, the earliest where several are equal; of pairs the first slowest block */
+    FILMDISK_PLAN_WORSTAT, /* through the lists: the first block of the worst pair, the earliest of equal ones; of pairs the first slowest block */
     FILMDISK_PLAN_WORDS /* how many there are */
 };
 
@@ -77,47 +84,50 @@ enum filmdisk_plan_word {
 enum filmdisk_desk_word {
     FILMDISK_DESK_PHASE = FILMDISK_PLAN_WORDS,
     FILMDISK_DESK_KINDS, /* a word for each slot */
-    FILMDISK_DESK_NEXT = FILMDISK_DESK_KINDS + FILMDISK_MAX_STREAMS, /* a word for each slot */
+    FILMDISK_DESK_NEXT = FILMDISK_DESK_KINDS + FILMDISK_MAX_STREAMS, /* a word for each slot: its film, and below FILMDISK_FILM_SHIFT its block */
     FILMDISK_DESK_HELD = FILMDISK_DESK_NEXT + FILMDISK_MAX_STREAMS, /* a word for each slot */
     FILMDISK_DESK_PLACES = FILMDISK_DESK_HELD + FILMDISK_MAX_STREAMS, /* a word for each slot: of those that have asked 1 for the eldest */
     FILMDISK_DESK_WORDS = FILMDISK_DESK_PLACES + FILMDISK_MAX_STREAMS
 };
+
+/* Of the word of a slot's next block: the film stands from this bit on, the block within it below. */
+#define FILMDISK_FILM_SHIFT 16
 
 /* The words of a fetch entry. */
 enum filmdisk_fetch_word { FILMDISK_FETCH_POSITION, FILMDISK_FETCH_SLOT, FILMDISK_FETCH_BLOCK, FILMDISK_FETCH_WORDS };
 
 /* Sizes in bytes. */
 #define FILMDISK_WORD_BYTES 4
-#define FILMDISK_PLAN_BYTES (FILMDISK_PLAN_WORDS * FILMDISK_WORD_BYTES)       /* 1,584 */
-#define FILMDISK_DESK_BYTES (FILMDISK_DESK_WORDS * FILMDISK_WORD_BYTES)       /* 5,684 */
+#define FILMDISK_PLAN_BYTES (FILMDISK_PLAN_WORDS * FILMDISK_WORD_BYTES)       /* 1,648 */
+#define FILMDISK_DESK_BYTES (FILMDISK_DESK_WORDS * FILMDISK_WORD_BYTES)       /* 5,748 */
 #define FILMDISK_ENTRY_BYTES FILMDISK_WORD_BYTES                              /* an entry of positions, leads or draws */
 #define FILMDISK_FETCH_BYTES (FILMDISK_FETCH_WORDS * FILMDISK_WORD_BYTES)     /* an entry of the fetch list */
 #define FILMDISK_SCRATCH_BYTES (FILMDISK_SCRATCH_WORDS * FILMDISK_WORD_BYTES) /* 2,048, a scratch */
 
 /* Stack in bytes that a call takes below the caller's frame, at most. */
-#define FILMDISK_STACK_PLAN 3900
-#define FILMDISK_STACK_PLAN_LOOP 3900
-#define FILMDISK_STACK_PLAN_PAIRS 3900
-#define FILMDISK_STACK_WINDOW 2600
-#define FILMDISK_STACK_OPEN 2600
-#define FILMDISK_STACK_JOIN 2700
-#define FILMDISK_STACK_LEAVE 2700
-#define FILMDISK_STACK_BEGIN 15300
+#define FILMDISK_STACK_PLAN 4300
+#define FILMDISK_STACK_PLAN_LOOP 4300
+#define FILMDISK_STACK_PLAN_PAIRS 4300
+#define FILMDISK_STACK_WINDOW 3200
+#define FILMDISK_STACK_OPEN 3200
+#define FILMDISK_STACK_JOIN 3400
+#define FILMDISK_STACK_LEAVE 3400
+#define FILMDISK_STACK_BEGIN 18900
 #define FILMDISK_STACK_DRAW_LIMIT 16
-#define FILMDISK_STACK_END 9100
-#define FILMDISK_STACK_PLAN_SCRATCH 3900
-#define FILMDISK_STACK_PLAN_LOOP_SCRATCH 3900
-#define FILMDISK_STACK_PLAN_PAIRS_SCRATCH 3900
-#define FILMDISK_STACK_OPEN_SCRATCH 2600
-#define FILMDISK_STACK_JOIN_SCRATCH 2700
-#define FILMDISK_STACK_LEAVE_SCRATCH 2700
-#define FILMDISK_STACK_BEGIN_SCRATCH 15300
-#define FILMDISK_STACK_END_SCRATCH 9100
+#define FILMDISK_STACK_END 9700
+#define FILMDISK_STACK_PLAN_SCRATCH 4300
+#define FILMDISK_STACK_PLAN_LOOP_SCRATCH 4300
+#define FILMDISK_STACK_PLAN_PAIRS_SCRATCH 4300
+#define FILMDISK_STACK_OPEN_SCRATCH 3200
+#define FILMDISK_STACK_JOIN_SCRATCH 3400
+#define FILMDISK_STACK_LEAVE_SCRATCH 3400
+#define FILMDISK_STACK_BEGIN_SCRATCH 18900
+#define FILMDISK_STACK_END_SCRATCH 9700
 
 /* The kind of a card: overheads by hop and return, or measured for each number of visits. */
 enum filmdisk_card_kind { FILMDISK_STRAIGHT = 1, FILMDISK_MEASURED = 2 };
 
-/* The showing of a plan: the film once through; as a loop, whose last block is followed by the first; as pairs, once through by half blocks. */
+/* The showing of a plan: each film once through; as a loop, whose last block is followed by its first; as pairs, once through by half blocks. */
 enum filmdisk_showing { FILMDISK_ONCE = 0, FILMDISK_LOOP = 1, FILMDISK_PAIRS = 2 };
 
 /* The kind of a slot. */
@@ -159,7 +169,9 @@ enum filmdisk_number {
     FILMDISK_REFUSED_TABLE = 25,               /* 25 and 26, place: offset of the number in the card */
     FILMDISK_REFUSED_ZONE_TIME_HALF_DEAD = 26,
     FILMDISK_REFUSED_WINDOW = 27,
-    FILMDISK_REFUSED_HALVES_ABOVE_POSITIONS = 28 /* in the place of 9, of pairs; place: offset of the number in the card */
+    FILMDISK_REFUSED_HALVES_ABOVE_POSITIONS = 28, /* in the place of 9, of pairs; place: offset of the number in the card */
+    FILMDISK_REFUSED_FILMS = 30,               /* place: offset of the number of films, or of the blocks that are too many, in the card */
+    FILMDISK_REFUSED_NO_SUCH_FILM = 31         /* place: slot */
 };
 
 /* The answer of every call but that of windows and of draw limits. Refused: number and place, the rest 0. Accepted: number and place 0. */
@@ -178,7 +190,7 @@ typedef struct filmdisk_window_answer {
     uint32_t number; /* 0, or why the call is refused */
     size_t place;
     uint32_t time;   /* the worst time of the window's blocks, in microseconds */
-    uint32_t first;  /* the first of the blocks that take it, the earliest where several windows do */
+    uint32_t first;  /* through the lists: the first of the blocks that take it, the earliest where several windows do */
     uint32_t bytes;  /* the window's bytes: its blocks times B */
 } filmdisk_window_answer;
 
@@ -195,7 +207,7 @@ static inline const char *filmdisk_meaning(uint32_t number)
         "zone time out of range",
         "zone time above the one before",
         "film blocks out of range",
-        "film blocks above positions",
+        "film blocks above the positions still free",
         "block bytes, rate, hop or return out of range",
         "bytes left over",
         "not even one stream fits",
@@ -214,9 +226,13 @@ static inline const char *filmdisk_meaning(uint32_t number)
     if (number == FILMDISK_REFUSED_ZONE_TIME_HALF_DEAD)
         return "zone time, times three, below the first zone's time";
     if (number == FILMDISK_REFUSED_WINDOW)
-        return "window of 0 blocks, above 64 or above the film's";
+        return "window of 0 blocks, above 64 or above the longest film's";
     if (number == FILMDISK_REFUSED_HALVES_ABOVE_POSITIONS)
-        return "half blocks, two for each film block, above positions";
+        return "half blocks, two for each film block, above the positions still free";
+    if (number == FILMDISK_REFUSED_FILMS)
+        return "films out of range, or blocks of all films above 16,384";
+    if (number == FILMDISK_REFUSED_NO_SUCH_FILM)
+        return "no such film";
     return number < sizeof meanings / sizeof meanings[0] ? meanings[number] : "no such number";
 }
 
@@ -237,10 +253,43 @@ static inline void filmdisk_put_word(uint8_t *bytes, size_t index, uint32_t word
     b[3] = (uint8_t)(word >> 24);
 }
 
-/* Two successive blocks of a film. */
+/*
+ * The blocks of a film, by an accepted plan or by a desk, which begins with one; 0 past the last film. This function takes a film of 0 to
+ * FILMDISK_MAX_FILMS - 1 and does not test it.
+ */
+static inline uint32_t filmdisk_film_blocks(const uint8_t *plan, uint32_t film)
+{
+    return filmdisk_word(plan, (size_t)FILMDISK_PLAN_BLOCKS + film);
+}
+
+/* Where a film starts in the lists: the blocks of all films before it. Of pairs its first entry of the positions is twice as far. */
+static inline uint32_t filmdisk_film_start(const uint8_t *plan, uint32_t film)
+{
+    uint32_t start = 0;
+    for (uint32_t i = 0; i < film && i < FILMDISK_MAX_FILMS; i++)
+        start += filmdisk_film_blocks(plan, i);
+    return start;
+}
+
+/* The blocks of all films: entries of the lead list, and of the positions of all but pairs. */
+static inline uint32_t filmdisk_blocks(const uint8_t *plan)
+{
+    return filmdisk_film_start(plan, FILMDISK_MAX_FILMS);
+}
+
+/* The film of a block that is counted through the lists; less filmdisk_film_start of the film it is the block within it. */
+static inline uint32_t filmdisk_film_at(const uint8_t *plan, uint32_t block)
+{
+    uint32_t film = 0;
+    while (film + 1 < FILMDISK_MAX_FILMS && filmdisk_film_start(plan, film + 1) <= block)
+        film++;
+    return film;
+}
+
+/* Two successive blocks of a film, counted through the lists. */
 typedef struct filmdisk_pair {
     uint32_t first;
-    uint32_t second; /* 0 after the last block of a loop */
+    uint32_t second; /* the film's first block after the last of a loop */
 } filmdisk_pair;
 
 /* The visits of the disk for a block, by an accepted plan or by a desk, which begins with one: 2 of pairs, else 1. */
@@ -250,19 +299,20 @@ static inline uint32_t filmdisk_visits(const uint8_t *plan)
 }
 
 /*
- * The blocks that take worst2, by an accepted plan or by a desk, which begins with one. Not for pairs, where worst2 is twice the time of
- * one block: of these `first` is that block and `second` the one after it, 0 after the last, of which nothing is said.
+ * The blocks that take worst2, both of one film, by an accepted plan or by a desk, which begins with one. Not for pairs, where worst2 is twice
+ * the time of one block: of these `first` is that block and `second` the one after it, after a film's last its first, of which nothing is said.
  */
 static inline filmdisk_pair filmdisk_worst_pair(const uint8_t *plan)
 {
     filmdisk_pair pair;
     pair.first = filmdisk_word(plan, FILMDISK_PLAN_WORSTAT);
-    pair.second = pair.first + 1 < filmdisk_word(plan, FILMDISK_PLAN_BLOCKS) ? pair.first + 1 : 0;
+    uint32_t film = filmdisk_film_at(plan, pair.first);
+    pair.second = pair.first + 1 < filmdisk_film_start(plan, film + 1) ? pair.first + 1 : filmdisk_film_start(plan, film);
     return pair;
 }
 
 /*
- * The kind of a slot. This function and the next three take any slot of a desk, 0 to FILMDISK_MAX_STREAMS - 1, and do not test it: with a
+ * The kind of a slot. This function and the next four take any slot of a desk, 0 to FILMDISK_MAX_STREAMS - 1, and do not test it: with a
  * greater one they read other bytes. Slots from the plan's streams on are free.
  */
 static inline uint32_t filmdisk_slot_kind(const uint8_t *desk, uint32_t slot)
@@ -270,10 +320,16 @@ static inline uint32_t filmdisk_slot_kind(const uint8_t *desk, uint32_t slot)
     return filmdisk_word(desk, (size_t)FILMDISK_DESK_KINDS + slot);
 }
 
-/* The block that the slot gets next; N for a tail, 0 for a free slot. */
+/* The film that the slot watches, from 0; 0 for a free slot. */
+static inline uint32_t filmdisk_slot_film(const uint8_t *desk, uint32_t slot)
+{
+    return filmdisk_word(desk, (size_t)FILMDISK_DESK_NEXT + slot) >> FILMDISK_FILM_SHIFT;
+}
+
+/* The block within its film that the slot gets next; for a tail the number of the film's blocks, 0 for a free slot. */
 static inline uint32_t filmdisk_slot_next(const uint8_t *desk, uint32_t slot)
 {
-    return filmdisk_word(desk, (size_t)FILMDISK_DESK_NEXT + slot);
+    return filmdisk_word(desk, (size_t)FILMDISK_DESK_NEXT + slot) & ((1u << FILMDISK_FILM_SHIFT) - 1);
 }
 
 /* The bytes that the slot holds. */
@@ -297,7 +353,7 @@ static inline uint32_t filmdisk_waiting(const uint8_t *desk)
     return waiting;
 }
 
-/* An entry of the fetch list: read the block, of pairs a half of it, at this position into the slot's buffer. */
+/* An entry of the fetch list: read the block of the slot's film, of pairs a half of it, at this position into the slot's buffer. */
 typedef struct filmdisk_fetch {
     uint32_t position;
     uint32_t slot;
@@ -315,14 +371,14 @@ static inline filmdisk_fetch filmdisk_fetch_at(const uint8_t *fetches, size_t in
     return fetch;
 }
 
-/* Plans a card for one showing: writes the plan and the first N entries of both lists. Refusals 1 to 11, 25 and 26, then 13, then 12. */
+/* Plans a card for one showing: writes the plan and the first A entries of both lists. Refusals 1 to 11, 25, 26 and 30, then 13, then 12. */
 filmdisk_answer filmdisk_plan(const uint8_t *card, size_t card_len,
                               uint8_t *plan, size_t plan_len,
                               uint8_t *positions, size_t positions_len,
                               uint8_t *leads, size_t leads_len);
 
 /*
- * Plans a card as a loop, for screens that play the film round and round; all else as above, the refusals too: 1 to 11, 25 and 26, then
+ * Plans a card as loops, for screens that play a film round and round; all else as above, the refusals too: 1 to 11, 25, 26 and 30, then
  * 13, then 12. Loops have a laying of their own.
  */
 filmdisk_answer filmdisk_plan_loop(const uint8_t *card, size_t card_len,
@@ -332,8 +388,8 @@ filmdisk_answer filmdisk_plan_loop(const uint8_t *card, size_t card_len,
 
 /*
  * Plans a card for pairs: one showing on a drive that stores each block as two halves; its zone times are for a half. No matching of halves
- * has a quicker slowest block. Writes the plan, the first 2 x N entries of the positions and N leads of 0. Refusals 1 to 8, 10, 11, 25, 26,
- * and 28 in 9's place, where 2 x N is above the positions; then 13, for positions below 2 x N too, then 12.
+ * has a quicker slowest block. Writes the plan, the first 2 x A entries of the positions and A leads of 0. Refusals 1 to 8, 10, 11, 25, 26,
+ * 30, and 28 in 9's place, where twice a film's blocks are above the positions still free; then 13, for positions below 2 x A too, then 12.
  */
 filmdisk_answer filmdisk_plan_pairs(const uint8_t *card, size_t card_len,
                                     uint8_t *plan, size_t plan_len,
@@ -341,8 +397,9 @@ filmdisk_answer filmdisk_plan_pairs(const uint8_t *card, size_t card_len,
                                     uint8_t *leads, size_t leads_len);
 
 /*
- * The worst time that `blocks` successive blocks of any plan take, and where; in a loop the first block follows the last, of pairs a block
- * takes the time of both halves. Writes nothing. Of positions the first N entries are read, of pairs 2 x N. Refusals 14, 27.
+ * The worst time that `blocks` successive blocks of one film take, and where; in a loop the first block follows the last, of pairs a block
+ * takes the time of both halves. Films of fewer blocks have no such window, and nothing is said of them. Writes nothing. Of positions the first
+ * A entries are read, of pairs 2 x A. Refusals 14, 27.
  */
 filmdisk_window_answer filmdisk_window(const uint8_t *plan, size_t plan_len,
                                        const uint8_t *positions, size_t positions_len,
@@ -355,13 +412,13 @@ filmdisk_answer filmdisk_open(const uint8_t *plan, size_t plan_len,
                               uint8_t *desk, size_t desk_len);
 
 /*
- * A free slot asks to watch from a start block: alters the desk in place, its slot alone. Its place is behind all that wait. Refusals 14 to
- * 18.
+ * A free slot asks to watch a film from a start block within it: alters the desk in place, its slot alone. Its place is behind all that wait.
+ * Refusals 14 to 17, 31, 18.
  */
 filmdisk_answer filmdisk_join(uint8_t *desk, size_t desk_len,
                               const uint8_t *positions, size_t positions_len,
                               const uint8_t *leads, size_t leads_len,
-                              uint32_t slot, uint32_t block);
+                              uint32_t slot, uint32_t block, uint32_t film);
 
 /*
  * An occupied slot becomes free: alters the desk in place, its slot and, if it had asked, the places behind its own, which drop by one.
@@ -391,7 +448,7 @@ uint64_t filmdisk_draw_limit(const uint8_t *desk, size_t desk_len, uint32_t slot
 
 /*
  * Ends a sweep, with the bytes that each of the n slots drew: alters the desk in place, no place. Refusals 14, 15, 19, 20, 21. After the last
- * block of a film shown once, of pairs too, a slot is tail, and free when it holds no more; in a loop its next block is 0, and it is free
+ * block of its film shown once, of pairs too, a slot is tail, and free when it holds no more; in a loop its next block is 0, and it is free
  * only by a leave.
  */
 filmdisk_answer filmdisk_end(uint8_t *desk, size_t desk_len,
@@ -402,21 +459,21 @@ filmdisk_answer filmdisk_end(uint8_t *desk, size_t desk_len,
 /*
  * The same calls with a scratch in the lead list's place.
  *
- * Plans a card for one showing: writes the plan and the first N entries of the positions. Refusals 1 to 11, 25 and 26, then 13, for a short
- * scratch too, then 12.
+ * Plans a card for one showing: writes the plan and the first A entries of the positions. Refusals 1 to 11, 25, 26 and 30, then 13, for a
+ * short scratch too, then 12.
  */
 filmdisk_answer filmdisk_plan_scratch(const uint8_t *card, size_t card_len,
                                       uint8_t *plan, size_t plan_len,
                                       uint8_t *positions, size_t positions_len,
                                       uint8_t *scratch, size_t scratch_len);
 
-/* Plans a card as a loop; all else as above. */
+/* Plans a card as loops; all else as above. */
 filmdisk_answer filmdisk_plan_loop_scratch(const uint8_t *card, size_t card_len,
                                            uint8_t *plan, size_t plan_len,
                                            uint8_t *positions, size_t positions_len,
                                            uint8_t *scratch, size_t scratch_len);
 
-/* Plans a card for pairs: writes the plan and the first 2 x N entries of the positions. Refusals as with the list, 13 for a short scratch too. */
+/* Plans a card for pairs: writes the plan and the first 2 x A entries of the positions. Refusals as with the list, 13 for a short scratch too. */
 filmdisk_answer filmdisk_plan_pairs_scratch(const uint8_t *card, size_t card_len,
                                             uint8_t *plan, size_t plan_len,
                                             uint8_t *positions, size_t positions_len,
@@ -431,11 +488,11 @@ filmdisk_answer filmdisk_open_scratch(const uint8_t *plan, size_t plan_len,
                                       const uint8_t *scratch, size_t scratch_len,
                                       uint8_t *desk, size_t desk_len);
 
-/* A free slot asks to watch from a start block: alters the desk in place. Refusals 13, 14 to 18. */
+/* A free slot asks to watch a film from a start block within it: alters the desk in place. Refusals 13, 14 to 17, 31, 18. */
 filmdisk_answer filmdisk_join_scratch(uint8_t *desk, size_t desk_len,
                                       const uint8_t *positions, size_t positions_len,
                                       const uint8_t *scratch, size_t scratch_len,
-                                      uint32_t slot, uint32_t block);
+                                      uint32_t slot, uint32_t block, uint32_t film);
 
 /* An occupied slot becomes free: alters the desk in place. Refusals 13, 14 to 17. */
 filmdisk_answer filmdisk_leave_scratch(uint8_t *desk, size_t desk_len,

@@ -138,7 +138,7 @@ static void join(struct desk_run *run, int room, uint32_t block)
 {
     filmdisk_answer answer = {.number = FILMDISK_ACCEPTED};
     if (run->server == LIBRARY)
-        answer = filmdisk_join(desk, sizeof desk, LISTS(run), (uint32_t)room, block);
+        answer = filmdisk_join(desk, sizeof desk, LISTS(run), (uint32_t)room, block, 0);
     else
         served_join(desk, (uint32_t)room, block);
     must(answer.number == FILMDISK_ACCEPTED, "every join of the evening is accepted");

@@ -5,19 +5,19 @@
 #include <string.h>
 
 const struct card bench_card = {
-    6, {1, 1, 1, 1, 1, 1}, {22270, 20550, 19090, 17810, 16700, 15720}, 6, 262144, 500000, 12670, 15000
+    6, {1, 1, 1, 1, 1, 1}, {22270, 20550, 19090, 17810, 16700, 15720}, 6, 262144, 500000, 12670, 15000, 0, {0}
 };
 
 const struct card barracuda_card = {
     7, {598, 776, 1163, 1363, 1606, 1080, 2285}, {135594, 125000, 114286, 103897, 96386, 89888, 86957},
-    8871, 1048576, 524288, 8380, 10090
+    8871, 1048576, 524288, 8380, 10090, 0, {0}
 };
 
-const struct card deskstar_card = {1, {2}, {52258}, 2, 1829000, 187500, 12670, 15000};
+const struct card deskstar_card = {1, {2}, {52258}, 2, 1829000, 187500, 12670, 15000, 0, {0}};
 
 const struct card evening_card = {
     7, {3, 4, 6, 7, 9, 6, 13}, {135594, 125000, 114286, 103897, 96386, 89888, 86957},
-    48, 1048576, 1048576, 8380, 10090
+    48, 1048576, 1048576, 8380, 10090, 0, {0}
 };
 
 /* Hop and return are those by which 001 has 109.45 ms for 12 blocks: for comparing with it only, as this hop is below a full turn. */
@@ -82,17 +82,29 @@ static size_t put_number(uint8_t *to, uint32_t number)
     return length;
 }
 
+/* The number of films and the blocks of each. */
+static size_t write_films(uint8_t *to, const struct card *card)
+{
+    size_t length = put_number(to, card->films > 0 ? card->films : 1);
+    if (card->films == 0)
+        length += put_number(to + length, card->blocks);
+    for (uint32_t film = 0; film < card->films; film++)
+        length += put_number(to + length, card->lengths[film]);
+    return length;
+}
+
 static size_t write_card(uint8_t *to, const struct card *card)
 {
-    const uint32_t film[] = {card->blocks, card->bytes, card->rate, card->hop, card->back};
+    const uint32_t rest[] = {card->bytes, card->rate, card->hop, card->back};
     size_t length = put_number(to, 1);
     length += put_number(to + length, card->zones);
     for (uint32_t zone = 0; zone < card->zones; zone++) {
         length += put_number(to + length, card->positions[zone]);
         length += put_number(to + length, card->times[zone]);
     }
-    for (size_t i = 0; i < sizeof film / sizeof film[0]; i++)
-        length += put_number(to + length, film[i]);
+    length += write_films(to + length, card);
+    for (size_t i = 0; i < sizeof rest / sizeof rest[0]; i++)
+        length += put_number(to + length, rest[i]);
     return length;
 }
 
@@ -145,14 +157,30 @@ uint32_t laid_time(const struct film *film, uint32_t block)
     return time;
 }
 
+int has_pair(const struct film *film, uint32_t block)
+{
+    uint32_t end = filmdisk_film_start(film->plan, filmdisk_film_at(film->plan, block) + 1);
+    return filmdisk_word(film->plan, FILMDISK_PLAN_SHOWING) != FILMDISK_ONCE || block + 1 < end;
+}
+
 uint32_t pair_count(const struct film *film)
 {
-    return film->card.blocks - (filmdisk_word(film->plan, FILMDISK_PLAN_SHOWING) == FILMDISK_ONCE);
+    uint32_t pairs = 0;
+    for (uint32_t b = 0; b < film->card.blocks; b++)
+        pairs += has_pair(film, b) != 0;
+    return pairs;
+}
+
+/* The next block of the same film, in a loop after the last its first. */
+static uint32_t next_block(const struct film *film, uint32_t block)
+{
+    uint32_t its = filmdisk_film_at(film->plan, block);
+    return block + 1 < filmdisk_film_start(film->plan, its + 1) ? block + 1 : filmdisk_film_start(film->plan, its);
 }
 
 uint32_t pair_time(const struct film *film, uint32_t block)
 {
-    return laid_time(film, block) + laid_time(film, (block + 1) % film->card.blocks);
+    return laid_time(film, block) + laid_time(film, next_block(film, block));
 }
 
 /* What worst2 is the greatest of: two successive blocks, of pairs a block twice, each by its first block. */
@@ -168,7 +196,7 @@ static void compare_with_formulas(const struct film *film)
     for (uint32_t b = 0; b < film->card.blocks; b++) {
         if (laid_time(film, b) > greatest)
             greatest = laid_time(film, b);
-        if (b < pair_count(film) && measured_time(film, b) > worst2) {
+        if (has_pair(film, b) && measured_time(film, b) > worst2) {
             worst2 = measured_time(film, b);
             worstat = b;
         }

@@ -8,7 +8,8 @@ struct card {
     uint32_t zones;
     uint32_t positions[FILMDISK_MAX_ZONES];
     uint32_t times[FILMDISK_MAX_ZONES];
-    uint32_t blocks, bytes, rate, hop, back;
+    uint32_t blocks, bytes, rate, hop, back; /* blocks of all films */
+    uint32_t films, lengths[FILMDISK_MAX_FILMS]; /* of a shelf; one film has none of these */
 };
 
 /* What a plan promises: streams, buffer of a stream, worst2 and margin. */
@@ -58,8 +59,9 @@ uint32_t laid_zone(const struct film *film, uint32_t entry);
 uint32_t entry_time(const struct film *film, uint32_t entry);
 uint32_t laid_time(const struct film *film, uint32_t block);
 
-/* The pairs of successive blocks, of which a loop has one more, and the time of the pair that starts at block b. */
+/* The pairs of successive blocks, of which a loop has one more; is there one that starts at block b, and its time. */
 uint32_t pair_count(const struct film *film);
+int has_pair(const struct film *film, uint32_t block);
 uint32_t pair_time(const struct film *film, uint32_t block);
 
 /* Every block counted at the time of the disk's slowest zone. */

@@ -84,7 +84,7 @@ static int act(struct lobby_run *run)
         const struct screen *screen = &run->screens[slot];
         int is_free = filmdisk_slot_kind(desk, slot) == FILMDISK_FREE, is_done = screen->rounds == LOBBY_ROUNDS;
         if (is_free && !is_done && screen->asks <= run->time)
-            accepted(filmdisk_join(desk, sizeof desk, LISTS(run), slot, screen->start));
+            accepted(filmdisk_join(desk, sizeof desk, LISTS(run), slot, screen->start, 0));
         if (!is_free && is_done)
             accepted(filmdisk_leave(desk, sizeof desk, LISTS(run), slot));
         left |= !is_done;

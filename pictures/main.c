@@ -1,4 +1,4 @@
-/* Writes evening.svg, plan.svg, loop.svg, rates.svg, pairs.svg and compare.svg into the named folder. */
+/* Writes evening.svg, plan.svg, shelf.svg, loop.svg, rates.svg, pairs.svg and compare.svg into the named folder. */
 #include "pictures.h"
 
 #include <stdlib.h>
@@ -28,6 +28,7 @@ int main(int count, char **words)
     }
     write_picture(words[1], "evening", draw_evening);
     write_picture(words[1], "plan", draw_plan);
+    write_picture(words[1], "shelf", draw_shelf);
     write_picture(words[1], "loop", draw_loop);
     write_picture(words[1], "rates", draw_rates);
     write_picture(words[1], "pairs", draw_pairs);

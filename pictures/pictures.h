@@ -1,4 +1,4 @@
-/* The six pictures; each is drawn from calls of the library, the evening beside them from its rules as they were. */
+/* The seven pictures; each is drawn from calls of the library, the evening beside them from its rules as they were. */
 #ifndef PICTURES_PICTURES_H
 #define PICTURES_PICTURES_H
 
@@ -6,6 +6,7 @@
 
 void draw_evening(FILE *out);
 void draw_plan(FILE *out);
+void draw_shelf(FILE *out);
 void draw_loop(FILE *out);
 void draw_rates(FILE *out);
 void draw_pairs(FILE *out);

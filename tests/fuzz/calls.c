@@ -1,8 +1,8 @@
 /*
- * Fuzz target: the bytes of an input are read as a card and then as calls on its desk, with damage to strings between them. The film is
- * shown once, is a loop, or has each block as two halves; a few bytes may stand for the table of a card of kind 2. Each call is made of
+ * Fuzz target: the bytes of an input are read as a card and then as calls on its desk, with damage to strings between them. The films are
+ * shown once, are loops, or have each block as two halves; a few bytes may stand for the table of a card of kind 2. Each call is made of
  * the library and of its plain C twin (bench/plain.c); answers and strings must be the same. Each is made twice, with the lead list and
- * with a scratch of random bytes in its place, and what comes of the two must be the same where the list is the film's own; the desk goes
+ * with a scratch of random bytes in its place, and what comes of the two must be the same where the list is the plan's own; the desk goes
  * on as either left it. The twin is built with coverage, which leads the fuzzer; the library's strings touch pages that may not be touched.
  */
 #include "guarded.h"
@@ -26,6 +26,7 @@ struct call {
     enum sort sort;
     uint32_t slot;
     uint32_t block;
+    uint32_t film;
 };
 
 /* The calls that are lent leads, or a scratch in their place. */
@@ -102,7 +103,7 @@ static filmdisk_answer make(const struct interface *interface, enum way way, con
     case CALL_OPEN:
         return of->open(s[PLAN], n[PLAN], s[POSITIONS], n[POSITIONS], s[by], n[by], s[DESK], n[DESK]);
     case CALL_JOIN:
-        return of->join(s[DESK], n[DESK], s[POSITIONS], n[POSITIONS], s[by], n[by], call->slot, call->block);
+        return of->join(s[DESK], n[DESK], s[POSITIONS], n[POSITIONS], s[by], n[by], call->slot, call->block, call->film);
     case CALL_LEAVE:
         return of->leave(s[DESK], n[DESK], s[POSITIONS], n[POSITIONS], s[by], n[by], call->slot);
     case CALL_BEGIN:
@@ -114,8 +115,8 @@ static filmdisk_answer make(const struct interface *interface, enum way way, con
 
 static void differ(const struct call *call, enum way way, const char *words, size_t which)
 {
-    fprintf(stderr, "call of sort %d by %s (slot %u, block %u): %s, string %zu\n", (int)call->sort, way == BY_LIST ? "list" : "scratch",
-            call->slot, call->block, words, which);
+    fprintf(stderr, "call of sort %d by %s (slot %u, block %u, film %u): %s, string %zu\n", (int)call->sort,
+            way == BY_LIST ? "list" : "scratch", call->slot, call->block, call->film, words, which);
     abort();
 }
 
@@ -174,14 +175,13 @@ static filmdisk_answer call_by(enum way way, const struct call *call)
 }
 
 /*
- * Is the lead list the full one? For a planner it has room for N entries: N of the plan, or where none was made no more than the positions
- * have room for, were each block to take one. A desk's is what the planner wrote.
+ * Is the lead list the full one? For a planner it has room for all blocks: those of the plan, or where none was made no more than the
+ * positions have room for, were each block to take one. A desk's is what the planner wrote.
  */
 static int is_full_list(const struct call *call, filmdisk_answer by_scratch)
 {
     if (call->sort <= CALL_PLAN_PAIRS) {
-        size_t blocks = by_scratch.number == 0 ? filmdisk_word(left[BY_SCRATCH][PLAN], FILMDISK_PLAN_BLOCKS)
-                                               : lengths[POSITIONS] / FILMDISK_ENTRY_BYTES;
+        size_t blocks = by_scratch.number == 0 ? filmdisk_blocks(left[BY_SCRATCH][PLAN]) : lengths[POSITIONS] / FILMDISK_ENTRY_BYTES;
         return lengths[LEADS] / FILMDISK_ENTRY_BYTES >= blocks;
     }
     return own_leads_len > 0 && lengths[LEADS] >= own_leads_len && memcmp(contents[LEADS], own_leads, own_leads_len) == 0;
@@ -200,9 +200,8 @@ static void compare_ways(const struct call *call, const filmdisk_answer answers[
 }
 
 /* The call twice; answers what came of the way by which the desk goes on. Leads are always the list call's. */
-static filmdisk_answer call_both(enum sort sort, uint32_t slot, uint32_t block)
+static filmdisk_answer make_both(struct call call)
 {
-    const struct call call = {sort, slot, block};
     const enum way goes_on = habit < WAYS ? habit : calls_made++ % WAYS;
     filmdisk_answer answers[WAYS];
     for (int way = BY_LIST; way < WAYS; way++)
@@ -211,6 +210,12 @@ static filmdisk_answer call_both(enum sort sort, uint32_t slot, uint32_t block)
     for (size_t i = 0; i < STRINGS; i++)
         memcpy(contents[i], left[i == LEADS ? BY_LIST : goes_on][i], lengths[i]);
     return answers[goes_on];
+}
+
+/* A call without block and film. */
+static filmdisk_answer call_both(enum sort sort, uint32_t slot)
+{
+    return make_both((struct call){sort, slot, 0, 0});
 }
 
 /* The window of the plan and its positions, or of the plan that the desk begins with. Neither writes a byte. */
@@ -306,7 +311,7 @@ static enum sort planner_of(uint32_t plan)
     return plan / 8 % 2 == 0 ? CALL_PLAN : CALL_PLAN_LOOP;
 }
 
-/* The lengths for a plan: mostly enough for a short film, at times for any or none. Answers the planner call. */
+/* The lengths for a plan: mostly enough for short films, at times for any or none. Answers the planner call. */
 static enum sort take_planner(void)
 {
     static const size_t entries[] = {64, 64, 64, FILMDISK_MAX_BLOCKS, 6, 5, 1, 0};
@@ -328,6 +333,21 @@ static uint32_t word(enum lent which, size_t index)
     return filmdisk_word(contents[which], index);
 }
 
+/* A film of a record; of one that has none, or at times, any number. */
+static uint32_t take_film(enum lent which)
+{
+    uint32_t choice = take(), films = word(which, FILMDISK_PLAN_FILMS);
+    if (choice < 220 && films > 0)
+        return choice % films;
+    return choice < 240 ? choice % 20 : take_number();
+}
+
+/* The word of a film and a block of it. */
+static uint32_t name_of(uint32_t film, uint32_t block)
+{
+    return (film << FILMDISK_FILM_SHIFT) + block;
+}
+
 /* The draw of a slot: nothing, its limit, what it holds, and one beside these. */
 static uint32_t choose_draw(uint32_t slot, uint32_t choice)
 {
@@ -342,7 +362,7 @@ static uint32_t choose_draw(uint32_t slot, uint32_t choice)
 
 static void begin_sweep(void)
 {
-    filmdisk_answer answer = call_both(CALL_BEGIN, 0, 0);
+    filmdisk_answer answer = call_both(CALL_BEGIN, 0);
     last_bound = answer.number == 0 ? answer.bound : last_bound;
 }
 
@@ -352,7 +372,7 @@ static void end_sweep(uint32_t all, uint32_t one, uint32_t slot)
     limit_both(slot, last_bound);
     for (uint32_t i = 0; i < FILMDISK_MAX_STREAMS; i++)
         filmdisk_put_word(contents[DRAWS], i, choose_draw(i, i == slot ? one : all));
-    call_both(CALL_END, 0, 0);
+    call_both(CALL_END, 0);
 }
 
 /* Sweeps in a row, all slots drawing alike: short films end or go round. */
@@ -413,16 +433,35 @@ static void set_overhead(enum lent which)
 static void set_worstat(enum lent which)
 {
     uint32_t value = take_number(), its = word(which, FILMDISK_PLAN_WORSTAT);
-    const uint32_t words[] = {its + 1, its - 1, word(which, FILMDISK_PLAN_BLOCKS) - 1, value};
+    const uint32_t words[] = {its + 1, its - 1, filmdisk_blocks(contents[which]) - 1, value};
     filmdisk_put_word(contents[which], FILMDISK_PLAN_WORSTAT, words[value % COUNT(words)]);
 }
 
-/* Makes a slot a tail, which no loop has; at times with the next block of one that has gone round. */
+/* Alters the films: a block goes over to another one, two change places, one more or less is counted, an entry is set. */
+static void set_films(enum lent which)
+{
+    uint32_t choice = take(), films = word(which, FILMDISK_PLAN_FILMS);
+    size_t one = FILMDISK_PLAN_BLOCKS + take() % FILMDISK_MAX_FILMS, other = FILMDISK_PLAN_BLOCKS + take() % FILMDISK_MAX_FILMS;
+    uint32_t its = word(which, one), others = word(which, other);
+    if (choice % 4 == 0) {
+        filmdisk_put_word(contents[which], FILMDISK_PLAN_FILMS, choice < 128 ? films + choice / 4 % 3 - 1 : take_number());
+    } else if (choice % 4 == 1) {
+        filmdisk_put_word(contents[which], one, take_number());
+    } else {
+        filmdisk_put_word(contents[which], one, choice % 4 == 2 ? others : its + 1);
+        filmdisk_put_word(contents[which], other, choice % 4 == 2 ? its : others - 1);
+    }
+}
+
+/* Makes a slot a tail, which no loop has; at times with the next block of one that has gone round, or of another film. */
 static void set_tail(void)
 {
-    uint32_t slot = take(), held = take_number();
+    uint32_t slot = take(), held = take_number(), film = take_film(DESK), ended = film % FILMDISK_MAX_FILMS;
+    if (held % 8 == 1)
+        ended = (ended + 1) % FILMDISK_MAX_FILMS;
+    uint32_t block = held % 8 == 0 ? 0 : filmdisk_film_blocks(contents[DESK], ended);
     filmdisk_put_word(contents[DESK], FILMDISK_DESK_KINDS + slot, FILMDISK_TAIL);
-    filmdisk_put_word(contents[DESK], FILMDISK_DESK_NEXT + slot, held % 8 == 0 ? 0 : word(DESK, FILMDISK_PLAN_BLOCKS));
+    filmdisk_put_word(contents[DESK], FILMDISK_DESK_NEXT + slot, name_of(film, block));
     filmdisk_put_word(contents[DESK], FILMDISK_DESK_HELD + slot, held);
 }
 
@@ -434,21 +473,24 @@ static void set_slot(void)
     uint32_t value = take_number();
     if (field == FILMDISK_DESK_HELD)
         value *= word(DESK, FILMDISK_PLAN_BLOCK_BYTES) / 16;
+    if (field == FILMDISK_DESK_NEXT)
+        value = name_of(take_film(DESK), value);
     filmdisk_put_word(contents[DESK], field + slot, value);
 }
 
-/* Makes free slots ask, in any order, behind those that ask already; at times one of them gets another place. */
+/* Makes free slots ask for the films in turn, in any order, behind those that ask already; at times one of them gets another place. */
 static void set_crowd(void)
 {
     uint32_t first = take(), count = take() + 1, step = 2 * take() + 1, odd = take(), block = take();
-    uint32_t streams = word(DESK, FILMDISK_PLAN_STREAMS), blocks = word(DESK, FILMDISK_PLAN_BLOCKS);
+    uint32_t streams = word(DESK, FILMDISK_PLAN_STREAMS), films = word(DESK, FILMDISK_PLAN_FILMS) % (FILMDISK_MAX_FILMS + 1);
     uint32_t waiting = filmdisk_waiting(contents[DESK]), slot = first;
     for (uint32_t i = 0; i < count; i++) {
         slot = (first + i * step) % FILMDISK_MAX_STREAMS;
         if (slot >= streams || filmdisk_slot_kind(contents[DESK], slot) != FILMDISK_FREE)
             continue;
         filmdisk_put_word(contents[DESK], FILMDISK_DESK_KINDS + slot, FILMDISK_ASKED);
-        filmdisk_put_word(contents[DESK], FILMDISK_DESK_NEXT + slot, blocks == 0 ? 0 : (block + i) % blocks);
+        uint32_t film = films == 0 ? 0 : i % films, blocks = filmdisk_film_blocks(contents[DESK], film);
+        filmdisk_put_word(contents[DESK], FILMDISK_DESK_NEXT + slot, name_of(film, blocks == 0 ? 0 : (block + i) % blocks));
         filmdisk_put_word(contents[DESK], FILMDISK_DESK_PLACES + slot, ++waiting);
     }
     if (odd % 8 == 0)
@@ -464,9 +506,16 @@ static void set_place(void)
         filmdisk_put_word(contents[DESK], FILMDISK_DESK_PLACES + other, its);
 }
 
+/* A join of a slot at a block of a film. */
+static void join_film(void)
+{
+    uint32_t slot = take_number(), block = take_number();
+    make_both((struct call){CALL_JOIN, slot, block, take_film(DESK)});
+}
+
 static void take_call(void)
 {
-    uint32_t slot, all, one, choice = take();
+    uint32_t all, one, choice = take();
     if (choice >= 240) {
         window_both(DESK, take_number());
         limit_both(choice, take_number());
@@ -483,14 +532,17 @@ static void take_call(void)
             set_place();
         return;
     }
+    if (choice >= 216) {
+        set_films(DESK);
+        return;
+    }
     switch (choice % 12) {
     case 0:
     case 1:
-        slot = take_number();
-        call_both(CALL_JOIN, slot, take_number());
+        join_film();
         break;
     case 2:
-        call_both(CALL_LEAVE, take_number(), 0);
+        call_both(CALL_LEAVE, take_number());
         break;
     case 3:
     case 4:
@@ -524,10 +576,12 @@ static void take_call(void)
 /* Damages what an opening reads. */
 static void damage_plan(uint32_t choice)
 {
-    if (choice < 236)
+    if (choice < 232)
         damage();
     else if (lengths[PLAN] != FILMDISK_PLAN_BYTES)
         return;
+    else if (choice < 236)
+        set_films(PLAN);
     else if (choice < 240)
         set_overhead(PLAN);
     else if (choice < 248)
@@ -562,9 +616,9 @@ int LLVMFuzzerTestOneInput(const uint8_t *data, size_t size)
     take_card();
     if (has_table)
         take_table();
-    if (call_both(planner, 0, 0).number != 0)
+    if (call_both(planner, 0).number != 0)
         return 0;
-    size_t list_bytes = (size_t)word(PLAN, FILMDISK_PLAN_BLOCKS) * FILMDISK_ENTRY_BYTES;
+    size_t list_bytes = (size_t)filmdisk_blocks(contents[PLAN]) * FILMDISK_ENTRY_BYTES;
     if (lengths[LEADS] >= list_bytes) {
         own_leads_len = list_bytes;
         memcpy(own_leads, contents[LEADS], list_bytes);
@@ -575,7 +629,7 @@ int LLVMFuzzerTestOneInput(const uint8_t *data, size_t size)
     for (; more >= 200; more = take())
         damage_plan(more);
     window_both(PLAN, more % 70);
-    if (call_both(CALL_OPEN, 0, 0).number == 0)
+    if (call_both(CALL_OPEN, 0).number == 0)
         run_desk();
     return 0;
 }

@@ -34,7 +34,7 @@ static void lend_bench(void)
 
 static void plan_of_the_bench_film(void)
 {
-    static const uint32_t film[] = {6, 262144, 500000};
+    static const uint32_t films[2 + FILMDISK_MAX_FILMS + 1] = {1, 6, [1 + FILMDISK_MAX_FILMS] = 262144, 500000};
     static const uint32_t others[] = {16, 812632, 37990, 6550, FILMDISK_ONCE, 0};
     static const uint32_t positions[] = {0, 5, 1, 4, 2, 3};
     static const uint32_t leads[] = {6550, 0, 3110, 0, 190, 0};
@@ -47,7 +47,7 @@ static void plan_of_the_bench_film(void)
     expect(host_plan(), 0, 0);
     check(word(PLAN, FILMDISK_PLAN_KIND) == 1, "kind: expected 1, got %u", word(PLAN, FILMDISK_PLAN_KIND));
     expect_words(PLAN, FILMDISK_PLAN_ZONES, zones, COUNT(zones));
-    expect_words(PLAN, FILMDISK_PLAN_BLOCKS, film, COUNT(film));
+    expect_words(PLAN, FILMDISK_PLAN_FILMS, films, COUNT(films));
     for (uint32_t count = 0; count < FILMDISK_OVERHEADS; count++)
         check(word(PLAN, FILMDISK_PLAN_TABLE + count) == 12670 * count + RETURN, "overhead of %u blocks: expected %u, got %u", count,
               12670 * count + RETURN, word(PLAN, FILMDISK_PLAN_TABLE + count));
@@ -407,7 +407,7 @@ static void refusal_1(void)
 {
     uint8_t card[FILMDISK_MAX_CARD_BYTES];
     size_t length = bench_card(card);
-    check(length == 36, "the bench card has 36 bytes, not %zu", length);
+    check(length == 37, "the bench card has 37 bytes, not %zu", length);
     for (size_t cut = 0; cut < length; cut++)
         expect_card_refused(card, cut, FILMDISK_REFUSED_CARD_ENDS, cut);
     lend_bench();
@@ -466,6 +466,7 @@ static void refusal_8(void)
 {
     refuse_with(BENCH_BLOCKS, 1, FILMDISK_REFUSED_BLOCKS);
     refuse_with(BENCH_BLOCKS, FILMDISK_MAX_BLOCKS + 1, FILMDISK_REFUSED_BLOCKS);
+    check(offset_of(bench_film, BENCH_BLOCKS) == 26, "N is at 26");
 }
 
 static void refusal_9(void)
@@ -496,13 +497,13 @@ static void refusal_11(void)
 static void refusal_12(void)
 {
     for (size_t i = 0; i < COUNT(planners); i++) {
-        uint32_t numbers[] = {1, 1, 2, 20000, 2, 23834, 500000, 12670, 15000};
+        uint32_t numbers[] = {1, 1, 2, 20000, 1, 2, 23834, 500000, 12670, 15000};
         lend_bench();
         lend_card(numbers, COUNT(numbers));
         expect(planners[i](), FILMDISK_REFUSED_NO_STREAM, 0);
         resize(LEADS, 7);
         expect(planners[i](), FILMDISK_REFUSED_TOO_SHORT, 0);
-        numbers[5] = 23835;
+        numbers[6] = 23835;
         lend_bench();
         lend_card(numbers, COUNT(numbers));
         expect(planners[i](), 0, 0);
@@ -645,16 +646,16 @@ static void refusal_14_of_lengths(void)
     bench_desk();
     resize(PLAN, FILMDISK_PLAN_BYTES + 1);
     expect_opening_refused();
-    /* Version 0.3.0 had no worstat. */
+    /* Version 0.11.0 had one film. */
     bench_desk();
-    resize(PLAN, 556);
+    resize(PLAN, 1584);
     expect_opening_refused();
 }
 
 /* A zone of which the film has no block counts too: a plan with a time that is 26 on a card is none. */
 static void refusal_14_of_half_dead_zone(void)
 {
-    static const uint32_t numbers[] = {1, 2, 1, 47160, 2, 15720, 2, 262144, 500000, 12670, 15000};
+    static const uint32_t numbers[] = {1, 2, 1, 47160, 2, 15720, 1, 2, 262144, 500000, 12670, 15000};
     lend_bench();
     lend_card(numbers, COUNT(numbers));
     expect(host_plan(), 0, 0);
@@ -706,7 +707,14 @@ static const struct unsound unsound[] = {
     {FILMDISK_DESK_PHASE, 2},
     {FILMDISK_DESK_KINDS + 4, 5},
     {FILMDISK_DESK_KINDS + 0, 0x100},
+    {FILMDISK_PLAN_FILMS, 0},
+    {FILMDISK_PLAN_FILMS, 2},
+    {FILMDISK_PLAN_BLOCKS + 1, 1},           /* an unused film is zero */
+    {FILMDISK_PLAN_BLOCKS + 15, 0x01000000}, /* the same */
     {FILMDISK_DESK_NEXT + 4, 1},             /* a free slot is zero */
+    {FILMDISK_DESK_NEXT + 4, 0x10000},       /* the same of its film */
+    {FILMDISK_DESK_NEXT + 2, 0x10003},       /* no such film */
+    {FILMDISK_DESK_NEXT + 3, 0x10006},       /* the same */
     {FILMDISK_DESK_HELD + 15, 1},            /* the same */
     {FILMDISK_DESK_KINDS + STREAMS, 1},      /* slots from n on are zero */
     {FILMDISK_DESK_HELD + 255, 1},           /* the same */
@@ -766,7 +774,7 @@ static void refusal_14_of_places(void)
 /* All slots of a house wait, the last one the eldest: a place twice, or one too high, is found. */
 static void refusal_14_of_a_crowd(void)
 {
-    static const uint32_t house[] = {1, 2, 20, 3000, 20, 2000, 40, 1768000, 1000000, 500, 1000000};
+    static const uint32_t house[] = {1, 2, 20, 3000, 20, 2000, 1, 40, 1768000, 1000000, 500, 1000000};
     open_desk(host_plan, house, COUNT(house));
     for (uint32_t slot = FILMDISK_MAX_STREAMS; slot > 0; slot--)
         put_slot(slot - 1, FILMDISK_ASKED, 0, 0);
@@ -958,13 +966,14 @@ static void sizes_and_offsets(void)
 {
     static const struct constant constants[] = {
         {FILMDISK_PLAN_KIND, 0},     {FILMDISK_PLAN_ZONES, 1},         {FILMDISK_PLAN_POSITIONS, 2},
-        {FILMDISK_PLAN_TIMES, 66},   {FILMDISK_PLAN_BLOCKS, 130},      {FILMDISK_PLAN_BLOCK_BYTES, 131},
-        {FILMDISK_PLAN_RATE, 132},   {FILMDISK_PLAN_TABLE, 133},   {FILMDISK_PLAN_STREAMS, 390},
-        {FILMDISK_PLAN_BUFFER, 391}, {FILMDISK_PLAN_WORST2, 392},      {FILMDISK_PLAN_MARGIN, 393},
-        {FILMDISK_PLAN_SHOWING, 394}, {FILMDISK_PLAN_WORSTAT, 395},    {FILMDISK_PLAN_WORDS, 396},
-        {FILMDISK_PLAN_BYTES, 1584}, {FILMDISK_DESK_PHASE, 396},       {FILMDISK_DESK_KINDS, 397},
-        {FILMDISK_DESK_NEXT, 653},   {FILMDISK_DESK_HELD, 909},        {FILMDISK_DESK_PLACES, 1165},
-        {FILMDISK_DESK_WORDS, 1421}, {FILMDISK_DESK_BYTES, 5684},      {FILMDISK_MAX_CARD_BYTES, 1489},
+        {FILMDISK_PLAN_TIMES, 66},   {FILMDISK_PLAN_FILMS, 130},       {FILMDISK_PLAN_BLOCKS, 131},
+        {FILMDISK_PLAN_BLOCK_BYTES, 147}, {FILMDISK_PLAN_RATE, 148},   {FILMDISK_PLAN_TABLE, 149},
+        {FILMDISK_PLAN_STREAMS, 406}, {FILMDISK_PLAN_BUFFER, 407},     {FILMDISK_PLAN_WORST2, 408},
+        {FILMDISK_PLAN_MARGIN, 409}, {FILMDISK_PLAN_SHOWING, 410},     {FILMDISK_PLAN_WORSTAT, 411},
+        {FILMDISK_PLAN_WORDS, 412},  {FILMDISK_PLAN_BYTES, 1648},      {FILMDISK_DESK_PHASE, 412},
+        {FILMDISK_DESK_KINDS, 413},  {FILMDISK_DESK_NEXT, 669},        {FILMDISK_DESK_HELD, 925},
+        {FILMDISK_DESK_PLACES, 1181}, {FILMDISK_DESK_WORDS, 1437},     {FILMDISK_DESK_BYTES, 5748},
+        {FILMDISK_MAX_CARD_BYTES, 1519}, {FILMDISK_MAX_FILMS, 16},     {FILMDISK_FILM_SHIFT, 16},
         {FILMDISK_FETCH_POSITION, 0}, {FILMDISK_FETCH_SLOT, 1},        {FILMDISK_FETCH_BLOCK, 2},
         {FILMDISK_FETCH_BYTES, 12},  {FILMDISK_ENTRY_BYTES, 4},        {FILMDISK_ONCE, 0},
         {FILMDISK_LOOP, 1},
@@ -988,12 +997,13 @@ static void slots_and_fetches_by_the_header(void)
     lend_noise(FETCHES, 256 * FILMDISK_FETCH_BYTES);
     for (size_t i = 0; i < COUNT(slots); i++) {
         uint32_t slot = slots[i];
-        put_bytes(DESK, 1588 + 4 * slot, 0x10);
-        put_bytes(DESK, 2612 + 4 * slot, 0x20);
-        put_bytes(DESK, 3636 + 4 * slot, 0x30);
-        put_bytes(DESK, 4660 + 4 * slot, 0x70);
+        put_bytes(DESK, 1652 + 4 * slot, 0x10);
+        put_bytes(DESK, 2676 + 4 * slot, 0x20);
+        put_bytes(DESK, 3700 + 4 * slot, 0x30);
+        put_bytes(DESK, 4724 + 4 * slot, 0x70);
         check(filmdisk_slot_kind(bytes_of(DESK), slot) == 0x13121110, "kind of slot %u", slot);
-        check(filmdisk_slot_next(bytes_of(DESK), slot) == 0x23222120, "next of slot %u", slot);
+        check(filmdisk_slot_film(bytes_of(DESK), slot) == 0x2322, "film of slot %u", slot);
+        check(filmdisk_slot_next(bytes_of(DESK), slot) == 0x2120, "next of slot %u", slot);
         check(filmdisk_slot_held(bytes_of(DESK), slot) == 0x33323130, "held of slot %u", slot);
         check(filmdisk_slot_place(bytes_of(DESK), slot) == 0x73727170, "place of slot %u", slot);
         put_bytes(FETCHES, 12 * slot, 0x40);
@@ -1069,7 +1079,7 @@ static void draw_limits_of_a_sweep(void)
 /* Numbers that a call may answer: document 01's, and of document 02's some. */
 static int is_number(uint32_t number)
 {
-    return number <= FILMDISK_REFUSED_DRAW_ABOVE_HELD ||
+    return number <= FILMDISK_REFUSED_DRAW_ABOVE_HELD || number == FILMDISK_REFUSED_FILMS || number == FILMDISK_REFUSED_NO_SUCH_FILM ||
            (number >= FILMDISK_REFUSED_TABLE && number <= FILMDISK_REFUSED_HALVES_ABOVE_POSITIONS);
 }
 
@@ -1087,6 +1097,7 @@ static void a_meaning_for_each_number(void)
     check(FILMDISK_REFUSED_TABLE == 25, "25 is an overhead");
     check(FILMDISK_REFUSED_WINDOW == 27, "27 is a window");
     check(FILMDISK_REFUSED_HALVES_ABOVE_POSITIONS == 28, "28 is of pairs");
+    check(FILMDISK_REFUSED_FILMS == 30 && FILMDISK_REFUSED_NO_SUCH_FILM == 31, "30 and 31 are of shelves");
 }
 
 static const test tests[] = {

@@ -9,14 +9,14 @@
 
 /* The longest string is a list of 32,768 entries with some to spare. */
 #define MOST_BYTES 140000
-#define MOST_CARD_NUMBERS 400
+#define MOST_CARD_NUMBERS 420
 
 const uint32_t bench_film[BENCH_NUMBERS] = {
-    1, 6, 1, 22270, 1, 20550, 1, 19090, 1, 17810, 1, 16700, 1, 15720, 6, 262144, 500000, 12670, 15000,
+    1, 6, 1, 22270, 1, 20550, 1, 19090, 1, 17810, 1, 16700, 1, 15720, 1, 6, 262144, 500000, 12670, 15000,
 };
 
 const uint32_t bench_pairs[BENCH_NUMBERS] = {
-    1, 6, 1, 22270, 1, 20550, 1, 19090, 1, 17810, 1, 16700, 1, 15720, PAIRS_BLOCKS, 262144, 500000, 12670, 15000,
+    1, 6, 1, 22270, 1, 20550, 1, 19090, 1, 17810, 1, 16700, 1, 15720, 1, PAIRS_BLOCKS, 262144, 500000, 12670, 15000,
 };
 
 static const char *const names[STRINGS] = {"card", "plan", "positions", "leads", "desk", "fetches", "draws", "scratch"};
@@ -151,6 +151,11 @@ void put(enum lent which, size_t index, uint32_t value)
 uint32_t kind(uint32_t slot)
 {
     return filmdisk_slot_kind(bytes_of(DESK), slot);
+}
+
+uint32_t film(uint32_t slot)
+{
+    return filmdisk_slot_film(bytes_of(DESK), slot);
 }
 
 uint32_t next(uint32_t slot)
@@ -289,10 +294,10 @@ static void after_call(void)
 #define PLANNED_SCRATCH (1u << PLAN | 1u << POSITIONS)
 #define PLANNED (PLANNED_SCRATCH | 1u << LEADS)
 
-/* The bytes of N entries, by the plan. */
+/* The bytes of an entry for each block, by the plan. */
 static size_t list_bytes(void)
 {
-    return (size_t)word(PLAN, FILMDISK_PLAN_BLOCKS) * FILMDISK_ENTRY_BYTES;
+    return (size_t)filmdisk_blocks(bytes_of(PLAN)) * FILMDISK_ENTRY_BYTES;
 }
 
 static filmdisk_answer plan_answer(filmdisk_answer answer, unsigned written)
@@ -379,16 +384,26 @@ static filmdisk_answer desk_answer(filmdisk_answer answer)
     return answer;
 }
 
-filmdisk_answer host_join(uint32_t slot, uint32_t block)
+filmdisk_answer host_join_film(uint32_t slot, uint32_t block, uint32_t film)
 {
     before_call(1u << DESK);
-    return desk_answer(filmdisk_join(LENT(DESK), LENT(POSITIONS), LENT(LEADS), slot, block));
+    return desk_answer(filmdisk_join(LENT(DESK), LENT(POSITIONS), LENT(LEADS), slot, block, film));
+}
+
+filmdisk_answer host_join(uint32_t slot, uint32_t block)
+{
+    return host_join_film(slot, block, 0);
+}
+
+filmdisk_answer host_join_film_scratch(uint32_t slot, uint32_t block, uint32_t film)
+{
+    before_call(1u << DESK);
+    return desk_answer(filmdisk_join_scratch(LENT(DESK), LENT(POSITIONS), LENT(SCRATCH), slot, block, film));
 }
 
 filmdisk_answer host_join_scratch(uint32_t slot, uint32_t block)
 {
-    before_call(1u << DESK);
-    return desk_answer(filmdisk_join_scratch(LENT(DESK), LENT(POSITIONS), LENT(SCRATCH), slot, block));
+    return host_join_film_scratch(slot, block, 0);
 }
 
 filmdisk_answer host_leave(uint32_t slot)
@@ -475,18 +490,28 @@ void expect_no_window(filmdisk_window_answer answer, uint32_t number)
     expect_parts(answer, number, 0, 0, 0);
 }
 
+void expect_slot_film(uint32_t slot, uint32_t its_kind, uint32_t its_film, uint32_t its_next, uint32_t its_held)
+{
+    check(kind(slot) == its_kind && film(slot) == its_film && next(slot) == its_next && held(slot) == its_held,
+          "slot %u: expected kind %u, film %u, next %u, held %u; got %u, %u, %u, %u", slot, its_kind, its_film, its_next, its_held,
+          kind(slot), film(slot), next(slot), held(slot));
+    check((place(slot) != 0) == (its_kind == FILMDISK_ASKED), "slot %u: kind %u, place %u", slot, its_kind, place(slot));
+}
+
 void expect_slot(uint32_t slot, uint32_t its_kind, uint32_t its_next, uint32_t its_held)
 {
-    check(kind(slot) == its_kind && next(slot) == its_next && held(slot) == its_held,
-          "slot %u: expected kind %u, next %u, held %u; got %u, %u, %u", slot, its_kind, its_next, its_held, kind(slot), next(slot),
-          held(slot));
-    check((place(slot) != 0) == (its_kind == FILMDISK_ASKED), "slot %u: kind %u, place %u", slot, its_kind, place(slot));
+    expect_slot_film(slot, its_kind, 0, its_next, its_held);
 }
 
 void put_slot(uint32_t slot, uint32_t its_kind, uint32_t its_next, uint32_t its_held)
 {
+    put_slot_film(slot, its_kind, 0, its_next, its_held);
+}
+
+void put_slot_film(uint32_t slot, uint32_t its_kind, uint32_t its_film, uint32_t its_next, uint32_t its_held)
+{
     put(DESK, FILMDISK_DESK_KINDS + slot, its_kind);
-    put(DESK, FILMDISK_DESK_NEXT + slot, its_next);
+    put(DESK, FILMDISK_DESK_NEXT + slot, (its_film << FILMDISK_FILM_SHIFT) + its_next);
     put(DESK, FILMDISK_DESK_HELD + slot, its_held);
     put(DESK, FILMDISK_DESK_PLACES + slot, its_kind == FILMDISK_ASKED ? filmdisk_waiting(bytes_of(DESK)) : 0);
 }
@@ -572,6 +597,7 @@ void open_film(planner *plan, const uint32_t *times, uint32_t blocks)
         numbers[count++] = 1;
         numbers[count++] = times[zone];
     }
+    numbers[count++] = 1;
     numbers[count++] = blocks;
     for (size_t i = BENCH_BLOCK_BYTES; i < BENCH_NUMBERS; i++)
         numbers[count++] = bench_film[i];

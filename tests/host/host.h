@@ -43,6 +43,7 @@ uint8_t *lent_bytes(enum lent which);
 
 /* The words of a slot in the desk, and what it may draw in a sweep; an entry of the fetches. */
 uint32_t kind(uint32_t slot);
+uint32_t film(uint32_t slot);
 uint32_t next(uint32_t slot);
 uint32_t held(uint32_t slot);
 uint32_t place(uint32_t slot);
@@ -61,7 +62,8 @@ filmdisk_answer host_plan(void);
 filmdisk_answer host_plan_loop(void);
 filmdisk_answer host_plan_pairs(void);
 filmdisk_answer host_open(void);
-filmdisk_answer host_join(uint32_t slot, uint32_t block);
+filmdisk_answer host_join(uint32_t slot, uint32_t block); /* of the first film */
+filmdisk_answer host_join_film(uint32_t slot, uint32_t block, uint32_t film);
 filmdisk_answer host_leave(uint32_t slot);
 filmdisk_answer host_begin(void);
 filmdisk_answer host_end(void);
@@ -73,6 +75,7 @@ filmdisk_answer host_plan_loop_scratch(void);
 filmdisk_answer host_plan_pairs_scratch(void);
 filmdisk_answer host_open_scratch(void);
 filmdisk_answer host_join_scratch(uint32_t slot, uint32_t block);
+filmdisk_answer host_join_film_scratch(uint32_t slot, uint32_t block, uint32_t film);
 filmdisk_answer host_leave_scratch(uint32_t slot);
 filmdisk_answer host_begin_scratch(void);
 filmdisk_answer host_end_scratch(void);
@@ -85,12 +88,14 @@ void expect_window(filmdisk_window_answer answer, uint32_t time, uint32_t first,
 void expect_no_window(filmdisk_window_answer answer, uint32_t number);
 
 /*
- * Words of a string from its word `first` on; the words of a slot, and setting them. A slot has a place only if it asks: it is put behind
- * all that do.
+ * Words of a string from its word `first` on; the words of a slot of the first film or of another, and setting them. A slot has a place only
+ * if it asks: it is put behind all that do.
  */
 void expect_words(enum lent which, size_t first, const uint32_t *words, size_t count);
 void expect_slot(uint32_t slot, uint32_t its_kind, uint32_t its_next, uint32_t its_held);
+void expect_slot_film(uint32_t slot, uint32_t its_kind, uint32_t its_film, uint32_t its_next, uint32_t its_held);
 void put_slot(uint32_t slot, uint32_t its_kind, uint32_t its_next, uint32_t its_held);
+void put_slot_film(uint32_t slot, uint32_t its_kind, uint32_t its_film, uint32_t its_next, uint32_t its_held);
 
 /* The places of these slots, in the order of the slots; no other slot has one. */
 void expect_places(const uint32_t *slots, const uint32_t *places, size_t count);
@@ -115,14 +120,15 @@ void open_film(planner *plan, const uint32_t *times, uint32_t blocks);
 uint32_t below(uint32_t end);
 
 /* The bench film of the scope. */
-#define BENCH_NUMBERS 19
+#define BENCH_NUMBERS 20
 #define BENCH_KIND 0
 #define BENCH_ZONES 1
 #define BENCH_ZONE_POSITIONS(zone) (2 + 2 * (zone))
 #define BENCH_ZONE_TIME(zone) (3 + 2 * (zone))
-#define BENCH_BLOCKS 14
-#define BENCH_BLOCK_BYTES 15
-#define BENCH_HOP 17
+#define BENCH_FILMS 14
+#define BENCH_BLOCKS 15
+#define BENCH_BLOCK_BYTES 16
+#define BENCH_HOP 18
 extern const uint32_t bench_film[BENCH_NUMBERS];
 
 /* The bench film with as many blocks as there are pairs of positions. */

@@ -67,7 +67,7 @@ static void loops_on_three_zones(void)
         {50, 2, 10, {0, 6, 1, 4, 3, 2, 5}, {10, 0, 10, 0, 0, 0, 0}},
     };
     for (uint32_t blocks = 2; blocks <= 7; blocks++) {
-        const uint32_t numbers[] = {1, 3, 2, 30, 3, 20, 2, 10, blocks, BLOCK_BYTES, 500000, HOP, RETURN};
+        const uint32_t numbers[] = {1, 3, 2, 30, 3, 20, 2, 10, 1, blocks, BLOCK_BYTES, 500000, HOP, RETURN};
         const struct laid *film = &films[blocks - 2];
         open_desk(host_plan_loop, numbers, COUNT(numbers));
         expect_words(PLAN, FILMDISK_PLAN_WORST2, &film->worst2, 1);
@@ -81,7 +81,7 @@ static void loops_on_three_zones(void)
 /* The scope's one-zone case has the same worst2 and leads as a loop. */
 static void one_zone(void)
 {
-    static const uint32_t numbers[] = {1, 1, 3, 20000, 3, BLOCK_BYTES, 500000, HOP, RETURN};
+    static const uint32_t numbers[] = {1, 1, 3, 20000, 1, 3, BLOCK_BYTES, 500000, HOP, RETURN};
     static const uint32_t positions[] = {0, 2, 1}, leads[] = {0, 0, 0}, worst2 = 40000;
     static planner *const planners[] = {host_plan, host_plan_loop};
     for (size_t i = 0; i < COUNT(planners); i++) {

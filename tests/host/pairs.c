@@ -82,6 +82,7 @@ static void open_pairs(const struct way *way, const struct matched *film)
         numbers[count++] = 1;
         numbers[count++] = film->times[zone];
     }
+    numbers[count++] = 1;
     numbers[count++] = film->blocks;
     for (size_t i = BENCH_BLOCK_BYTES; i < BENCH_NUMBERS; i++)
         numbers[count++] = bench_pairs[i];
@@ -141,9 +142,9 @@ static void limits_of_a_stream(void)
 }
 
 /* A card of kind 1 with times, hop and return of 1 and c 1000000; n streams take 4 x n + 1. */
-static void small_pairs(uint32_t block_bytes, uint32_t numbers[9])
+static void small_pairs(uint32_t block_bytes, uint32_t numbers[10])
 {
-    const uint32_t small[] = {1, 1, 4, 1, 2, block_bytes, 1000000, 1, 1};
+    const uint32_t small[] = {1, 1, 4, 1, 1, 2, block_bytes, 1000000, 1, 1};
     memcpy(numbers, small, sizeof small);
 }
 
@@ -151,7 +152,7 @@ static void most_streams(void)
 {
     static const uint32_t cases[][2] = {{5, 1}, {8, 1}, {9, 2}, {512, 127}, {513, 128}, {516, 128}, {517, 128}, {4194304, 128}};
     for (size_t i = 0; i < 2 * COUNT(cases); i++) {
-        uint32_t numbers[9];
+        uint32_t numbers[10];
         small_pairs(cases[i / 2][0], numbers);
         lend_pairs(numbers, COUNT(numbers), 2);
         expect(ways[i % 2].plan(), 0, 0);
@@ -209,10 +210,10 @@ static void more_halves_than_positions(void)
 static void longest_film(void)
 {
     for (uint32_t positions = 32767; positions <= 32768; positions++) {
-        const uint32_t numbers[] = {1, 2, positions - 100, 30000, 100, 10000, FILMDISK_MAX_BLOCKS, BLOCK_BYTES, 500000, HOP, RETURN};
+        const uint32_t numbers[] = {1, 2, positions - 100, 30000, 100, 10000, 1, FILMDISK_MAX_BLOCKS, BLOCK_BYTES, 500000, HOP, RETURN};
         lend_pairs(numbers, COUNT(numbers), FILMDISK_MAX_BLOCKS);
         if (positions == 32767) {
-            expect(host_plan_pairs(), FILMDISK_REFUSED_HALVES_ABOVE_POSITIONS, offset_of(numbers, 6));
+            expect(host_plan_pairs(), FILMDISK_REFUSED_HALVES_ABOVE_POSITIONS, offset_of(numbers, 7));
             continue;
         }
         expect(host_plan_pairs(), 0, 0);
@@ -378,7 +379,7 @@ static void floor_is_one_block(void)
 /* 128 streams, all fetched for: 256 entries, the overhead of 256 visits; slots from 128 on are none. */
 static void full_house(void)
 {
-    uint32_t numbers[9];
+    uint32_t numbers[10];
     small_pairs(513, numbers);
     for (size_t i = 0; i < COUNT(ways); i++) {
         ways[i].open_desk(ways[i].plan, numbers, COUNT(numbers));
@@ -404,7 +405,7 @@ static void full_house(void)
 /* The greatest bound: 128 blocks of 8 seconds and 257 seconds of overhead. */
 static void greatest_bound(void)
 {
-    const uint32_t numbers[] = {1, 1, 4, 4000000, 2, 4194304, 3274, 1000000, 1000000};
+    const uint32_t numbers[] = {1, 1, 4, 4000000, 1, 2, 4194304, 3274, 1000000, 1000000};
     open_desk(host_plan_pairs, numbers, COUNT(numbers));
     check(word(PLAN, FILMDISK_PLAN_STREAMS) == 128, "expected 128 streams, got %u", word(PLAN, FILMDISK_PLAN_STREAMS));
     check(word(PLAN, FILMDISK_PLAN_WORST2) == 16000000, "worst2 is four times the greatest time");
@@ -469,9 +470,9 @@ static void expect_all_windows(void)
 static void every_window_of_some_films(void)
 {
     static const uint32_t seven[] = {
-        1, 7, 13, 135594, 24, 125000, 16, 114286, 27, 103897, 19, 96386, 26, 89888, 33, 86957, 70, 1048576, 1048576, 8380, 10090,
+        1, 7, 13, 135594, 24, 125000, 16, 114286, 27, 103897, 19, 96386, 26, 89888, 33, 86957, 1, 70, 1048576, 1048576, 8380, 10090,
     };
-    static const uint32_t greatest[] = {1, 1, 140, 4000000, 66, 4194304, 1, 1, 1};
+    static const uint32_t greatest[] = {1, 1, 140, 4000000, 1, 66, 4194304, 1, 1, 1};
     for (size_t i = 0; i < COUNT(films); i++) {
         open_pairs(&ways[0], &films[i]);
         expect_all_windows();
@@ -557,7 +558,7 @@ static void other_numbers(void)
 static void more_streams_than_there_are(void)
 {
     static const uint32_t streams[] = {127, 129, 256, 257};
-    uint32_t numbers[9];
+    uint32_t numbers[10];
     small_pairs(100000, numbers);
     for (size_t i = 0; i < COUNT(streams); i++) {
         open_desk(host_plan_pairs, numbers, COUNT(numbers));

@@ -40,7 +40,7 @@ static void lend_bench(size_t scratch_bytes)
 /* A film of so many blocks on seven zones. */
 static void lend_film(uint32_t blocks)
 {
-    uint32_t numbers[] = {1, 7, 0, 22270, 0, 20550, 0, 19090, 0, 17810, 0, 16700, 0, 15720, 0, 14850, blocks, BLOCK_BYTES, 500000, HOP, RETURN};
+    uint32_t numbers[] = {1, 7, 0, 22270, 0, 20550, 0, 19090, 0, 17810, 0, 16700, 0, 15720, 0, 14850, 1, blocks, BLOCK_BYTES, 500000, HOP, RETURN};
     for (size_t zone = 0; zone < 7; zone++)
         numbers[2 + 2 * zone] = zone < 6 ? blocks / 7 : blocks - 6 * (blocks / 7);
     lend_card(numbers, COUNT(numbers));

@@ -5,6 +5,9 @@
 #include "host.h"
 #include "stack.h"
 
+#include <stdbool.h>
+#include <string.h>
+
 static filmdisk_answer answer;
 
 static void call_plan(void)
@@ -29,7 +32,7 @@ static void call_open(void)
 
 static void call_join(void)
 {
-    answer = filmdisk_join(LENT(DESK), LENT(POSITIONS), LENT(LEADS), 0, 0);
+    answer = filmdisk_join(LENT(DESK), LENT(POSITIONS), LENT(LEADS), 0, 0, 0);
 }
 
 static void call_leave(void)
@@ -69,7 +72,7 @@ static void call_open_scratch(void)
 
 static void call_join_scratch(void)
 {
-    answer = filmdisk_join_scratch(LENT(DESK), LENT(POSITIONS), LENT(SCRATCH), 0, 0);
+    answer = filmdisk_join_scratch(LENT(DESK), LENT(POSITIONS), LENT(SCRATCH), 0, 0, 0);
 }
 
 static void call_leave_scratch(void)
@@ -106,48 +109,88 @@ static void expect_stack(void (*call)(void), size_t most)
     check(bytes <= most && bytes >= most / 2, "%zu bytes of stack; the header says at most %zu", bytes, most);
 }
 
-static planner *const planners[] = {host_plan, host_plan_loop, host_plan_pairs};
-static planner *const scratch_planners[] = {host_plan_scratch, host_plan_loop_scratch, host_plan_pairs_scratch};
+/* The planners, each for a film alone and for a shelf of two. */
+struct bench {
+    planner *plan;
+    uint32_t films;
+};
+static const struct bench benches[] = {
+    {host_plan, 1}, {host_plan, 2}, {host_plan_loop, 1}, {host_plan_loop, 2}, {host_plan_pairs, 1}, {host_plan_pairs, 2},
+};
+static const struct bench scratch_benches[] = {
+    {host_plan_scratch, 1},      {host_plan_scratch, 2},       {host_plan_loop_scratch, 1},
+    {host_plan_loop_scratch, 2}, {host_plan_pairs_scratch, 1}, {host_plan_pairs_scratch, 2},
+};
 
-/* The bench film's numbers for a planner. */
-static const uint32_t *numbers_for(planner *plan)
+/* The bench film's numbers for a planner; two such films are on a disk of twice the blocks. Answers how many there are. */
+static size_t numbers_of(struct bench bench, uint32_t numbers[BENCH_NUMBERS + 1])
 {
-    return plan == host_plan_pairs || plan == host_plan_pairs_scratch ? bench_pairs : bench_film;
+    bool pairs = bench.plan == host_plan_pairs || bench.plan == host_plan_pairs_scratch;
+    const uint32_t *one = pairs ? bench_pairs : bench_film;
+    if (bench.films == 1) {
+        memcpy(numbers, one, sizeof bench_film);
+        return BENCH_NUMBERS;
+    }
+    memcpy(numbers, one, BENCH_FILMS * sizeof *one);
+    for (size_t i = 2; i < BENCH_FILMS; i += 2)
+        numbers[i] = 2 * one[i];
+    numbers[BENCH_FILMS] = 2;
+    memcpy(numbers + BENCH_FILMS + 2, one + BENCH_FILMS + 1, (BENCH_NUMBERS - BENCH_FILMS - 1) * sizeof *one);
+    numbers[BENCH_FILMS + 1] = one[BENCH_FILMS + 1];
+    return BENCH_NUMBERS + 1;
 }
 
 /* Each call is made once before it is measured, so that memcpy and its like have been found by the loader. */
-static void open_bench(planner *plan)
+static void open_bench(struct bench bench)
 {
-    open_desk(plan, numbers_for(plan), BENCH_NUMBERS);
+    uint32_t numbers[BENCH_NUMBERS + 1];
+    size_t count = numbers_of(bench, numbers);
+    open_desk(bench.plan, numbers, count);
 }
 
-static void open_bench_scratch(planner *plan)
+static void open_bench_scratch(struct bench bench)
 {
-    open_desk_scratch(plan, numbers_for(plan), BENCH_NUMBERS);
+    uint32_t numbers[BENCH_NUMBERS + 1];
+    size_t count = numbers_of(bench, numbers);
+    open_desk_scratch(bench.plan, numbers, count);
+}
+
+/* A planner's call, for each number of films. */
+static void expect_plan(planner *plan, void (*call)(void), size_t most)
+{
+    for (uint32_t films = 1; films <= 2; films++) {
+        open_bench((struct bench){plan, films});
+        expect_stack(call, most);
+    }
+}
+
+static void expect_plan_scratch(planner *plan, void (*call)(void), size_t most)
+{
+    for (uint32_t films = 1; films <= 2; films++) {
+        open_bench_scratch((struct bench){plan, films});
+        expect_stack(call, most);
+    }
 }
 
 static void stack_of_plan(void)
 {
-    open_bench(host_plan);
-    expect_stack(call_plan, FILMDISK_STACK_PLAN);
+    expect_plan(host_plan, call_plan, FILMDISK_STACK_PLAN);
 }
 
 static void stack_of_plan_loop(void)
 {
-    open_bench(host_plan_loop);
-    expect_stack(call_plan_loop, FILMDISK_STACK_PLAN_LOOP);
+    expect_plan(host_plan_loop, call_plan_loop, FILMDISK_STACK_PLAN_LOOP);
 }
 
 static void stack_of_plan_pairs(void)
 {
-    open_bench(host_plan_pairs);
-    expect_stack(call_plan_pairs, FILMDISK_STACK_PLAN_PAIRS);
+    expect_plan(host_plan_pairs, call_plan_pairs, FILMDISK_STACK_PLAN_PAIRS);
 }
 
 static void stack_of_open(void)
 {
-    for (size_t i = 0; i < COUNT(planners); i++) {
-        open_bench(planners[i]);
+    for (size_t i = 0; i < COUNT(benches); i++) {
+        open_bench(benches[i]);
         expect_stack(call_open, FILMDISK_STACK_OPEN);
     }
 }
@@ -155,8 +198,8 @@ static void stack_of_open(void)
 /* The slot that leaves has asked, and another is behind it. */
 static void stack_of_join_and_leave(void)
 {
-    for (size_t i = 0; i < COUNT(planners); i++) {
-        open_bench(planners[i]);
+    for (size_t i = 0; i < COUNT(benches); i++) {
+        open_bench(benches[i]);
         expect(host_join(0, 0), 0, 0);
         expect(host_leave(0), 0, 0);
         expect_stack(call_join, FILMDISK_STACK_JOIN);
@@ -168,8 +211,8 @@ static void stack_of_join_and_leave(void)
 /* A slot fills and another asks. */
 static void stack_of_begin_and_end(void)
 {
-    for (size_t i = 0; i < COUNT(planners); i++) {
-        open_bench(planners[i]);
+    for (size_t i = 0; i < COUNT(benches); i++) {
+        open_bench(benches[i]);
         expect(host_join(0, 0), 0, 0);
         expect(host_begin(), 0, 0);
         expect(host_end(), 0, 0);
@@ -181,18 +224,15 @@ static void stack_of_begin_and_end(void)
 
 static void stack_of_plans_by_scratch(void)
 {
-    open_bench_scratch(host_plan_scratch);
-    expect_stack(call_plan_scratch, FILMDISK_STACK_PLAN_SCRATCH);
-    open_bench_scratch(host_plan_loop_scratch);
-    expect_stack(call_plan_loop_scratch, FILMDISK_STACK_PLAN_LOOP_SCRATCH);
-    open_bench_scratch(host_plan_pairs_scratch);
-    expect_stack(call_plan_pairs_scratch, FILMDISK_STACK_PLAN_PAIRS_SCRATCH);
+    expect_plan_scratch(host_plan_scratch, call_plan_scratch, FILMDISK_STACK_PLAN_SCRATCH);
+    expect_plan_scratch(host_plan_loop_scratch, call_plan_loop_scratch, FILMDISK_STACK_PLAN_LOOP_SCRATCH);
+    expect_plan_scratch(host_plan_pairs_scratch, call_plan_pairs_scratch, FILMDISK_STACK_PLAN_PAIRS_SCRATCH);
 }
 
 static void stack_of_desk_calls_by_scratch(void)
 {
-    for (size_t i = 0; i < COUNT(scratch_planners); i++) {
-        open_bench_scratch(scratch_planners[i]);
+    for (size_t i = 0; i < COUNT(scratch_benches); i++) {
+        open_bench_scratch(scratch_benches[i]);
         expect_stack(call_open_scratch, FILMDISK_STACK_OPEN_SCRATCH);
         expect(host_join_scratch(0, 0), 0, 0);
         expect(host_leave_scratch(0), 0, 0);
@@ -209,16 +249,16 @@ static void stack_of_desk_calls_by_scratch(void)
 
 static void stack_of_window(void)
 {
-    for (size_t i = 0; i < COUNT(planners); i++) {
-        open_bench(planners[i]);
+    for (size_t i = 0; i < COUNT(benches); i++) {
+        open_bench(benches[i]);
         expect_stack(call_window, FILMDISK_STACK_WINDOW);
     }
 }
 
 static void stack_of_draw_limit(void)
 {
-    for (size_t i = 0; i < COUNT(planners); i++) {
-        open_bench(planners[i]);
+    for (size_t i = 0; i < COUNT(benches); i++) {
+        open_bench(benches[i]);
         put(DESK, FILMDISK_DESK_KINDS, FILMDISK_PLAYING);
         call_draw_limit();
         expect_stack(call_draw_limit, FILMDISK_STACK_DRAW_LIMIT);

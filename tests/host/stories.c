@@ -10,12 +10,12 @@
 
 /* A drive that its film fills. */
 static const uint32_t drive[] = {
-    1,    7,     598,  135594, 776,  125000, 1163,    114286, 1363, 103897, 1606,
-    96386, 1080, 89888, 2285, 86957, 8871,   1048576, 524288, 8380, 10090,
+    1,     7,    598,   135594, 776,   125000, 1163, 114286,  1363,   103897, 1606,
+    96386, 1080, 89888, 2285,   86957, 1,      8871, 1048576, 524288, 8380,   10090,
 };
 
 /* The greatest house: 256 streams just fit. */
-static const uint32_t house[] = {1, 2, 20, 3000, 20, 2000, 40, 1768000, 1000000, 500, 1000000};
+static const uint32_t house[] = {1, 2, 20, 3000, 20, 2000, 1, 40, 1768000, 1000000, 500, 1000000};
 
 static void bench_story(void)
 {
@@ -200,7 +200,7 @@ static void the_eldest_leaves(void)
 }
 
 /* A film whose first block alone is slow. */
-static const uint32_t slow_start[] = {1, 2, 1, 30000, 5, 20000, 6, BENCH_BYTES, 500000, 12670, 15000};
+static const uint32_t slow_start[] = {1, 2, 1, 30000, 5, 20000, 1, 6, BENCH_BYTES, 500000, 12670, 15000};
 
 /* Two low slots come and go at the quick blocks, one of them in each gap; a guest in the highest slot does not wait for them. */
 static void lower_slots_come_and_go(void)
@@ -305,7 +305,7 @@ static void a_lobby(void)
 static void short_loops(void)
 {
     for (uint32_t count = 2; count <= 5; count++) {
-        const uint32_t film[] = {1, 1, 5, 20000, count, BENCH_BYTES, 500000, 12670, 15000};
+        const uint32_t film[] = {1, 1, 5, 20000, 1, count, BENCH_BYTES, 500000, 12670, 15000};
         unsigned sweeps = 0;
         start_loop_story(film, COUNT(film));
         join_slot(0, count - 1);
@@ -382,7 +382,7 @@ static void end_of_a_long_film_of_pairs(void)
 /* The greatest house of pairs, always full, for some hundred sweeps: whoever asks is granted at the next begin. */
 static void house_of_128_streams_of_pairs(void)
 {
-    static const uint32_t house_of_pairs[] = {1, 2, 20, 3000, 20, 2000, 20, 1768000, 1000000, 500, 1000000};
+    static const uint32_t house_of_pairs[] = {1, 2, 20, 3000, 20, 2000, 1, 20, 1768000, 1000000, 500, 1000000};
     start_pairs_story(house_of_pairs, COUNT(house_of_pairs));
     check(streams() == 128, "%u streams", streams());
     for (unsigned i = 0; i < 300; i++) {

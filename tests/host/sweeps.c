@@ -37,6 +37,12 @@ uint32_t blocks(void)
     return figure(FILMDISK_PLAN_BLOCKS);
 }
 
+/* The slot's next block as the lists count. */
+static uint32_t listed(uint32_t slot)
+{
+    return filmdisk_film_start(bytes_of(PLAN), film(slot)) + next(slot);
+}
+
 uint32_t fetched(uint32_t slot)
 {
     return book[slot].fetched;
@@ -136,10 +142,16 @@ static int is_foreseen(void)
     return memcmp(foreseen_desk, bytes_of(DESK), sizeof foreseen_desk) == 0;
 }
 
-static void foresee_slot(uint32_t slot, uint32_t its_kind, uint32_t its_next, uint32_t its_held)
+/* The word of a film and a block of it. */
+static uint32_t name_of(uint32_t its_film, uint32_t its_next)
+{
+    return (its_film << FILMDISK_FILM_SHIFT) + its_next;
+}
+
+static void foresee_slot(uint32_t slot, uint32_t its_kind, uint32_t its_name, uint32_t its_held)
 {
     filmdisk_put_word(foreseen_desk, FILMDISK_DESK_KINDS + slot, its_kind);
-    filmdisk_put_word(foreseen_desk, FILMDISK_DESK_NEXT + slot, its_next);
+    filmdisk_put_word(foreseen_desk, FILMDISK_DESK_NEXT + slot, its_name);
     filmdisk_put_word(foreseen_desk, FILMDISK_DESK_HELD + slot, its_held);
 }
 
@@ -153,20 +165,25 @@ static void foresee_places(void)
 }
 
 /* The desk is the one before, but for the slot, which holds nothing and has these words, and for the places of the line. */
-static void check_slot_alone(uint32_t slot, uint32_t its_kind, uint32_t its_next)
+static void check_slot_alone(uint32_t slot, uint32_t its_kind, uint32_t its_name)
 {
-    foresee_slot(slot, its_kind, its_next, 0);
+    foresee_slot(slot, its_kind, its_name, 0);
     foresee_places();
-    check(is_foreseen(), "slot %u alone changes, to kind %u, next %u", slot, its_kind, its_next);
+    check(is_foreseen(), "slot %u alone changes, to kind %u, next word %u", slot, its_kind, its_name);
+}
+
+void join_film(uint32_t slot, uint32_t block, uint32_t its_film)
+{
+    save_desk();
+    expect(host_join_film(slot, block, its_film), 0, 0);
+    stand_in_line(slot);
+    check_slot_alone(slot, FILMDISK_ASKED, name_of(its_film, block));
+    book[slot] = (struct row){.open = 1};
 }
 
 void join_slot(uint32_t slot, uint32_t block)
 {
-    save_desk();
-    expect(host_join(slot, block), 0, 0);
-    stand_in_line(slot);
-    check_slot_alone(slot, FILMDISK_ASKED, block);
-    book[slot] = (struct row){.open = 1};
+    join_film(slot, block, 0);
 }
 
 void leave_slot(uint32_t slot)
@@ -182,7 +199,7 @@ void leave_slot(uint32_t slot)
 
 static uint64_t lead(uint32_t slot)
 {
-    return word(LEADS, next(slot));
+    return word(LEADS, listed(slot));
 }
 
 static uint64_t floor_shares(void)
@@ -256,7 +273,7 @@ static filmdisk_answer foresee_fetches(void)
         if (!is_fetched[slot])
             continue;
         for (uint32_t visit = 0; visit < visits(); visit++, foreseen.count++)
-            foreseen.bound += time_at(word(POSITIONS, visits() * next(slot) + visit));
+            foreseen.bound += time_at(word(POSITIONS, visits() * listed(slot) + visit));
     }
     foreseen.bound += figure(FILMDISK_PLAN_TABLE + foreseen.count);
     return foreseen;
@@ -272,8 +289,8 @@ static void check_entries(uint32_t count)
         check(i == 0 || order > last, "entry %u rises", i);
         last = order;
         int is_its = got.slot < streams() && is_fetched[got.slot] && got.block == next(got.slot) &&
-                     (got.position == word(POSITIONS, visits() * got.block) ||
-                      got.position == word(POSITIONS, visits() * got.block + visits() - 1));
+                     (got.position == word(POSITIONS, visits() * listed(got.slot)) ||
+                      got.position == word(POSITIONS, visits() * listed(got.slot) + visits() - 1));
         check(is_its, "entry %u is a fetch by the rules: position %u, slot %u, block %u", i, got.position, got.slot, got.block);
     }
 }
@@ -319,20 +336,20 @@ static void choose_draws(enum draw draw, uint32_t bound)
 /* The slot after the end. */
 static void foresee_end(uint32_t slot)
 {
-    uint32_t its_kind = kind(slot), its_next = next(slot), its_held = held(slot) - word(DRAWS, slot);
+    uint32_t its_kind = kind(slot), its_film = film(slot), its_next = next(slot), its_held = held(slot) - word(DRAWS, slot);
     if (is_fetched[slot]) {
         its_held += figure(FILMDISK_PLAN_BLOCK_BYTES);
         its_next++;
     }
-    if (is_fetched[slot] && its_next == blocks()) {
+    if (is_fetched[slot] && its_next == filmdisk_film_blocks(bytes_of(PLAN), its_film)) {
         if (figure(FILMDISK_PLAN_SHOWING) == FILMDISK_LOOP)
             its_next = 0;
         else
             its_kind = FILMDISK_TAIL;
     }
     if (its_kind == FILMDISK_TAIL && its_held == 0)
-        its_kind = its_next = 0;
-    foresee_slot(slot, its_kind, its_next, its_held);
+        its_kind = its_film = its_next = 0;
+    foresee_slot(slot, its_kind, name_of(its_film, its_next), its_held);
 }
 
 /* The book's own end: a slot that has drawn all it was given is closed. */

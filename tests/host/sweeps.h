@@ -15,8 +15,9 @@ void start_story(const uint32_t *numbers, size_t count);
 void start_loop_story(const uint32_t *numbers, size_t count);
 void start_pairs_story(const uint32_t *numbers, size_t count);
 
-/* A join or leave that is accepted; it changes its slot alone, and a leave of one that asks the places behind it. */
+/* A join, of the first film or of another, or a leave that is accepted; it changes its slot alone, and a leave of one that asks the places behind it. */
 void join_slot(uint32_t slot, uint32_t block);
+void join_film(uint32_t slot, uint32_t block, uint32_t its_film);
 void leave_slot(uint32_t slot);
 
 /* A begin and an end. Answers how many fetch entries there were. */
@@ -29,7 +30,7 @@ unsigned sweep_to_the_end(enum draw draw, unsigned most);
 unsigned audience(void);
 
 uint32_t streams(void);
-uint32_t blocks(void);
+uint32_t blocks(void); /* of the first film */
 
 /* What the book has of a slot since it joined: blocks fetched, bytes drawn. */
 uint32_t fetched(uint32_t slot);

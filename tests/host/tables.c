@@ -128,8 +128,8 @@ static void late_risers(void)
 /* A film of two blocks of 1000 microseconds, with room for 8,000,000 half microseconds. */
 static void plan_even(planner *plan, uint32_t expected)
 {
-    uint32_t numbers[7 + FILMDISK_OVERHEADS] = {2, 1, 2, 1000, 2, 4000000, 1000000};
-    memcpy(numbers + 7, table, sizeof table);
+    uint32_t numbers[8 + FILMDISK_OVERHEADS] = {2, 1, 2, 1000, 1, 2, 4000000, 1000000};
+    memcpy(numbers + 8, table, sizeof table);
     lend_numbers(numbers, COUNT(numbers));
     filmdisk_answer answer = plan();
     if (expected == 0) {
@@ -210,9 +210,9 @@ static void entries_above_the_streams(void)
 /* A film of two blocks with three streams that just fit by its table: 3 x 50000 + 2 x 50000 half microseconds, at a byte in each. */
 static void open_tight(planner *plan)
 {
-    uint32_t numbers[9 + FILMDISK_OVERHEADS] = {2, 2, 1, 30000, 1, 20000, 2, 125000, 1000000};
+    uint32_t numbers[10 + FILMDISK_OVERHEADS] = {2, 2, 1, 30000, 1, 20000, 1, 2, 125000, 1000000};
     for (uint32_t count = 0; count < FILMDISK_OVERHEADS; count++)
-        numbers[9 + count] = count < 3 ? 1000 * (count + 1) : 47000 + 1000 * count;
+        numbers[10 + count] = count < 3 ? 1000 * (count + 1) : 47000 + 1000 * count;
     open_desk(plan, numbers, COUNT(numbers));
     check(word(PLAN, FILMDISK_PLAN_STREAMS) == 3 && word(PLAN, FILMDISK_PLAN_MARGIN) == 10000, "three streams, not %u",
           word(PLAN, FILMDISK_PLAN_STREAMS));
@@ -346,16 +346,18 @@ static void form_of_entries(void)
     expect(host_plan(), FILMDISK_REFUSED_CARD_GOES_ON, offset_of(numbers, MEASURED_NUMBERS));
 }
 
-/* The longest card. */
+/* The longest card: 16 films, each of so many blocks that its number has two bytes. */
 static void longest_card(void)
 {
-    uint32_t numbers[2 + 2 * FILMDISK_MAX_ZONES + 3 + FILMDISK_OVERHEADS] = {2, FILMDISK_MAX_ZONES};
+    uint32_t numbers[2 + 2 * FILMDISK_MAX_ZONES + 1 + FILMDISK_MAX_FILMS + 2 + FILMDISK_OVERHEADS] = {2, FILMDISK_MAX_ZONES};
     size_t count = 2;
     for (uint32_t zone = 0; zone < FILMDISK_MAX_ZONES; zone++) {
         numbers[count++] = 16384;
         numbers[count++] = 4000000;
     }
-    numbers[count++] = 16384;
+    numbers[count++] = FILMDISK_MAX_FILMS;
+    for (uint32_t film = 0; film < FILMDISK_MAX_FILMS; film++)
+        numbers[count++] = 1024;
     numbers[count++] = 4194304;
     numbers[count++] = 2097152;
     for (uint32_t entry = 0; entry < FILMDISK_OVERHEADS; entry++)
@@ -441,7 +443,7 @@ static void straight_records(void)
         {1000001, 1, FILMDISK_REFUSED_NOT_SOUND},
         {0xFFFFFFFFu, 1000000, FILMDISK_REFUSED_NOT_SOUND},
     };
-    static const uint32_t numbers[] = {1, 1, 2, 1, 2, 4194304, 1, 1, 1};
+    static const uint32_t numbers[] = {1, 1, 2, 1, 1, 2, 4194304, 1, 1, 1};
     for (size_t i = 0; i < COUNT(cases); i++) {
         open_desk(host_plan, numbers, COUNT(numbers));
         set_straight(cases[i].hop, cases[i].back);

@@ -18,7 +18,7 @@ static void open_bench(planner *plan)
 /* A film of one zone with so many positions and blocks. */
 static void open_even(planner *plan, uint32_t positions, uint32_t time, uint32_t blocks, uint32_t block_bytes)
 {
-    const uint32_t numbers[] = {1, 1, positions, time, blocks, block_bytes, 1, 1, 1};
+    const uint32_t numbers[] = {1, 1, positions, time, 1, blocks, block_bytes, 1, 1, 1};
     open_desk(plan, numbers, COUNT(numbers));
 }
 
@@ -94,7 +94,7 @@ static void expect_all_windows(void)
 static void every_window_of_some_films(void)
 {
     static const uint32_t evening[] = {
-        1, 7, 3, 135594, 4, 125000, 6, 114286, 7, 103897, 9, 96386, 6, 89888, 13, 86957, 48, 1048576, 1048576, 8380, 10090,
+        1, 7, 3, 135594, 4, 125000, 6, 114286, 7, 103897, 9, 96386, 6, 89888, 13, 86957, 1, 48, 1048576, 1048576, 8380, 10090,
     };
     uint32_t times[40];
     for (size_t i = 0; i < COUNT(planners); i++) {

@@ -1,36 +1,42 @@
--- 17 and 18 by the ways that the code takes: a slot of kind k, a film of N blocks, a move m.
+-- 17, 31 and 18 by the ways that the code takes: a slot of kind k, F films, a film of N blocks, a move m.
 -- Assumes nothing.
-use Prim.Native.Nat.{ℕ, _≤_, _<_}
+use Prim.Native.Nat.{ℕ, _+_, _*_, _≤_, _<_}
 use mathlib.Core.Path.{_≡_}
 use mathlib.Core.Logic.{_≢_}
 use mathlib.Core.Bool.{true, false}
 use borrow.Author.Tests.{lt-ltb, le-ltb, eq-eqb, ne-eqb}
-use Rattle.numbers.specs.Refusals.{slotState, noSuchBlock}
+use native.Mathlib.Omega.{arith}
+use Rattle.numbers.specs.Limits.{nameStep}
+use Rattle.numbers.specs.Refusals.{slotState, noSuchBlock, noSuchFilm}
 use Rattle.numbers.specs.Slots.{free, waiting}
 use Rattle.desk.specs.Desk.{verdict}
 use Rattle.admission.specs.declared.Move.{Move}
 use Rattle.admission.specs.Moves.{kindAfter, nextAfter, stateVerdict}
 
-module _ (k N : ℕ) (m : Move) where
+module _ (k F N : ℕ) (m : Move) where
   module _ (e : m .joins ≡ true) where
-    pub joins-taken : k ≢ free → verdict slotState (m .slot) ≡ stateVerdict k N m
+    pub joins-taken : k ≢ free → verdict slotState (m .slot) ≡ stateVerdict k F N m
     unfolding stateVerdict
     joins-taken h = rw (e, ne-eqb k free h)
 
-    pub joins-past : k ≡ free → N ≤ m .block → verdict noSuchBlock (m .slot) ≡ stateVerdict k N m
+    pub joins-none : k ≡ free → F ≤ m .film → verdict noSuchFilm (m .slot) ≡ stateVerdict k F N m
     unfolding stateVerdict
-    joins-past h l = rw (e, eq-eqb k free h, le-ltb (m .block) N l)
+    joins-none h l = rw (e, eq-eqb k free h, le-ltb (m .film) F l)
 
-    pub joins-done : k ≡ free → m .block < N → verdict 0 0 ≡ stateVerdict k N m
+    pub joins-past : k ≡ free → m .film < F → N ≤ m .block → verdict noSuchBlock (m .slot) ≡ stateVerdict k F N m
     unfolding stateVerdict
-    joins-done h l = rw (e, eq-eqb k free h, lt-ltb (m .block) N l)
+    joins-past h i l = rw (e, eq-eqb k free h, lt-ltb (m .film) F i, le-ltb (m .block) N l)
+
+    pub joins-done : k ≡ free → m .film < F → m .block < N → verdict 0 0 ≡ stateVerdict k F N m
+    unfolding stateVerdict
+    joins-done h i l = rw (e, eq-eqb k free h, lt-ltb (m .film) F i, lt-ltb (m .block) N l)
 
   module _ (e : m .joins ≡ false) where
-    pub leaves-vacant : k ≡ free → verdict slotState (m .slot) ≡ stateVerdict k N m
+    pub leaves-vacant : k ≡ free → verdict slotState (m .slot) ≡ stateVerdict k F N m
     unfolding stateVerdict
     leaves-vacant h = rw (e, eq-eqb k free h)
 
-    pub leaves-done : k ≢ free → verdict 0 0 ≡ stateVerdict k N m
+    pub leaves-done : k ≢ free → verdict 0 0 ≡ stateVerdict k F N m
     unfolding stateVerdict
     leaves-done h = rw (e, ne-eqb k free h)
 
@@ -44,9 +50,9 @@ module _ (m : Move) where
   unfolding kindAfter
   leaves-kind e = rw e
 
-  pub joins-next : m .joins ≡ true → m .block ≡ nextAfter m
+  pub joins-next : m .joins ≡ true → m .block < nameStep → nameStep * m .film + m .block ≡ nextAfter m
   unfolding nextAfter
-  joins-next e = rw e
+  joins-next e u = rw e (omega arith)
 
   pub leaves-next : m .joins ≡ false → 0 ≡ nextAfter m
   unfolding nextAfter

@@ -12,7 +12,7 @@ use lib.Dec.{eqb}
 use borrow.Author.Tests.{eqb-true, eqb-false, eq-eqb, ne-eqb}
 use Rattle.laws.specs.Map.{mapFrom, mapTo}
 use Rattle.laws.specs.Indices.{mapTo-rest}
-use Rattle.numbers.specs.Limits.{maxStreams}
+use Rattle.numbers.specs.Limits.{maxFilms, nameStep, maxStreams}
 use Rattle.rules.specs.Order.{dropped}
 use Rattle.turns.specs.Places.{drop-same, drop-less}
 use Rattle.desk.specs.declared.Desk.{Desk}
@@ -34,8 +34,13 @@ placesAfter d m = placesWith (d .places) (m .slot) (placeAfter d m)
 abbrev pub Placeless : ℕ → List ℕ → Type 0
 Placeless n q = (j : ℕ) → n ≤ j → getD q j 0 ≡ 0
 
--- what the places after a move are made of
+-- a join's film and block have a name of 32 bits
+abbrev pub Nameable : Move → Type 0
+Nameable m = m .joins ≡ true → (m .film < maxFilms) × (m .block < nameStep)
+
+-- what the places and the name after a move are made of
 pub record Movable (d : Desk) (m : Move) : Type 0 where
+  pub named : Nameable m
   pub few : d .plan .streams ≤ maxStreams
   pub inside : m .slot < d .plan .streams
   pub rest : Placeless (d .plan .streams) (d .places)

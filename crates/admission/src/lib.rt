@@ -9,13 +9,17 @@ use desk::verdict;
 use desk::with_slot;
 use desk_columns::all_places;
 use desk_columns::asked_in;
-use desk_columns::blocks_in;
+use desk_columns::films_in;
 use desk_columns::kind_in;
+use desk_columns::length_in;
 use desk_columns::phase_in;
 use desk_columns::streams_in;
 use desk_record::string_of;
+use numbers::limits::MAX_FILMS;
+use numbers::limits::NAME_STEP;
 use numbers::refusals::ACCEPTED;
 use numbers::refusals::NO_SUCH_BLOCK;
+use numbers::refusals::NO_SUCH_FILM;
 use numbers::refusals::NO_SUCH_SLOT;
 use numbers::refusals::NOT_SOUND;
 use numbers::refusals::SLOT_STATE;
@@ -32,6 +36,7 @@ ghost use mathlib.Core.List.{map};
 ghost use Prim.Native.Nat.{_≤_, _<_};
 ghost use lib.ListN.{length};
 ghost use Rattle.numbers.specs.Limits.{maxStreams};
+ghost use Rattle.card.specs.Card.{lengthIn};
 ghost use Rattle.rules.specs.Order.{dropped};
 ghost use Rattle.plan.specs.Scratch.{leadsBy};
 ghost use Rattle.desk.specs.Desk.{openDesk, joinDesk, leaveDesk};
@@ -39,7 +44,7 @@ ghost use Rattle.desk.specs.Scratch.{openScratch, joinScratch, leaveScratch};
 ghost use Rattle.words.specs.Words.{wordsOf};
 ghost use Rattle.desk_layout.specs.Layout.{deskIn, deskSize};
 ghost use Rattle.admission.specs.Moves.{joinOf, leaveOf, moveDesk, moveScratch, stateVerdict, kindAfter, nextAfter};
-ghost use Rattle.admission.specs.Places.{placeAfter, placesAfter, Placeless, Movable};
+ghost use Rattle.admission.specs.Places.{placeAfter, placesAfter, Placeless, Nameable, Movable};
 
 // Opens a desk with its lists, or with a scratch in the lead list's place.
 fn opened(plan: Plan, positions: &[u8], leads: &[u8], listed: bool) -> Answer
@@ -68,21 +73,23 @@ pub fn open_scratch(plan: Plan, positions: &[u8], scratch: &[u8]) -> Answer
     opened(plan, positions, scratch, false)
 }
 
-// A join of a slot at its start block, or a leave of it.
+// A join of a slot at a start block of a film, or a leave of it.
 pub struct Move {
     pub joins: bool,
     pub slot: u32,
     pub block: u32,
+    pub film: u32,
 }
 
 // A join.
-pub fn join_of(slot: u32, block: u32) -> Move
-    ensures { λ r. ⌜ r ≡ joinOf slot block ⌝ }
+pub fn join_of(slot: u32, block: u32, film: u32) -> Move
+    ensures { λ r. ⌜ r ≡ joinOf slot block film ⌝ }
 {
     Move {
         joins: true,
         slot: slot,
         block: block,
+        film: film,
     }
 }
 
@@ -94,6 +101,7 @@ pub fn leave_of(slot: u32) -> Move
         joins: false,
         slot: slot,
         block: 0,
+        film: 0,
     }
 }
 
@@ -107,12 +115,13 @@ pub fn kind_after(step: Move) -> u32
     FREE
 }
 
-// And the next block.
+// And the word of its film and next block.
 pub fn next_after(step: Move) -> u32
+    requires { ⌜ Nameable step ⌝ }
     ensures { λ r. ⌜ r ≡ nextAfter step ⌝ }
 {
     if step.joins {
-        return step.block;
+        return NAME_STEP * step.film + step.block;
     }
     0
 }
@@ -170,14 +179,28 @@ pub fn places_after(desk: &[u8], step: Move) -> [u32; 256]
     places
 }
 
-// What a move is refused for by the kind of its slot and by its block, of a film of so many: 17, 18, or 0.
-fn judge_state(kind: u32, blocks: u32, step: Move) -> Verdict
-    ensures { λ r. ⌜ r ≡ stateVerdict kind blocks step ⌝ }
+// The blocks of a film of the desk in a lent string, 0 where there is none.
+fn blocks_of(desk: &[u8], film: u32) -> u32
+    requires { ⌜ deskSize ≤ length (now desk) ⌝ }
+    ensures { λ r. ⌜ r ≡ lengthIn (deskIn (wordsOf (now (desk .entry))) .plan .figures) film ⌝ }
+{
+    if film < MAX_FILMS {
+        return length_in(desk, film as usize);
+    }
+    0
+}
+
+// What a move is refused for by the kind of its slot, by its film of so many and by its block of so many: 17, 31, 18, or 0.
+fn judge_state(kind: u32, films: u32, blocks: u32, step: Move) -> Verdict
+    ensures { λ r. ⌜ r ≡ stateVerdict kind films blocks step ⌝ }
 {
     let slot = step.slot as usize;
     if step.joins {
         if kind != FREE {
             return verdict(SLOT_STATE, slot);
+        }
+        if step.film >= films {
+            return verdict(NO_SUCH_FILM, slot);
         }
         if step.block >= blocks {
             return verdict(NO_SUCH_BLOCK, slot);
@@ -190,7 +213,7 @@ fn judge_state(kind: u32, blocks: u32, step: Move) -> Verdict
     verdict(ACCEPTED, 0)
 }
 
-// The refusal of a move of the desk in a lent string, 14 to 18, or 0.
+// The refusal of a move of the desk in a lent string, 14 to 17, 31, 18, or 0.
 pub fn judge_move(desk: &[u8], positions: &[u8], leads: &[u8], listed: bool, step: Move) -> Verdict
     requires { ⌜ deskSize ≤ length (now desk) ⌝ }
     ensures { λ r. ⌜ (let d = deskIn (wordsOf (now (desk .entry))) in
@@ -206,7 +229,12 @@ pub fn judge_move(desk: &[u8], positions: &[u8], leads: &[u8], listed: bool, ste
     if slot >= streams_in(desk) as usize {
         return verdict(NO_SUCH_SLOT, slot);
     }
-    judge_state(kind_in(desk, slot), blocks_in(desk), step)
+    judge_state(
+        kind_in(desk, slot),
+        films_in(desk),
+        blocks_of(desk, step.film),
+        step,
+    )
 }
 
 // A desk after a move; a refused one answers the desk it was given.
@@ -230,11 +258,11 @@ fn moved(desk: Desk, positions: &[u8], leads: &[u8], listed: bool, step: Move) -
     )
 }
 
-// A free slot becomes asked (rules: waiting), with its start block: 14 to 18. A refused call answers the desk it was given.
-pub fn join(desk: Desk, positions: &[u8], leads: &[u8], slot: u32, block: u32) -> Answer
-    ensures { λ r. ⌜ r ≡ joinDesk desk (now (positions .entry)) (now (leads .entry)) slot block ⌝ }
+// A free slot becomes asked (rules: waiting), with its film and start block: 14 to 17, 31, 18. A refused call answers the desk it was given.
+pub fn join(desk: Desk, positions: &[u8], leads: &[u8], slot: u32, block: u32, film: u32) -> Answer
+    ensures { λ r. ⌜ r ≡ joinDesk desk (now (positions .entry)) (now (leads .entry)) slot block film ⌝ }
 {
-    moved(desk, positions, leads, true, join_of(slot, block))
+    moved(desk, positions, leads, true, join_of(slot, block, film))
 }
 
 // An occupied slot becomes free, all zero: 14 to 17. A refused call answers the desk it was given.
@@ -244,7 +272,7 @@ pub fn leave(desk: Desk, positions: &[u8], leads: &[u8], slot: u32) -> Answer
     moved(desk, positions, leads, true, leave_of(slot))
 }
 
-// A desk after a move with a scratch: 13 where it is too short, then 14 to 18.
+// A desk after a move with a scratch: 13 where it is too short, then 14 to 17, 31, 18.
 fn moved_scratch(desk: Desk, positions: &[u8], scratch: &[u8], step: Move) -> Answer
     ensures { λ r. ⌜ r ≡ moveScratch desk (now (positions .entry)) (now (scratch .entry)) step ⌝ }
 {
@@ -254,11 +282,18 @@ fn moved_scratch(desk: Desk, positions: &[u8], scratch: &[u8], step: Move) -> An
     moved(desk, positions, scratch, false, step)
 }
 
-// A join with a scratch: 13, then 14 to 18.
-pub fn join_scratch(desk: Desk, positions: &[u8], scratch: &[u8], slot: u32, block: u32) -> Answer
-    ensures { λ r. ⌜ r ≡ joinScratch desk (now (positions .entry)) (now (scratch .entry)) slot block ⌝ }
+// A join with a scratch: 13, then 14 to 17, 31, 18.
+pub fn join_scratch(
+    desk: Desk,
+    positions: &[u8],
+    scratch: &[u8],
+    slot: u32,
+    block: u32,
+    film: u32,
+) -> Answer
+    ensures { λ r. ⌜ r ≡ joinScratch desk (now (positions .entry)) (now (scratch .entry)) slot block film ⌝ }
 {
-    moved_scratch(desk, positions, scratch, join_of(slot, block))
+    moved_scratch(desk, positions, scratch, join_of(slot, block, film))
 }
 
 // A leave with a scratch: 13, then 14 to 17.

@@ -5,12 +5,12 @@ use mathlib.Core.Bool.{cond}
 use lib.ListN.{length, getD, set, replicate}
 use lib.Dec.{ltb, eqb}
 use Rattle.numbers.specs.Refusals.{cardGoesOn}
-use Rattle.numbers.specs.Limits.{straightKind, maxZones, maxTime, maxBytes, maxRate, maxMove, tableLength}
+use Rattle.numbers.specs.Limits.{straightKind, maxZones, maxTime, maxFilms, maxBytes, maxRate, maxMove, tableLength}
 use Rattle.card.specs.declared.Figures.{Figures}
 use Rattle.card.specs.declared.Scalars.{Scalars}
 use Rattle.card.specs.declared.Verdict.{Verdict}
 use Rattle.card.specs.declared.CardRead.{CardRead}
-use Rattle.card_field.specs.declared.Rule.the-variants.{Kind, Zones, Positions, Measure, Overhead}
+use Rattle.card_field.specs.declared.Rule.the-variants.{Kind, Zones, Positions, Films, Measure, Overhead}
 use Rattle.card_field.specs.declared.Field.{Field}
 use Rattle.card_field.specs.declared.Field.the-variants.{Value, Refused}
 use Rattle.card_field.specs.Ranges.{faultOf, timeFault, blocksFault}
@@ -23,12 +23,25 @@ use Rattle.card_table.specs.Table.{straight, lastEntry}
 unfoldable pub blankZones : List ℕ
 blankZones = replicate maxZones 0
 
+unfoldable pub blankFilms : List ℕ
+blankFilms = replicate maxFilms 0
+
 unfoldable pub blankTable : List ℕ
 blankTable = replicate tableLength 0
 
 -- figures that are all zero
 unfoldable pub blankFigures : Figures
-blankFigures = record { kind = 0; zones = 0; positions = blankZones; times = blankZones; blocks = 0; bytes = 0; rate = 0; table = blankTable }
+blankFigures = record {
+  kind = 0;
+  zones = 0;
+  positions = blankZones;
+  times = blankZones;
+  films = 0;
+  blocks = blankFilms;
+  bytes = 0;
+  rate = 0;
+  table = blankTable;
+}
 
 abbrev pub accepted : Verdict
 accepted = record { number = 0; place = 0 }
@@ -41,13 +54,14 @@ unfoldable pub thenField : Field → (ℕ → ℕ → CardRead) → CardRead
 thenField (Refused k at) go = refusedCard k at
 thenField (Value v next) go = go v next
 
--- figures of single numbers, of the positions and times of the zones, and of the table of overheads
+-- figures of the single numbers and the shelf, of the positions and times of the zones, and of the table of overheads
 abbrev pub figuresFrom : Scalars → List ℕ → List ℕ → List ℕ → Figures
 figuresFrom s ps ts os = record {
   kind = s .kind;
   zones = s .zones;
   positions = ps;
   times = ts;
+  films = s .films;
   blocks = s .blocks;
   bytes = s .bytes;
   rate = s .rate;
@@ -82,13 +96,19 @@ entriesFrom s at go = rowFrom (faultOf Overhead) lastEntry tableLength s at 0 0 
 unfoldable pub tableFrom : ℕ → List ℕ → ℕ → (List ℕ → ℕ → CardRead) → CardRead
 tableFrom kind s at go = cond (eqb kind straightKind) (movesFrom s at go) (entriesFrom s at go)
 
--- the film's figures: N, of which each block takes k positions, B, c; total is P
-unfoldable pub filmFrom : ℕ → List ℕ → ℕ → ℕ → (ℕ → ℕ → ℕ → ℕ → CardRead) → CardRead
+-- the shelf (document 02, ticket 14): the number of films, then N of each, of which each block takes k positions; total is P
+unfoldable pub shelfFrom : ℕ → List ℕ → ℕ → ℕ → (ℕ → List ℕ → ℕ → CardRead) → CardRead
+shelfFrom k s at total go =
+    thenField (fieldAt (faultOf Films 0) s at) (λ films at₁.
+    rowFrom (blocksFault k total) _+_ films s at₁ 0 0 blankFilms (go films))
+
+-- the films' figures: the shelf, B, c
+unfoldable pub filmFrom : ℕ → List ℕ → ℕ → ℕ → (ℕ → List ℕ → ℕ → ℕ → ℕ → CardRead) → CardRead
 filmFrom k s at total go =
-    thenField (fieldAt (blocksFault k total) s at) (λ n at₁.
+    shelfFrom k s at total (λ films ns at₁.
     thenField (fieldAt (faultOf Measure maxBytes) s at₁) (λ b at₂.
     thenField (fieldAt (faultOf Measure maxRate) s at₂) (λ c at₃.
-    go n b c at₃)))
+    go films ns b c at₃)))
 
 -- `left` more zones into their positions and times, from the i-th entry on; total is the positions so far, before the time of the zone
 -- before. The first zone's time is 0 while it is read, and no time is judged by it then
@@ -99,14 +119,14 @@ zonesFrom (suc left) s at i ps ts total before go =
     thenField (fieldAt (timeFault (getD ts 0 0) before) s at₁) (λ t at₂.
     zonesFrom left s at₂ (i + 1) (set ps i p) (set ts i t) (total + p) t go))
 
--- ---- the card (K3): kind, zones, each zone, the film, the overheads, and no byte more
+-- ---- the card (K3): kind, zones, each zone, the films, the overheads, and no byte more
 
 -- after the zones; total is P
 abbrev pub afterZones : ℕ → List ℕ → ℕ → ℕ → List ℕ → List ℕ → ℕ → ℕ → CardRead
 afterZones k s kind z ps ts total at =
-    filmFrom k s at total (λ n b c at₁.
+    filmFrom k s at total (λ films ns b c at₁.
     tableFrom kind s at₁ (λ os at₂.
-    cardEnd s at₂ (figuresFrom (record { kind = kind; zones = z; blocks = n; bytes = b; rate = c }) ps ts os)))
+    cardEnd s at₂ (figuresFrom (record { kind = kind; zones = z; films = films; blocks = ns; bytes = b; rate = c }) ps ts os)))
 
 -- each block takes k positions; the first zone's time is bounded by the greatest time alone
 unfoldable pub readCard : ℕ → List ℕ → CardRead

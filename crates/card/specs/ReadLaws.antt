@@ -11,14 +11,14 @@ use Rattle.leb128.specs.declared.Number.{Number}
 use Rattle.leb128.specs.declared.Number.the-variants as number
 use Rattle.leb128.specs.Number.{numberAt}
 use Rattle.card_field.specs.declared.Rule.{Rule}
-use Rattle.card_field.specs.declared.Rule.the-variants.{Kind, Zones, Positions, Measure, Overhead}
+use Rattle.card_field.specs.declared.Rule.the-variants.{Kind, Zones, Positions, Films, Measure, Overhead}
 use Rattle.card_field.specs.Ranges.{faultOf, timeFault, blocksFault}
 use Rattle.card_field.specs.Figure.{onFault, onNumber, fieldAt}
 use Rattle.card_table.specs.Table.{straight, lastEntry}
 use Rattle.card.specs.declared.Figures.{Figures}
 use Rattle.card.specs.declared.CardRead.{CardRead}
-use Rattle.card.specs.Read.{blankZones, blankTable, accepted, refusedCard, thenField, cardEnd, rowFrom}
-use Rattle.card.specs.Read.{movesFrom, entriesFrom, tableFrom, filmFrom, zonesFrom, afterZones, readCard}
+use Rattle.card.specs.Read.{blankZones, blankFilms, blankTable, accepted, refusedCard, thenField, cardEnd, rowFrom}
+use Rattle.card.specs.Read.{movesFrom, entriesFrom, tableFrom, shelfFrom, filmFrom, zonesFrom, afterZones, readCard}
 
 -- a fact P of answers that has every acceptance, and every refusal by a number of which Q holds; and Q holds of what is not refused (0),
 -- of 1, 2 and 11, and of what each judge says
@@ -30,7 +30,7 @@ pub record Holds (P : CardRead → Type 0) (Q : ℕ → Type 0) : Type 0 where
   pub over : Q cardGoesOn
   pub rule : (u : Rule) (bound v : ℕ) → Q (faultOf u bound v)
   pub time : (innermost before v : ℕ) → Q (timeFault innermost before v)
-  pub blocks : (k total v : ℕ) → Q (blocksFault k total v)
+  pub blocks : (k total sofar v : ℕ) → Q (blocksFault k total sofar v)
 
 module _ (P : CardRead → Type 0) (Q : ℕ → Type 0) (h : Holds P Q) where
   -- a figure, and what follows it
@@ -82,10 +82,17 @@ module _ (P : CardRead → Type 0) (Q : ℕ → Type 0) (h : Holds P Q) where
       then-holds _ s at₁ _ (h .time (getD ts 0 0) before) (λ t at₂.
       zones-hold left s at₂ (i + 1) (set ps i p) (set ts i t) (total + p) t go q))
 
+  shelf-holds : (k : ℕ) (s : List ℕ) (at total : ℕ) (go : ℕ → List ℕ → ℕ → CardRead) → ((films : ℕ) (ns : List ℕ) (next : ℕ) → P (go films ns next))
+      → P (shelfFrom k s at total go)
+  unfolding shelfFrom
+  shelf-holds k s at total go q =
+      then-holds _ s at _ (h .rule Films 0) (λ films at₁.
+      row-holds (blocksFault k total) _+_ (h .blocks k total) films s at₁ 0 0 blankFilms (go films) (q films))
+
   rest-holds : (k : ℕ) (s : List ℕ) (kind z : ℕ) (ps ts : List ℕ) (total at : ℕ) → P (afterZones k s kind z ps ts total at)
   unfolding filmFrom
   rest-holds k s kind z ps ts total at =
-      then-holds _ s at _ (h .blocks k total) (λ n at₁.
+      shelf-holds k s at total _ (λ films ns at₁.
       then-holds _ s at₁ _ (h .rule Measure maxBytes) (λ b at₂.
       then-holds _ s at₂ _ (h .rule Measure maxRate) (λ c at₃.
       table-holds kind s at₃ _ (λ os at₄. end-holds s at₄ _))))

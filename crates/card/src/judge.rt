@@ -7,26 +7,80 @@ use card_field::fault_of_blocks;
 use card_field::fault_of_time;
 use card_table::fault_of_table;
 use numbers::limits::MAX_BYTES;
+use numbers::limits::MAX_FILMS;
 use numbers::limits::MAX_RATE;
 use numbers::limits::MAX_TIME;
 use numbers::limits::MAX_ZONES;
+use numbers::refusals::WRONG_FILMS;
 use numbers::refusals::WRONG_ZONES;
 ghost use mathlib.Core.Path.{_≡_};
-ghost use Prim.Native.Nat.{ℕ, _≤_};
+ghost use Prim.Native.Nat.{ℕ, _+_, _≤_};
 ghost use mathlib.Core.Bool.{cond};
 ghost use mathlib.Core.List.{List, []};
 ghost use lib.ListN.{length};
-ghost use Rattle.numbers.specs.Limits.{maxZones, maxTime, tableLength};
-ghost use Rattle.numbers.specs.Refusals.{wrongZones};
+ghost use Rattle.numbers.specs.Limits.{maxZones, maxTime, maxFilms, tableLength};
+ghost use Rattle.numbers.specs.Refusals.{wrongZones, wrongFilms};
+ghost use Rattle.card_field.specs.Ranges.{blocksFault};
+ghost use Rattle.card_field.specs.Row.{rowFault};
 ghost use Rattle.card.specs.declared.Scalars.{Scalars};
-ghost use Rattle.card.specs.Card.{filmFault, zoneFaults, faultWith, zerosFrom, recordFault};
+ghost use Rattle.card.specs.Card.{zeros, shelfFault, filmFault, zoneFaults, faultWith, zerosFrom, recordFault};
 ghost use Rattle.card.specs.Read.{figuresFrom};
 
-// N, of which each block takes so many positions, B, c, then the overheads.
+// 30 where an entry past the films is not zero, else 0.
+fn fault_of_idle(films: u32, blocks: &[u32; 16]) -> u32
+    requires { ⌜ (films ≤ maxFilms) × (length (now blocks) ≡ maxFilms) ⌝ }
+    ensures { λ r. ⌜ r ≡ cond (zeros films (now (blocks .entry))) 0 wrongFilms ⌝ }
+{
+    let mut i = films as usize;
+    while i < MAX_FILMS as usize {
+        if blocks[i] != 0 {
+            return WRONG_FILMS;
+        }
+        i += 1;
+    }
+    0
+}
+
+// N of each film, of which each block takes so many positions.
+fn fault_of_lengths(visits: u32, total: u32, films: u32, blocks: &[u32; 16]) -> u32
+    requires { ⌜ films ≤ maxFilms ⌝ }
+    ensures { λ r. ⌜ r ≡ rowFault (blocksFault visits total) _+_ films 0 0 (now (blocks .entry)) ⌝ }
+{
+    let mut sofar: u32 = 0;
+    let mut i: usize = 0;
+    while i < films as usize {
+        let n = blocks[i];
+        let number = fault_of_blocks(visits, total, sofar, n);
+        if number != 0 {
+            return number;
+        }
+        sofar += n;
+        i += 1;
+    }
+    0
+}
+
+// The number of films, the entries past them, then N of each.
+fn fault_of_shelf(visits: u32, total: u32, films: u32, blocks: &[u32; 16]) -> u32
+    requires { ⌜ length (now blocks) ≡ maxFilms ⌝ }
+    ensures { λ r. ⌜ r ≡ shelfFault visits total films (now (blocks .entry)) ⌝ }
+{
+    let count = fault(Rule::Films, 0, films);
+    if count != 0 {
+        return count;
+    }
+    let idle = fault_of_idle(films, blocks);
+    if idle != 0 {
+        return idle;
+    }
+    fault_of_lengths(visits, total, films, blocks)
+}
+
+// The shelf, of which each block takes so many positions, B, c, then the overheads.
 fn fault_of_film(visits: u32, total: u32, figures: Scalars, table: &[u32; 257]) -> u32
     ensures { λ r. ⌜ r ≡ filmFault visits (figuresFrom figures [] [] (now (table .entry))) total ⌝ }
 {
-    let few = fault_of_blocks(visits, total, figures.blocks);
+    let few = fault_of_shelf(visits, total, figures.films, &figures.blocks);
     if few != 0 {
         return few;
     }
@@ -132,6 +186,7 @@ pub fn fault_of_record(visits: u32, figures: Figures) -> u32
         Scalars {
             kind: figures.kind,
             zones: figures.zones,
+            films: figures.films,
             blocks: figures.blocks,
             bytes: figures.bytes,
             rate: figures.rate,

@@ -2,9 +2,9 @@
 pub mod judge; // the figures of a record, in the card's order
 
 ghost use mathlib.Core.Path.{_≡_};
-ghost use Rattle.card.specs.Card.{judgeRecord};
+ghost use Rattle.card.specs.Card.{oneFilm, judgeRecord};
 
-// The figures of a card. Entries past the zone count are zero.
+// The figures of a card. Entries past the zones, and past the films, are zero.
 pub struct Figures {
     // 1: overheads by hop and return; 2: measured ones.
     pub kind: u32,
@@ -13,8 +13,10 @@ pub struct Figures {
     pub positions: [u32; 64],
     // Time to read one block in each zone, in microseconds.
     pub times: [u32; 64],
-    // N, the film's blocks.
-    pub blocks: u32,
+    // The films of the shelf.
+    pub films: u32,
+    // N of each film, its blocks.
+    pub blocks: [u32; 16],
     // B, the bytes of a block.
     pub bytes: u32,
     // c, the top rate in bytes a second.
@@ -23,11 +25,12 @@ pub struct Figures {
     pub table: [u32; 257],
 }
 
-// The figures that are single numbers; a caller that lends their arrays hands them over so.
+// The figures that are single numbers, and the films; a caller that lends the other arrays hands them over so.
 pub struct Scalars {
     pub kind: u32,
     pub zones: u32,
-    pub blocks: u32,
+    pub films: u32,
+    pub blocks: [u32; 16],
     pub bytes: u32,
     pub rate: u32,
 }
@@ -50,7 +53,16 @@ pub struct CardWritten {
     pub length: usize,
 }
 
-// Judges a record of figures: refusals 3 to 10, 26 right after 7, and 25 for the overheads of kind 2, offset 0.
+// The film entries of a record with one film of n blocks.
+pub fn one_film(n: u32) -> [u32; 16]
+    ensures { λ r. ⌜ r ≡ oneFilm n ⌝ }
+{
+    let mut blocks = [0u32; 16];
+    blocks[0] = n;
+    blocks
+}
+
+// Judges a record of figures: refusals 3 to 10, 26 right after 7, 30 before 8 and right after it, and 25 for the overheads of kind 2, offset 0.
 pub fn judge_figures(figures: Figures) -> Verdict
     ensures { λ r. ⌜ r ≡ judgeRecord 1 figures ⌝ }
 {

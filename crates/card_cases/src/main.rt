@@ -1,10 +1,11 @@
-// Runs the card cases of document 01, cards of both kinds damaged for each of the refusals 1 to 11, 25 and 26, records and the writer. Standard
-// input has a case on each line: its name, which has no colon, then a colon, a letter for what is done, and what it is done to. RUNS are
+// Runs the card cases of document 01, cards of both kinds damaged for each of the refusals 1 to 11, 25, 26 and 30, records and the writer.
+// Standard input has a case on each line: its name, which has no colon, then a colon, a letter for what is done, and what it is done to. RUNS are
 // numbers: V is V, V*N is N times V, and V+S*N is V, V + S, .., N numbers in all.
 //
 //     NAME: c CARD           reads a card, its bytes in hexadecimal
 //     NAME: n RUNS           reads a card, its numbers in decimal
-//     NAME: j RECORD         judges a record: kind zones N B c, then RUNS of 257 overheads, then positions and time of each zone; what is missing is 0
+//     NAME: j RECORD         judges a record: kind zones films, RUNS of 16 film entries, B c, RUNS of 257 overheads, then positions and time of
+//                            each zone; what is missing is 0
 //     NAME: w SIZE RECORD    writes a record's card into a buffer of SIZE bytes, 4,096 at most
 //
 // A line is printed for each: its name and the answer; a line with no colon as it is.
@@ -40,12 +41,25 @@ fn same(a: &[u8], b: &[u8], n: usize) -> bool {
     true
 }
 
+// The number of films, and N of each.
+fn show_films(films: u32, blocks: &[u32; 16]) {
+    print_word(films);
+    let mut i: usize = 0;
+    while i < 16 {
+        if films as usize <= i {
+            break;
+        }
+        print_word(blocks[i]);
+        i += 1;
+    }
+}
+
 // An accepted card's figures, and whether it is the card that the writer makes of them.
 fn show_accepted(f: Figures, bytes: &[u8]) {
     print(b" accepted");
     print_word(f.kind);
     print_word(f.zones);
-    print_word(f.blocks);
+    show_films(f.films, &f.blocks);
     print_word(f.bytes);
     print_word(f.rate);
     print_word(f.table[0]);

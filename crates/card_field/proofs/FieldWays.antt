@@ -1,21 +1,25 @@
 -- Each way that the code of a figure can take.
 -- Assumes nothing.
-use Prim.Native.Nat.{ℕ, zero, suc, _*_, _≤_, _<_}
+use Prim.Native.Nat.{ℕ, zero, suc, _+_, _*_, _-_, _/_, _≤_, _<_}
 use mathlib.Core.Path.{_≡_, refl, sym, ap, _∙_}
+use mathlib.Core.Logic.{by-cases}
 use mathlib.Core.Bool.{true, false, cond}
+use native.Mathlib.Nat.{le-div-iff-mul-le, div-lt-iff-lt-mul}
+use native.Mathlib.Omega.{arith}
+use native.Mathlib.Decide.{decLe}
 use lib.Dec.{leb}
 use borrow.Author.Tests.{le-leb, lt-leb}
 use Rattle.leb128.specs.declared.Number.{Number}
 use Rattle.leb128.specs.declared.Number.the-variants as number
 use Rattle.leb128.specs.Number.{numberAt}
 use mathlib.Core.List.{List}
-use Rattle.numbers.specs.Limits.{maxTime, timesAsFast}
-use Rattle.numbers.specs.Refusals.{wrongTime, risingTime, halfDeadTime, blocksAbovePositions, halvesAbovePositions}
+use Rattle.numbers.specs.Limits.{maxTime, timesAsFast, minBlocks, maxBlocks}
+use Rattle.numbers.specs.Refusals.{wrongTime, risingTime, halfDeadTime, wrongBlocks, blocksAbovePositions, halvesAbovePositions, wrongFilms}
 use Rattle.card_field.specs.declared.Rule.{Rule}
 use Rattle.card_field.specs.declared.Field.{Field}
 use Rattle.card_field.specs.declared.Field.the-variants.{Value, Refused}
-use Rattle.card_field.specs.Ranges.{first, below, above, outside, thenAbove, thenBelow, faultOf, timeFault, roomFault}
-use Rattle.card_field.specs.RangeLaws.{first-stops}
+use Rattle.card_field.specs.Ranges.{first, below, above, outside, thenAbove, thenBelow, faultOf, timeFault, roomFault, blocksFault}
+use Rattle.card_field.specs.RangeLaws.{first-stops, room-left, left-room}
 use Rattle.card_field.specs.Figure.{valueIn, onFault, onNumber, fieldAt}
 
 -- ---- ranges
@@ -93,6 +97,32 @@ room-of-blocks k h = rw (le-leb k 1 h)
 pub room-of-halves : (k : ℕ) → 1 < k → halvesAbovePositions ≡ roomFault k
 unfolding roomFault
 room-of-halves k h = rw (lt-leb k 1 h)
+
+-- a film's N: 8, then 30, then 9 or 28
+module _ (visits total sofar v : ℕ) {k : ℕ} (judged : k ≡ outside minBlocks maxBlocks wrongBlocks v) where
+  pub blocks-outside : (k ≡ 0 → ⊥) → k ≡ blocksFault visits total sofar v
+  unfolding blocksFault thenAbove
+  blocks-outside n = first-stops (first-stops judged _ n) _ n
+
+  pub blocks-over : k ≡ 0 → maxBlocks < sofar + v → wrongFilms ≡ blocksFault visits total sofar v
+  unfolding blocksFault thenAbove above first
+  blocks-over z h = rw (sym judged ∙ z, lt-leb (sofar + v) maxBlocks h)
+
+  -- the positions left are too few just where all, shared out to all blocks, are
+  shared-low : 0 < v → total / (sofar + v) < visits → total - visits * sofar < visits * v
+  shared-low p l =
+      let all = div-lt-iff-lt-mul {k = sofar + v} {x = total} {y = visits} (omega arith) .0 l in
+      by-cases (decLe (visits * v) (total - visits * sofar)) (λ h. absurd (omega (arith, room-left visits total sofar v p h))) (λ h. omega arith)
+
+  pub blocks-no-room : k ≡ 0 → 0 < v → sofar + v ≤ maxBlocks → total / (sofar + v) < visits → roomFault visits ≡ blocksFault visits total sofar v
+  unfolding blocksFault thenAbove above first
+  blocks-no-room z p h l = rw (sym judged ∙ z, le-leb (sofar + v) maxBlocks h, lt-leb (visits * v) (total - visits * sofar) (shared-low p l))
+
+  pub blocks-good : k ≡ 0 → 0 < v → sofar + v ≤ maxBlocks → visits ≤ total / (sofar + v) → 0 ≡ blocksFault visits total sofar v
+  unfolding blocksFault thenAbove above first
+  blocks-good z p h l =
+      let all = le-div-iff-mul-le {k = sofar + v} {x = visits} {y = total} (omega arith) .0 l in
+      rw (sym judged ∙ z, le-leb (sofar + v) maxBlocks h, le-leb (visits * v) (total - visits * sofar) (left-room visits total sofar v all))
 
 -- the same rule, the same refusal
 pub by-rule : (b v : ℕ) {r r′ : Rule} → r ≡ r′ → faultOf r′ b v ≡ faultOf r b v

@@ -1,6 +1,6 @@
 -- Laws of the ranges: a figure is not refused just where it is in its range.
 -- Assumes nothing.
-use Prim.Native.Nat.{ℕ, zero, suc, _+_, _*_, _≤_, _<_}
+use Prim.Native.Nat.{ℕ, zero, suc, _+_, _*_, _-_, _≤_, _<_}
 use mathlib.Core.Path.{_≡_, refl, sym, _∙_}
 use mathlib.Core.Logic.{_⊎_, inl, inr, by-cases}
 use mathlib.Core.Bool.{Bool, true, false, cond}
@@ -8,10 +8,11 @@ use native.Mathlib.Omega.{arith}
 use native.Mathlib.Decide.{decLe}
 use lib.Dec.{leb}
 use borrow.Author.Tests.{leb-true, le-leb}
-use Rattle.numbers.specs.Limits.{straightKind, measuredKind, maxNumber, maxZones, maxPositions, maxTime, timesAsFast, minBlocks, maxBlocks, maxOverhead}
+use Rattle.numbers.specs.Limits.{straightKind, measuredKind, maxNumber, maxZones, maxPositions, maxTime, timesAsFast}
+use Rattle.numbers.specs.Limits.{minBlocks, maxBlocks, maxFilms, maxOverhead}
 use Rattle.numbers.specs.Refusals.{wrongKind, wrongZones, wrongPositions, wrongTime, risingTime}
-use Rattle.numbers.specs.Refusals.{wrongBlocks, blocksAbovePositions, wrongMeasure, wrongOverhead, halfDeadTime, halvesAbovePositions}
-use Rattle.card_field.specs.declared.Rule.the-variants.{Kind, Zones, Positions, Measure, Overhead}
+use Rattle.numbers.specs.Refusals.{wrongBlocks, blocksAbovePositions, wrongMeasure, wrongOverhead, halfDeadTime, halvesAbovePositions, wrongFilms}
+use Rattle.card_field.specs.declared.Rule.the-variants.{Kind, Zones, Positions, Films, Measure, Overhead}
 use Rattle.card_field.specs.Ranges.{first, below, above, outside, thenAbove, thenBelow, faultOf, timeFault, roomFault, blocksFault}
 
 -- no fault of two is no fault of either
@@ -23,6 +24,12 @@ first-none (suc j) k e = absurd (omega arith)
 pub first-clear : {j k : ℕ} → j ≡ 0 → k ≡ 0 → first j k ≡ 0
 unfolding first
 first-clear p q = rw (p, q)
+
+-- the first of three
+pub first-assoc : (i j k : ℕ) → first (first i j) k ≡ first i (first j k)
+unfolding first
+first-assoc zero j k = refl
+first-assoc (suc i) j k = refl
 
 -- a fault stops the judge; where there is none the next one is judged
 module _ {k k′ : ℕ} (same : k ≡ k′) (later : ℕ) where
@@ -114,12 +121,9 @@ module _ (bound v : ℕ) where
       let r = outside-range 1 maxTime wrongTime v (omega arith) (h .0) in
       (r .0, r .1, above-range bound risingTime v (omega arith) (h .1), below-range innermost halfDeadTime (timesAsFast * v) (omega arith) (d .1))
 
-  pub blocks-range : (k : ℕ) → blocksFault k bound v ≡ 0 → (minBlocks ≤ v) × (v ≤ maxBlocks) × (k * v ≤ bound)
-  unfolding blocksFault thenAbove
-  blocks-range k e =
-      let h = first-none (outside minBlocks maxBlocks wrongBlocks v) (above bound (roomFault k) (k * v)) e in
-      let r = outside-range minBlocks maxBlocks wrongBlocks v (omega arith) (h .0) in
-      (r .0, r .1, above-range bound (roomFault k) (k * v) (room-some k) (h .1))
+  pub films-range : faultOf Films bound v ≡ 0 → (1 ≤ v) × (v ≤ maxFilms)
+  unfolding faultOf
+  films-range e = outside-range 1 maxFilms wrongFilms v (omega arith) e
 
   pub measure-range : faultOf Measure bound v ≡ 0 → (1 ≤ v) × (v ≤ bound)
   unfolding faultOf
@@ -151,9 +155,9 @@ module _ (bound v : ℕ) where
       first-clear (first-clear (range-outside 1 maxTime wrongTime v l h) (range-above bound risingTime v b))
       (range-below innermost halfDeadTime (timesAsFast * v) a)
 
-  pub blocks-legal : (k : ℕ) → minBlocks ≤ v → v ≤ maxBlocks → k * v ≤ bound → blocksFault k bound v ≡ 0
-  unfolding blocksFault thenAbove
-  blocks-legal k l h b = first-clear (range-outside minBlocks maxBlocks wrongBlocks v l h) (range-above bound (roomFault k) (k * v) b)
+  pub films-legal : 1 ≤ v → v ≤ maxFilms → faultOf Films bound v ≡ 0
+  unfolding faultOf
+  films-legal l h = range-outside 1 maxFilms wrongFilms v l h
 
   pub measure-legal : 1 ≤ v → v ≤ bound → faultOf Measure bound v ≡ 0
   unfolding faultOf
@@ -162,6 +166,34 @@ module _ (bound v : ℕ) where
   pub overhead-legal : 1 ≤ v → v ≤ maxOverhead → bound ≤ v → faultOf Overhead bound v ≡ 0
   unfolding faultOf thenBelow
   overhead-legal l h b = first-clear (range-outside 1 maxOverhead wrongOverhead v l h) (range-below bound wrongOverhead v b)
+
+-- N of a film after others of `sofar` blocks; each block takes k positions
+module _ (k total sofar v : ℕ) where
+  -- THE POSITIONS LEFT ARE ENOUGH FOR A FILM JUST WHERE ALL ARE ENOUGH FOR IT AND THOSE BEFORE IT
+  pub room-left : 0 < v → k * v ≤ total - k * sofar → k * (sofar + v) ≤ total
+  room-left some h = go k h
+    where
+      go : (k : ℕ) → k * v ≤ total - k * sofar → k * (sofar + v) ≤ total
+      go zero h = omega arith
+      go (suc k) h = omega arith
+
+  pub left-room : k * (sofar + v) ≤ total → k * v ≤ total - k * sofar
+  left-room h = omega arith
+
+  pub blocks-range : blocksFault k total sofar v ≡ 0 → (minBlocks ≤ v) × (v ≤ maxBlocks) × (sofar + v ≤ maxBlocks) × (k * (sofar + v) ≤ total)
+  unfolding blocksFault thenAbove
+  blocks-range e =
+      let d = first-none (thenAbove (outside minBlocks maxBlocks wrongBlocks v) maxBlocks wrongFilms (sofar + v)) _ e in
+      let h = first-none (outside minBlocks maxBlocks wrongBlocks v) (above maxBlocks wrongFilms (sofar + v)) (d .0) in
+      let r = outside-range minBlocks maxBlocks wrongBlocks v (omega arith) (h .0) in
+      let left = above-range (total - k * sofar) (roomFault k) (k * v) (room-some k) (d .1) in
+      (r .0, r .1, above-range maxBlocks wrongFilms (sofar + v) (omega arith) (h .1), room-left (omega arith) left)
+
+  pub blocks-legal : minBlocks ≤ v → v ≤ maxBlocks → sofar + v ≤ maxBlocks → k * (sofar + v) ≤ total → blocksFault k total sofar v ≡ 0
+  unfolding blocksFault thenAbove
+  blocks-legal l h a b =
+      first-clear (first-clear (range-outside minBlocks maxBlocks wrongBlocks v l h) (range-above maxBlocks wrongFilms (sofar + v) a))
+      (range-above (total - k * sofar) (roomFault k) (k * v) (left-room b))
 
 -- three times a time that is in its range is a number of 32 bits
 pub thrice-fits : (v : ℕ) → v ≤ maxTime → timesAsFast * v ≤ maxNumber

@@ -1,12 +1,13 @@
--- The ranges of a card's figures (K4), and the refusal of each (R3 to R10; 25, T3.7; 26, T8.3; 28, T11).
-use Prim.Native.Nat.{ℕ, zero, suc, _+_, _*_}
+-- The ranges of a card's figures (K4), and the refusal of each (R3 to R10; 25, T3.7; 26, T8.3; 28, T11; 30, T14).
+use Prim.Native.Nat.{ℕ, zero, suc, _+_, _*_, _-_}
 use mathlib.Core.Bool.{cond}
 use lib.Dec.{leb}
-use Rattle.numbers.specs.Limits.{straightKind, measuredKind, maxNumber, maxZones, maxPositions, maxTime, timesAsFast, minBlocks, maxBlocks, maxOverhead}
+use Rattle.numbers.specs.Limits.{straightKind, measuredKind, maxNumber, maxZones, maxPositions, maxTime, timesAsFast}
+use Rattle.numbers.specs.Limits.{minBlocks, maxBlocks, maxFilms, maxOverhead}
 use Rattle.numbers.specs.Refusals.{wrongKind, wrongZones, wrongPositions, wrongTime, risingTime}
-use Rattle.numbers.specs.Refusals.{wrongBlocks, blocksAbovePositions, wrongMeasure, wrongOverhead, halfDeadTime, halvesAbovePositions}
+use Rattle.numbers.specs.Refusals.{wrongBlocks, blocksAbovePositions, wrongMeasure, wrongOverhead, halfDeadTime, halvesAbovePositions, wrongFilms}
 use Rattle.card_field.specs.declared.Rule.{Rule}
-use Rattle.card_field.specs.declared.Rule.the-variants.{Kind, Zones, Positions, Measure, Overhead}
+use Rattle.card_field.specs.declared.Rule.the-variants.{Kind, Zones, Positions, Films, Measure, Overhead}
 
 -- the first fault of two; 0 is none
 unfoldable pub first : ℕ → ℕ → ℕ
@@ -35,6 +36,7 @@ unfoldable pub faultOf : Rule → ℕ → ℕ → ℕ
 faultOf Kind bound v = outside straightKind measuredKind wrongKind v
 faultOf Zones bound v = outside 1 maxZones wrongZones v
 faultOf Positions total v = thenAbove (outside 1 maxNumber wrongPositions v) maxPositions wrongPositions (total + v)
+faultOf Films bound v = outside 1 maxFilms wrongFilms v
 faultOf Measure most v = outside 1 most wrongMeasure v
 faultOf Overhead before v = thenBelow (outside 1 maxOverhead wrongOverhead v) before wrongOverhead v
 
@@ -47,6 +49,8 @@ timeFault innermost before v = thenBelow (thenAbove (outside 1 maxTime wrongTime
 unfoldable pub roomFault : ℕ → ℕ
 roomFault k = cond (leb k 1) blocksAbovePositions halvesAbovePositions
 
--- the refusal of N, 0 where it is legal: out of range, then k times N above P
-unfoldable pub blocksFault : ℕ → ℕ → ℕ → ℕ
-blocksFault k total v = thenAbove (outside minBlocks maxBlocks wrongBlocks v) total (roomFault k) (k * v)
+-- the refusal of a film's N, 0 where it is legal (document 02, ticket 14): out of range, then above 16,384 with the blocks of the films
+-- before it, then k times N above the positions that those leave free; total is P
+unfoldable pub blocksFault : ℕ → ℕ → ℕ → ℕ → ℕ
+blocksFault k total sofar v =
+    thenAbove (thenAbove (outside minBlocks maxBlocks wrongBlocks v) maxBlocks wrongFilms (sofar + v)) (total - k * sofar) (roomFault k) (k * v)

@@ -1,6 +1,7 @@
 // One figure of a card: its form, then its range.
 use leb128::Number;
 use numbers::limits::MAX_BLOCKS;
+use numbers::limits::MAX_FILMS;
 use numbers::limits::MAX_NUMBER;
 use numbers::limits::MAX_OVERHEAD;
 use numbers::limits::MAX_POSITIONS;
@@ -17,6 +18,7 @@ use numbers::refusals::HALVES_ABOVE_POSITIONS;
 use numbers::refusals::NUMBER_FORM;
 use numbers::refusals::RISING_TIME;
 use numbers::refusals::WRONG_BLOCKS;
+use numbers::refusals::WRONG_FILMS;
 use numbers::refusals::WRONG_KIND;
 use numbers::refusals::WRONG_MEASURE;
 use numbers::refusals::WRONG_OVERHEAD;
@@ -36,6 +38,8 @@ pub enum Rule {
     Zones,
     // A zone's positions; bound: the positions of the zones before it.
     Positions,
+    // The number of films.
+    Films,
     // B, c, hop or return; bound: its greatest value.
     Measure,
     // An overhead of kind 2; bound: the one before, 0 for the first.
@@ -116,15 +120,22 @@ fn room_fault(visits: u32) -> u32
     HALVES_ABOVE_POSITIONS
 }
 
-// The refusal of N: its range, then all positions, of which each block takes so many.
-pub fn fault_of_blocks(visits: u32, total: u32, v: u32) -> u32
-    ensures { λ r. ⌜ r ≡ blocksFault visits total v ⌝ }
+// The refusal of a film's N after films of so many blocks: its range, then the blocks of all of them, then the positions that are left, of
+// which each block takes so many: they are too few where all positions, shared out to all blocks, are.
+pub fn fault_of_blocks(visits: u32, total: u32, sofar: u32, v: u32) -> u32
+    ensures { λ r. ⌜ r ≡ blocksFault visits total sofar v ⌝ }
 {
     let range = outside(MIN_BLOCKS, MAX_BLOCKS, WRONG_BLOCKS, v);
     if range != 0 {
         return range;
     }
-    then_above(range, (total / v) as u64, room_fault(visits), visits as u64)
+    if MAX_BLOCKS - v < sofar {
+        return WRONG_FILMS;
+    }
+    if total / (sofar + v) < visits {
+        return room_fault(visits);
+    }
+    0
 }
 
 // The refusal of the value v of any other figure; 0 where it is in range.
@@ -140,6 +151,7 @@ pub fn fault(rule: Rule, bound: u32, v: u32) -> u32
             WRONG_POSITIONS,
             bound as u64 + v as u64,
         ),
+        Rule::Films => outside(1, MAX_FILMS, WRONG_FILMS, v),
         Rule::Measure => outside(1, bound, WRONG_MEASURE, v),
         Rule::Overhead => then_below(
             outside(1, MAX_OVERHEAD, WRONG_OVERHEAD, v),
@@ -199,10 +211,10 @@ pub fn read_time(card: &[u8], at: usize, innermost: u32, before: u32) -> Field
     field_of(fault_of_time(innermost, before, value_in(n)), at, n)
 }
 
-// N at an offset of a card; each block takes so many positions.
-pub fn read_blocks(card: &[u8], at: usize, visits: u32, total: u32) -> Field
-    ensures { λ r. ⌜ r ≡ fieldAt (blocksFault visits total) (now (card .entry)) at ⌝ }
+// A film's N at an offset of a card, after films of so many blocks; each block takes so many positions.
+pub fn read_blocks(card: &[u8], at: usize, visits: u32, total: u32, sofar: u32) -> Field
+    ensures { λ r. ⌜ r ≡ fieldAt (blocksFault visits total sofar) (now (card .entry)) at ⌝ }
 {
     let n = leb128::read_number(card, at);
-    field_of(fault_of_blocks(visits, total, value_in(n)), at, n)
+    field_of(fault_of_blocks(visits, total, sofar, value_in(n)), at, n)
 }

@@ -6,18 +6,18 @@ use mathlib.Core.List.{List}
 use native.Mathlib.Omega.{arith}
 use lib.ListN.{length, getD, set}
 use borrow.Author.Tests.{lt-ltb, le-ltb, eq-eqb, ne-eqb}
-use Rattle.numbers.specs.Limits.{straightKind, maxZones, maxPositions, maxTime, maxMove, tableLength}
+use Rattle.numbers.specs.Limits.{straightKind, maxZones, maxPositions, maxTime, maxBlocks, maxFilms, maxMove, tableLength}
 use Rattle.numbers.specs.Refusals.{cardGoesOn}
 use Rattle.leb128.specs.declared.Number.{Number}
 use Rattle.leb128.specs.declared.Number.the-variants as number
 use Rattle.leb128.specs.Number.{numberAt}
 use Rattle.card.specs.declared.Figures.{Figures}
 use Rattle.card.specs.declared.CardRead.{CardRead}
-use Rattle.card_field.specs.declared.Rule.the-variants.{Zones, Positions, Measure}
+use Rattle.card_field.specs.declared.Rule.the-variants.{Zones, Positions, Films, Measure}
 use Rattle.card_field.specs.declared.Field.{Field}
 use Rattle.card_field.specs.declared.Field.the-variants.{Value, Refused}
-use Rattle.card_field.specs.RangeLaws.{positions-range, zones-range, measure-range}
-use Rattle.card_field.specs.Ranges.{faultOf, timeFault}
+use Rattle.card_field.specs.RangeLaws.{positions-range, zones-range, films-range, blocks-range, measure-range}
+use Rattle.card_field.specs.Ranges.{faultOf, timeFault, blocksFault}
 use Rattle.card_field.specs.Figure.{onFault, onNumber, fieldAt}
 use Rattle.card.specs.Read.{blankZones, blankTable, thenField, refusedCard, cardEnd, rowFrom, movesFrom, entriesFrom, tableFrom, zonesFrom}
 use Rattle.card_reader.specs.Told.{acceptedCard}
@@ -138,6 +138,14 @@ field-fits total s at e h = positions-range total _ (field-judged (faultOf Posit
 
 pub zones-bound : (bound : ℕ) (s : List ℕ) (at : ℕ) {v next : ℕ} {F : Field} → F ≡ fieldAt (faultOf Zones bound) s at → F ≡ Value v next → v ≤ maxZones
 zones-bound bound s at e h = zones-range bound _ (field-judged (faultOf Zones bound) s at e h) .1
+
+pub films-bound : (s : List ℕ) (at : ℕ) {v next : ℕ} {F : Field} → F ≡ fieldAt (faultOf Films 0) s at → F ≡ Value v next → v ≤ maxFilms
+films-bound s at e h = films-range 0 _ (field-judged (faultOf Films 0) s at e h) .1
+
+-- with a film that is read the blocks are few enough
+pub film-fits : (visits total sofar : ℕ) (s : List ℕ) (at : ℕ) {v next : ℕ} {F : Field} → F ≡ fieldAt (blocksFault visits total sofar) s at → F ≡ Value v next
+    → sofar + v ≤ maxBlocks
+film-fits visits total sofar s at e h = blocks-range visits total sofar _ (field-judged (blocksFault visits total sofar) s at e h) .2
 
 pub move-bound : (s : List ℕ) (at : ℕ) {v next : ℕ} {F : Field} → F ≡ fieldAt (faultOf Measure maxMove) s at → F ≡ Value v next → v ≤ maxMove
 move-bound s at e h = measure-range maxMove _ (field-judged (faultOf Measure maxMove) s at e h) .1

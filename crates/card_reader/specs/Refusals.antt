@@ -8,7 +8,7 @@ use native.Mathlib.Omega.{arith}
 use lib.Dec.{leb}
 use Rattle.numbers.specs.Refusals.{tooShort, blocksAbovePositions, halvesAbovePositions}
 use Rattle.card_field.specs.declared.Rule.{Rule}
-use Rattle.card_field.specs.declared.Rule.the-variants.{Kind, Zones, Positions, Measure, Overhead}
+use Rattle.card_field.specs.declared.Rule.the-variants.{Kind, Zones, Positions, Films, Measure, Overhead}
 use Rattle.card_field.specs.Ranges.{first, below, above, outside, thenAbove, thenBelow, faultOf, timeFault, roomFault, blocksFault}
 use Rattle.card.specs.Read.{refusedCard, readCard}
 use Rattle.card.specs.ReadLaws.{read-holds}
@@ -44,6 +44,7 @@ unfolding faultOf
 rule-other Kind bound v = outside-other _ _ _ v (λ e. omega arith)
 rule-other Zones bound v = outside-other _ _ _ v (λ e. omega arith)
 rule-other Positions bound v = above-other _ _ _ (bound + v) (outside-other _ _ _ v (λ e. omega arith)) (λ e. omega arith)
+rule-other Films bound v = outside-other _ _ _ v (λ e. omega arith)
 rule-other Measure bound v = outside-other _ _ _ v (λ e. omega arith)
 rule-other Overhead bound v = below-other _ _ _ v (outside-other _ _ _ v (λ e. omega arith)) (λ e. omega arith)
 
@@ -59,9 +60,10 @@ room-other k = by (leb k 1)
     by true = λ e. omega arith
     by false = λ e. omega arith
 
-blocks-other : (k total v : ℕ) → Other (blocksFault k total v)
+blocks-other : (k total sofar v : ℕ) → Other (blocksFault k total sofar v)
 unfolding blocksFault
-blocks-other k total v = above-other _ _ _ (k * v) (outside-other _ _ _ v (λ e. omega arith)) (room-other k)
+blocks-other k total sofar v =
+    above-other _ _ _ (k * v) (above-other _ _ _ (sofar + v) (outside-other _ _ _ v (λ e. omega arith)) (λ e. omega arith)) (room-other k)
 
 -- ---- the card
 

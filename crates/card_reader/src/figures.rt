@@ -1,9 +1,9 @@
 // The numbers of a card, in their order; the first fault ends it.
 use crate::Told;
+use crate::shelf::read_shelf;
 use crate::table::read_table;
 use card_field::Field;
 use card_field::Rule;
-use card_field::read_blocks;
 use card_field::read_field;
 use card_field::read_time;
 use numbers::limits::MAX_BYTES;
@@ -14,12 +14,13 @@ ghost use mathlib.Core.Path.{_≡_};
 ghost use Prim.Native.Nat.{ℕ, _≤_};
 ghost use mathlib.Core.List.{List};
 ghost use Rattle.numbers.specs.Limits.{maxZones, maxTime};
-ghost use Rattle.card.specs.Read.{blankTable, refusedCard, thenField, zonesFrom, afterZones};
-ghost use Rattle.card_reader.specs.Told.{toldCard};
+ghost use Rattle.card.specs.Read.{blankFilms, blankTable, refusedCard, thenField, zonesFrom, afterZones};
+ghost use Rattle.card.specs.declared.CardRead.{CardRead};
+ghost use Rattle.card_reader.specs.Told.{toldCard, zonesWith};
 
 // What a refused figure makes of the card. (A value is none; no caller hands one over.)
 pub fn refused_field(f: Field) -> Told
-    ensures { λ r. ⌜ ((ps ts os : List ℕ) → toldCard ps ts os r ≡ thenField f (λ v next. refusedCard 0 0)) ⌝ }
+    ensures { λ r. ⌜ ((ps ts ns os : List ℕ) → toldCard ps ts ns os r ≡ thenField f (λ v next. refusedCard 0 0)) ⌝ }
 {
     match f {
         Field::Refused(number, at) => Told::Refused(number, at),
@@ -27,22 +28,24 @@ pub fn refused_field(f: Field) -> Told
     }
 }
 
-// The film's figures, each block on so many positions, and the overheads into a table; after the last of these no byte is left over. Kind
-// and zones are those of the card.
-fn read_film(
+// The films, each block on so many positions, B, c, and the overheads into a table; after the last of these no byte is left over. Kind and
+// zones are those of the card.
+pub fn read_film(
     card: &[u8],
     at: usize,
     visits: u32,
     total: u32,
     kind: u32,
     zones: u32,
+    blocks: &mut [u32; 16],
     table: &mut [u32; 257],
 ) -> Told
-    requires { ⌜ now table ≡ blankTable ⌝ }
-    ensures { λ r. ⌜ ((ps ts : List ℕ) → toldCard ps ts (now (table .exit)) r ≡ afterZones visits (now (card .entry)) kind zones ps ts total at) ⌝ }
+    requires { ⌜ (now blocks ≡ blankFilms) × (now table ≡ blankTable) ⌝ }
+    ensures { λ r. ⌜ ((ps ts : List ℕ) → toldCard ps ts (now (blocks .exit)) (now (table .exit)) r
+        ≡ afterZones visits (now (card .entry)) kind zones ps ts total at) ⌝ }
 {
-    let first = read_blocks(card, at, visits, total);
-    let Field::Value(blocks, at1) = first else {
+    let first = read_shelf(card, at, visits, total, blocks);
+    let Field::Value(films, at1) = first else {
         return refused_field(first);
     };
     let second = read_field(card, at1, Rule::Measure, MAX_BYTES);
@@ -60,23 +63,20 @@ fn read_film(
     if end < card.len() {
         return Told::Refused(CARD_GOES_ON, end);
     }
-    Told::Figures(kind, zones, blocks, bytes, rate)
+    Told::Figures(kind, zones, films, bytes, rate)
 }
 
-// The zones, innermost first, each its positions and its time; then the film and the overheads.
+// The zones, innermost first, each its positions and its time; answers all their positions, with the offset after them.
 pub fn read_zones(
     card: &[u8],
     start: usize,
-    visits: u32,
-    kind: u32,
     zones: u32,
     sizes: &mut [u32; 64],
     times: &mut [u32; 64],
-    table: &mut [u32; 257],
-) -> Told
-    requires { ⌜ (zones ≤ maxZones) × (now table ≡ blankTable) ⌝ }
-    ensures { λ r. ⌜ toldCard (now (sizes .exit)) (now (times .exit)) (now (table .exit)) r
-        ≡ zonesFrom zones (now (card .entry)) start 0 (now (sizes .entry)) (now (times .entry)) 0 maxTime (afterZones visits (now (card .entry)) kind zones) ⌝ }
+) -> Field
+    requires { ⌜ zones ≤ maxZones ⌝ }
+    ensures { λ r. ⌜ ((go : List ℕ → List ℕ → ℕ → ℕ → CardRead) → zonesWith (now (sizes .exit)) (now (times .exit)) r go
+        ≡ zonesFrom zones (now (card .entry)) start 0 (now (sizes .entry)) (now (times .entry)) 0 maxTime go) ⌝ }
 {
     let mut at = start;
     let mut total: u32 = 0;
@@ -85,12 +85,12 @@ pub fn read_zones(
     while i < zones as usize {
         let first = read_field(card, at, Rule::Positions, total);
         let Field::Value(positions, middle) = first else {
-            return refused_field(first);
+            return first;
         };
         let innermost = times[0];
         let second = read_time(card, middle, innermost, before);
         let Field::Value(time, next) = second else {
-            return refused_field(second);
+            return second;
         };
         sizes[i] = positions;
         times[i] = time;
@@ -99,5 +99,5 @@ pub fn read_zones(
         at = next;
         i += 1;
     }
-    read_film(card, at, visits, total, kind, zones, table)
+    Field::Value(total, at)
 }

@@ -1,5 +1,6 @@
 // The card's reader: bytes to figures, number by number, the first fault ends it.
-mod figures; // the zones and the film
+mod figures; // the zones, and the figures of the films
+mod shelf; // the films
 mod table; // the overheads
 
 use card::CardRead;
@@ -10,36 +11,41 @@ use card_field::Rule;
 use card_field::read_field;
 use numbers::refusals::ACCEPTED;
 ghost use mathlib.Core.Path.{_≡_};
-ghost use Rattle.card.specs.Read.{blankZones, blankTable, refusedCard, readCard};
+ghost use Rattle.card.specs.Read.{blankZones, blankFilms, blankTable, refusedCard, readCard};
 ghost use Rattle.card_reader.specs.Told.{toldCard};
 
-// What a card tells beside its arrays: kind, zones, N, B and c, or the refusal's number with its offset.
+// What a card tells beside its arrays: kind, zones, films, B and c, or the refusal's number with its offset.
 pub enum Told {
     Figures(u32, u32, u32, u32, u32),
     Refused(u32, usize),
 }
 
-// Reads a card, of which each block takes so many positions, into lent arrays that are all zero: refusals 1 to 11, 26 right after 7, 25 for
-// the overheads of kind 2, and 28 in place of 9 for half blocks. Refused, they hold what was read before the fault.
+// Reads a card, of which each block takes so many positions, into lent arrays that are all zero: refusals 1 to 11, 26 right after 7, 30
+// before 8 and right after it, 25 for the overheads of kind 2, and 28 in place of 9 for half blocks. Refused, they hold what was read before the fault.
 pub fn read_into(
     card: &[u8],
     sizes: &mut [u32; 64],
     times: &mut [u32; 64],
+    blocks: &mut [u32; 16],
     table: &mut [u32; 257],
     visits: u32,
 ) -> Told
-    requires { ⌜ (now sizes ≡ blankZones) × (now times ≡ blankZones) × (now table ≡ blankTable) ⌝ }
-    ensures { λ r. ⌜ toldCard (now (sizes .exit)) (now (times .exit)) (now (table .exit)) r ≡ readCard visits (now (card .entry)) ⌝ }
+    requires { ⌜ (now sizes ≡ blankZones) × (now times ≡ blankZones) × (now blocks ≡ blankFilms) × (now table ≡ blankTable) ⌝ }
+    ensures { λ r. ⌜ toldCard (now (sizes .exit)) (now (times .exit)) (now (blocks .exit)) (now (table .exit)) r ≡ readCard visits (now (card .entry)) ⌝ }
 {
     let first = read_field(card, 0, Rule::Kind, 0);
     let Field::Value(kind, at) = first else {
         return figures::refused_field(first);
     };
     let second = read_field(card, at, Rule::Zones, 0);
-    let Field::Value(zones, next) = second else {
+    let Field::Value(zones, start) = second else {
         return figures::refused_field(second);
     };
-    figures::read_zones(card, next, visits, kind, zones, sizes, times, table)
+    let third = figures::read_zones(card, start, zones, sizes, times);
+    let Field::Value(total, next) = third else {
+        return figures::refused_field(third);
+    };
+    figures::read_film(card, next, visits, total, kind, zones, blocks, table)
 }
 
 // A refused card.
@@ -57,7 +63,8 @@ fn refused_card(number: u32, place: usize) -> CardRead
             zones: 0,
             positions: none,
             times: none,
-            blocks: 0,
+            films: 0,
+            blocks: [0u32; 16],
             bytes: 0,
             rate: 0,
             table: [0u32; 257],
@@ -78,11 +85,19 @@ pub fn read_card_of(card: &[u8], visits: u32) -> CardRead
 {
     let mut sizes = [0u32; 64];
     let mut times = [0u32; 64];
+    let mut blocks = [0u32; 16];
     let mut table = [0u32; 257];
-    let told = read_into(card, &mut sizes, &mut times, &mut table, visits);
+    let told = read_into(
+        card,
+        &mut sizes,
+        &mut times,
+        &mut blocks,
+        &mut table,
+        visits,
+    );
     match told {
         Told::Refused(number, place) => refused_card(number, place),
-        Told::Figures(kind, zones, blocks, bytes, rate) => CardRead {
+        Told::Figures(kind, zones, films, bytes, rate) => CardRead {
             verdict: Verdict {
                 number: ACCEPTED,
                 place: 0,
@@ -92,6 +107,7 @@ pub fn read_card_of(card: &[u8], visits: u32) -> CardRead
                 zones: zones,
                 positions: sizes,
                 times: times,
+                films: films,
                 blocks: blocks,
                 bytes: bytes,
                 rate: rate,

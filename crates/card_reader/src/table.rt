@@ -13,12 +13,12 @@ ghost use lib.ListN.{length};
 ghost use Rattle.numbers.specs.Limits.{tableLength};
 ghost use Rattle.card.specs.declared.CardRead.{CardRead};
 ghost use Rattle.card.specs.Read.{blankTable, movesFrom, entriesFrom, tableFrom};
-ghost use Rattle.card_reader.specs.Told.{tableWith};
+ghost use Rattle.card_reader.specs.Told.{rowWith};
 
 // Hop and return, and the table that they make.
 fn read_moves(card: &[u8], at: usize, table: &mut [u32; 257]) -> Field
     requires { ⌜ length (now table) ≡ tableLength ⌝ }
-    ensures { λ r. ⌜ ((go : List ℕ → ℕ → CardRead) → tableWith (now (table .exit)) r go ≡ movesFrom (now (card .entry)) at go) ⌝ }
+    ensures { λ r. ⌜ ((go : List ℕ → ℕ → CardRead) → rowWith (now (table .exit)) r go ≡ movesFrom (now (card .entry)) at go) ⌝ }
 {
     let first = read_field(card, at, Rule::Measure, MAX_MOVE);
     let Field::Value(hop, middle) = first else {
@@ -35,7 +35,7 @@ fn read_moves(card: &[u8], at: usize, table: &mut [u32; 257]) -> Field
 // The table entry by entry.
 fn read_entries(card: &[u8], start: usize, table: &mut [u32; 257]) -> Field
     requires { ⌜ now table ≡ blankTable ⌝ }
-    ensures { λ r. ⌜ ((go : List ℕ → ℕ → CardRead) → tableWith (now (table .exit)) r go ≡ entriesFrom (now (card .entry)) start go) ⌝ }
+    ensures { λ r. ⌜ ((go : List ℕ → ℕ → CardRead) → rowWith (now (table .exit)) r go ≡ entriesFrom (now (card .entry)) start go) ⌝ }
 {
     let mut at = start;
     let mut before: u32 = 0;
@@ -56,7 +56,7 @@ fn read_entries(card: &[u8], start: usize, table: &mut [u32; 257]) -> Field
 // By the kind of the card.
 pub fn read_table(card: &[u8], at: usize, kind: u32, table: &mut [u32; 257]) -> Field
     requires { ⌜ now table ≡ blankTable ⌝ }
-    ensures { λ r. ⌜ ((go : List ℕ → ℕ → CardRead) → tableWith (now (table .exit)) r go ≡ tableFrom kind (now (card .entry)) at go) ⌝ }
+    ensures { λ r. ⌜ ((go : List ℕ → ℕ → CardRead) → rowWith (now (table .exit)) r go ≡ tableFrom kind (now (card .entry)) at go) ⌝ }
 {
     if kind == STRAIGHT {
         return read_moves(card, at, table);

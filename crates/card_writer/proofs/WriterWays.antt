@@ -9,13 +9,14 @@ use lib.ListN.{length, getD, drop, length-append, drop-of-length-le}
 use lib.Seq.{drop-cons}
 use lib.Dec.{leb, ltb, eqb}
 use borrow.Author.Tests.{le-leb, lt-leb, eq-eqb, ne-eqb}
-use Rattle.numbers.specs.Limits.{straightKind, maxNumber, maxZones, tableLength}
+use Rattle.numbers.specs.Limits.{straightKind, maxNumber, maxZones, maxFilms, tableLength}
 use Rattle.numbers.specs.Refusals.{tooShort}
 use Rattle.card.specs.declared.Figures.{Figures}
 use Rattle.laws.specs.Overwrite.{overwrite, overwrite-none, overwrite-length, overwrite-more, overwrite-front}
 use Rattle.leb128.specs.Number.{groupsFrom, groups}
 use Rattle.card_table.specs.Table.{hopIn, backIn, tableNumbers}
-use Rattle.card.specs.Card.{bytesOf, filmNumbers, zoneNumbers, numbersOf, cardOf, recordFault}
+use Rattle.card_field.specs.Row.{rowNumbers}
+use Rattle.card.specs.Card.{bytesOf, measureNumbers, filmNumbers, zoneNumbers, numbersOf, cardOf, recordFault}
 use Rattle.card.specs.Card.{writeFault, notWritten, writtenBy, writtenCard, bufferBy, bufferAfter}
 use Rattle.card.specs.declared.CardWritten.{CardWritten}
 use Rattle.card_field.specs.Ranges.{first}
@@ -101,6 +102,18 @@ module _ (f : Figures) (i : ℕ) where
   numbers-more zero k h = absurd (omega arith)
   numbers-more (suc left) k h = let q : left ≡ k = omega arith in rw q
 
+-- numbers in a row, one by one
+module _ (vs rest : List ℕ) (i : ℕ) where
+  pub row-done : (left : ℕ) → left ≤ 0 → rowNumbers left i vs rest ≡ rest
+  unfolding rowNumbers
+  row-done zero h = refl
+  row-done (suc left) h = absurd (omega arith)
+
+  pub row-more : (left k : ℕ) → left ≡ k + 1 → rowNumbers left i vs rest ≡ getD vs i 0 ∷ rowNumbers k (i + 1) vs rest
+  unfolding rowNumbers
+  row-more zero k h = absurd (omega arith)
+  row-more (suc left) k h = let q : left ≡ k = omega arith in rw q
+
 -- ---- a card is short enough to be counted
 
 groups-short : (n v : ℕ) → length (groupsFrom n v) ≤ suc n
@@ -144,15 +157,20 @@ numbers-few kind t w = by (eqb kind straightKind)
     by true = omega arith
     by false = omega arith
 
-zones-few : (left i : ℕ) (f : Figures) → length (f .table) ≡ tableLength → length (zoneNumbers left i f) ≤ 2 * left + 3 + tableLength
+row-few : (left i : ℕ) (vs rest : List ℕ) → length (rowNumbers left i vs rest) ≡ left + length rest
+unfolding rowNumbers
+row-few zero i vs rest = omega arith
+row-few (suc left) i vs rest = omega (arith, row-few left (i + 1) vs rest)
+
+zones-few : (left i : ℕ) (f : Figures) → length (f .table) ≡ tableLength → length (zoneNumbers left i f) ≤ 2 * left + f .films + 3 + tableLength
 unfolding zoneNumbers filmNumbers
-zones-few zero i f w = omega (arith, numbers-few (f .kind) (f .table) w)
+zones-few zero i f w = omega (arith, row-few (f .films) 0 (f .blocks) (measureNumbers f), numbers-few (f .kind) (f .table) w)
 zones-few (suc left) i f w = omega (arith, zones-few left (i + 1) f w)
 
--- a card has at most 390 numbers
-pub card-counted : (f : Figures) → length (f .table) ≡ tableLength → f .zones ≤ maxZones → 0 + length (cardOf f) ≤ maxNumber
+-- a card has at most 406 numbers
+pub card-counted : (f : Figures) → length (f .table) ≡ tableLength → f .zones ≤ maxZones → f .films ≤ maxFilms → 0 + length (cardOf f) ≤ maxNumber
 unfolding cardOf numbersOf
-card-counted f w z = omega (arith, bytes-short (f .kind ∷ f .zones ∷ zoneNumbers (f .zones) 0 f), zones-few (f .zones) 0 f w)
+card-counted f w z n = omega (arith, bytes-short (f .kind ∷ f .zones ∷ zoneNumbers (f .zones) 0 f), zones-few (f .zones) 0 f w)
 
 -- ---- the answer
 

@@ -10,7 +10,7 @@ use numbers::refusals::TOO_SHORT;
 ghost use mathlib.Core.Path.{_≡_};
 ghost use Rattle.card.specs.Card.{writtenCard, bufferAfter};
 
-// Writes the card of figures into a lent buffer: refusals 3 to 10, 25 and 26, then 13. The same walk counts its bytes first.
+// Writes the card of figures into a lent buffer: refusals 3 to 10, 25, 26 and 30, then 13. The same walk counts its bytes first.
 pub fn write_card(figures: Figures, out: &mut [u8]) -> CardWritten
     ensures { λ r. ⌜ (r ≡ writtenCard figures (now (out .entry))) × (now (out .exit) ≡ bufferAfter figures (now (out .entry))) ⌝ }
 {

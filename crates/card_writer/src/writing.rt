@@ -10,10 +10,10 @@ use numbers::limits::TABLE_LENGTH;
 ghost use mathlib.Core.Path.{_≡_};
 ghost use Prim.Native.Nat.{_≤_};
 ghost use lib.ListN.{length};
-ghost use Rattle.numbers.specs.Limits.{maxZones, tableLength};
+ghost use Rattle.numbers.specs.Limits.{maxZones, maxFilms, tableLength};
 ghost use Rattle.leb128.specs.Number.{groups};
 ghost use Rattle.card_table.specs.Table.{tableNumbers};
-ghost use Rattle.card.specs.Card.{filmNumbers, zoneNumbers, bytesOf, cardOf, notWritten};
+ghost use Rattle.card.specs.Card.{measureNumbers, filmNumbers, zoneNumbers, bytesOf, cardOf, notWritten};
 ghost use Rattle.card_writer.specs.Put.{Room, Puts};
 
 // A card that is not written.
@@ -66,20 +66,35 @@ fn put_table(kind: u32, table: &[u32; 257], out: &mut [u8], start: usize, write:
     put_entries(table, out, start, write)
 }
 
-// The film's numbers from an offset on.
-fn put_film(figures: Figures, out: &mut [u8], start: usize, write: bool) -> usize
-    requires { ⌜ Room write (now out) start (bytesOf (filmNumbers figures)) ⌝ }
-    ensures { λ r. ⌜ Puts write (now (out .entry)) start (bytesOf (filmNumbers figures)) r (now (out .exit)) ⌝ }
+// B, c and the overheads from an offset on.
+fn put_measures(figures: Figures, out: &mut [u8], start: usize, write: bool) -> usize
+    requires { ⌜ Room write (now out) start (bytesOf (measureNumbers figures)) ⌝ }
+    ensures { λ r. ⌜ Puts write (now (out .entry)) start (bytesOf (measureNumbers figures)) r (now (out .exit)) ⌝ }
 {
-    let mut at = put_number(out, start, figures.blocks, write);
-    at = put_number(out, at, figures.bytes, write);
+    let mut at = put_number(out, start, figures.bytes, write);
     at = put_number(out, at, figures.rate, write);
     put_table(figures.kind, &figures.table, out, at, write)
 }
 
-// The zones and the film from an offset on.
+// The films, how many and N of each, then B, c and the overheads from an offset on.
+fn put_films(figures: Figures, out: &mut [u8], start: usize, write: bool) -> usize
+    requires { ⌜ (figures .films ≤ maxFilms) × Room write (now out) start (bytesOf (filmNumbers figures)) ⌝ }
+    ensures { λ r. ⌜ Puts write (now (out .entry)) start (bytesOf (filmNumbers figures)) r (now (out .exit)) ⌝ }
+{
+    let films = figures.films as usize;
+    let mut at = put_number(out, start, figures.films, write);
+    let mut i: usize = 0;
+    while i < films {
+        at = put_number(out, at, figures.blocks[i], write);
+        i += 1;
+    }
+    put_measures(figures, out, at, write)
+}
+
+// The zones and the films from an offset on.
 fn put_zones(figures: Figures, out: &mut [u8], start: usize, write: bool) -> usize
-    requires { ⌜ (figures .zones ≤ maxZones) × Room write (now out) start (bytesOf (zoneNumbers (figures .zones) 0 figures)) ⌝ }
+    requires { ⌜ (figures .zones ≤ maxZones) × (figures .films ≤ maxFilms)
+        × Room write (now out) start (bytesOf (zoneNumbers (figures .zones) 0 figures)) ⌝ }
     ensures { λ r. ⌜ Puts write (now (out .entry)) start (bytesOf (zoneNumbers (figures .zones) 0 figures)) r (now (out .exit)) ⌝ }
 {
     let zones = figures.zones as usize;
@@ -90,12 +105,12 @@ fn put_zones(figures: Figures, out: &mut [u8], start: usize, write: bool) -> usi
         at = put_number(out, at, figures.times[i], write);
         i += 1;
     }
-    put_film(figures, out, at, write)
+    put_films(figures, out, at, write)
 }
 
 // The whole card, from the front of the buffer, or only its length; answers that.
 pub fn put_card(figures: Figures, out: &mut [u8], write: bool) -> usize
-    requires { ⌜ (figures .zones ≤ maxZones) × Room write (now out) 0 (cardOf figures) ⌝ }
+    requires { ⌜ (figures .zones ≤ maxZones) × (figures .films ≤ maxFilms) × Room write (now out) 0 (cardOf figures) ⌝ }
     ensures { λ r. ⌜ Puts write (now (out .entry)) 0 (cardOf figures) r (now (out .exit)) ⌝ }
 {
     let first = put_number(out, 0, figures.kind, write);

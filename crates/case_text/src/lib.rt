@@ -1,7 +1,7 @@
 // The text of worked cases: numbers, records and cards are read from a line, answers printed on one.
 pub mod runs; // numbers that rise by the same step
 
-use crate::runs::read_table;
+use crate::runs::read_entries;
 use card::Figures;
 use card::Verdict;
 use libc::STDOUT_FILENO;
@@ -67,17 +67,28 @@ fn no_zones() -> [u32; 64] {
     [0u32; 64]
 }
 
-// A record of figures: kind, zones, N, B, c, the 257 overheads as runs, then positions and time of each zone. What is missing is 0.
+fn no_films() -> [u32; 16] {
+    [0u32; 16]
+}
+
+fn no_table() -> [u32; 257] {
+    [0u32; 257]
+}
+
+// A record of figures: kind, zones, films, the 16 film entries as runs, B, c, the 257 overheads as runs, then positions and time of each zone.
+// What is missing is 0.
 pub fn read_record(text: &[u8], start: usize) -> Figures {
     let kind = read_number(text, start);
     let zones = read_number(text, kind.next);
-    let blocks = read_number(text, zones.next);
-    let bytes = read_number(text, blocks.next);
+    let films = read_number(text, zones.next);
+    let mut blocks = no_films();
+    let mut at = read_entries(text, films.next, &mut blocks);
+    let bytes = read_number(text, at);
     let rate = read_number(text, bytes.next);
-    let overheads = read_table(text, rate.next);
+    let mut table = no_table();
+    at = read_entries(text, rate.next, &mut table);
     let mut positions = no_zones();
     let mut times = no_zones();
-    let mut at = overheads.next;
     let mut i: usize = 0;
     while i < 64 {
         let count = read_number(text, at);
@@ -87,13 +98,13 @@ pub fn read_record(text: &[u8], start: usize) -> Figures {
         at = time.next;
         i += 1;
     }
-    let table = overheads.table;
     Figures {
         kind: kind.value,
         zones: zones.value,
         positions: positions,
         times: times,
-        blocks: blocks.value,
+        films: films.value,
+        blocks: blocks,
         bytes: bytes.value,
         rate: rate.value,
         table: table,

@@ -17,12 +17,6 @@ pub struct Run {
     pub next: usize,
 }
 
-// A table of overheads, and what follows it.
-pub struct Overheads {
-    pub table: [u32; 257],
-    pub next: usize,
-}
-
 // The number after a mark; without the mark the other value.
 fn after_mark(text: &[u8], start: usize, mark: u8, other: u32) -> Entry {
     if start < text.len() {
@@ -48,20 +42,16 @@ fn read_run(text: &[u8], start: usize) -> Run {
     }
 }
 
-fn no_table() -> [u32; 257] {
-    [0u32; 257]
-}
-
-// Puts a run into a table from an entry on, and answers the entry after it, 257 at most.
-fn fill_run(table: &mut [u32; 257], start: usize, run: Run) -> usize {
+// Puts a run into numbers from an entry on, while there is room, and answers the entry after it.
+fn fill_run(entries: &mut [u32], start: usize, run: Run) -> usize {
     let mut value = run.value;
     let mut k = start;
     let mut i: u32 = 0;
     while i < run.times {
-        if 257 <= k {
+        if entries.len() <= k {
             break;
         }
-        table[k] = value;
+        entries[k] = value;
         value = wrapping_add_u32(value, run.step);
         k += 1;
         i += 1;
@@ -69,25 +59,21 @@ fn fill_run(table: &mut [u32; 257], start: usize, run: Run) -> usize {
     k
 }
 
-// A table of overheads.
-pub fn read_table(text: &[u8], start: usize) -> Overheads {
-    let mut table = no_table();
+// Fills numbers with runs, and answers where what follows them may begin.
+pub fn read_entries(text: &[u8], start: usize, entries: &mut [u32]) -> usize {
     let mut at = start;
     let mut k: usize = 0;
-    let mut turns: u32 = 0;
-    while turns < 257 {
-        if 257 <= k {
+    let mut turns: usize = 0;
+    while turns < entries.len() {
+        if entries.len() <= k {
             break;
         }
         let run = read_run(text, at);
-        k = fill_run(&mut table, k, run);
+        k = fill_run(entries, k, run);
         at = run.next;
         turns += 1;
     }
-    Overheads {
-        table: table,
-        next: at,
-    }
+    at
 }
 
 // Writes the numbers of a run as those of a card from an offset on, while there is room, and answers the offset after them.

@@ -6,17 +6,19 @@ use lib.ListN.{take, replicate}
 use Rattle.laws.specs.Runs.{sumBy, allBy}
 use Rattle.laws.specs.Greatest.{greatestOf, greatest, firstReaching, earliestOf}
 use Rattle.words.specs.Words.{wordsOf, bytesOf}
-use Rattle.card_field.specs.Ranges.{first, below, above, outside, thenAbove, thenBelow, faultOf, timeFault, blocksFault}
+use Rattle.card_field.specs.Ranges.{first, below, above, outside, thenAbove, thenBelow, faultOf, timeFault, roomFault, blocksFault}
 use Rattle.card_field.specs.Row.{rowFault}
 use Rattle.card_table.specs.Table.{straightFrom, straight, isLine, straightFault, measuredFault, tableFault}
-use Rattle.card.specs.Card.{totalPositions, filmFault, zoneFaults, zerosFrom, unusedZero, recordFault}
+use Rattle.card.specs.Card.{totalPositions, shelfFault, filmFault, zoneFaults, zerosFrom, unusedZero, recordFault}
 use Rattle.placement.specs.Placement.{zigzag, worstTime}
 use Rattle.placement.specs.Showing.{one, worstAt}
 use Rattle.placement.specs.Zones.{timeAt}
 use Rattle.pacing.specs.Film.{row as run, span, lead}
 use Rattle.pacing.specs.Streams.{overhead, load, streams, bufferOf}
 use Rattle.pacing.specs.Laid.{slowest, margin}
-use Rattle.plan.specs.Plan.{showingOf, worst2Of, worstAtOf, streamsOf, marginOf, leadOf, bufferSize, planOf, row, positionsOf, leadsOf}
+use Rattle.pacing.specs.Shelves.{worstShelf, slowestShelf, marginShelf}
+use Rattle.plan.specs.Plan.{rowsOf}
+use Rattle.plan.specs.Plan.{showingOf, worst2Of, worstFilmOf, worstAtOf, streamsOf, marginOf, leadOf, bufferSize, planOf, row, positionsOf, leadsOf}
 use Rattle.plan.specs.Answer.{begins, hasNumbers, hasPositions, hasLeads, isPlan}
 use Rattle.rules.specs.Scheduler as S
 use Rattle.rules.specs.Sound.{isZero, soundSlot, sound}
@@ -25,11 +27,12 @@ use Rattle.rules.specs.Calls.{refusals, accepted, answer}
 use Rattle.rules.specs.Arrays.{slotsOf}
 use Rattle.desk.specs.declared.Desk.{Desk}
 use Rattle.desk.specs.Records.{recordOf}
+use Rattle.laws.specs.Starts.{startOf}
 use Rattle.numbers.specs.Slots.{between, waiting, filling, playing}
 use Rattle.laws.specs.Indices.{allFrom}
 use Rattle.rules.specs.Refusals.{judged, verdict}
 use Rattle.desk.specs.Desk.{supplyOf, viewOf, deskOf, zeros, freshDesk, openDesk, answerOf, answered, joinDesk, leaveDesk, beginDesk, array, fetchesOf}
-use Rattle.cases.specs.Bench.{entries, film}
+use Rattle.cases.specs.Bench.{entries, shelf}
 use Rattle.cases.specs.Story.{figures, positions, leads}
 
 -- a desk between sweeps whose first slots have these kinds, next blocks, held bytes and places; all others are free
@@ -43,7 +46,7 @@ begunDesk a b x y h =
 
 -- slots 0 and 1 ask, slot 2 fills: what a join is answered where the places are these
 unfoldable pub joinFault : List ℕ → ℕ
-joinFault qs = joinDesk (deskWith (waiting ∷ waiting ∷ filling ∷ []) [] [] qs) positions leads 3 0 .verdict .number
+joinFault qs = joinDesk (deskWith (waiting ∷ waiting ∷ filling ∷ []) [] [] qs) positions leads 3 0 0 .verdict .number
 
 -- the kinds and the places of the first three slots
 abbrev pub Shows : Desk → List ℕ → List ℕ → Type 0
@@ -65,7 +68,7 @@ pub record Asking : Type 0 where
   -- later places drop where one leaves, and no other; one that joins is the last (T5.3, T5.4)
   pub first-leaves : Shows (leaveDesk (threeAsk (1 ∷ 2 ∷ 3 ∷ [])) positions leads 0 .desk) (0 ∷ 1 ∷ 1 ∷ []) (0 ∷ 1 ∷ 2 ∷ [])
   pub second-leaves : Shows (leaveDesk (threeAsk (3 ∷ 1 ∷ 2 ∷ [])) positions leads 2 .desk) (1 ∷ 1 ∷ 0 ∷ []) (2 ∷ 1 ∷ 0 ∷ [])
-  pub last-joins : take 4 (joinDesk (threeAsk (3 ∷ 1 ∷ 2 ∷ [])) positions leads 3 0 .desk .places) ≡ 3 ∷ 1 ∷ 2 ∷ 4 ∷ []
+  pub last-joins : take 4 (joinDesk (threeAsk (3 ∷ 1 ∷ 2 ∷ [])) positions leads 3 0 0 .desk .places) ≡ 3 ∷ 1 ∷ 2 ∷ 4 ∷ []
   -- places that are 1 and 2; a place twice, one left out, none, one of a slot that fills, of a free one, of an unused one: 14 (T5.9)
   pub placed : (joinFault (1 ∷ 2 ∷ []) ≡ 0) × (joinFault (2 ∷ 1 ∷ []) ≡ 0)
   pub twice : joinFault (1 ∷ 1 ∷ []) ≡ 14
@@ -76,7 +79,7 @@ pub record Asking : Type 0 where
   pub unused-placed : joinFault ((1 ∷ 2 ∷ replicate 253 0) ++ (3 ∷ [])) ≡ 14
 
 pub asking : Asking
-unfolding sumBy allBy greatestOf greatest allFrom wordsOf bytesOf first below above outside thenAbove thenBelow faultOf timeFault blocksFault totalPositions straightFrom straight isLine straightFault rowFault measuredFault tableFault filmFault zoneFaults zerosFrom unusedZero recordFault zigzag worstTime timeAt run span lead overhead load streams bufferOf slowest margin firstReaching earliestOf worstAt showingOf worst2Of worstAtOf streamsOf marginOf bufferSize planOf row positionsOf leadsOf begins hasNumbers hasPositions hasLeads isPlan S.before S.insert S.sorted S.entriesAt S.reads S.leadOf S.leads S.lowWater S.holds S.joined S.left S.startedSlot S.started S.playersHold S.grantable S.granted S.isFetched S.entriesFrom S.entries S.timeOf S.times S.fetchCount S.bound isZero soundSlot sound judged verdict eldest dropped member waitingCount eldestLead served placedAll byPlace refusals accepted answer slotsOf supplyOf viewOf deskOf zeros freshDesk openDesk answerOf answered joinDesk leaveDesk beginDesk array fetchesOf entries film positions leads deskWith begunDesk joinFault
+unfolding sumBy allBy greatestOf greatest allFrom wordsOf bytesOf first below above outside thenAbove thenBelow faultOf timeFault roomFault blocksFault totalPositions straightFrom straight isLine straightFault rowFault measuredFault tableFault shelfFault filmFault zoneFaults zerosFrom unusedZero recordFault zigzag worstTime timeAt run span lead overhead load streams bufferOf slowest margin firstReaching earliestOf worstAt showingOf worst2Of worstAtOf streamsOf marginOf bufferSize planOf row positionsOf leadsOf begins hasNumbers hasPositions hasLeads isPlan S.before S.insert S.sorted S.entriesAt S.reads S.leadOf S.leads S.lowWater S.holds S.joined S.left S.startedSlot S.started S.playersHold S.grantable S.granted S.isFetched S.entriesFrom S.entries S.timeOf S.times S.fetchCount S.bound isZero soundSlot sound judged verdict eldest dropped member waitingCount eldestLead served placedAll byPlace refusals accepted answer slotsOf supplyOf viewOf deskOf zeros freshDesk openDesk answerOf answered joinDesk leaveDesk beginDesk array fetchesOf entries shelf positions leads deskWith begunDesk joinFault startOf worstShelf slowestShelf marginShelf rowsOf worstFilmOf
 asking = record {
   eldest-first = (refl, refl);
   none-behind = (refl, refl);

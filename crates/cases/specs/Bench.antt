@@ -2,7 +2,7 @@
 use Prim.Native.Nat.{ℕ, _+_, _-_}
 use mathlib.Core.List.{List, [], _∷_, _++_}
 use lib.ListN.{length, take, drop, replicate}
-use Rattle.numbers.specs.Limits.{straightKind, measuredKind, tableLength}
+use Rattle.numbers.specs.Limits.{straightKind, measuredKind, maxFilms, tableLength}
 use Rattle.card.specs.declared.Figures.{Figures}
 use Rattle.card_table.specs.Table.{straight}
 
@@ -10,18 +10,23 @@ use Rattle.card_table.specs.Table.{straight}
 unfoldable pub entries : List ℕ → List ℕ
 entries xs = xs ++ replicate (64 - length xs) 0
 
--- a film of N blocks of B bytes on zones of given positions and times, with the bench film's rate, hop and return
-unfoldable pub film : List ℕ → List ℕ → ℕ → ℕ → Figures
-film ps ts N B = record {
+-- films of so many blocks of B bytes each on zones of given positions and times, with the bench film's rate, hop and return
+unfoldable pub shelf : List ℕ → List ℕ → List ℕ → ℕ → Figures
+shelf ps ts Ns B = record {
   kind = straightKind;
   zones = length ps;
   positions = entries ps;
   times = entries ts;
-  blocks = N;
+  films = length Ns;
+  blocks = Ns ++ replicate (maxFilms - length Ns) 0;
   bytes = B;
   rate = 500000;
   table = straight 12670 15000;
 }
+
+-- one film of N blocks
+abbrev pub film : List ℕ → List ℕ → ℕ → ℕ → Figures
+film ps ts N B = shelf ps ts (N ∷ []) B
 
 abbrev pub sixOnes : List ℕ
 sixOnes = 1 ∷ 1 ∷ 1 ∷ 1 ∷ 1 ∷ 1 ∷ []
@@ -32,6 +37,10 @@ sixTimes = 22270 ∷ 20550 ∷ 19090 ∷ 17810 ∷ 16700 ∷ 15720 ∷ []
 -- the bench film: six zones of 1 position, with N blocks of B bytes
 abbrev pub bench : ℕ → ℕ → Figures
 bench N B = film sixOnes sixTimes N B
+
+-- a shelf of two films on its zones
+abbrev pub twoFilms : Figures
+twoFilms = shelf sixOnes sixTimes (2 ∷ 3 ∷ []) 262144
 
 -- one zone of N positions of 20000, the film on all of them
 abbrev pub alike : ℕ → ℕ → Figures
@@ -46,6 +55,7 @@ measured table f = record {
   zones = f .zones;
   positions = f .positions;
   times = f .times;
+  films = f .films;
   blocks = f .blocks;
   bytes = f .bytes;
   rate = f .rate;

@@ -1,21 +1,23 @@
 -- The rows of document 01's bench cases that are marked (p), each an equation that computes; document 02's one-zone case as a loop, with the
--- bench film as one; the bench film with measured overheads; half blocks; and the number of document 02's small cards.
+-- bench film as one; the bench film with measured overheads; half blocks; a shelf; and the number of document 02's small cards.
 use Prim.Native.Nat.{ℕ}
 use mathlib.Core.Path.{_≡_, refl}
 use mathlib.Core.List.{List, [], _∷_}
-use lib.ListN.{length}
+use lib.ListN.{length, replicate}
 use Rattle.leb128.specs.Number.{groupsFrom, groups, continuing, joined, judged, numberIn, numberAt}
 use Rattle.card_field.specs.Ranges.{first, below, above, outside, thenAbove, thenBelow, faultOf, timeFault, roomFault, blocksFault}
 use Rattle.card_field.specs.Figure.{onFault, onNumber, fieldAt}
-use Rattle.card.specs.Read.{blankZones, blankTable, blankFigures, accepted, refusedCard, thenField, cardEnd, rowFrom, movesFrom, entriesFrom}
-use Rattle.card.specs.Read.{tableFrom, filmFrom, zonesFrom, readCard}
+use Rattle.card_field.specs.Row.{rowNumbers}
+use Rattle.card.specs.Read.{blankZones, blankFilms, blankTable, blankFigures, accepted, refusedCard, thenField, cardEnd, rowFrom, movesFrom, entriesFrom}
+use Rattle.card.specs.Read.{tableFrom, shelfFrom, filmFrom, zonesFrom, readCard}
 use Rattle.card_table.specs.Table.{straightFrom, straight, tableNumbers}
 use Rattle.card.specs.Card.{filmNumbers, zoneNumbers, numbersOf, bytesOf, cardOf}
 use Rattle.card.specs.declared.CardRead.{CardRead}
 use Rattle.card.specs.declared.Figures.{Figures}
-use Rattle.card.specs.Card.{totalPositions}
+use Rattle.card.specs.Card.{totalPositions, lengthIn}
 use Rattle.laws.specs.Runs.{sumBy}
 use Rattle.laws.specs.Greatest.{greatestOf, greatest, firstReaching, earliestOf}
+use Rattle.laws.specs.Starts.{startOf}
 use Rattle.words.specs.Words.{wordsOf}
 use Rattle.placement.specs.Placement.{zigzag, worstTime}
 use Rattle.placement.specs.Circle.{round, falls, rank, ring, worstRound}
@@ -25,14 +27,17 @@ use Rattle.placement.specs.Zones.{timeAt}
 use Rattle.pacing.specs.Film.{row as run, span, lead}
 use Rattle.pacing.specs.Streams.{overhead, load, streams, bufferOf}
 use Rattle.pacing.specs.Laid.{slowest, margin}
+use Rattle.pacing.specs.Shelves.{worstShelf, slowestShelf, marginShelf}
+use Rattle.plan.specs.Plan.{rowsOf}
 use Rattle.plan.specs.declared.Plan.{Plan}
-use Rattle.plan.specs.Plan.{wordOf, timeOf, worst2Of, worstAtOf, streamsOf, marginOf, bufferSize, planOf, blankPlan, row, positionsOf, leadsOf}
+use Rattle.plan.specs.Plan.{wordOf, timeIn, worst2Of, worstFilmOf, worstAtOf, streamsOf, marginOf, bufferSize, planOf, blankPlan, row, positionsOf, leadsOf}
 use Rattle.plan.specs.Answer.{planFault, refusal, planned}
 use Rattle.small_cards.specs.Cards.{smallCards}
 use Rattle.small_cards.specs.Computed.{how-many}
 use Rattle.cases.specs.Story.{Story, story}
 use Rattle.cases.specs.Asking.{Asking, asking}
-use Rattle.cases.specs.Bench.{entries, film, sixOnes, bench, alike, measured, late, level}
+use Rattle.cases.specs.Watching.{Watching, watching}
+use Rattle.cases.specs.Bench.{entries, shelf, film, twoFilms, sixOnes, sixTimes, bench, alike, measured, late, level}
 
 -- what a listing prints of a refused card: the number and the offset
 abbrev pub Refuses : List ℕ → ℕ → ℕ → Type 0
@@ -55,9 +60,9 @@ Plans x f streams buffer worst2 worstat margin =
       worstat = worstat;
     })
 
--- time(b) of each block
+-- time(b) of each block of the first film
 abbrev pub timesOf : Figures → List ℕ
-timesOf f = row (timeOf one f) 0 (f .blocks)
+timesOf f = row (timeIn one f 0) 0 (lengthIn f 0)
 
 -- a list of two entries
 abbrev pub two : List ℕ
@@ -76,8 +81,8 @@ pub record Cases : Type 0 where
   -- with the second zone's time 0: refused 6 at 7
   pub zero-time : Refuses (cardOf (film sixOnes (22270 ∷ 0 ∷ 19090 ∷ 17810 ∷ 16700 ∷ 15720 ∷ []) 6 262144)) 6 7
   -- N 1: 8. N 7: 9
-  pub one-block : Refuses (cardOf (bench 1 262144)) 8 25
-  pub seven-blocks : Refuses (cardOf (bench 7 262144)) 9 25
+  pub one-block : Refuses (cardOf (bench 1 262144)) 8 26
+  pub seven-blocks : Refuses (cardOf (bench 7 262144)) 9 26
   -- empty card: 1 at 0. First number 81 00: 2 at 0
   pub empty-card : Refuses [] 1 0
   pub longer-form : Refuses (129 ∷ 0 ∷ []) 2 0
@@ -130,11 +135,25 @@ pub record Cases : Type 0 where
   pub halves-second : (let f = film sixOnes (22270 ∷ 22270 ∷ 19090 ∷ 17810 ∷ 16700 ∷ 15720 ∷ []) 3 262144 in
       (worst2Of pairs f ≡ 77940) × (worstAtOf pairs f ≡ 1))
   -- N 4: 28, where a block on one position each would fit
-  pub halves-four : RefusesHalves (cardOf (bench 4 262144)) 28 25
+  pub halves-four : RefusesHalves (cardOf (bench 4 262144)) 28 26
   pub four-blocks : readCard 1 (cardOf (bench 4 262144)) .verdict .number ≡ 0
   -- 128 streams and 127, decided by the table's entry for 256 visits
   pub halves-all : streamsOf pairs (measured (level 268288) (film (4 ∷ []) (1000 ∷ []) 2 262144)) ≡ 128
   pub halves-last : streamsOf pairs (measured (level 268289) (film (4 ∷ []) (1000 ∷ []) 2 262144)) ≡ 127
+  -- a shelf of 2 and 3 blocks on the bench film's zones (ticket 14): the first on the two highest positions, the second on three of the four left.
+  -- Its own first pair is the worst of both, block 2 through the lists; leads and margin go by it
+  pub shelf-card : _≡_ {A = CardRead} (readCard 1 (cardOf twoFilms)) (record { verdict = accepted; figures = twoFilms })
+  pub shelf-plan : Plans one twoFilms 15 796707 38360 2 2740
+  pub shelf-positions : positionsOf one twoFilms ≡ 4 ∷ 5 ∷ 1 ∷ 3 ∷ 2 ∷ []
+  pub shelf-leads : leadsOf one twoFilms ≡ 0 ∷ 0 ∷ 2740 ∷ 0 ∷ 0 ∷ []
+  -- no film, and 17: 30 at the count. The second film: 1 block is 8, 5 blocks are 9, each at its number; 16,384 and 2 blocks are 30 there
+  pub shelf-empty : Refuses (cardOf (shelf sixOnes sixTimes [] 262144)) 30 25
+  pub shelf-full : Refuses (cardOf (shelf sixOnes sixTimes (replicate 17 2) 262144)) 30 25
+  pub shelf-short : Refuses (cardOf (shelf sixOnes sixTimes (2 ∷ 1 ∷ []) 262144)) 8 27
+  pub shelf-above : Refuses (cardOf (shelf sixOnes sixTimes (2 ∷ 5 ∷ []) 262144)) 9 27
+  pub shelf-many : Refuses (cardOf (shelf (20000 ∷ []) (20000 ∷ []) (16384 ∷ 2 ∷ []) 262144)) 30 12
+  -- joins on its desk
+  pub shelf-desk : Watching
   -- document 02: there are 1511 small cards (T13.4)
   pub small-cards : length smallCards ≡ 1511
   -- the desk case, and requests in the order they asked
@@ -142,7 +161,7 @@ pub record Cases : Type 0 where
   pub asking : Asking
 
 pub cases : Cases
-unfolding groupsFrom groups continuing joined judged numberIn numberAt first below above outside thenAbove thenBelow faultOf timeFault roomFault blocksFault onFault onNumber fieldAt blankZones blankTable blankFigures refusedCard thenField cardEnd rowFrom movesFrom entriesFrom tableFrom filmFrom zonesFrom readCard straightFrom straight tableNumbers filmNumbers zoneNumbers numbersOf bytesOf cardOf entries film late level totalPositions sumBy greatestOf greatest wordsOf zigzag worstTime round falls rank ring worstRound worstMatch timeAt run span lead overhead load streams bufferOf slowest margin firstReaching earliestOf worstAt worst2Of worstAtOf streamsOf marginOf bufferSize planOf blankPlan row positionsOf leadsOf planFault refusal planned
+unfolding groupsFrom groups continuing joined judged numberIn numberAt first below above outside thenAbove thenBelow faultOf timeFault roomFault blocksFault onFault onNumber fieldAt blankZones blankFilms blankTable blankFigures refusedCard thenField cardEnd rowFrom movesFrom entriesFrom tableFrom shelfFrom filmFrom zonesFrom readCard rowNumbers straightFrom straight tableNumbers filmNumbers zoneNumbers numbersOf bytesOf cardOf entries shelf late level totalPositions sumBy greatestOf greatest wordsOf zigzag worstTime round falls rank ring worstRound worstMatch timeAt run span lead overhead load streams bufferOf slowest margin firstReaching earliestOf worstAt worst2Of worstAtOf streamsOf marginOf bufferSize planOf blankPlan row positionsOf leadsOf planFault refusal planned startOf worstShelf slowestShelf marginShelf rowsOf worstFilmOf
 cases = record {
   number-300 = refl;
   number-22270 = refl;
@@ -189,6 +208,16 @@ cases = record {
   four-blocks = refl;
   halves-all = refl;
   halves-last = refl;
+  shelf-card = refl;
+  shelf-plan = refl;
+  shelf-positions = refl;
+  shelf-leads = refl;
+  shelf-empty = (refl, refl);
+  shelf-full = (refl, refl);
+  shelf-short = (refl, refl);
+  shelf-above = (refl, refl);
+  shelf-many = (refl, refl);
+  shelf-desk = watching;
   small-cards = how-many;
   desk = story;
   asking = asking;

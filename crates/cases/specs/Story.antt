@@ -8,12 +8,13 @@ use Rattle.laws.specs.Runs.{sumBy, allBy}
 use Rattle.laws.specs.Greatest.{greatestOf, greatest, firstReaching, earliestOf}
 use Rattle.laws.specs.Map.{mapFrom}
 use Rattle.laws.specs.Indices.{allFrom, lowestFrom}
+use Rattle.laws.specs.Starts.{startOf}
 use Rattle.numbers.specs.Slots.{draining, sweeping}
 use Rattle.words.specs.Words.{wordsOf, bytesOf}
-use Rattle.card_field.specs.Ranges.{first, below, above, outside, thenAbove, thenBelow, faultOf, timeFault, blocksFault}
+use Rattle.card_field.specs.Ranges.{first, below, above, outside, thenAbove, thenBelow, faultOf, timeFault, roomFault, blocksFault}
 use Rattle.card_field.specs.Row.{rowFault}
 use Rattle.card_table.specs.Table.{straightFrom, straight, isLine, straightFault, measuredFault, tableFault}
-use Rattle.card.specs.Card.{totalPositions, filmFault, zoneFaults, zerosFrom, unusedZero, recordFault}
+use Rattle.card.specs.Card.{totalPositions, shelfFault, filmFault, zoneFaults, zerosFrom, unusedZero, recordFault}
 use Rattle.card.specs.declared.Figures.{Figures}
 use Rattle.placement.specs.Placement.{zigzag, worstTime}
 use Rattle.placement.specs.Showing.{one, worstAt}
@@ -21,7 +22,9 @@ use Rattle.placement.specs.Zones.{timeAt}
 use Rattle.pacing.specs.Film.{row as run, span, lead}
 use Rattle.pacing.specs.Streams.{overhead, load, streams, bufferOf}
 use Rattle.pacing.specs.Laid.{slowest, margin}
-use Rattle.plan.specs.Plan.{showingOf, worst2Of, worstAtOf, streamsOf, marginOf, leadOf, bufferSize, planOf, row, positionsOf, leadsOf}
+use Rattle.pacing.specs.Shelves.{worstShelf, slowestShelf, marginShelf}
+use Rattle.plan.specs.Plan.{showingOf, worst2Of, worstFilmOf, worstAtOf, streamsOf, marginOf, leadOf, bufferSize, planOf, row, positionsOf, leadsOf}
+use Rattle.plan.specs.Plan.{rowsOf}
 use Rattle.plan.specs.Answer.{begins, hasNumbers, hasPositions, hasLeads, isPlan}
 use Rattle.rules.specs.Scheduler as S
 use Rattle.rules.specs.Sound.{isZero, soundSlot, sound}
@@ -33,7 +36,7 @@ use Rattle.desk.specs.declared.Desk.{Desk}
 use Rattle.desk.specs.Records.{recordOf}
 use Rattle.desk.specs.declared.Begun.{Begun}
 use Rattle.desk.specs.Desk.{supplyOf, slotsIn, viewOf, deskOf, zeros, freshDesk, openDesk, answerOf, answered, joinDesk, beginDesk, endDesk, array, fetchesOf}
-use Rattle.cases.specs.Bench.{entries, film, bench, measured, dear}
+use Rattle.cases.specs.Bench.{entries, shelf, bench, measured, dear}
 
 -- the bench film's plan and its two lists
 abbrev pub figures : Figures
@@ -51,7 +54,7 @@ draws d = bytesOf (d ∷ replicate 15 0)
 
 -- the desk opens; slot 0 joins at block 0; the first sweep
 unfoldable pub joinedDesk : Desk
-joinedDesk = joinDesk (openDesk (planOf one figures) positions leads .desk) positions leads 0 0 .desk
+joinedDesk = joinDesk (openDesk (planOf one figures) positions leads .desk) positions leads 0 0 0 .desk
 
 unfoldable pub firstBegin : Begun
 firstBegin = beginDesk joinedDesk positions leads 16
@@ -61,7 +64,7 @@ unfoldable pub firstEnd : Desk
 firstEnd = endDesk (firstBegin .desk) positions leads (draws 0) .desk
 
 unfoldable pub secondJoin : Desk
-secondJoin = joinDesk firstEnd positions leads 1 0 .desk
+secondJoin = joinDesk firstEnd positions leads 1 0 0 .desk
 
 unfoldable pub secondBegin : Begun
 secondBegin = beginDesk secondJoin positions leads 16
@@ -74,7 +77,7 @@ unfoldable pub aloneEnd : Desk
 aloneEnd = endDesk (aloneBegin .desk) positions leads (draws 21695) .desk
 
 unfoldable pub laterJoin : Desk
-laterJoin = joinDesk aloneEnd positions leads 1 0 .desk
+laterJoin = joinDesk aloneEnd positions leads 1 0 0 .desk
 
 unfoldable pub laterBegin : Begun
 laterBegin = beginDesk laterJoin positions leads 16
@@ -85,7 +88,7 @@ tailDesk = recordOf (planOf one figures) sweeping (array (draining ∷ [])) (arr
 
 -- the first sweep of the bench film with 30000 for the overhead of one block
 unfoldable pub dearBegin : Begun
-dearBegin = beginDesk (joinDesk (openDesk (planOf one (measured dear figures)) positions leads .desk) positions leads 0 0 .desk) positions leads 16
+dearBegin = beginDesk (joinDesk (openDesk (planOf one (measured dear figures)) positions leads .desk) positions leads 0 0 0 .desk) positions leads 16
 
 -- the floor with the lead of asked slot i added, in two-millionths of a byte
 unfoldable pub floorFor : Desk → ℕ → ℕ
@@ -123,7 +126,7 @@ pub record Story : Type 0 where
   pub dear-bound : (dearBegin .fetches .count ≡ 1) × (dearBegin .bound ≡ 52270)
 
 pub story : Story
-unfolding sumBy allBy greatestOf greatest mapFrom allFrom lowestFrom wordsOf bytesOf first below above outside thenAbove thenBelow faultOf timeFault blocksFault totalPositions straightFrom straight isLine straightFault rowFault measuredFault tableFault filmFault zoneFaults zerosFrom unusedZero recordFault zigzag worstTime timeAt run span lead overhead load streams bufferOf slowest margin firstReaching earliestOf worstAt showingOf worst2Of worstAtOf streamsOf marginOf bufferSize planOf row positionsOf leadsOf begins hasNumbers hasPositions hasLeads isPlan S.before S.insert S.sorted S.entriesAt S.reads S.leadOf S.leads S.lowWater S.holds S.joined S.left S.startedSlot S.started S.playersHold S.grantable S.granted S.isFetched S.entriesFrom S.entries S.timeOf S.times S.fetchCount S.bound S.sweptBy S.released S.endedSlot S.ended S.mostDrawn S.drawLimit isZero soundSlot sound drawAllowed drawHeld judged verdict eldest dropped member waitingCount eldestLead served placedAll byPlace refusals accepted answer slotsOf supplyOf viewOf deskOf zeros freshDesk openDesk answerOf answered joinDesk beginDesk endDesk array fetchesOf entries film positions leads joinedDesk firstBegin firstEnd secondJoin secondBegin aloneBegin aloneEnd laterJoin laterBegin tailDesk dear dearBegin floorFor
+unfolding sumBy allBy greatestOf greatest mapFrom allFrom lowestFrom wordsOf bytesOf first below above outside thenAbove thenBelow faultOf timeFault roomFault blocksFault totalPositions straightFrom straight isLine straightFault rowFault measuredFault tableFault shelfFault filmFault zoneFaults zerosFrom unusedZero recordFault zigzag worstTime timeAt run span lead overhead load streams bufferOf slowest margin firstReaching earliestOf worstAt showingOf worst2Of worstAtOf streamsOf marginOf bufferSize planOf row positionsOf leadsOf begins hasNumbers hasPositions hasLeads isPlan S.before S.insert S.sorted S.entriesAt S.reads S.leadOf S.leads S.lowWater S.holds S.joined S.left S.startedSlot S.started S.playersHold S.grantable S.granted S.isFetched S.entriesFrom S.entries S.timeOf S.times S.fetchCount S.bound S.sweptBy S.released S.endedSlot S.ended S.mostDrawn S.drawLimit isZero soundSlot sound drawAllowed drawHeld judged verdict eldest dropped member waitingCount eldestLead served placedAll byPlace refusals accepted answer slotsOf supplyOf viewOf deskOf zeros freshDesk openDesk answerOf answered joinDesk beginDesk endDesk array fetchesOf entries shelf positions leads joinedDesk firstBegin firstEnd secondJoin secondBegin aloneBegin aloneEnd laterJoin laterBegin tailDesk dear dearBegin floorFor startOf worstShelf slowestShelf marginShelf rowsOf worstFilmOf
 story = record {
   first-fetch = (refl, refl, refl, refl, refl);
   first-bound = refl;

@@ -10,6 +10,7 @@ use Rattle.numbers.specs.Refusals.{notSound}
 use Rattle.card.specs.declared.Verdict.{Verdict}
 use Rattle.words.specs.Words.{wordsOf, withWords}
 use Rattle.placement.specs.Showing.{Showing, visitsOf}
+use Rattle.pacing.specs.Shelf.{nameOf}
 use Rattle.plan.specs.declared.Plan.{Plan}
 use Rattle.plan.specs.Plan.{showingIn, worst2Of, overOf, filmOf, blankPlan}
 use Rattle.plan.specs.Answer.{isPlan}
@@ -44,7 +45,7 @@ ratesIn x p = record {
 abbrev pub ratesOf : Plan → Rates
 ratesOf p = ratesIn (showingIn p) p
 
--- what a plan record tells the desk: its figures' film as it is laid for the showing that it names (T7.7), with these rates
+-- what a plan record tells the desk: its figures' films as they are laid for the showing that it names (T7.7), with these rates
 unfoldable pub supplyOf : Plan → Supply ℕ
 supplyOf p = supplied (filmOf (showingIn p) (p .figures)) (worst2Of (showingIn p) (p .figures)) (ratesOf p)
 
@@ -118,8 +119,9 @@ answerOf d ps ls room call =
 unfoldable pub answered : Desk → C.Answer ℕ Queue → Answer
 answered d a = record { verdict = verdict (a .number) (a .place); desk = deskOf (d .plan) (a .scheduler) }
 
-unfoldable pub joinDesk : Desk → List ℕ → List ℕ → ℕ → ℕ → Answer
-joinDesk d ps ls slot block = answered d (answerOf d ps ls 0 (join slot block))
+-- a join names a film and a block of it (document 02, ticket 14)
+unfoldable pub joinDesk : Desk → List ℕ → List ℕ → ℕ → ℕ → ℕ → Answer
+joinDesk d ps ls slot block film = answered d (answerOf d ps ls 0 (join slot (nameOf film block)))
 
 unfoldable pub leaveDesk : Desk → List ℕ → List ℕ → ℕ → Answer
 leaveDesk d ps ls slot = answered d (answerOf d ps ls 0 (leave slot))

@@ -2,14 +2,15 @@
 -- Assumes nothing.
 use Prim.Native.Nat.{ℕ, _+_, _*_, _-_, _≤_, _<_}
 use mathlib.Core.Path.{_≡_, refl}
-use mathlib.Core.Bool.{Bool, true, false, cond}
+use mathlib.Core.Bool.{Bool, true, false, cond, _&&_}
 use native.Mathlib.Omega.{arith}
 use lib.Dec.{ltb}
 use borrow.Author.Tests.{eqb-true}
-use Rattle.numbers.specs.Refusals.{notSound, noSuchBlock}
+use Rattle.numbers.specs.Refusals.{notSound, noSuchBlock, noSuchFilm}
 use Rattle.card.specs.declared.Figures.{Figures}
-use Rattle.card.specs.Card.{Legal}
+use Rattle.card.specs.Card.{Legal, lengthIn}
 use Rattle.placement.specs.Showing.{Showing, visitsOf}
+use Rattle.pacing.specs.Shelf.{filmIn, blockIn}
 use Rattle.pacing.specs.Streams.{bufferOf}
 use Rattle.plan.specs.declared.Plan.{Plan}
 use Rattle.plan.specs.Plan.{worst2Of, streamsOf, slowestOf, filmOf, planOf}
@@ -21,23 +22,25 @@ use Rattle.turns.specs.ByPlace.{byPlace-orderly}
 use Rattle.desk.specs.Supply.{paced-lawful}
 use Rattle.desk.specs.Desk.{ratesIn, supplyOf, orderOf}
 
--- the tests of block numbers say what they should, for any record
+-- the tests of names say what they should, for any record
 pub supply-named : (p : Plan) → Named (supplyOf p)
 unfolding supplyOf
 supply-named p = record {
   none-passes = refl;
   none-only = λ a e. eqb-true a 0 e;
-  faultless = λ a e. within (ltb a (p .figures .blocks)) e;
-  fault-own = λ a e. other (ltb a (p .figures .blocks)) e;
+  faultless = λ a e. within (ltb (filmIn a) (p .figures .films)) (ltb (blockIn a) (lengthIn (p .figures) (filmIn a))) e;
+  fault-own = λ a e. other (ltb (filmIn a) (p .figures .films)) (ltb (blockIn a) (lengthIn (p .figures) (filmIn a))) e;
 }
   where
-    within : (t : Bool) → _≡_ {A = ℕ} (cond t 0 noSuchBlock) 0 → t ≡ true
-    within true e = refl
-    within false e = absurd (omega arith)
+    within : (s t : Bool) → _≡_ {A = ℕ} (cond s (cond t 0 noSuchBlock) noSuchFilm) 0 → (s && t) ≡ true
+    within true true e = refl
+    within true false e = absurd (omega arith)
+    within false t e = absurd (omega arith)
 
-    other : (t : Bool) → _≡_ {A = ℕ} (cond t 0 noSuchBlock) notSound → ⊥
-    other true e = omega arith
-    other false e = omega arith
+    other : (s t : Bool) → _≡_ {A = ℕ} (cond s (cond t 0 noSuchBlock) noSuchFilm) notSound → ⊥
+    other true true e = omega arith
+    other true false e = omega arith
+    other false t e = omega arith
 
 -- the order of granting is one that safety allows
 pub order-orderly : (p : Plan) → Orderly (supplyOf p) (orderOf p)

@@ -26,6 +26,7 @@ withRead d bytes rate streams buffer table ks xs hs qs =
           zones = f .zones;
           positions = f .positions;
           times = f .times;
+          films = f .films;
           blocks = f .blocks;
           bytes = bytes;
           rate = rate;

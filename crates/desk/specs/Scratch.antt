@@ -24,8 +24,8 @@ deskLeads d = planLeads (d .plan)
 unfoldable pub openScratch : Plan → List ℕ → List ℕ → Answer
 openScratch p ps s = cond (scratchShort s) (answers blankDesk tooShort 0) (openDesk p ps (planLeads p))
 
-unfoldable pub joinScratch : Desk → List ℕ → List ℕ → ℕ → ℕ → Answer
-joinScratch d ps s slot block = cond (scratchShort s) (answers d tooShort 0) (joinDesk d ps (deskLeads d) slot block)
+unfoldable pub joinScratch : Desk → List ℕ → List ℕ → ℕ → ℕ → ℕ → Answer
+joinScratch d ps s slot block film = cond (scratchShort s) (answers d tooShort 0) (joinDesk d ps (deskLeads d) slot block film)
 
 unfoldable pub leaveScratch : Desk → List ℕ → List ℕ → ℕ → Answer
 leaveScratch d ps s slot = cond (scratchShort s) (answers d tooShort 0) (leaveDesk d ps (deskLeads d) slot)

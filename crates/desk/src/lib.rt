@@ -14,7 +14,7 @@ pub struct Desk {
     pub phase: u32,
     // 0 free, 1 asked, 2 filling, 3 playing, 4 tail.
     pub kinds: [u32; 256],
-    // The next block of each slot.
+    // The film and the next block of each slot: 65,536 times the film, from 0, and the block within it.
     pub next: [u32; 256],
     // The bytes that each slot holds.
     pub held: [u32; 256],
@@ -102,7 +102,7 @@ pub fn answer_with(desk: Desk, number: u32, place: usize) -> Answer
     }
 }
 
-// The desk in which slot i has a kind and a next block and holds nothing, with these places.
+// The desk in which slot i has a kind and a next block of a film and holds nothing, with these places.
 pub fn with_slot(desk: Desk, i: usize, kind: u32, next: u32, places: [u32; 256]) -> Desk
     requires { ⌜ i < 256 ⌝ }
     ensures { λ r. ⌜ r ≡ withSlot desk i kind next places ⌝ }

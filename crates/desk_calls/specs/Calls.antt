@@ -53,11 +53,11 @@ answerBy D a = cond (eqb (length D) deskSize) a (refusedBy notSound)
 unfoldable pub stringBy : List ℕ → Desk → List ℕ
 stringBy D d = cond (eqb (length D) deskSize) (withWords D 0 (deskWords d)) D
 
-unfoldable pub joinAnswer : List ℕ → List ℕ → List ℕ → ℕ → ℕ → FilmdiskAnswer
-joinAnswer D ps ls slot block = answerBy D (verdictAnswer (joinDesk (said D) ps ls slot block .verdict))
+unfoldable pub joinAnswer : List ℕ → List ℕ → List ℕ → ℕ → ℕ → ℕ → FilmdiskAnswer
+joinAnswer D ps ls slot block film = answerBy D (verdictAnswer (joinDesk (said D) ps ls slot block film .verdict))
 
-unfoldable pub joinString : List ℕ → List ℕ → List ℕ → ℕ → ℕ → List ℕ
-joinString D ps ls slot block = stringBy D (joinDesk (said D) ps ls slot block .desk)
+unfoldable pub joinString : List ℕ → List ℕ → List ℕ → ℕ → ℕ → ℕ → List ℕ
+joinString D ps ls slot block film = stringBy D (joinDesk (said D) ps ls slot block film .desk)
 
 unfoldable pub leaveAnswer : List ℕ → List ℕ → List ℕ → ℕ → FilmdiskAnswer
 leaveAnswer D ps ls slot = answerBy D (verdictAnswer (leaveDesk (said D) ps ls slot .verdict))
@@ -110,11 +110,11 @@ openScratchAnswer P ps s D = orShort s (openAnswer P ps (leadsOfPlan P) D)
 unfoldable pub openScratchString : List ℕ → List ℕ → List ℕ → List ℕ → List ℕ
 openScratchString P ps s D = orKept s D (openString P ps (leadsOfPlan P) D)
 
-unfoldable pub joinScratchAnswer : List ℕ → List ℕ → List ℕ → ℕ → ℕ → FilmdiskAnswer
-joinScratchAnswer D ps s slot block = orShort s (joinAnswer D ps (leadsOfDesk D) slot block)
+unfoldable pub joinScratchAnswer : List ℕ → List ℕ → List ℕ → ℕ → ℕ → ℕ → FilmdiskAnswer
+joinScratchAnswer D ps s slot block film = orShort s (joinAnswer D ps (leadsOfDesk D) slot block film)
 
-unfoldable pub joinScratchString : List ℕ → List ℕ → List ℕ → ℕ → ℕ → List ℕ
-joinScratchString D ps s slot block = orKept s D (joinString D ps (leadsOfDesk D) slot block)
+unfoldable pub joinScratchString : List ℕ → List ℕ → List ℕ → ℕ → ℕ → ℕ → List ℕ
+joinScratchString D ps s slot block film = orKept s D (joinString D ps (leadsOfDesk D) slot block film)
 
 unfoldable pub leaveScratchAnswer : List ℕ → List ℕ → List ℕ → ℕ → FilmdiskAnswer
 leaveScratchAnswer D ps s slot = orShort s (leaveAnswer D ps (leadsOfDesk D) slot)

@@ -28,7 +28,7 @@ pub wide-of : (d : Desk) → DeskSized d → Wide d
 wide-of d z = record { kinds = z .kinds; next = z .next; held = z .held; places = z .places }
 
 pub slim-of : (d : Desk) → DeskSized d → legality.Wide (d .plan .figures)
-slim-of d z = (z .plan .positions, z .plan .times, z .plan .table)
+slim-of d z = (z .plan .positions, z .plan .times, z .plan .blocks, z .plan .table)
 
 -- ---- any call, by what it makes of a desk
 

@@ -1,8 +1,11 @@
 // A desk where it lies in a lent byte string: one reader for each number, and for each array one of an entry or of all; how many slots ask.
 use desk_layout::offsets;
+use numbers::limits::MAX_FILMS;
+use numbers::limits::NAME_STEP;
 use numbers::slots::WAITING;
 use plan::visits_of;
 use plan_layout::offsets as plan_offsets;
+use words::read_16;
 use words::read_64;
 use words::read_256;
 use words::read_257;
@@ -12,12 +15,15 @@ ghost use Prim.Native.Nat.{_≤_, _<_};
 ghost use lib.ListN.{length, getD, take};
 ghost use lib.Dec.{eqb};
 ghost use Rattle.laws.specs.Bools.{bit};
-ghost use Rattle.numbers.specs.Limits.{maxStreams};
+ghost use Rattle.numbers.specs.Limits.{maxFilms, maxStreams};
 ghost use Rattle.numbers.specs.Slots.{waiting};
 ghost use Rattle.words.specs.Words.{wordsOf};
+ghost use Rattle.card.specs.Card.{lengthIn};
+ghost use Rattle.pacing.specs.Shelf.{filmIn};
 ghost use Rattle.desk.specs.Desk.{visitsIn};
 ghost use Rattle.desk.specs.Asked.{askedCount};
 ghost use Rattle.desk_layout.specs.Layout.{deskIn, deskSize};
+ghost use Rattle.desk_columns.specs.Films.{ShelfSmall, StartsOf, HasStart, entryOf};
 
 // The zones of the disk.
 pub fn zones_in(desk: &[u8]) -> u32
@@ -27,12 +33,73 @@ pub fn zones_in(desk: &[u8]) -> u32
     word_at(desk, plan_offsets::ZONES)
 }
 
-// N.
-pub fn blocks_in(desk: &[u8]) -> u32
+// How many films the shelf has.
+pub fn films_in(desk: &[u8]) -> u32
+    requires { ⌜ deskSize ≤ length (now desk) ⌝ }
+    ensures { λ r. ⌜ r ≡ deskIn (wordsOf (now (desk .entry))) .plan .figures .films ⌝ }
+{
+    word_at(desk, plan_offsets::FILMS)
+}
+
+// N of film i.
+pub fn length_in(desk: &[u8], i: usize) -> u32
+    requires { ⌜ (i < maxFilms) × (deskSize ≤ length (now desk)) ⌝ }
+    ensures { λ r. ⌜ r ≡ lengthIn (deskIn (wordsOf (now (desk .entry))) .plan .figures) i ⌝ }
+{
+    word_at(desk, plan_offsets::BLOCKS + i)
+}
+
+// N of the film that a slot's word names, 0 where there is none.
+pub fn film_length(desk: &[u8], name: u32) -> u32
+    requires { ⌜ deskSize ≤ length (now desk) ⌝ }
+    ensures { λ r. ⌜ r ≡ lengthIn (deskIn (wordsOf (now (desk .entry))) .plan .figures) (filmIn name) ⌝ }
+{
+    let film = (name / NAME_STEP) as usize;
+    if film < MAX_FILMS as usize {
+        return length_in(desk, film);
+    }
+    0
+}
+
+// N of each film.
+pub fn all_lengths(desk: &[u8]) -> [u32; 16]
     requires { ⌜ deskSize ≤ length (now desk) ⌝ }
     ensures { λ r. ⌜ r ≡ deskIn (wordsOf (now (desk .entry))) .plan .figures .blocks ⌝ }
 {
-    word_at(desk, plan_offsets::BLOCKS)
+    read_16(desk, plan_offsets::BLOCKS)
+}
+
+// No film begins anywhere yet.
+fn no_starts() -> [u32; 16]
+    ensures { λ r. ⌜ length r ≡ maxFilms ⌝ }
+{
+    [0u32; 16]
+}
+
+// Where each film begins in the lists, behind the blocks of those before it.
+pub fn film_starts(desk: &[u8]) -> [u32; 16]
+    requires { ⌜ (deskSize ≤ length (now desk)) × ShelfSmall (deskIn (wordsOf (now desk)) .plan .figures) ⌝ }
+    ensures { λ r. ⌜ StartsOf (deskIn (wordsOf (now (desk .entry))) .plan .figures) r ⌝ }
+{
+    let films = films_in(desk) as usize;
+    let mut starts = no_starts();
+    let mut sum: u32 = 0;
+    let mut i: usize = 0;
+    while i < films {
+        starts[i] = sum;
+        sum += length_in(desk, i);
+        i += 1;
+    }
+    starts
+}
+
+// The number through the lists of the block that a slot's word names.
+pub fn entry_of(starts: &[u32; 16], name: u32) -> u32
+    requires { ⌜ HasStart (now starts) name ⌝ }
+    ensures { λ r. ⌜ r ≡ entryOf (now (starts .entry)) name ⌝ }
+{
+    let film = (name / NAME_STEP) as usize;
+    starts[film] + name % NAME_STEP
 }
 
 // worst2.
@@ -107,7 +174,7 @@ pub fn kind_in(desk: &[u8], i: usize) -> u32
     word_at(desk, offsets::KINDS + i)
 }
 
-// The next block of slot i.
+// The film and the next block of slot i.
 pub fn next_in(desk: &[u8], i: usize) -> u32
     requires { ⌜ (i < maxStreams) × (deskSize ≤ length (now desk)) ⌝ }
     ensures { λ r. ⌜ r ≡ getD (deskIn (wordsOf (now (desk .entry))) .next) i 0 ⌝ }

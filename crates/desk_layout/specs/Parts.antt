@@ -15,11 +15,15 @@ use Rattle.desk.specs.declared.Desk.{Desk}
 use Rattle.desk.specs.Records.{recordOf, withSlot}
 use Rattle.fields.specs.Fields.{Field, _&_, wordCount, joined}
 use Rattle.fields.specs.FieldLaws.{stored, fields-stored, part-written, part-again, columnStored, column-written}
-use Rattle.plan_layout.specs.Layout.{planFields, planValues, planWordCount}
+use Rattle.plan_layout.specs.Layout.{figureFields, planFields, planValues, planWordCount}
 use Rattle.desk_layout.specs.Layout.{slotFields, deskWords, deskIn, deskSize, withKinds, withPlaces}
 use Rattle.desk_layout.specs.RoundTrip.{DeskSized}
 
 -- ---- a slot: its kind, its next block, nothing held, and its place
+
+-- the word at which N of the first film stands
+abbrev pub blocksAt : ℕ
+blocksAt = wordCount (take 5 figureFields)
 
 -- the fields before the kinds
 abbrev pub untilKinds : List Field

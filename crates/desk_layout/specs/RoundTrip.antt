@@ -10,7 +10,7 @@ use Rattle.numbers.specs.Limits.{maxStreams}
 use Rattle.words.specs.Words.{Bytes, Words, wordsOf, withWords, zeroWords}
 use Rattle.words.specs.Laws.{withWords-append}
 use Rattle.words.specs.Zero.{words-zero}
-use Rattle.card.specs.Read.{blankZones, blankTable, blankFigures}
+use Rattle.card.specs.Read.{blankZones, blankFilms, blankTable, blankFigures}
 use Rattle.plan.specs.declared.Plan.{Plan}
 use Rattle.plan.specs.Plan.{blankPlan}
 use Rattle.desk.specs.declared.Desk.{Desk}
@@ -85,9 +85,9 @@ desk-kept s y h = fields-kept deskFields 0 s y h
 
 -- the desk that is all zero is zeros
 pub desk-blank : deskWords blankDesk ≡ zeroWords deskWordCount
-unfolding zeroWords deskWords blankDesk freshDesk zeros blankPlan blankFigures blankZones blankTable
+unfolding zeroWords deskWords blankDesk freshDesk zeros blankPlan blankFigures blankZones blankFilms blankTable
 desk-blank = refl
 
 pub desk-zero : (s : List ℕ) → length s ≡ deskSize → withWords s 0 (deskWords blankDesk) ≡ zeroBytes deskSize
-unfolding zeroBytes deskWords blankDesk freshDesk zeros blankPlan blankFigures blankZones blankTable
+unfolding zeroBytes deskWords blankDesk freshDesk zeros blankPlan blankFigures blankZones blankFilms blankTable
 desk-zero s e = words-zero s deskWordCount e

@@ -19,4 +19,4 @@ module _ (D : List ℕ) (h : deskSize ≤ length D) where
   wide-in = let z = sized-in in record { kinds = z .kinds; next = z .next; held = z .held; places = z .places }
 
   pub slim-in : legality.Wide (deskIn (wordsOf D) .plan .figures)
-  slim-in = let z = sized-in .plan in (z .positions, z .times, z .table)
+  slim-in = let z = sized-in .plan in (z .positions, z .times, z .blocks, z .table)

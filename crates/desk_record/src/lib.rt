@@ -11,12 +11,12 @@ ghost use Rattle.words.specs.Words.{wordsOf};
 ghost use Rattle.desk_layout.specs.Layout.{deskIn, deskSize};
 
 // Room for a desk.
-fn blank() -> [u8; 5684] {
-    [0u8; 5684]
+fn blank() -> [u8; 5748] {
+    [0u8; 5748]
 }
 
 // The string that says a desk.
-pub fn string_of(desk: Desk) -> [u8; 5684]
+pub fn string_of(desk: Desk) -> [u8; 5748]
     ensures { λ r. ⌜ (deskIn (wordsOf r) ≡ desk) × (length r ≡ deskSize) ⌝ }
 {
     let mut string = blank();

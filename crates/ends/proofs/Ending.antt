@@ -1,23 +1,29 @@
 -- A slot after a sweep, and one turn of the loop over the slots.
 -- Assumes nothing.
 use Prim.Native.Nat.{ℕ, suc, _+_, _-_, _≤_, _<_}
-use mathlib.Core.Path.{_≡_, refl, sym, ap, _∙_}
-use mathlib.Core.Bool.{Bool, true, false, cond}
+use mathlib.Core.Path.{_≡_, refl, sym, ap, _∙_, subst}
+use mathlib.Core.Logic.{by-cases}
+use mathlib.Core.Bool.{Bool, true, false, cond, _&&_}
 use mathlib.Core.List.{List}
 use native.Mathlib.Omega.{arith}
+use native.Mathlib.Decide.{decLt}
 use lib.ListN.{length, getD, set}
-use lib.Dec.{eqb}
-use borrow.Author.Tests.{ltb-true, eq-eqb, ne-eqb}
+use lib.Dec.{ltb, eqb}
+use borrow.Author.Tests.{lt-ltb, ne-eqb}
 use Rattle.laws.specs.Each.{each-at}
 use Rattle.laws.specs.Indices.{each-of-allFrom, eachFrom-at}
+use Rattle.numbers.specs.Limits.{maxBlocks}
 use Rattle.numbers.specs.Slots.{free, filling, playing, draining}
 use Rattle.numbers.specs.Showings.{loopWord, pairsWord}
+use Rattle.card.specs.Card.{lengthIn}
 use Rattle.placement.specs.CircleBest.{round-last, round-next}
 use Rattle.placement.specs.Showing.{Showing, one, loop, pairs, after}
 use Rattle.pacing.specs.Film.{isPast}
+use Rattle.pacing.specs.Shelf.{nameOf, filmIn, blockIn, film-of-name, block-of-name}
 use Rattle.pacing.specs.Shown.{round-below}
 use Rattle.plan.specs.Plan.{showingOf, showingIn}
 use Rattle.plan.specs.Check.{shows-loop}
+use Rattle.plan.specs.Names.{block-names}
 use Rattle.rules.specs.Supply.{Supply}
 use Rattle.rules.specs.Scheduler as S
 use Rattle.rules.specs.Scheduler.{freeSlot, at, leads, endedSlot, ended, mostDrawn}
@@ -38,22 +44,36 @@ use Rattle.ends.specs.Ends.{Drawn, Continues, slotIn, Fair}
 -- ---- the next block
 
 -- before the last all showings go on alike
-pub goes-on : (x : Showing) (N b : ℕ) → b + 1 < N → b + 1 ≡ after x N b
-goes-on one N b h = omega arith
-goes-on loop N b h = omega (arith, round-next N b (omega arith))
-goes-on pairs N b h = omega arith
+on : (x : Showing) (N b : ℕ) → b + 1 < N → after x N b ≡ b + 1
+on one N b h = omega arith
+on loop N b h = omega (arith, round-next N b (omega arith))
+on pairs N b h = omega arith
 
--- after it a loop goes back, by the plan's word
-pub goes-round : (w N b : ℕ) → w ≡ loopWord → b + 1 ≡ N → 0 ≡ after (showingOf w) N b
-goes-round w N b e h = rw (shows-loop w e) (omega (arith, round-last N b (omega arith)))
-
-pub goes-past : (w N b : ℕ) → (w ≡ loopWord → ⊥) → b + 1 ≡ after (showingOf w) N b
+past-last : (w N b : ℕ) → (w ≡ loopWord → ⊥) → after (showingOf w) N b ≡ b + 1
 unfolding showingOf
-goes-past w N b n = rw (ne-eqb w loopWord n) (go (eqb w pairsWord))
+past-last w N b n = rw (ne-eqb w loopWord n) (go (eqb w pairsWord))
   where
-    go : (t : Bool) → b + 1 ≡ after (cond t pairs one) N b
+    go : (t : Bool) → after (cond t pairs one) N b ≡ b + 1
     go true = omega arith
     go false = omega arith
+
+-- the name a of a slot, whose film has N blocks
+module _ (N a : ℕ) (u : blockIn a < N) (few : N ≤ maxBlocks) where
+  pub goes-on : (x : Showing) → blockIn a + 1 < N → a + 1 ≡ nameOf (filmIn a) (after x N (blockIn a))
+  goes-on x h = omega (arith, on x N (blockIn a) h)
+
+  -- after the last a loop goes back, by the plan's word
+  pub goes-round : (w : ℕ) → w ≡ loopWord → blockIn a + 1 ≡ N → a - blockIn a ≡ nameOf (filmIn a) (after (showingOf w) N (blockIn a))
+  goes-round w e h = rw (shows-loop w e) (omega (arith, round-last N (blockIn a) (omega arith)))
+
+  pub goes-past : (w : ℕ) → (w ≡ loopWord → ⊥) → a + 1 ≡ nameOf (filmIn a) (after (showingOf w) N (blockIn a))
+  goes-past w n = omega (arith, past-last w N (blockIn a) n)
+
+-- the block after one of N is at most N
+after-few : (x : Showing) (N b : ℕ) → b < N → after x N b ≤ N
+after-few one N b u = omega arith
+after-few loop N b u = omega (arith, round-below N b u)
+after-few pairs N b u = omega arith
 
 -- in a loop the next block is never N
 past-is : (x : Showing) (N b : ℕ) → b < N → isPast x N (after x N b) ≡ eqb (after x N b) N
@@ -63,29 +83,29 @@ past-is loop N b u = sym (ne-eqb _ N (λ e. omega (arith, round-below N b u)))
 
 -- ---- one slot
 
-module _ (p : Supply ℕ) (x : Showing) (N bytes room : ℕ) (film : Continues p x N bytes room) (s : Slot) (draw : ℕ) (k : filling ≤ s .kind)
+module _ (p : Supply ℕ) (x : Showing) (N bytes room : ℕ) (s : Slot) (film : Continues p x (s .next) N bytes room) (draw : ℕ) (k : filling ≤ s .kind)
     (l : s .kind ≤ playing) where
   -- its buffer is too full
   pub swept-full : room < s .held → slotIn (record { kind = s .kind; next = s .next; held = s .held - draw }) ≡ endedSlot p (slotIn s) draw
   swept-full h = sym (ended-other p (slotIn s) draw (fetched-full p (slotIn s) (omega (arith, film .size, film .left))) (λ z. absurd (omega arith)))
 
-  -- a block was fetched: b is the next, and t tells whether it stands past the last
-  module _ (h : s .held ≤ room) (u : s .next < N) (b : ℕ) (q : b ≡ after x N (s .next)) where
+  -- a block was fetched: b is the name of the next, and t tells whether it stands past the last
+  module _ (h : s .held ≤ room) (u : blockIn (s .next) < N) (b : ℕ) (q : b ≡ nameOf (filmIn (s .next)) (after x N (blockIn (s .next)))) where
     follows : b ≡ p .next (s .next)
-    follows = q ∙ sym (film .next (s .next))
+    follows = q ∙ sym (film .next)
 
-    tells : (t : Bool) → eqb b N ≡ t → p .isEnd (p .next (s .next)) ≡ t
-    tells t e = film .past (s .next) u ∙ ap (λ (m : ℕ). eqb m N) (sym follows) ∙ e
+    tells : (t : Bool) → eqb (blockIn b) N ≡ t → p .isEnd (p .next (s .next)) ≡ t
+    tells t e = film .past u ∙ ap (λ (m : ℕ). eqb (blockIn m) N) (sym follows) ∙ e
 
     gained : s .held - draw + bytes ≡ s .held - draw + p .B
     gained = ap (λ (m : ℕ). s .held - draw + m) (sym (film .size))
 
-    pub swept-last : eqb b N ≡ true → slotIn (record { kind = draining; next = b; held = s .held - draw + bytes }) ≡ endedSlot p (slotIn s) draw
+    pub swept-last : eqb (blockIn b) N ≡ true → slotIn (record { kind = draining; next = b; held = s .held - draw + bytes }) ≡ endedSlot p (slotIn s) draw
     swept-last e =
         (λ j. record { kind = draining; next = follows j; buffered = gained j })
         ∙ sym (ended-last p (slotIn s) draw k l (omega (arith, film .size, film .left)) (tells true e) (film .some))
 
-    pub swept-on : eqb b N ≡ false → slotIn (record { kind = s .kind; next = b; held = s .held - draw + bytes }) ≡ endedSlot p (slotIn s) draw
+    pub swept-on : eqb (blockIn b) N ≡ false → slotIn (record { kind = s .kind; next = b; held = s .held - draw + bytes }) ≡ endedSlot p (slotIn s) draw
     swept-on e =
         (λ j. record { kind = s .kind; next = follows j; buffered = gained j })
         ∙ sym (ended-fetched p (slotIn s) draw k l (omega (arith, film .size, film .left)) (tells false e))
@@ -114,17 +134,46 @@ pub ends-none : (d : Desk) → Wide d → (ds : List ℕ) → d ≡ endedUpTo d 
 unfolding endedUpTo
 ends-none d w ds = with-own d w ∙ ap (withSlots d) (sym (endedTo-none (supplyOf (d .plan)) ds (slotsIn d)))
 
-pub film-of : (d : Desk) → Ready d → Continues (supplyOf (d .plan)) (showingIn (d .plan)) (d .plan .figures .blocks) (d .plan .figures .bytes)
-    (d .plan .buffer - d .plan .figures .bytes)
-unfolding supplyOf
-film-of d r = record {
-  start = refl;
-  next = λ b. refl;
-  past = past-is (showingIn (d .plan)) (d .plan .figures .blocks);
-  some = r .legal .bytes .0;
-  size = refl;
-  left = room-left d r;
-}
+-- N of the film that a name names
+abbrev pub ownLength : Desk → ℕ → ℕ
+ownLength d a = lengthIn (d .plan .figures) (filmIn a)
+
+-- t is the name of block m of film i, which has N blocks
+past-named : (x : Showing) (F : ℕ) (lengths : ℕ → ℕ) (i N m t : ℕ) → filmIn t ≡ i → blockIn t ≡ m → ltb i F ≡ true → lengths i ≡ N
+    → isPast x N m ≡ eqb m N → (ltb (filmIn t) F && isPast x (lengths (filmIn t)) (blockIn t)) ≡ eqb (blockIn t) N
+past-named x F lengths i N m t f g u l e = rw (f, g, u, l) e
+
+module _ (d : Desk) (r : Ready d) (a : ℕ) where
+  -- a film with blocks is one of the shelf
+  pub some-film : 0 < ownLength d a → filmIn a < d .plan .figures .films
+  some-film h = by-cases (decLt (filmIn a) (d .plan .figures .films)) (λ l. l) (λ l. absurd (omega (arith, r .legal .idle (filmIn a) (omega arith))))
+
+  pub own-few : ownLength d a ≤ maxBlocks
+  own-few = by-cases (decLt (filmIn a) (d .plan .figures .films))
+      (λ l. r .legal .blocks (filmIn a) l .1)
+      (λ l. omega (arith, r .legal .idle (filmIn a) (omega arith)))
+
+  past-of : blockIn a < ownLength d a → supplyOf (d .plan) .isEnd (supplyOf (d .plan) .next a) ≡ eqb (blockIn (supplyOf (d .plan) .next a)) (ownLength d a)
+  unfolding supplyOf
+  past-of u =
+      let f = d .plan .figures in
+      let x = showingIn (d .plan) in
+      let N = ownLength d a in
+      let m = after x N (blockIn a) in
+      past-named x (f .films) (lengthIn f) (filmIn a) N m (nameOf (filmIn a) m) (film-of-name (filmIn a) m)
+      (block-of-name (filmIn a) m (omega (arith, after-few x N (blockIn a) u, own-few)))
+      (lt-ltb (filmIn a) (f .films) (some-film (omega arith))) refl (past-is x N (blockIn a) u)
+
+  pub film-of : Continues (supplyOf (d .plan)) (showingIn (d .plan)) a (ownLength d a) (d .plan .figures .bytes) (d .plan .buffer - d .plan .figures .bytes)
+  unfolding supplyOf
+  film-of = record {
+    start = refl;
+    next = refl;
+    past = past-of;
+    some = r .legal .bytes .0;
+    size = refl;
+    left = room-left d r;
+  }
 
 -- as many draws as streams
 pub drawn-count : (d : Desk) (ds : List ℕ) → Drawn d ds → length ds ≡ d .plan .streams
@@ -159,7 +208,7 @@ module _ (d : Desk) (w : Wide d) (r : Ready d) (ds : List ℕ) (o : Drawn d ds) 
   unfolding viewOf
   good = let p = supplyOf (d .plan) in each-at (Good p (leads p (slotsIn d))) (slotsIn d) i (freeSlot p) (r .sound .slots) (good-free p _)
 
-  pub fair-now : Fair (d .plan .figures .blocks) (slotAt e i) (getD ds i 0)
+  pub fair-now : Fair (ownLength d (slotAt e i .next)) (slotAt e i) (getD ds i 0)
   unfolding supplyOf
   fair-now =
       let k = ap (λ (s : S.Slot ℕ). s .kind) slot-now in
@@ -169,18 +218,15 @@ module _ (d : Desk) (w : Wide d) (r : Ready d) (ds : List ℕ) (o : Drawn d ds) 
         drawn = omega (arith, drawable .held, h);
         none = λ z. drawable .still (omega (arith, k));
         kinds = omega (arith, good .kinds, k);
-        named = λ a b. omega (
-          arith,
-          ltb-true (at (supplyOf (d .plan)) (slotsIn d) i .next) (d .plan .figures .blocks)
-              (good .named (omega (arith, k)) (omega (arith, k))),
-          n,
-        );
+        named = λ a b. subst (λ (y : ℕ). blockIn y < ownLength d y) n
+            (block-names (showingIn (d .plan)) (d .plan .figures) _ (good .named (omega (arith, k)) (omega (arith, k))) .1);
+        few = own-few d r (slotAt e i .next);
       }
 
   -- one slot more
   pub ends-turn : (draw : ℕ) → draw ≡ getD ds i 0 → (after : Slot)
-      → ((p : Supply ℕ) → Continues p (showingIn (d .plan)) (d .plan .figures .blocks) (d .plan .figures .bytes) (d .plan .buffer - d .plan .figures .bytes)
-      → slotIn after ≡ endedSlot p (slotIn (slotAt e i)) draw)
+      → ((p : Supply ℕ) → Continues p (showingIn (d .plan)) (slotAt e i .next) (ownLength d (slotAt e i .next)) (d .plan .figures .bytes)
+      (d .plan .buffer - d .plan .figures .bytes) → slotIn after ≡ endedSlot p (slotIn (slotAt e i)) draw)
       → recordOf (e .plan) (e .phase) (set (e .kinds) i (after .kind)) (set (e .next) i (after .next)) (set (e .held) i (after .held)) (e .places)
       ≡ endedUpTo d ds (i + 1)
   unfolding endedUpTo
@@ -188,7 +234,7 @@ module _ (d : Desk) (w : Wide d) (r : Ready d) (ds : List ℕ) (o : Drawn d ds) 
       let p = supplyOf (d .plan) in
       let v = slotIn after in
       let u : endedSlot p (at p (slotsIn d) i) (getD ds i 0) ≡ v =
-      ap (endedSlot p (at p (slotsIn d) i)) (sym g) ∙ ap (λ (s : S.Slot ℕ). endedSlot p s draw) slot-now ∙ sym (h p (film-of d r))
+      ap (endedSlot p (at p (slotsIn d) i)) (sym g) ∙ ap (λ (s : S.Slot ℕ). endedSlot p s draw) slot-now ∙ sym (h p (film-of d r (slotAt e i .next)))
       in
       store-slot d (endedTo p ds i (slotsIn d)) e q i v
       ∙ ap (withSlots d) (endedTo-next p ds i (slotsIn d) v (omega (arith, length-in d w)) u)

@@ -4,8 +4,10 @@ use Prim.Native.Nat.{ℕ, _+_, _≤_, _<_}
 use mathlib.Core.Path.{_≡_}
 use mathlib.Core.List.{List}
 use lib.Dec.{eqb}
+use Rattle.numbers.specs.Limits.{maxBlocks}
 use Rattle.numbers.specs.Slots.{filling, playing, draining}
 use Rattle.placement.specs.Showing.{Showing, after}
+use Rattle.pacing.specs.Shelf.{nameOf, filmIn, blockIn}
 use Rattle.rules.specs.Supply.{Supply}
 use Rattle.rules.specs.Scheduler as S
 use Rattle.rules.specs.Scheduler.{end}
@@ -29,13 +31,13 @@ pub record Ends (d : Desk) (ks xs hs ds : List ℕ) : Type 0 where
   pub ready : Ready d
   pub drawn : Drawn d ds
 
--- what an end is told of a supply: how the film of N blocks goes on in its showing x, B, and the buffer less B
-pub record Continues (p : Supply ℕ) (x : Showing) (N bytes room : ℕ) : Type 0 where
+-- what an end is told of a supply: how the film of N blocks that the name a names goes on in its showing x, B, and the buffer less B
+pub record Continues (p : Supply ℕ) (x : Showing) (a N bytes room : ℕ) : Type 0 where
   pub start : p .none ≡ 0
-  -- `its next block rises by one`; in a loop 0 follows the last (T7.1)
-  pub next : (b : ℕ) → p .next b ≡ after x N b
+  -- `its next block rises by one`, within its film; in a loop 0 follows the last (T7.1)
+  pub next : p .next a ≡ nameOf (filmIn a) (after x N (blockIn a))
   -- `reaches N`, which no block of a loop does (T7.8)
-  pub past : (b : ℕ) → b < N → p .isEnd (p .next b) ≡ eqb (p .next b) N
+  pub past : blockIn a < N → p .isEnd (p .next a) ≡ eqb (blockIn (p .next a)) N
   pub some : 0 < p .B
   pub size : p .B ≡ bytes
   pub left : room + bytes ≡ p .buffer
@@ -44,9 +46,10 @@ pub record Continues (p : Supply ℕ) (x : Showing) (N bytes room : ℕ) : Type 
 abbrev pub slotIn : Slot → S.Slot ℕ
 slotIn s = record { kind = s .kind; next = s .next; buffered = s .held }
 
--- what a slot and its draw are at an end that nothing turns down
+-- what a slot and its draw are at an end that nothing turns down, N being its film's
 pub record Fair (N : ℕ) (s : Slot) (draw : ℕ) : Type 0 where
   pub drawn : draw ≤ s .held
   pub none : s .kind < playing → draw ≡ 0
   pub kinds : s .kind ≤ draining
-  pub named : filling ≤ s .kind → s .kind ≤ playing → s .next < N
+  pub named : filling ≤ s .kind → s .kind ≤ playing → blockIn (s .next) < N
+  pub few : N ≤ maxBlocks

@@ -1,9 +1,10 @@
 // End: each slot loses its draw, and each that was fetched for gains a block.
-use desk_columns::blocks_in;
 use desk_columns::buffer_in;
 use desk_columns::bytes_in;
+use desk_columns::film_length;
 use desk_columns::showing_in;
 use desk_columns::streams_in;
+use numbers::limits::NAME_STEP;
 use numbers::showings::LOOP;
 use numbers::slots::DRAINING;
 use numbers::slots::FILLING;
@@ -15,8 +16,10 @@ ghost use Prim.Native.Nat.{ℕ, _+_, _≤_, _<_};
 ghost use lib.Dec.{eqb};
 ghost use lib.ListN.{length};
 ghost use Rattle.words.specs.Words.{wordsOf};
+ghost use Rattle.numbers.specs.Limits.{maxBlocks};
 ghost use Rattle.numbers.specs.Slots.{filling, playing, draining};
 ghost use Rattle.placement.specs.Showing.{after};
+ghost use Rattle.pacing.specs.Shelf.{nameOf, filmIn, blockIn};
 ghost use Rattle.plan.specs.Plan.{showingOf};
 ghost use Rattle.rules.specs.Supply.{Supply};
 ghost use Rattle.rules.specs.Scheduler.{endedSlot, ended};
@@ -33,32 +36,32 @@ pub struct Slot {
     pub held: u32,
 }
 
-// The block after one of the film's; a loop goes on with the first after the last, and so never reaches N.
+// The word of the block after one of a film of so many; a loop goes on with the first after the last, and so never reaches N.
 fn next_block(showing: u32, blocks: u32, next: u32) -> u32
-    requires { ⌜ next < blocks ⌝ }
-    ensures { λ r. ⌜ r ≡ after (showingOf showing) blocks next ⌝ }
+    requires { ⌜ (blockIn next < blocks) × (blocks ≤ maxBlocks) ⌝ }
+    ensures { λ r. ⌜ r ≡ nameOf (filmIn next) (after (showingOf showing) blocks (blockIn next)) ⌝ }
 {
-    let after = next + 1;
-    if after < blocks {
-        return after;
+    let block = next % NAME_STEP;
+    if block + 1 < blocks {
+        return next + 1;
     }
     if showing == LOOP {
-        return 0;
+        return next - block;
     }
-    after
+    next + 1
 }
 
 // Has the film ended there?
 fn is_past(blocks: u32, next: u32) -> bool
-    ensures { λ r. ⌜ r ≡ eqb next blocks ⌝ }
+    ensures { λ r. ⌜ r ≡ eqb (blockIn next) blocks ⌝ }
 {
-    next == blocks
+    next % NAME_STEP == blocks
 }
 
 // A filling or playing slot after a draw. With room it was fetched for: B more, the next block, and tail where the film has ended.
 fn swept(slot: Slot, draw: u32, showing: u32, blocks: u32, bytes: u32, room: u32) -> Slot
     requires { ⌜ (Fair blocks slot draw) × (filling ≤ slot .kind) × (slot .kind ≤ playing) × (room + bytes < 4294967296) ⌝ }
-    ensures { λ r. ⌜ ((p : Supply ℕ) → Continues p (showingOf showing) blocks bytes room → slotIn r ≡ endedSlot p (slotIn slot) draw) ⌝ }
+    ensures { λ r. ⌜ ((p : Supply ℕ) → Continues p (showingOf showing) (slot .next) blocks bytes room → slotIn r ≡ endedSlot p (slotIn slot) draw) ⌝ }
 {
     if room < slot.held {
         return Slot {
@@ -102,10 +105,10 @@ fn drained(slot: Slot, draw: u32) -> Slot
     }
 }
 
-// A slot after the sweep; free and asked slots draw nothing and stay.
+// A slot after the sweep, its film having so many blocks; free and asked slots draw nothing and stay.
 fn ended_slot(slot: Slot, draw: u32, showing: u32, blocks: u32, bytes: u32, room: u32) -> Slot
     requires { ⌜ (Fair blocks slot draw) × (room + bytes < 4294967296) ⌝ }
-    ensures { λ r. ⌜ ((p : Supply ℕ) → Continues p (showingOf showing) blocks bytes room → slotIn r ≡ endedSlot p (slotIn slot) draw) ⌝ }
+    ensures { λ r. ⌜ ((p : Supply ℕ) → Continues p (showingOf showing) (slot .next) blocks bytes room → slotIn r ≡ endedSlot p (slotIn slot) draw) ⌝ }
 {
     let kind = slot.kind;
     match kind {
@@ -130,7 +133,6 @@ pub fn end_slots(
         ≡ withSlots d (ended (supplyOf (d .plan)) (slotsIn d) (wordsOf (now (draws .entry))))) ⌝ }
 {
     let showing = showing_in(desk);
-    let blocks = blocks_in(desk);
     let bytes = bytes_in(desk);
     let room = buffer_in(desk) - bytes;
     let count = streams_in(desk) as usize;
@@ -141,6 +143,7 @@ pub fn end_slots(
             next: next[i],
             held: held[i],
         };
+        let blocks = film_length(desk, slot.next);
         let after = ended_slot(slot, word_at(draws, i), showing, blocks, bytes, room);
         kinds[i] = after.kind;
         next[i] = after.next;

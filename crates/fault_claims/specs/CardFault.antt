@@ -9,7 +9,7 @@ use Rattle.numbers.specs.Limits.{noNumber}
 use Rattle.numbers.specs.Refusals.{cardEnds, numberForm, cardGoesOn}
 use Rattle.leb128.specs.Number.{groupWeight, mostGroups, groups}
 use Rattle.card.specs.Card.{bytesOf}
-use Rattle.fault_claims.specs.Rules.{Figure, Kind, Zones, figuresInOrder, Holds, Breaks, Values, rules}
+use Rattle.fault_claims.specs.Rules.{Figure, Kind, Zones, Films, figuresInOrder, Holds, Breaks, Values, rules}
 
 -- ---- what the bytes left start with
 
@@ -42,7 +42,7 @@ pub record CardFault (visits : ℕ) (s : List ℕ) (k at : ℕ) : Type 0 where
   pub before : List Figure
   pub after : List Figure
   pub left : List ℕ
-  pub order : figuresInOrder (values Kind) (values Zones) ≡ before ++ after
+  pub order : figuresInOrder (values Kind) (values Zones) (values Films) ≡ before ++ after
   pub bytes : s ≡ bytesOf (map values before) ++ left
   pub good : Each (λ g. Holds (rules visits values g)) before
   pub fault : FaultIn visits values after left (length (bytesOf (map values before))) (length s) k at

@@ -15,7 +15,7 @@ use Rattle.leb128.specs.NumberLaws.{read-written}
 use Rattle.card.specs.declared.Verdict.{Verdict}
 use Rattle.card.specs.Card.{bytesOf}
 use Rattle.card.specs.Read.{accepted, readCard}
-use Rattle.fault_claims.specs.Rules.{Figure, Kind, Zones, figuresInOrder, Holds, Breaks, Values, rules}
+use Rattle.fault_claims.specs.Rules.{Figure, Kind, Zones, Films, figuresInOrder, Holds, Breaks, Values, rules}
 use Rattle.fault_claims.specs.Forms.{cut-short, malformed-here, wrong-form}
 use Rattle.fault_claims.specs.Reading.{offsetOf, numberOf, readValues, Counted, counted-card, offset-next, number-here}
 use Rattle.fault_claims.specs.CardRun.{OnFigure, Answers, answers-card}
@@ -40,12 +40,12 @@ module _ (visits : ℕ) (s : List ℕ) (y : Bytes s) where
 
   -- the figures before are good, and the answer is that of those after
   record Read (before after : List Figure) (at n : ℕ) (x : Verdict) : Type 0 where
-    order : figuresInOrder (v Kind) (v Zones) ≡ before ++ after
+    order : figuresInOrder (v Kind) (v Zones) (v Films) ≡ before ++ after
     inside : at ≤ length s
     bytes : s ≡ bytesOf (map v before) ++ drop at s
     good : Each (λ g. Holds (rules visits v g)) before
     offset : at ≡ offsetOf s n
-    counted : Counted (v Zones) n after
+    counted : Counted (v Zones) (v Films) n after
     answer : Answers visits v s at after x
 
   -- the fault in the bytes left is one of the card
@@ -126,13 +126,13 @@ pub named-fault : (visits : ℕ) (s : List ℕ) → Bytes s → (k at : ℕ) →
 unfolding bytesOf offsetOf
 named-fault visits s y k at e =
     let v = readValues s in
-    found visits s y (figuresInOrder (v Kind) (v Zones)) [] 0 0 (readCard visits s .verdict) k at (record {
+    found visits s y (figuresInOrder (v Kind) (v Zones) (v Films)) [] 0 0 (readCard visits s .verdict) k at (record {
       order = refl;
       inside = omega arith;
       bytes = refl;
       good = tt;
       offset = refl;
-      counted = counted-card (v Kind) (v Zones);
+      counted = counted-card (v Kind) (v Zones) (v Films);
       answer = answers-card visits v s;
     }) e
 

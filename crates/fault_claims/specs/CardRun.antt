@@ -10,6 +10,7 @@ use lib.ListN.{length, getD, set, length-set}
 use lib.Seq.{getD-set-same, getD-set-other}
 use lib.Dec.{ltb, eqb}
 use borrow.Author.Tests.{ltb-true, ltb-false}
+use Rattle.laws.specs.Starts.{start-none, start-next}
 use Rattle.numbers.specs.Limits.{straightKind, maxTime, maxBytes, maxRate, maxMove, tableLength}
 use Rattle.numbers.specs.Refusals.{cardEnds, numberForm, cardGoesOn}
 use Rattle.leb128.specs.declared.Number.{Number}
@@ -22,13 +23,14 @@ use Rattle.card_table.specs.Table.{straight, lastEntry}
 use Rattle.card.specs.declared.Figures.{Figures}
 use Rattle.card.specs.declared.Verdict.{Verdict}
 use Rattle.card.specs.declared.CardRead.{CardRead}
-use Rattle.card.specs.Read.{blankZones, blankTable, accepted, refusedCard, thenField, cardEnd, rowFrom}
-use Rattle.card.specs.Read.{movesFrom, entriesFrom, tableFrom, filmFrom, zonesFrom, afterZones, readCard}
-use Rattle.fault_claims.specs.Rules.{Figure, Kind, Zones, Positions, Time, Blocks, Bytes, Rate, Hop, Return, Overhead}
-use Rattle.fault_claims.specs.Rules.{zoneFigures, entryFigures, overheadFigures, figuresInOrder, Rule, Holds, Breaks, Values, positionsOf, rules}
+use Rattle.card.specs.Read.{blankZones, blankFilms, blankTable, accepted, refusedCard, thenField, cardEnd, rowFrom}
+use Rattle.card.specs.Read.{movesFrom, entriesFrom, tableFrom, shelfFrom, filmFrom, zonesFrom, afterZones, readCard}
+use Rattle.fault_claims.specs.Rules.{Figure, Kind, Zones, Positions, Time, Films, Blocks, Bytes, Rate, Hop, Return, Overhead}
+use Rattle.fault_claims.specs.Rules.{zoneFigures, lengthFigures, entryFigures, overheadFigures, filmFigures, figuresInOrder}
+use Rattle.fault_claims.specs.Rules.{Rule, Holds, Breaks, Values, positionsOf, blocksBefore, rules}
 use Rattle.fault_claims.specs.Says.{Says, none, names}
 use Rattle.fault_claims.specs.FigureRules.{Earlier, entryBefore, says-kind, says-zones, says-positions, says-time}
-use Rattle.fault_claims.specs.FigureRules.{says-blocks, says-bytes, says-rate, says-hop, says-return, says-entry}
+use Rattle.fault_claims.specs.FigureRules.{says-films, says-blocks, says-bytes, says-rate, says-hop, says-return, says-entry}
 
 -- the answer x after a figure of the rules rs and the value n was read at an offset: it breaks a rule, or the answer is that of what follows
 abbrev pub OnFigure : List Rule → ℕ → ℕ → Verdict → (ℕ → Type 0) → Number → Type 0
@@ -97,15 +99,27 @@ module _ (visits : ℕ) (v : Values) (s : List ℕ) where
           answers-figure (faultOf rule.Measure maxMove) at₁ _ Return [] (says-return visits v) (λ at₂ b. later (straight (v Hop) (v Return)) at₂))
       by false = answers-entries tableLength 0 at 0 0 blankTable go refl later
 
-  -- N, B and c, and what follows them
+  -- the films from the i-th on, and what follows them
+  answers-lengths : (total : ℕ) → total ≡ positionsOf v (v Zones) → (gs : List Figure) (left i at sofar n : ℕ) (us : List ℕ) (go : List ℕ → ℕ → CardRead)
+      → sofar ≡ blocksBefore v i → ((ns : List ℕ) (next : ℕ) → Answers visits v s next gs (go ns next .verdict))
+      → Answers visits v s at (lengthFigures left i ++ gs) (rowFrom (blocksFault visits total) _+_ left s at sofar n us go .verdict)
+  unfolding rowFrom lengthFigures
+  answers-lengths total e gs zero i at sofar n us go b later = later us at
+  answers-lengths total e gs (suc left) i at sofar n us go b later =
+      answers-figure (blocksFault visits total sofar) at _ (Blocks i) _ (says-blocks visits v i total sofar e b) (λ next h.
+      answers-lengths total e gs left (suc i) next (sofar + v (Blocks i)) (n + 1) (set us n (v (Blocks i))) go
+      (omega (arith, start-next (λ j. v (Blocks j)) i)) later)
+
+  -- the films, B and c, and what follows them
   answers-film : (kind z : ℕ) (ps ts : List ℕ) (total at : ℕ) → total ≡ positionsOf v (v Zones)
-      → Answers visits v s at (Blocks ∷ Bytes ∷ Rate ∷ overheadFigures kind) (afterZones visits s kind z ps ts total at .verdict)
-  unfolding filmFrom
+      → Answers visits v s at (filmFigures kind (v Films)) (afterZones visits s kind z ps ts total at .verdict)
+  unfolding filmFrom shelfFrom filmFigures
   answers-film kind z ps ts total at e =
-      answers-figure (blocksFault visits total) at _ Blocks _ (says-blocks visits v total e) (λ at₁ n.
-      answers-figure (faultOf rule.Measure maxBytes) at₁ _ Bytes _ (says-bytes visits v) (λ at₂ b.
-      answers-figure (faultOf rule.Measure maxRate) at₂ _ Rate _ (says-rate visits v) (λ at₃ c.
-      answers-table kind at₃ _ (λ os at₄. answers-end at₄ _))))
+      answers-figure (faultOf rule.Films 0) at _ Films _ (says-films visits v) (λ at₁ m.
+      answers-lengths total e _ (v Films) 0 at₁ 0 0 blankFilms _ (sym (start-none (λ j. v (Blocks j)))) (λ ns at₂.
+      answers-figure (faultOf rule.Measure maxBytes) at₂ _ Bytes _ (says-bytes visits v) (λ at₃ b.
+      answers-figure (faultOf rule.Measure maxRate) at₃ _ Rate _ (says-rate visits v) (λ at₄ c.
+      answers-table kind at₄ _ (λ os at₅. answers-end at₅ _)))))
 
   -- the first zone's time is kept
   first-kept : (i n : ℕ) (ts : List ℕ) (before : ℕ) → n ≡ i → i < length ts → Earlier v i (getD ts 0 0) before
@@ -113,10 +127,10 @@ module _ (visits : ℕ) (v : Values) (s : List ℕ) where
   first-kept zero n ts before m h e = rw m (getD-set-same ts 0 (v (Time 0)) 0 h)
   first-kept (suc i) n ts before m h e = getD-set-other ts n 0 (v (Time (suc i))) 0 (omega arith) ∙ e .1
 
-  -- the zones from the i-th on, and the film
+  -- the zones from the i-th on, and the films
   answers-zones : (left i n at : ℕ) (ps ts : List ℕ) (total before kind z : ℕ) → n ≡ i → i + left ≡ v Zones → i + left ≤ length ts
       → total ≡ positionsOf v i → Earlier v i (getD ts 0 0) before
-      → Answers visits v s at (zoneFigures left i ++ (Blocks ∷ Bytes ∷ Rate ∷ overheadFigures kind))
+      → Answers visits v s at (zoneFigures left i ++ filmFigures kind (v Films))
       (zonesFrom left s at n ps ts total before (afterZones visits s kind z) .verdict)
   unfolding zonesFrom zoneFigures positionsOf
   answers-zones zero i n at ps ts total before kind z m all w t e =
@@ -129,7 +143,7 @@ module _ (visits : ℕ) (v : Values) (s : List ℕ) where
       (omega arith) (omega arith) (omega (arith, length-set ts n (v (Time i)))) (omega arith) (refl, first-kept i n ts before m (omega arith) e)))
 
   -- THE READER GOES THROUGH THE FIGURES IN THEIR ORDER
-  pub answers-card : Answers visits v s 0 (figuresInOrder (v Kind) (v Zones)) (readCard visits s .verdict)
+  pub answers-card : Answers visits v s 0 (figuresInOrder (v Kind) (v Zones) (v Films)) (readCard visits s .verdict)
   unfolding figuresInOrder readCard rules positionsOf blankZones
   answers-card =
       answers-figure (faultOf rule.Kind 0) 0 _ Kind _ (says-kind visits v) (λ at₁ k.

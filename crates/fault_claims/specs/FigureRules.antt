@@ -6,15 +6,15 @@ use mathlib.Core.Logic.{_⊎_, inl, inr, by-cases}
 use mathlib.Core.List.{[], _∷_}
 use native.Mathlib.Omega.{arith}
 use native.Mathlib.Decide.{decLe}
-use Rattle.numbers.specs.Limits.{straightKind, measuredKind, maxNumber, noNumber, maxZones, maxPositions, maxTime, timesAsFast, minBlocks, maxBlocks}
+use Rattle.numbers.specs.Limits.{straightKind, measuredKind, maxNumber, noNumber, maxZones, maxPositions, maxTime, timesAsFast, minBlocks, maxBlocks, maxFilms}
 use Rattle.numbers.specs.Limits.{maxBytes, maxRate, maxMove, maxOverhead}
 use Rattle.numbers.specs.Refusals.{wrongKind, wrongZones, wrongPositions, wrongTime, risingTime}
-use Rattle.numbers.specs.Refusals.{wrongBlocks, wrongMeasure, wrongOverhead, halfDeadTime}
+use Rattle.numbers.specs.Refusals.{wrongBlocks, wrongMeasure, wrongOverhead, halfDeadTime, wrongFilms}
 use Rattle.card_field.specs.declared.Rule.the-variants as rule
 use Rattle.card_field.specs.Ranges.{thenAbove, thenBelow, faultOf, timeFault, roomFault, blocksFault}
 use Rattle.card_field.specs.RangeLaws.{room-some}
-use Rattle.fault_claims.specs.Rules.{Figure, Kind, Zones, Positions, Time, Blocks, Bytes, Rate, Hop, Return, Overhead}
-use Rattle.fault_claims.specs.Rules.{_unless_, Holds, Breaks, Values, Within, positionsOf, rules}
+use Rattle.fault_claims.specs.Rules.{Figure, Kind, Zones, Positions, Time, Films, Blocks, Bytes, Rate, Hop, Return, Overhead}
+use Rattle.fault_claims.specs.Rules.{_unless_, Holds, Breaks, Values, Within, positionsOf, blocksBefore, freeAfter, rules}
 use Rattle.fault_claims.specs.Says.{Says, says-then, says-same, says-fact, says-below, says-above, says-outside}
 
 -- what a time is judged by at the i-th zone: the first zone's time and that of the zone before. The first zone has none before it
@@ -74,10 +74,17 @@ module _ (visits : ℕ) (v : Values) where
       broken (inr (w, inr (l, inr n))) = absurd (n .1)
   says-time (suc i) innermost before (b, a) = rw (b, a) (says-times (v (Time 0)) (v (Time i)) (v (Time (suc i))))
 
-  pub says-blocks : (total : ℕ) → total ≡ positionsOf v (v Zones) → Says (rules visits v Blocks) (blocksFault visits total (v Blocks))
+  pub says-films : Says (rules visits v Films) (faultOf rule.Films 0 (v Films))
+  unfolding rules faultOf
+  says-films = says-outside wrongFilms (omega arith) 1 maxFilms (v Films)
+
+  pub says-blocks : (i total sofar : ℕ) → total ≡ positionsOf v (v Zones) → sofar ≡ blocksBefore v i
+      → Says (rules visits v (Blocks i)) (blocksFault visits total sofar (v (Blocks i)))
   unfolding rules blocksFault thenAbove
-  says-blocks total t = rw t (says-then (says-outside wrongBlocks (omega arith) minBlocks maxBlocks (v Blocks))
-      (says-above (roomFault visits) (room-some visits) (positionsOf v (v Zones)) (visits * v Blocks)))
+  says-blocks i total sofar t b = rw (t, b)
+      (says-then (says-then (says-outside wrongBlocks (omega arith) minBlocks maxBlocks (v (Blocks i)))
+      (says-above wrongFilms (omega arith) maxBlocks (blocksBefore v i + v (Blocks i))))
+      (says-above (roomFault visits) (room-some visits) (freeAfter visits v i) (visits * v (Blocks i))))
 
   says-measure : (most x : ℕ) → Says (wrongMeasure unless Within 1 most x ∷ []) (faultOf rule.Measure most x)
   unfolding faultOf
@@ -124,7 +131,8 @@ module _ (visits : ℕ) (v : Values) where
   good-small (Positions i) h = omega (arith, h .1 .0)
   good-small (Time zero) h = omega (arith, h .0)
   good-small (Time (suc i)) h = omega (arith, h .0)
-  good-small Blocks h = omega (arith, h .0)
+  good-small Films h = omega (arith, h .0)
+  good-small (Blocks i) h = omega (arith, h .0)
   good-small Bytes h = omega (arith, h .0)
   good-small Rate h = omega (arith, h .0)
   good-small Hop h = omega (arith, h .0)

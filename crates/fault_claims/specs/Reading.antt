@@ -12,8 +12,8 @@ use Rattle.leb128.specs.declared.Number.{Number}
 use Rattle.leb128.specs.declared.Number.the-variants.{Value, CutOff, Malformed}
 use Rattle.leb128.specs.Number.{numberAt}
 use Rattle.card_field.specs.Figure.{valueIn}
-use Rattle.fault_claims.specs.Rules.{Figure, Kind, Zones, Positions, Time, Blocks, Bytes, Rate, Hop, Return, Overhead}
-use Rattle.fault_claims.specs.Rules.{zoneFigures, entryFigures, overheadFigures, figuresInOrder, Values}
+use Rattle.fault_claims.specs.Rules.{Figure, Kind, Zones, Positions, Time, Films, Blocks, Bytes, Rate, Hop, Return, Overhead}
+use Rattle.fault_claims.specs.Rules.{zoneFigures, lengthFigures, entryFigures, overheadFigures, filmFigures, figuresInOrder, Values}
 
 -- ---- the n-th number
 
@@ -41,46 +41,52 @@ module _ (s : List ℕ) (n at w next : ℕ) (here : at ≡ offsetOf s n) (e : nu
 
 -- ---- the place of each figure among the numbers of a card
 
--- in a card of so many zones
-abbrev pub placeOf : ℕ → Figure → ℕ
-placeOf z Kind = 0
-placeOf z Zones = 1
-placeOf z (Positions i) = 2 + 2 * i
-placeOf z (Time i) = 3 + 2 * i
-placeOf z Blocks = 2 + 2 * z
-placeOf z Bytes = 3 + 2 * z
-placeOf z Rate = 4 + 2 * z
-placeOf z Hop = 5 + 2 * z
-placeOf z Return = 6 + 2 * z
-placeOf z (Overhead j) = 5 + 2 * z + j
+-- in a card of z zones and m films
+abbrev pub placeOf : ℕ → ℕ → Figure → ℕ
+placeOf z m Kind = 0
+placeOf z m Zones = 1
+placeOf z m (Positions i) = 2 + 2 * i
+placeOf z m (Time i) = 3 + 2 * i
+placeOf z m Films = 2 + 2 * z
+placeOf z m (Blocks i) = 3 + 2 * z + i
+placeOf z m Bytes = 3 + 2 * z + m
+placeOf z m Rate = 4 + 2 * z + m
+placeOf z m Hop = 5 + 2 * z + m
+placeOf z m Return = 6 + 2 * z + m
+placeOf z m (Overhead j) = 5 + 2 * z + m + j
 
 -- the places of figures in a row, from the n-th on
-abbrev pub Counted : ℕ → ℕ → List Figure → Type 0
-Counted z n gs = EachFrom (λ k g. placeOf z g ≡ k) n gs
+abbrev pub Counted : ℕ → ℕ → ℕ → List Figure → Type 0
+Counted z m n gs = EachFrom (λ k g. placeOf z m g ≡ k) n gs
 
-counted-entries : (z left j n : ℕ) → n ≡ 5 + 2 * z + j → Counted z n (entryFigures left j)
-unfolding entryFigures
-counted-entries z zero j n e = tt
-counted-entries z (suc left) j n e = (sym e, counted-entries z left (suc j) (suc n) (omega arith))
+module _ (z m : ℕ) where
+  counted-entries : (left j n : ℕ) → n ≡ 5 + 2 * z + m + j → Counted z m n (entryFigures left j)
+  unfolding entryFigures
+  counted-entries zero j n e = tt
+  counted-entries (suc left) j n e = (sym e, counted-entries left (suc j) (suc n) (omega arith))
 
-counted-overheads : (z kind n : ℕ) → n ≡ 5 + 2 * z → Counted z n (overheadFigures kind)
-unfolding overheadFigures
-counted-overheads z kind n e = by (eqb kind straightKind)
-  where
-    by : (t : Bool) → Counted z n (cond t (Hop ∷ Return ∷ []) (entryFigures tableLength 0))
-    by true = (omega arith, (omega arith, tt))
-    by false = counted-entries z tableLength 0 n (omega arith)
+  counted-overheads : (kind n : ℕ) → n ≡ 5 + 2 * z + m → Counted z m n (overheadFigures kind)
+  unfolding overheadFigures
+  counted-overheads kind n e = by (eqb kind straightKind)
+    where
+      by : (t : Bool) → Counted z m n (cond t (Hop ∷ Return ∷ []) (entryFigures tableLength 0))
+      by true = (omega arith, (omega arith, tt))
+      by false = counted-entries tableLength 0 n (omega arith)
 
-counted-zones : (z left i n kind : ℕ) → i + left ≡ z → n ≡ 2 + 2 * i
-    → Counted z n (zoneFigures left i ++ (Blocks ∷ Bytes ∷ Rate ∷ overheadFigures kind))
-unfolding zoneFigures
-counted-zones z zero i n kind all e = (omega arith, (omega arith, (omega arith, counted-overheads z kind (suc (suc (suc n))) (omega arith))))
-counted-zones z (suc left) i n kind all e = (omega arith, (omega arith, counted-zones z left (suc i) (suc (suc n)) kind (omega arith) (omega arith)))
+  counted-lengths : (left i n kind : ℕ) → i + left ≡ m → n ≡ 3 + 2 * z + i → Counted z m n (lengthFigures left i ++ (Bytes ∷ Rate ∷ overheadFigures kind))
+  unfolding lengthFigures
+  counted-lengths zero i n kind all e = (omega arith, (omega arith, counted-overheads kind (suc (suc n)) (omega arith)))
+  counted-lengths (suc left) i n kind all e = (omega arith, counted-lengths left (suc i) (suc n) kind (omega arith) (omega arith))
 
-pub counted-card : (kind z : ℕ) → Counted z 0 (figuresInOrder kind z)
+  counted-zones : (left i n kind : ℕ) → i + left ≡ z → n ≡ 2 + 2 * i → Counted z m n (zoneFigures left i ++ filmFigures kind m)
+  unfolding zoneFigures filmFigures
+  counted-zones zero i n kind all e = (omega arith, counted-lengths m 0 (suc n) kind (omega arith) (omega arith))
+  counted-zones (suc left) i n kind all e = (omega arith, (omega arith, counted-zones left (suc i) (suc (suc n)) kind (omega arith) (omega arith)))
+
+pub counted-card : (kind z m : ℕ) → Counted z m 0 (figuresInOrder kind z m)
 unfolding figuresInOrder
-counted-card kind z = (refl, (refl, counted-zones z z 0 2 kind (omega arith) (omega arith)))
+counted-card kind z m = (refl, (refl, counted-zones z m z 0 2 kind (omega arith) (omega arith)))
 
 -- the values of a card's figures, 0 where there is no number
 abbrev pub readValues : List ℕ → Values
-readValues s g = numberOf s (placeOf (numberOf s 1) g)
+readValues s g = numberOf s (placeOf (numberOf s 1) (numberOf s (2 + 2 * numberOf s 1)) g)

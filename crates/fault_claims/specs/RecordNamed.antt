@@ -10,23 +10,26 @@ use lib.ListN.{getD}
 use lib.Dec.{eqb}
 use Rattle.laws.specs.Bools.{and-left, and-right, and-both}
 use Rattle.laws.specs.Each.{Each}
+use Rattle.laws.specs.Starts.{start-none, start-next}
 use Rattle.numbers.specs.Limits.{straightKind, maxTime, tableLength}
-use Rattle.numbers.specs.Refusals.{wrongZones, wrongMeasure}
+use Rattle.numbers.specs.Refusals.{wrongZones, wrongMeasure, wrongFilms}
 use Rattle.card_field.specs.declared.Rule.the-variants as rule
-use Rattle.card_field.specs.Ranges.{faultOf}
+use Rattle.card_field.specs.Ranges.{first, faultOf, blocksFault}
 use Rattle.card_field.specs.Row.{rowFault}
+use Rattle.card_field.specs.RangeLaws.{first-assoc}
 use Rattle.card_table.specs.Table.{hopIn, backIn, isLine, straightFault, lastEntry, measuredFault, tableFault}
 use Rattle.card_table.specs.TableLaws.{line-at, at-line}
 use Rattle.card.specs.declared.Figures.{Figures}
 use Rattle.card.specs.declared.Verdict.{Verdict}
-use Rattle.card.specs.Card.{filmFault, zoneFaults, zerosFrom, unusedZero, recordFault, judgeRecord}
-use Rattle.legality.specs.Legality.{Unused, zeros, zeros-at, at-zeros}
-use Rattle.fault_claims.specs.Rules.{Figure, Positions, Time, Blocks, Bytes, Rate, Hop, Return, Overhead}
-use Rattle.fault_claims.specs.Rules.{zoneFigures, entryFigures, overheadFigures, figuresInOrder}
-use Rattle.fault_claims.specs.Rules.{Rule, _unless_, Holds, Breaks, Values, positionsOf, rules}
+use Rattle.card.specs.Card.{zeros, shelfFault, filmFault, zoneFaults, zerosFrom, unusedZero, recordFault, judgeRecord}
+use Rattle.legality.specs.Zeros.{zeros-at, at-zeros}
+use Rattle.legality.specs.Legality.{Unused, Idle}
+use Rattle.fault_claims.specs.Rules.{Figure, Positions, Time, Films, Blocks, Hop, Return, Overhead}
+use Rattle.fault_claims.specs.Rules.{zoneFigures, lengthFigures, entryFigures, overheadFigures, filmFigures, figuresInOrder}
+use Rattle.fault_claims.specs.Rules.{Rule, _unless_, Holds, Breaks, Values, positionsOf, blocksBefore, rules}
 use Rattle.fault_claims.specs.Says.{holds-unbroken, breaks-one, breaks-front, breaks-behind, Says, none, names, says-then, says-test}
 use Rattle.fault_claims.specs.FigureRules.{Earlier, entryBefore, says-kind, says-zones, says-positions, says-time}
-use Rattle.fault_claims.specs.FigureRules.{says-blocks, says-bytes, says-rate, says-hop, says-return, says-entry}
+use Rattle.fault_claims.specs.FigureRules.{says-films, says-blocks, says-bytes, says-rate, says-hop, says-return, says-entry}
 use Rattle.fault_claims.specs.RecordFault.{valuesIn, recordRules, RecordFault}
 
 -- ---- the rules of figures in a row
@@ -112,13 +115,30 @@ module _ (visits : ℕ) (f : Figures) where
       by true = says-then (says-hop visits v) (says-then (says-return visits v) line)
       by false = judges-entries tableLength 0 0 refl
 
-  judges-film : (total : ℕ) → total ≡ positionsOf v (f .zones) → Judges (Blocks ∷ Bytes ∷ Rate ∷ overheadFigures (f .kind)) (filmFault visits f total)
-  unfolding filmFault
+  -- the films from the i-th on, and what follows them
+  judges-lengths : (total : ℕ) → total ≡ positionsOf v (f .zones) → (gs : List Figure) (k : ℕ) → Judges gs k → (left i sofar : ℕ) → sofar ≡ blocksBefore v i
+      → Judges (lengthFigures left i ++ gs) (first (rowFault (blocksFault visits total) _+_ left sofar i (f .blocks)) k)
+  unfolding rowFault lengthFigures first
+  judges-lengths total e gs k later zero i sofar b = later
+  judges-lengths total e gs k later (suc left) i sofar b =
+      let next : i + 1 ≡ suc i = omega arith in
+      rw (first-assoc (blocksFault visits total sofar (v (Blocks i))) (rowFault (blocksFault visits total) _+_ left (sofar + v (Blocks i)) (i + 1) (f .blocks)) k)
+      (says-then (alone (says-blocks visits v i total sofar e b))
+      (rw next (judges-lengths total e gs k later left (suc i) (sofar + v (Blocks i)) (omega (arith, start-next (λ j. v (Blocks j)) i)))))
+
+  judges-idle : Says (wrongFilms unless Idle f ∷ []) (cond (zeros (f .films) (f .blocks)) 0 wrongFilms)
+  judges-idle = says-test (zeros (f .films) (f .blocks)) wrongFilms (omega arith) (zeros-at (f .films) (f .blocks)) (at-zeros (f .films) (f .blocks))
+
+  judges-film : (total : ℕ) → total ≡ positionsOf v (f .zones) → Judges (filmFigures (f .kind) (f .films)) (filmFault visits f total)
+  unfolding filmFault shelfFault filmFigures rules
   judges-film total e =
-      says-then (alone (says-blocks visits v total e)) (says-then (alone (says-bytes visits v)) (says-then (alone (says-rate visits v)) judges-table))
+      let measures = says-then (alone (says-bytes visits v)) (says-then (alone (says-rate visits v)) judges-table) in
+      let lengths = judges-lengths total e _ _ measures (f .films) 0 0 (sym (start-none (λ j. v (Blocks j)))) in
+      rw (first-assoc (faultOf rule.Films 0 (f .films)) _ _, first-assoc (cond (zeros (f .films) (f .blocks)) 0 wrongFilms) _ _)
+      (says-then (says-films visits v) (says-then judges-idle lengths))
 
   judges-zones : (left i total before : ℕ) → i + left ≡ f .zones → total ≡ positionsOf v i → Earlier v i (getD (f .times) 0 0) before
-      → Judges (zoneFigures left i ++ (Blocks ∷ Bytes ∷ Rate ∷ overheadFigures (f .kind))) (zoneFaults visits left i f total before)
+      → Judges (zoneFigures left i ++ filmFigures (f .kind) (f .films)) (zoneFaults visits left i f total before)
   unfolding zoneFigures zoneFaults positionsOf
   judges-zones zero i total before all t e = let same : i ≡ f .zones = omega arith in judges-film total (t ∙ ap (positionsOf v) same)
   judges-zones (suc left) i total before all t e =
@@ -136,7 +156,7 @@ module _ (visits : ℕ) (f : Figures) where
       ))
       (λ u. and-both (at-zeros (f .zones) (f .positions) (λ i l. u i l .0)) (at-zeros (f .zones) (f .times) (λ i l. u i l .1)))
 
-  judges-record : Judges (figuresInOrder (f .kind) (f .zones)) (recordFault visits f)
+  judges-record : Judges (figuresInOrder (f .kind) (f .zones) (f .films)) (recordFault visits f)
   unfolding figuresInOrder recordFault rules positionsOf
   judges-record = says-then (says-kind visits v) (says-then (says-zones visits v) (says-then judges-unused
       (judges-zones (f .zones) 0 0 maxTime (omega arith) refl (refl, omega arith))))
@@ -154,7 +174,7 @@ module _ (visits : ℕ) (f : Figures) where
       r = recordRules visits f
 
       gs : List Figure
-      gs = figuresInOrder (f .kind) (f .zones)
+      gs = figuresInOrder (f .kind) (f .zones) (f .films)
 
       n : (recordFault visits f ≡ suc k) ↔ Breaks (rulesOf r gs) (suc k)
       n = says-number (rulesOf r gs) (recordFault visits f) k judges-record

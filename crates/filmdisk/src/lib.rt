@@ -12,7 +12,7 @@ ghost use Rattle.desk_calls.specs.Calls.{leaveScratchString, beginScratchAnswer
 ghost use Rattle.desk_calls.specs.Calls.{endScratchString};
 ghost use Rattle.window_strings.specs.Calls.{windowCall};
 
-// Plans a card for one showing: 1 to 11, 25 and 26, then 13, then 12.
+// Plans a card for one showing: 1 to 11, 25, 26 and 30, then 13, then 12.
 #[no_mangle]
 pub extern "C" fn filmdisk_plan(
     card: &[u8],
@@ -28,7 +28,7 @@ pub extern "C" fn filmdisk_plan(
     plan_strings::plan(card, plan, positions, leads)
 }
 
-// Plans a card as a loop: 1 to 11, 25 and 26, then 13, then 12.
+// Plans a card as a loop: 1 to 11, 25, 26 and 30, then 13, then 12.
 #[no_mangle]
 pub extern "C" fn filmdisk_plan_loop(
     card: &[u8],
@@ -44,7 +44,7 @@ pub extern "C" fn filmdisk_plan_loop(
     plan_strings::plan_loop(card, plan, positions, leads)
 }
 
-// Plans a card for one showing of half blocks, each on two positions: 1 to 8, 28 in place of 9, 10, 11, 25 and 26, then 13, then 12.
+// Plans a card for one showing of half blocks, each on two positions: 1 to 8, 28 in place of 9, 10, 11, 25, 26 and 30, then 13, then 12.
 #[no_mangle]
 pub extern "C" fn filmdisk_plan_pairs(
     card: &[u8],
@@ -60,7 +60,7 @@ pub extern "C" fn filmdisk_plan_pairs(
     plan_strings::plan_pairs(card, plan, positions, leads)
 }
 
-// Plans a card for one showing with a scratch of 512 numbers in place of the lead list: 1 to 11, 25 and 26, then 13, then 12. The scratch stays
+// Plans a card for one showing with a scratch of 512 numbers in place of the lead list: 1 to 11, 25, 26 and 30, then 13, then 12. The scratch stays
 // as it was.
 #[no_mangle]
 pub extern "C" fn filmdisk_plan_scratch(
@@ -77,7 +77,7 @@ pub extern "C" fn filmdisk_plan_scratch(
     plan_strings::plan_scratch(card, plan, positions, scratch)
 }
 
-// Plans a card as a loop with a scratch of 512 numbers in place of the lead list: 1 to 11, 25 and 26, then 13, then 12. The scratch stays as it
+// Plans a card as a loop with a scratch of 512 numbers in place of the lead list: 1 to 11, 25, 26 and 30, then 13, then 12. The scratch stays as it
 // was.
 #[no_mangle]
 pub extern "C" fn filmdisk_plan_loop_scratch(
@@ -94,7 +94,7 @@ pub extern "C" fn filmdisk_plan_loop_scratch(
     plan_strings::plan_loop_scratch(card, plan, positions, scratch)
 }
 
-// Plans a card for one showing of half blocks with a scratch of 512 numbers in place of the lead list: 1 to 8, 28 in place of 9, 10, 11, 25 and 26,
+// Plans a card for one showing of half blocks with a scratch of 512 numbers in place of the lead list: 1 to 8, 28 in place of 9, 10, 11, 25, 26 and 30,
 // then 13, then 12. The scratch stays as it was.
 #[no_mangle]
 pub extern "C" fn filmdisk_plan_pairs_scratch(
@@ -137,7 +137,7 @@ pub extern "C" fn filmdisk_open(
     open_strings::open(plan, positions, leads, desk)
 }
 
-// A free slot asks to watch from a start block: 14 to 18.
+// A free slot asks to watch a film from a start block: 14 to 17, 31, 18.
 #[no_mangle]
 pub extern "C" fn filmdisk_join(
     desk: &mut [u8],
@@ -145,11 +145,12 @@ pub extern "C" fn filmdisk_join(
     leads: &[u8],
     slot: u32,
     block: u32,
+    film: u32,
 ) -> FilmdiskAnswer
-    ensures { λ r. ⌜ (r ≡ joinAnswer (now (desk .entry)) (now (positions .entry)) (now (leads .entry)) slot block)
-        × (now (desk .exit) ≡ joinString (now (desk .entry)) (now (positions .entry)) (now (leads .entry)) slot block) ⌝ }
+    ensures { λ r. ⌜ (r ≡ joinAnswer (now (desk .entry)) (now (positions .entry)) (now (leads .entry)) slot block film)
+        × (now (desk .exit) ≡ joinString (now (desk .entry)) (now (positions .entry)) (now (leads .entry)) slot block film) ⌝ }
 {
-    move_strings::join(desk, positions, leads, slot, block)
+    move_strings::join(desk, positions, leads, slot, block, film)
 }
 
 // An occupied slot becomes free: 14 to 17.
@@ -217,7 +218,7 @@ pub extern "C" fn filmdisk_open_scratch(
     open_strings::scratch::open(plan, positions, scratch, desk)
 }
 
-// A free slot asks to watch from a start block, with a scratch: 13, then 14 to 18.
+// A free slot asks to watch a film from a start block, with a scratch: 13, then 14 to 17, 31, 18.
 #[no_mangle]
 pub extern "C" fn filmdisk_join_scratch(
     desk: &mut [u8],
@@ -225,11 +226,12 @@ pub extern "C" fn filmdisk_join_scratch(
     scratch: &[u8],
     slot: u32,
     block: u32,
+    film: u32,
 ) -> FilmdiskAnswer
-    ensures { λ r. ⌜ (r ≡ joinScratchAnswer (now (desk .entry)) (now (positions .entry)) (now (scratch .entry)) slot block)
-        × (now (desk .exit) ≡ joinScratchString (now (desk .entry)) (now (positions .entry)) (now (scratch .entry)) slot block) ⌝ }
+    ensures { λ r. ⌜ (r ≡ joinScratchAnswer (now (desk .entry)) (now (positions .entry)) (now (scratch .entry)) slot block film)
+        × (now (desk .exit) ≡ joinScratchString (now (desk .entry)) (now (positions .entry)) (now (scratch .entry)) slot block film) ⌝ }
 {
-    move_strings::scratch::join(desk, positions, scratch, slot, block)
+    move_strings::scratch::join(desk, positions, scratch, slot, block, film)
 }
 
 // An occupied slot becomes free, with a scratch: 13, then 14 to 17.

@@ -9,7 +9,11 @@ use Rattle.numbers.specs.Limits.{maxTime}
 use Rattle.numbers.specs.Slots.{waiting, playing}
 use Rattle.words.specs.Words.{wordsOf}
 use Rattle.placement.specs.Zones.{total, timeAt}
+use Rattle.pacing.specs.Shelf.{filmIn}
 use Rattle.plan.specs.Disk.{Zoned}
+use Rattle.plan.specs.Plan.{listedAt}
+use Rattle.desk.specs.declared.Desk.{Desk}
+use Rattle.desk_columns.specs.Films.{ShelfSmall}
 use Rattle.floor.specs.Floor.{Small}
 
 -- block b is in the list of positions ps, its position on the disk and its time in its range
@@ -28,11 +32,20 @@ pub record Sourced (listed : Bool) (sizes times ps ls : List ℕ) (b : ℕ) : Ty
 abbrev pub leadFrom : Bool → List ℕ → List ℕ → ℕ → List ℕ → List ℕ → ℕ → ℕ
 leadFrom listed sizes times w ps ls b = cond listed (getD (wordsOf ls) b 0) (2 * timeAt sizes times (getD (wordsOf ps) b 0) - w)
 
--- those of the slots' next blocks xs
-abbrev pub leadsNext : Bool → List ℕ → List ℕ → ℕ → List ℕ → List ℕ → List ℕ → ℕ → ℕ
-leadsNext listed sizes times w ps ls xs i = leadFrom listed sizes times w ps ls (getD xs i 0)
+-- that of the next block of slot i of a record, by its number through the lists
+abbrev pub leadsNext : Bool → Desk → List ℕ → List ℕ → List ℕ → List ℕ → ℕ → ℕ
+leadsNext listed d sizes times ps ls i = leadFrom listed sizes times (d .plan .worst2) ps ls (listedAt (d .plan .figures) (getD (d .next) i 0))
 
--- it has the next block of each asked, filling or playing slot of the first n, its lead in its range: kinds ks, next blocks xs
-pub record Found (listed : Bool) (sizes times : List ℕ) (w : ℕ) (ps ls ks xs : List ℕ) (n : ℕ) : Type 0 where
-  pub here : (i : ℕ) → i < n → waiting ≤ getD ks i 0 → getD ks i 0 ≤ playing → Sourced listed sizes times ps ls (getD xs i 0)
-  pub small : Small (leadsNext listed sizes times w ps ls xs) ks n
+-- slot i names a film of the shelf, and the source has its next block
+pub record NextSourced (listed : Bool) (d : Desk) (sizes times ps ls : List ℕ) (i : ℕ) : Type 0 where
+  pub shelved : ShelfSmall (d .plan .figures)
+  pub film : filmIn (getD (d .next) i 0) < d .plan .figures .films
+  pub here : Sourced listed sizes times ps ls (listedAt (d .plan .figures) (getD (d .next) i 0))
+
+-- each of the first n slots names a film; the source has the next block of those that ask, fill or play, its lead in its range
+pub record Found (listed : Bool) (d : Desk) (sizes times ps ls : List ℕ) (n : ℕ) : Type 0 where
+  pub shelved : ShelfSmall (d .plan .figures)
+  pub films : (i : ℕ) → i < n → filmIn (getD (d .next) i 0) < d .plan .figures .films
+  pub here : (i : ℕ) → i < n → waiting ≤ getD (d .kinds) i 0 → getD (d .kinds) i 0 ≤ playing
+      → Sourced listed sizes times ps ls (listedAt (d .plan .figures) (getD (d .next) i 0))
+  pub small : Small (leadsNext listed d sizes times ps ls) (d .kinds) n

@@ -9,26 +9,31 @@ use lib.ListN.{length, getD, set, length-set}
 use lib.Seq.{getD-set-same, getD-set-other}
 use borrow.Author.Count.{below-more}
 use Rattle.laws.specs.Each.{zero-at}
+use Rattle.desk.specs.declared.Desk.{Desk}
 use Rattle.desk.specs.Shown.{Gathered}
 use Rattle.desk.specs.Desk.{zeros}
 use Rattle.desk.specs.Slots.{length-zeros}
 use Rattle.gather.specs.declared.Block.{Block}
-use Rattle.gather.specs.Gather.{Nothing, NextFound, blockAt, Collected}
+use Rattle.gather.specs.Gather.{Nothing, NextFound, nextNumber, blockAt, Collected}
 
 -- the next blocks of the first i slots are collected, in three arrays of 256
-pub record Collecting (sizes times ps : List ℕ) (visits : ℕ) (ks xs : List ℕ) (n : ℕ) (g : Gathered) (i : ℕ) : Type 0 where
+pub record Collecting (d : Desk) (ps : List ℕ) (visits : ℕ) (ks : List ℕ) (n : ℕ) (g : Gathered) (i : ℕ) : Type 0 where
   pub few : i ≤ n
   pub long : length (g .times) ≡ 256
   pub wide : length (g .positions) ≡ 256
   pub broad : length (g .others) ≡ 256
-  pub collected : Collected sizes times ps visits ks xs i g
+  pub collected : Collected d ps visits ks i g
 
 -- the block of slot i is stored; other slots keep theirs
 unfoldable pub stored : Gathered → ℕ → Block → Gathered
 stored g i b = record { times = set (g .times) i (b .time); positions = set (g .positions) i (b .position); others = set (g .others) i (b .other) }
 
-module _ (sizes times ps : List ℕ) (visits : ℕ) (ks xs : List ℕ) (n : ℕ) where
-  pub collecting-none : (g : Gathered) → g .times ≡ zeros → g .positions ≡ zeros → g .others ≡ zeros → Collecting sizes times ps visits ks xs n g 0
+module _ (d : Desk) (ps : List ℕ) (visits : ℕ) (ks : List ℕ) (n : ℕ) where
+  -- what is found for slot i
+  abbrev Finds : ℕ → Block → Type 0
+  Finds i = NextFound (d .plan .figures .positions) (d .plan .figures .times) ps visits (getD ks i 0) (nextNumber d i)
+
+  pub collecting-none : (g : Gathered) → g .times ≡ zeros → g .positions ≡ zeros → g .others ≡ zeros → Collecting d ps visits ks n g 0
   unfolding zeros
   collecting-none g a b c =
       let zero : (vs : List ℕ) (i : ℕ) → vs ≡ zeros → getD vs i 0 ≡ 0 = λ vs i e. ap (λ (v : List ℕ). getD v i 0) e ∙ zero-at 256 i in
@@ -43,7 +48,7 @@ module _ (sizes times ps : List ℕ) (visits : ℕ) (ks xs : List ℕ) (n : ℕ)
         };
       }
 
-  module _ (g : Gathered) (i : ℕ) (b : Block) (c : Collecting sizes times ps visits ks xs n g i) where
+  module _ (g : Gathered) (i : ℕ) (b : Block) (c : Collecting d ps visits ks n g i) where
     other : (j : ℕ) → j ≢ i → blockAt (stored g i b) j ≡ blockAt g j
     unfolding stored
     other j m = λ t. record {
@@ -60,8 +65,8 @@ module _ (sizes times ps : List ℕ) (visits : ℕ) (ks xs : List ℕ) (n : ℕ)
       other = getD-set-same (g .others) i (b .other) 0 (omega (arith, c .broad)) t;
     }
 
-    pub collecting-next : i < n → i < 256 → NextFound sizes times ps visits (getD ks i 0) (getD xs i 0) b
-        → Collecting sizes times ps visits ks xs n (stored g i b) (i + 1)
+    pub collecting-next : i < n → i < 256 → Finds i b
+        → Collecting d ps visits ks n (stored g i b) (i + 1)
     unfolding stored
     collecting-next l h f = record {
       few = omega arith;
@@ -70,8 +75,8 @@ module _ (sizes times ps : List ℕ) (visits : ℕ) (ks xs : List ℕ) (n : ℕ)
       broad = length-set (g .others) i (b .other) ∙ c .broad;
       collected = record {
         found = below-more _ i
-            (λ j u. subst (NextFound sizes times ps visits (getD ks j 0) (getD xs j 0)) (sym (other j (λ e. omega arith))) (c .collected .found j u))
-            (subst (NextFound sizes times ps visits (getD ks i 0) (getD xs i 0)) (sym (own h)) f);
+            (λ j u. subst (Finds j) (sym (other j (λ e. omega arith))) (c .collected .found j u))
+            (subst (Finds i) (sym (own h)) f);
         rest = λ j u. subst Nothing (sym (other j (λ e. omega arith))) (c .collected .rest j (omega arith));
       };
     }

@@ -1,4 +1,4 @@
--- What is gathered of the list of positions and the zones for the slots of a record: kinds ks, next blocks xs.
+-- What is gathered of the list of positions and the zones for the slots of a record, by kinds ks.
 -- Assumes nothing.
 use Prim.Native.Nat.{ℕ, _+_, _*_, _≤_, _<_}
 use mathlib.Core.Path.{_≡_}
@@ -9,7 +9,12 @@ use Rattle.numbers.specs.Limits.{maxTime}
 use Rattle.numbers.specs.Slots.{filling, playing}
 use Rattle.words.specs.Words.{wordsOf}
 use Rattle.placement.specs.Zones.{total, timeAt}
+use Rattle.pacing.specs.Shelf.{filmIn}
+use Rattle.plan.specs.Disk.{Zoned}
+use Rattle.plan.specs.Plan.{listedAt}
+use Rattle.desk.specs.declared.Desk.{Desk}
 use Rattle.desk.specs.Shown.{Gathered}
+use Rattle.desk_columns.specs.Films.{ShelfSmall}
 use Rattle.gather.specs.declared.Block.{Block}
 
 -- the list of positions has entry j; it is on the disk, and its time in its range
@@ -18,7 +23,7 @@ pub record Spot (sizes times ps : List ℕ) (j : ℕ) : Type 0 where
   pub within : getD (wordsOf ps) j 0 < total sizes
   pub quick : timeAt sizes times (getD (wordsOf ps) j 0) ≤ maxTime
 
--- it has block x: one entry, or two where a block takes two visits
+-- it has the block of number x through the lists: one entry, or two where a block takes two visits
 pub record Reach (sizes times ps : List ℕ) (visits x : ℕ) : Type 0 where
   pub alone : visits ≡ 1 → Spot sizes times ps x
   pub both : visits ≢ 1 → (Spot sizes times ps (2 * x)) × (Spot sizes times ps (2 * x + 1))
@@ -51,9 +56,17 @@ pub record NextFound (sizes times ps : List ℕ) (visits k x : ℕ) (r : Block) 
   pub here : filling ≤ k → k ≤ playing → Here sizes times ps visits x r
   pub other : (filling ≤ k → k ≤ playing → ⊥) → Nothing r
 
--- the list has the next block of each filling or playing slot among the first n; kinds ks, next blocks xs
-abbrev pub Reached : List ℕ → List ℕ → List ℕ → ℕ → List ℕ → List ℕ → ℕ → Type 0
-Reached sizes times ps visits ks xs n = (i : ℕ) → i < n → filling ≤ getD ks i 0 → getD ks i 0 ≤ playing → Reach sizes times ps visits (getD xs i 0)
+-- the number through the lists of slot i's next block
+abbrev pub nextNumber : Desk → ℕ → ℕ
+nextNumber d i = listedAt (d .plan .figures) (getD (d .next) i 0)
+
+-- each of the first n slots of a record names a film of its shelf; the list has the next block of those that fill or play by kinds ks
+pub record Reached (d : Desk) (ps : List ℕ) (visits : ℕ) (ks : List ℕ) (n : ℕ) : Type 0 where
+  pub zoned : Zoned (d .plan .figures .positions)
+  pub shelved : ShelfSmall (d .plan .figures)
+  pub films : (i : ℕ) → i < n → filmIn (getD (d .next) i 0) < d .plan .figures .films
+  pub here : (i : ℕ) → i < n → filling ≤ getD ks i 0 → getD ks i 0 ≤ playing
+      → Reach (d .plan .figures .positions) (d .plan .figures .times) ps visits (nextNumber d i)
 
 -- what three arrays hold
 abbrev pub gathered : List ℕ → List ℕ → List ℕ → Gathered
@@ -64,6 +77,6 @@ abbrev pub blockAt : Gathered → ℕ → Block
 blockAt g i = record { time = getD (g .times) i 0; position = getD (g .positions) i 0; other = getD (g .others) i 0 }
 
 -- the next blocks of the first n slots, and nothing past them
-pub record Collected (sizes times ps : List ℕ) (visits : ℕ) (ks xs : List ℕ) (n : ℕ) (g : Gathered) : Type 0 where
-  pub found : (i : ℕ) → i < n → NextFound sizes times ps visits (getD ks i 0) (getD xs i 0) (blockAt g i)
+pub record Collected (d : Desk) (ps : List ℕ) (visits : ℕ) (ks : List ℕ) (n : ℕ) (g : Gathered) : Type 0 where
+  pub found : (i : ℕ) → i < n → NextFound (d .plan .figures .positions) (d .plan .figures .times) ps visits (getD ks i 0) (nextNumber d i) (blockAt g i)
   pub rest : (i : ℕ) → n ≤ i → Nothing (blockAt g i)

@@ -1,4 +1,6 @@
 // What is gathered of the list of positions and the zones for the slots of a desk.
+use desk_columns::entry_of;
+use desk_columns::film_starts;
 use desk_columns::next_in;
 use desk_columns::zone_sizes;
 use desk_columns::zone_times;
@@ -37,7 +39,7 @@ fn spot_at<'a>(sizes: &'a [u32; 64], times: &'a [u32; 64], positions: &[u8], j: 
     }
 }
 
-// A block that takes so many visits, one or two.
+// A block by its number through the lists; it takes so many visits, one or two.
 fn block_at<'a>(
     sizes: &'a [u32; 64],
     times: &'a [u32; 64],
@@ -61,21 +63,21 @@ fn block_at<'a>(
     }
 }
 
-// The next block of a slot that is filling or playing; all zero for another kind.
+// The next block of a slot that is filling or playing, by its number through the lists; all zero for another kind.
 fn next_block<'a>(
     sizes: &'a [u32; 64],
     times: &'a [u32; 64],
     positions: &[u8],
     visits: u32,
     kind: u32,
-    next: u32,
+    number: u32,
 ) -> Block
-    requires { ⌜ (Zoned (now sizes)) × (filling ≤ kind → kind ≤ playing → Reach (now sizes) (now times) (now positions) visits next) ⌝ }
-    ensures { λ r. ⌜ NextFound (now (sizes .entry)) (now (times .entry)) (now (positions .entry)) visits kind next r ⌝ }
+    requires { ⌜ (Zoned (now sizes)) × (filling ≤ kind → kind ≤ playing → Reach (now sizes) (now times) (now positions) visits number) ⌝ }
+    ensures { λ r. ⌜ NextFound (now (sizes .entry)) (now (times .entry)) (now (positions .entry)) visits kind number r ⌝ }
 {
     match kind {
-        FILLING => block_at(sizes, times, positions, visits, next),
-        PLAYING => block_at(sizes, times, positions, visits, next),
+        FILLING => block_at(sizes, times, positions, visits, number),
+        PLAYING => block_at(sizes, times, positions, visits, number),
         _ => Block {
             time: 0,
             position: 0,
@@ -96,25 +98,18 @@ pub fn gather<'a>(
     spots: &'a mut [u32; 256],
     others: &'a mut [u32; 256],
 )
-    requires { ⌜ (let d = deskIn (wordsOf (now desk)) in (let f = d .plan .figures in (deskSize ≤ length (now desk)) × (streams ≤ maxStreams)
-        × (Zoned (f .positions)) × (Reached (f .positions) (f .times) (now positions) visits (now kinds) (d .next) streams)
-        × (now found ≡ zeros) × (now spots ≡ zeros) × (now others ≡ zeros))) ⌝ }
-    ensures { λ _. ⌜ (let d = deskIn (wordsOf (now (desk .entry))) in (let f = d .plan .figures in
-        Collected (f .positions) (f .times) (now (positions .entry)) visits (now (kinds .entry)) (d .next) streams
-        (gathered (now (found .exit)) (now (spots .exit)) (now (others .exit))))) ⌝ }
+    requires { ⌜ (deskSize ≤ length (now desk)) × (streams ≤ maxStreams) × (Reached (deskIn (wordsOf (now desk))) (now positions) visits (now kinds) streams)
+        × (now found ≡ zeros) × (now spots ≡ zeros) × (now others ≡ zeros) ⌝ }
+    ensures { λ _. ⌜ Collected (deskIn (wordsOf (now (desk .entry)))) (now (positions .entry)) visits (now (kinds .entry)) streams
+        (gathered (now (found .exit)) (now (spots .exit)) (now (others .exit))) ⌝ }
 {
     let sizes = zone_sizes(desk);
     let times = zone_times(desk);
+    let starts = film_starts(desk);
     let mut i: usize = 0;
     while i < streams {
-        let b = next_block(
-            &sizes,
-            &times,
-            positions,
-            visits,
-            kinds[i],
-            next_in(desk, i),
-        );
+        let number = entry_of(&starts, next_in(desk, i));
+        let b = next_block(&sizes, &times, positions, visits, kinds[i], number);
         found[i] = b.time;
         spots[i] = b.position;
         others[i] = b.other;

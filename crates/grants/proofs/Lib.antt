@@ -1,3 +1,4 @@
 pub mod Starting
 pub mod Lining
 pub mod Granting
+pub mod Tried

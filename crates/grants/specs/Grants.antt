@@ -15,21 +15,23 @@ use Rattle.rules.specs.Arrays.{slotsOf}
 use Rattle.turns.specs.Turns.{leastHeld}
 use Rattle.turns.specs.Places.{Places}
 use Rattle.desk.specs.declared.Desk.{Desk}
+use Rattle.desk_columns.specs.Films.{ShelfSmall}
 use Rattle.floor.specs.Floor.{mostLead, ample}
-use Rattle.floor.specs.Sources.{Sourced, leadsNext}
+use Rattle.floor.specs.Sources.{NextSourced, leadsNext}
 
 -- no floor is above it
 abbrev pub mostFloor : ℕ
 mostFloor = parts * maxBytes + maxRate * (maxStreams * mostLead)
 
 -- the leads of the next blocks of a record's slots, by the slot, from a list or without one
-abbrev pub leadsBySlot : Bool → Desk → List ℕ → List ℕ → List ℕ → List ℕ → ℕ → ℕ
-leadsBySlot listed d sizes times ps ls = leadsNext listed sizes times (d .plan .worst2) ps ls (d .next)
+abbrev pub leadsBySlot : Bool → Desk → List ℕ → List ℕ → ℕ → ℕ
+leadsBySlot listed d ps ls = leadsNext listed d (d .plan .figures .positions) (d .plan .figures .times) ps ls
 
 -- the source has those of so many slots in a line, and they are in their range
-pub record InLine (listed : Bool) (d : Desk) (sizes times ps ls line : List ℕ) (count : ℕ) : Type 0 where
-  pub here : (k : ℕ) → 0 < k → k ≤ count → Sourced listed sizes times ps ls (getD (d .next) (getD line k 0) 0)
-  pub small : (k : ℕ) → 0 < k → k ≤ count → leadsBySlot listed d sizes times ps ls (getD line k 0) ≤ mostLead
+pub record InLine (listed : Bool) (d : Desk) (ps ls line : List ℕ) (count : ℕ) : Type 0 where
+  pub shelved : ShelfSmall (d .plan .figures)
+  pub here : (k : ℕ) → 0 < k → k ≤ count → NextSourced listed d (d .plan .figures .positions) (d .plan .figures .times) ps ls (getD line k 0)
+  pub small : (k : ℕ) → 0 < k → k ≤ count → leadsBySlot listed d ps ls (getD line k 0) ≤ mostLead
 
 -- the places are sound, and g has the lead of each asked slot's next block, by the slot
 pub record Asked (p : Supply ℕ) (g : ℕ → ℕ) (ks xs hs qs : List ℕ) : Type 0 where

@@ -1,5 +1,8 @@
 // Begin: filling slots start to play, then asked slots are granted in the order of asking, none behind one that has to wait.
+use desk_columns::film_starts;
 use desk_columns::rate_in;
+use desk_columns::zone_sizes;
+use desk_columns::zone_times;
 use floor::next_lead;
 use numbers::slots::FILLING;
 use numbers::slots::PLAYING;
@@ -100,31 +103,34 @@ fn slot_at(line: &[u8; 257], place: usize) -> usize
 }
 
 // The lead of the eldest of so many requests to a desk, 0 where none asks. It is found here, by the list or without one.
-pub fn eldest_lead<'a>(
+pub fn eldest_lead(
     desk: &[u8],
     line: &[u8; 257],
     count: usize,
-    sizes: &'a [u32; 64],
-    times: &'a [u32; 64],
     positions: &[u8],
     leads: &[u8],
     listed: bool,
 ) -> u32
     requires { ⌜ (deskSize ≤ length (now desk)) × (count ≤ maxStreams)
-        × InLine listed (deskIn (wordsOf (now desk))) (now sizes) (now times) (now positions) (now leads) (now line) count ⌝ }
-    ensures lead { λ r. ⌜ (let g = leadsBySlot listed (deskIn (wordsOf (now (desk .entry)))) (now (sizes .entry)) (now (times .entry)) (now (positions .entry))
-        (now (leads .entry)) in (p : Supply ℕ) (n : ℕ) (ks xs hs qs : List ℕ) → Slots p n ks xs hs → Asked p g ks xs hs qs
+        × InLine listed (deskIn (wordsOf (now desk))) (now positions) (now leads) (now line) count ⌝ }
+    ensures lead { λ r. ⌜ (let g = leadsBySlot listed (deskIn (wordsOf (now (desk .entry)))) (now (positions .entry)) (now (leads .entry)) in
+        (p : Supply ℕ) (n : ℕ) (ks xs hs qs : List ℕ) → Slots p n ks xs hs → Asked p g ks xs hs qs
         → Lined qs (now (line .entry)) count → r ≡ eldestLead p (slotsOf p ks xs hs) qs) ⌝ }
     ensures most { λ r. ⌜ r ≤ mostLead ⌝ }
 {
     if count == 0 {
         return 0;
     }
+    let sizes = zone_sizes(desk);
+    let times = zone_times(desk);
+    let starts = film_starts(desk);
+    let slot = slot_at(line, 1);
     next_lead(
         desk,
-        slot_at(line, 1),
-        sizes,
-        times,
+        slot,
+        &sizes,
+        &times,
+        &starts,
         positions,
         leads,
         listed,
@@ -133,13 +139,11 @@ pub fn eldest_lead<'a>(
 
 // So many asked slots of a desk become filling in their line, eldest first, up to the first that has to wait; the answer is how many do. The lead
 // of each is found as it is tried. `floor` is the low-water mark of the leads before, and `level` the least that a playing slot holds.
-pub fn grant_asked<'a>(
+pub fn grant_asked(
     desk: &[u8],
     kinds: &mut [u32; 256],
     line: &[u8; 257],
     count: usize,
-    sizes: &'a [u32; 64],
-    times: &'a [u32; 64],
     positions: &[u8],
     leads: &[u8],
     listed: bool,
@@ -147,20 +151,34 @@ pub fn grant_asked<'a>(
     level: u64,
 ) -> u32
     requires { ⌜ (deskSize ≤ length (now desk)) × (length (now kinds) ≡ 256) × (count ≤ maxStreams)
-        × InLine listed (deskIn (wordsOf (now desk))) (now sizes) (now times) (now positions) (now leads) (now line) count
+        × InLine listed (deskIn (wordsOf (now desk))) (now positions) (now leads) (now line) count
         × (deskIn (wordsOf (now desk)) .plan .figures .rate ≤ maxRate) × (floor ≤ mostFloor) ⌝ }
-    ensures { λ r. ⌜ (let d = deskIn (wordsOf (now (desk .entry))) in
-        (let g = leadsBySlot listed d (now (sizes .entry)) (now (times .entry)) (now (positions .entry)) (now (leads .entry)) in
+    ensures { λ r. ⌜ (let d = deskIn (wordsOf (now (desk .entry))) in (let g = leadsBySlot listed d (now (positions .entry)) (now (leads .entry)) in
         (p : Supply ℕ) (n : ℕ) (xs hs qs : List ℕ) → Slots p n (now (kinds .entry)) xs hs
         → Asks p (d .plan .figures .rate) floor level g (now (kinds .entry)) xs hs qs → Lined qs (now (line .entry)) count
         → served p 256 (slotsOf p (now (kinds .entry)) xs hs) qs ≡ servedTo (slotsOf p (now (kinds .exit)) xs hs) (droppedBy r qs))) ⌝ }
 {
+    if count == 0 {
+        return 0;
+    }
     let rate = rate_in(desk);
+    let sizes = zone_sizes(desk);
+    let times = zone_times(desk);
+    let starts = film_starts(desk);
     let mut mark = floor;
     let mut granted: usize = 0;
     while granted < count {
         let slot = slot_at(line, granted + 1);
-        let lead = next_lead(desk, slot, sizes, times, positions, leads, listed);
+        let lead = next_lead(
+            desk,
+            slot,
+            &sizes,
+            &times,
+            &starts,
+            positions,
+            leads,
+            listed,
+        );
         mark += product(rate, lead);
         if level < mark {
             return granted as u32;

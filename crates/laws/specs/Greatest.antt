@@ -101,6 +101,12 @@ earliest-is g n some =
     let below : firstReaching g (greatestOf g n) 0 n < n = omega (arith, r .0) in
     record { below = below; reached = omega (arith, r .1, greatestOf-above g n (firstReaching g (greatestOf g n) 0 n) below); first = r .2 }
 
+-- it is not past them
+pub earliest-le : (g : ℕ → ℕ) (n : ℕ) → earliestOf g n ≤ n
+unfolding earliestOf firstReaching
+earliest-le g zero = omega arith
+earliest-le g (suc n) = omega (arith, earliest-is g (suc n) (omega arith) .below)
+
 -- functions that are alike below n
 pub earliest-same : (g h : ℕ → ℕ) (n b : ℕ) → ((a : ℕ) → a < n → g a ≡ h a) → Earliest g n b → Earliest h n b
 earliest-same g h n b e r =

@@ -11,3 +11,4 @@ pub mod Indices
 pub mod Runs
 pub mod Starts
 pub mod Sums
+pub mod Through

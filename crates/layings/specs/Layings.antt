@@ -6,7 +6,7 @@ use lib.Dec.{eqb}
 use Rattle.laws.specs.Bools.{bit}
 use Rattle.laws.specs.Members.{upto, each}
 use Rattle.card.specs.declared.Figures.{Figures}
-use Rattle.card.specs.Card.{totalPositions}
+use Rattle.card.specs.Card.{totalPositions, lengthIn}
 use Rattle.placement.specs.Placement.{Laying}
 use Rattle.placement.specs.Showing.{Showing, worstOf}
 use Rattle.plan.specs.Plan.{timeOn}
@@ -66,11 +66,11 @@ unfoldable pub howMany : ℕ → List ℕ → ℕ
 howMany w [] = 0
 howMany w (v ∷ vs) = bit (eqb v w) + howMany w vs
 
--- ---- the layings of a legal film
+-- ---- the layings of a card's film, which is alone on its shelf (ticket 14)
 
--- the worst time of each laying of the film of a card
+-- the worst time of each
 unfoldable pub timesTried : Showing → Figures → List ℕ
-timesTried x f = worstTimes x (timeOn f) (totalPositions f) (f .blocks)
+timesTried x f = worstTimes x (timeOn f) (totalPositions f) (lengthIn f 0)
 
 -- the smallest worst2, and how many layings have it (T12.1)
 unfoldable pub leastOf : Showing → Figures → ℕ

@@ -1,23 +1,25 @@
 -- The worst times of all layings: that the smallest is the planner's, and that they are those of all orders of the positions' times.
 -- Assumes nothing.
-use Prim.Native.Nat.{ℕ, _+_, _-_, _≤_, _<_}
+use Prim.Native.Nat.{ℕ, _+_, _*_, _-_, _≤_, _<_}
 use mathlib.Core.Path.{_≡_, refl, sym, ap, _∙_, subst}
 use mathlib.Core.List.{List, [], _∷_, map}
 use native.Mathlib.Omega.{arith}
 use native.Mathlib.Nat.{le-antisymm}
 use lib.ListN.{length, getD, length-map}
 use lib.Seq.{ext-getD}
-use Rattle.laws.specs.Greatest.{greatestOf-same}
+use Rattle.laws.specs.Greatest.{greatestOf, greatestOf-same}
+use Rattle.laws.specs.Starts.{start-none, start-next}
 use Rattle.laws.specs.Members.{In, upto, in-map, of-map, map-at, upto-length, upto-at}
 use Rattle.card.specs.declared.Figures.{Figures}
-use Rattle.card.specs.Card.{Legal, totalPositions}
+use Rattle.card.specs.Card.{Legal, totalPositions, lengthIn, blocksOf}
 use Rattle.placement.specs.Placement.{Laying}
 use Rattle.placement.specs.Showing.{Showing, one, loop, pairs, visitsOf, worstOf, after, pairsOf, pairTime, worst-pair, laying-high}
 use Rattle.pacing.specs.Shown.{round-below}
-use Rattle.plan.specs.Plan.{timeOn, positionOf, entriesOf, worst2Of}
-use Rattle.plan.specs.Legal.{legal-laying}
-use Rattle.plan.specs.Promise.{best-time, own-time}
-use Rattle.layings.specs.Layings.{arrangements, filmPositions, layings, listed, laid, worstIn, worstTimes, smallest, timesTried, leastOf}
+use Rattle.pacing.specs.Shelves.{worstShelf}
+use Rattle.plan.specs.Plan.{startIn, timeOn, freeIn, positionIn, worst2In, worst2Of}
+use Rattle.plan.specs.Legal.{room-in, legal-laying}
+use Rattle.plan.specs.Promise.{best-time}
+use Rattle.layings.specs.Layings.{arrangements, filmPositions, layings, OnFilm, listed, laid, worstIn, worstTimes, smallest, timesTried, leastOf}
 use Rattle.layings.specs.Arranged.{positions-length, laying-listed, listed-laying}
 use Rattle.layings.specs.Numbered.{factorial, numbered, arrangements-length, arrangement-at, numbered-map, numbered-length}
 use Rattle.layings.specs.Smallest.{smallest-le, smallest-least}
@@ -43,6 +45,21 @@ worst-same x v τ σ l m N e =
     omega (arith, e b (u .0), e (after x N b) (u .1), pair-of-two x v τ l N b, pair-of-two x v σ m N b))
     ∙ sym (worst-pair x σ m N)
 
+-- ---- a shelf of one film (ticket 14)
+
+-- the first film has the whole disk
+pub first-free : (x : Showing) (f : Figures) → freeIn x f 0 ≡ totalPositions f
+first-free x f = ap (λ (s : ℕ). totalPositions f - visitsOf x * s) (start-none (lengthIn f)) ∙ omega arith
+
+-- the only film's blocks are all
+pub single-blocks : (f : Figures) → f .films ≡ 1 → blocksOf f ≡ lengthIn f 0
+single-blocks f alone = ap (startIn f) alone ∙ omega (arith, start-next (lengthIn f) 0, start-none (lengthIn f))
+
+-- and worst2 is its own
+pub single-worst : (x : Showing) (f : Figures) → f .films ≡ 1 → worst2Of x f ≡ worst2In x f 0
+unfolding worst2Of worstShelf greatestOf
+single-worst x f alone = rw alone (omega arith)
+
 -- ---- THE SMALLEST IS THE PLANNER'S (T12.2)
 
 listed-at : (l : ℕ → ℕ) (N b : ℕ) → b < N → laid (listed l N) b ≡ l b
@@ -52,38 +69,52 @@ smallest-of : (ws : List ℕ) (w : ℕ) → In w ws → ((v : ℕ) → In v ws �
 smallest-of [] w h low = absurd h
 smallest-of (v ∷ vs) w h low = le-antisymm (smallest-le (v ∷ vs) w h) (smallest-least w v vs low)
 
-pub least-is-planned : (x : Showing) → visitsOf x ≡ 1 → (f : Figures) → Legal 1 f → leastOf x f ≡ worst2Of x f
+-- of a shelf of one film
+pub least-is-planned : (x : Showing) → visitsOf x ≡ 1 → (f : Figures) → Legal 1 f → f .films ≡ 1 → leastOf x f ≡ worst2Of x f
 unfolding leastOf timesTried worstTimes
-least-is-planned x v f ok =
-    smallest-of (map (worstIn x (timeOn f) (f .blocks)) (layings (totalPositions f) (f .blocks))) (worst2Of x f) has low
+least-is-planned x v f ok alone =
+    smallest-of (map (worstIn x (timeOn f) N) (layings P N)) (worst2In x f 0) has low ∙ sym (single-worst x f alone)
   where
-    few : entriesOf x f ≡ f .blocks
+    P : ℕ
+    P = totalPositions f
+
+    N : ℕ
+    N = lengthIn f 0
+
+    few : visitsOf x * N ≡ N
     few = rw v (omega arith)
 
-    room : f .blocks ≤ totalPositions f
-    room = omega (arith, ok .room)
+    room : N ≤ P
+    room = omega (arith, ok .room, single-blocks f alone)
 
     legal : Legal (visitsOf x) f
     legal = subst (λ (k : ℕ). Legal k f) (sym v) ok
 
-    own : worst2Of x f ≡ worstIn x (timeOn f) (f .blocks) (listed (positionOf x f) (f .blocks))
-    own = sym (own-time x f)
-        ∙ worst-same x v (timeOn f) (timeOn f) (positionOf x f) (laid (listed (positionOf x f) (f .blocks))) (f .blocks)
-        (λ b h. ap (timeOn f) (sym (listed-at (positionOf x f) (f .blocks) b h)))
+    first : 0 < f .films
+    first = omega arith
 
-    has : In (worst2Of x f) (map (worstIn x (timeOn f) (f .blocks)) (layings (totalPositions f) (f .blocks)))
+    own : worst2In x f 0 ≡ worstIn x (timeOn f) N (listed (positionIn x f 0) N)
+    own = worst-same x v (timeOn f) (timeOn f) (positionIn x f 0) (laid (listed (positionIn x f 0) N)) N
+        (λ b h. ap (timeOn f) (sym (listed-at (positionIn x f 0) N b h)))
+
+    on-film : OnFilm P N (positionIn x f 0)
+    on-film = record {
+      laying =
+          subst (λ (n : ℕ). Laying P n (positionIn x f 0)) few
+          (subst (λ (p : ℕ). Laying p (visitsOf x * N) (positionIn x f 0)) (first-free x f) (legal-laying x f legal 0 first));
+      high = λ b u. omega (arith, few, first-free x f, laying-high x (freeIn x f 0) N b (room-in x f legal 0 first) (omega (arith, few)));
+    }
+
+    has : In (worst2In x f 0) (map (worstIn x (timeOn f) N) (layings P N))
     has = rw own
-        (in-map (worstIn x (timeOn f) (f .blocks)) (listed (positionOf x f) (f .blocks)) (layings (totalPositions f) (f .blocks))
-        (laying-listed (totalPositions f) (f .blocks) room (positionOf x f) (record {
-          laying = subst (λ (n : ℕ). Laying (totalPositions f) n (positionOf x f)) few (legal-laying x f legal);
-          high = λ b u. omega (arith, few, laying-high x (totalPositions f) (f .blocks) b (legal .room) (omega (arith, few)));
-        })))
+        (in-map (worstIn x (timeOn f) N) (listed (positionIn x f 0) N) (layings P N) (laying-listed P N room (positionIn x f 0) on-film))
 
-    low : (w : ℕ) → In w (map (worstIn x (timeOn f) (f .blocks)) (layings (totalPositions f) (f .blocks))) → worst2Of x f ≤ w
+    low : (w : ℕ) → In w (map (worstIn x (timeOn f) N) (layings P N)) → worst2In x f 0 ≤ w
     low w h =
-        let (ys, p, e) = of-map (worstIn x (timeOn f) (f .blocks)) w (layings (totalPositions f) (f .blocks)) h in
-        let lay = listed-laying (totalPositions f) (f .blocks) room ys p .1 .laying in
-        rw e (best-time x f legal (laid ys) (subst (λ (n : ℕ). Laying (totalPositions f) n (laid ys)) (sym few) lay))
+        let (ys, p, e) = of-map (worstIn x (timeOn f) N) w (layings P N) h in
+        let lay : Laying P N (laid ys) = listed-laying P N room ys p .1 .laying in
+        let free : Laying (freeIn x f 0) N (laid ys) = subst (λ (p : ℕ). Laying p N (laid ys)) (sym (first-free x f)) lay in
+        rw e (best-time x f legal 0 first (laid ys) (subst (λ (n : ℕ). Laying (freeIn x f 0) n (laid ys)) (sym few) free))
 
 -- ---- over the times of the film's positions
 

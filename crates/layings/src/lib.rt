@@ -17,7 +17,7 @@ pub fn every_laying_is_tried()
     ensures once { λ _. ⌜ ((P N : ℕ) → Unique (layings P N)) ⌝ }
 {}
 
-// The smallest worst time of all these layings is the planner's worst2, for one showing and for a loop.
+// The smallest worst time of all these layings is the planner's worst2 of a shelf with one film, for one showing and for a loop.
 pub fn smallest_is_the_planners()
-    ensures { λ _. ⌜ ((x : Showing) → visitsOf x ≡ 1 → (f : Figures) → Legal 1 f → leastOf x f ≡ worst2Of x f) ⌝ }
+    ensures { λ _. ⌜ ((x : Showing) → visitsOf x ≡ 1 → (f : Figures) → Legal 1 f → f .films ≡ 1 → leastOf x f ≡ worst2Of x f) ⌝ }
 {}

@@ -1,60 +1,56 @@
 -- The judge of a record refuses nothing just where the figures are legal.
 -- Assumes nothing.
-use Prim.Native.Nat.{ℕ, zero, suc, _+_, _*_, _-_, _≤_, _<_}
-use mathlib.Core.Path.{_≡_, refl, sym, ap, _∙_, subst}
+use Prim.Native.Nat.{ℕ, zero, suc, _+_, _*_, _≤_, _<_}
+use mathlib.Core.Path.{_≡_, refl, sym, ap, subst}
 use mathlib.Core.Logic.{_⊎_, by-cases, _↔_}
-use mathlib.Core.List.{List, [], _∷_}
-use mathlib.Core.Bool.{Bool, true, false, cond}
+use mathlib.Core.Bool.{true, cond}
 use native.Mathlib.Omega.{arith}
-use native.Mathlib.Decide.{decLt, ℕ-discrete}
-use lib.ListN.{length, getD, take, drop, length-drop, List·getD-eq-default}
-use lib.Seq.{drop-cons, getD-drop}
-use lib.Dec.{eqb}
-use borrow.Author.Tests.{eqb-true, eq-eqb}
+use native.Mathlib.Decide.{ℕ-discrete}
+use lib.ListN.{length, getD, take, drop}
+use lib.Seq.{drop-cons}
 use Rattle.laws.specs.Bools.{and-left, and-right, and-both}
-use Rattle.laws.specs.Runs.{allBy, all-at, sumBy}
-use Rattle.numbers.specs.Limits.{straightKind, measuredKind, maxZones, maxPositions, maxTime, timesAsFast, minBlocks, maxBlocks, maxBytes, maxRate, tableLength}
+use Rattle.laws.specs.Runs.{sumBy}
+use Rattle.numbers.specs.Limits.{straightKind, measuredKind, maxZones, maxPositions, maxTime, timesAsFast, maxFilms, maxBytes, maxRate, tableLength}
 use Rattle.numbers.specs.Refusals.{wrongZones}
 use Rattle.card.specs.declared.Figures.{Figures}
 use Rattle.card.specs.declared.Verdict.{Verdict}
 use Rattle.card_field.specs.declared.Rule.the-variants.{Kind, Zones, Positions, Measure}
-use Rattle.card_field.specs.Ranges.{faultOf, timeFault, blocksFault}
+use Rattle.card_field.specs.Ranges.{faultOf, timeFault}
 use Rattle.card_table.specs.TableFaults.{TableLegal, fault-table, table-fault}
-use Rattle.card.specs.Card.{Legal, totalPositions, filmFault, zoneFaults, zerosFrom, unusedZero, recordFault, judgeRecord}
+use Rattle.card.specs.Card.{Legal, totalPositions, zeros, shelfFault, filmFault, zoneFaults, zerosFrom, unusedZero, recordFault, judgeRecord}
 use Rattle.card.specs.CardLaws.{legal-fewer}
 use Rattle.card.specs.Read.{accepted}
-use Rattle.card_field.specs.RangeLaws.{first-none, first-clear, kind-range, zones-range, positions-range, time-range, blocks-range}
-use Rattle.card_field.specs.RangeLaws.{measure-range, kind-legal, zones-legal, positions-legal, time-legal, blocks-legal, measure-legal}
+use Rattle.card_field.specs.RangeLaws.{first-none, first-clear, kind-range, zones-range, positions-range, time-range}
+use Rattle.card_field.specs.RangeLaws.{measure-range, kind-legal, zones-legal, positions-legal, time-legal, measure-legal}
+use Rattle.legality.specs.Zeros.{zeros-at, at-zeros, clear}
+use Rattle.legality.specs.Films.{from-here, ShelfLegal, fault-shelf, shelf-fault}
 
--- a record has 64 zone entries and 257 overheads
+-- a record has 64 zone entries, 16 film entries and 257 overheads
 abbrev pub Wide : Figures → Type 0
-Wide f = (length (f .positions) ≡ maxZones) × (length (f .times) ≡ maxZones) × (length (f .table) ≡ tableLength)
+Wide f = (length (f .positions) ≡ maxZones) × (length (f .times) ≡ maxZones) × (length (f .blocks) ≡ maxFilms) × (length (f .table) ≡ tableLength)
 
 -- the kind of a record is 1 or 2
 abbrev pub Kinded : Figures → Type 0
 Kinded f = (f .kind ≡ straightKind) ⊎ (f .kind ≡ measuredKind)
 
--- ---- the film
+-- ---- the films
 
--- N, B, c and the overheads in their ranges, total being P and k the positions of a block
+-- the shelf, B, c and the overheads in their ranges, total being P and k the positions of a block
 pub record FilmLegal (k : ℕ) (f : Figures) (total : ℕ) : Type 0 where
-  pub blocks : (minBlocks ≤ f .blocks) × (f .blocks ≤ maxBlocks)
-  pub room : k * f .blocks ≤ total
+  pub shelf : ShelfLegal k total (f .blocks) (f .films)
   pub bytes : (1 ≤ f .bytes) × (f .bytes ≤ maxBytes)
   pub rate : (1 ≤ f .rate) × (f .rate ≤ maxRate)
   pub table : TableLegal (f .kind) (f .table)
 
--- a film that is not refused is legal, and back
+-- films that are not refused are legal, and back
 pub fault-film : (k : ℕ) (f : Figures) (total : ℕ) → length (f .table) ≡ tableLength → filmFault k f total ≡ 0 → FilmLegal k f total
 unfolding filmFault
 fault-film k f total w e =
-    let n = first-none (blocksFault k total (f .blocks)) _ e in
+    let n = first-none (shelfFault k total (f .films) (f .blocks)) _ e in
     let b = first-none (faultOf Measure maxBytes (f .bytes)) _ (n .1) in
     let c = first-none (faultOf Measure maxRate (f .rate)) _ (b .1) in
-    let blocks = blocks-range total (f .blocks) k (n .0) in
     record {
-      blocks = (blocks .0, blocks .1);
-      room = blocks .2;
+      shelf = fault-shelf k total (f .blocks) (f .films) (n .0);
       bytes = measure-range maxBytes (f .bytes) (b .0);
       rate = measure-range maxRate (f .rate) (c .0);
       table = fault-table (f .kind) (f .table) w (c .1);
@@ -63,7 +59,7 @@ fault-film k f total w e =
 film-fault : (k : ℕ) (f : Figures) (total : ℕ) → Kinded f → FilmLegal k f total → filmFault k f total ≡ 0
 unfolding filmFault
 film-fault k f total d l =
-    first-clear (blocks-legal total (f .blocks) k (l .blocks .0) (l .blocks .1) (l .room))
+    first-clear (shelf-fault k total (f .blocks) (f .films) (l .shelf))
     (first-clear (measure-legal maxBytes (f .bytes) (l .bytes .0) (l .bytes .1))
     (first-clear (measure-legal maxRate (f .rate) (l .rate .0) (l .rate .1)) (table-fault (f .kind) (f .table) d (l .table))))
 
@@ -91,10 +87,6 @@ record ZonesLegal (k left i : ℕ) (f : Figures) (total before : ℕ) : Type 0 w
   thrice : (j : ℕ) → i ≤ j → j < i + left → getD (f .times) 0 0 ≤ timesAsFast * getD (f .times) j 0
   sum : total + sumFrom left i f ≤ maxPositions
   film : FilmLegal k f (total + sumFrom left i f)
-
--- a fact at i and from the next on is a fact from i on
-from-here : (P : ℕ → Type 0) (i left : ℕ) → P i → ((j : ℕ) → i + 1 ≤ j → j < i + 1 + left → P j) → (j : ℕ) → i ≤ j → j < i + suc left → P j
-from-here P i left here later j l h = by-cases (ℕ-discrete i j) (λ e. subst P e here) (λ n. later j (omega arith) (omega arith))
 
 -- zones that are not refused are legal
 fault-zones-legal : (k left i : ℕ) (f : Figures) (total before : ℕ) → i + left ≤ length (f .positions) → length (f .table) ≡ tableLength → total ≤ maxPositions
@@ -156,41 +148,15 @@ zones-legal-fault k (suc left) i f total before w d l =
     (time-legal before (getD (f .times) i 0) (getD (f .times) 0 0) (times .0) (times .1) (l .start (omega arith)) (l .thrice i (omega arith) (omega arith)))
     (zones-legal-fault k left (i + 1) f (total + getD (f .positions) i 0) (getD (f .times) i 0) (omega arith) d later))
 
--- ---- the unused zones
-
--- the entries from the z-th on are zero
-abbrev pub zeros : ℕ → List ℕ → Bool
-zeros z xs = allBy (λ (v : ℕ). eqb v 0) (drop z xs)
-
--- a test that holds at each index holds of the list
-all-by : (g : ℕ → Bool) (xs : List ℕ) → ((i : ℕ) → i < length xs → g (getD xs i 0) ≡ true) → allBy g xs ≡ true
-unfolding allBy
-all-by g [] h = refl
-all-by g (x ∷ xs) h = and-both (h 0 (omega arith)) (all-by g xs (λ i l. h (suc i) (omega arith)))
-
--- the test on the unused entries says that each of them is zero, and back
-pub zeros-at : (z : ℕ) (xs : List ℕ) → zeros z xs ≡ true → (i : ℕ) → z ≤ i → getD xs i 0 ≡ 0
-zeros-at z xs e i l = by-cases (decLt i (length xs)) inside (λ h. List·getD-eq-default xs 0 (omega arith))
-  where
-    inside : i < length xs → getD xs i 0 ≡ 0
-    inside h =
-        let index : z + (i - z) ≡ i = omega arith in
-        let zero-here = all-at 0 (λ (v : ℕ). eqb v 0) (drop z xs) (i - z) e (omega (arith, length-drop z xs)) in
-        rw index at (sym (getD-drop z xs (i - z) 0) ∙ eqb-true (getD (drop z xs) (i - z) 0) 0 zero-here)
-
-pub at-zeros : (z : ℕ) (xs : List ℕ) → ((i : ℕ) → z ≤ i → getD xs i 0 ≡ 0) → zeros z xs ≡ true
-at-zeros z xs h = all-by (λ (v : ℕ). eqb v 0) (drop z xs) (λ i l. eq-eqb (getD (drop z xs) i 0) 0 (getD-drop z xs i 0 ∙ h (z + i) (omega arith)))
-
 -- ---- the record
 
 -- entries past the zone count are zero
 abbrev pub Unused : Figures → Type 0
 Unused f = (i : ℕ) → f .zones ≤ i → (getD (f .positions) i 0 ≡ 0) × (getD (f .times) i 0 ≡ 0)
 
--- no refusal by 4
-clear : (t : Bool) → _≡_ {A = ℕ} (cond t 0 wrongZones) 0 → t ≡ true
-clear true e = refl
-clear false e = absurd (omega arith)
+-- and so are those past the films
+abbrev pub Idle : Figures → Type 0
+Idle f = (i : ℕ) → f .films ≤ i → getD (f .blocks) i 0 ≡ 0
 
 -- what the judge of a record looks at, one by one
 pub record Judged (k : ℕ) (f : Figures) : Type 0 where
@@ -206,7 +172,7 @@ fault-judged k f e =
     let d = first-none (faultOf Kind 0 (f .kind)) _ e in
     let z = first-none (faultOf Zones 0 (f .zones)) _ (d .1) in
     let u = first-none (cond (unusedZero f) 0 wrongZones) _ (z .1) in
-    let both = clear (unusedZero f) (u .0) in
+    let both = clear wrongZones (omega arith) (unusedZero f) (u .0) in
     let ps = and-left (zeros (f .zones) (f .positions)) _ both in
     let ts = and-right (zeros (f .zones) (f .positions)) _ both in
     record {
@@ -233,7 +199,7 @@ sum-total f = omega arith
 pub fault-legal : (k : ℕ) (f : Figures) → Wide f → recordFault k f ≡ 0 → Legal k f
 fault-legal k f w e =
     let j = fault-judged k f e in
-    let l = fault-zones-legal k (f .zones) 0 f 0 maxTime (omega (arith, j .zones)) (w .2) (omega arith) (j .faults) in
+    let l = fault-zones-legal k (f .zones) 0 f 0 maxTime (omega (arith, j .zones)) (w .3) (omega arith) (j .faults) in
     record {
       wide = w;
       kind = j .kind;
@@ -244,8 +210,11 @@ fault-legal k f w e =
       times = λ i h. l .times i (omega arith) (omega arith);
       falling = λ i h. l .falling i (omega arith) (omega arith);
       thrice = λ i h. l .thrice i (omega arith) (omega arith);
-      blocks = l .film .blocks;
-      room = omega (arith, l .film .room, sum-total f);
+      films = l .film .shelf .count;
+      idle = l .film .shelf .idle;
+      blocks = l .film .shelf .blocks;
+      all = l .film .shelf .all;
+      room = omega (arith, l .film .shelf .room, sum-total f);
       bytes = l .film .bytes;
       rate = l .film .rate;
       straight = l .film .table .straight;
@@ -256,8 +225,13 @@ fault-legal k f w e =
 pub legal-fault : (k : ℕ) (f : Figures) → Legal k f → recordFault k f ≡ 0
 legal-fault k f l =
     let film : FilmLegal k f (0 + sumFrom (f .zones) 0 f) = record {
-      blocks = l .blocks;
-      room = omega (arith, l .room, sum-total f);
+      shelf = record {
+        count = l .films;
+        idle = l .idle;
+        blocks = l .blocks;
+        all = l .all;
+        room = omega (arith, l .room, sum-total f);
+      };
       bytes = l .bytes;
       rate = l .rate;
       table = record { straight = l .straight; measured = l .measured };

@@ -1,2 +1,4 @@
+pub mod Films
 pub mod Legality
 pub mod Room
+pub mod Zeros

@@ -12,6 +12,9 @@ use planner::plan_pairs_card;
 ghost use mathlib.Core.Path.{_≡_};
 ghost use mathlib.Core.Bool.{true};
 ghost use lib.ListN.{length};
+ghost use Rattle.card.specs.Card.{Legal};
+ghost use Rattle.placement.specs.Showing.{visitsOf};
+ghost use Rattle.plan.specs.Plan.{showingIn};
 ghost use Rattle.plan.specs.Answer.{isPlan};
 
 // A line as far as it is put together. A byte past its room is dropped; no line of the programs has more than 50.
@@ -125,7 +128,7 @@ pub fn has_more_arguments(showing: u32) -> bool {
     most_arguments(showing) < os::arg_count()
 }
 
-// Room for the positions of the longest film, two for each of its half blocks.
+// Room for the positions of all films, two for each of their half blocks.
 pub fn position_buffer() -> [u8; 131072]
     ensures { λ r. ⌜ 131072 ≡ length r ⌝ }
 {
@@ -134,7 +137,8 @@ pub fn position_buffer() -> [u8; 131072]
 
 // The plan of a card for half blocks, as a loop or for one showing, and its lists.
 pub fn plan_film(showing: u32, card: &[u8], positions: &mut [u8], leads: &mut [u8]) -> Planned
-    ensures { λ r. ⌜ (r .verdict .number ≡ 0 → isPlan (r .plan) (now (positions .exit)) (now (leads .exit)) ≡ true) ⌝ }
+    ensures plan { λ r. ⌜ (r .verdict .number ≡ 0 → isPlan (r .plan) (now (positions .exit)) (now (leads .exit)) ≡ true) ⌝ }
+    ensures legal { λ r. ⌜ (r .verdict .number ≡ 0 → Legal (visitsOf (showingIn (r .plan))) (r .plan .figures)) ⌝ }
 {
     if showing == PAIRS {
         return plan_pairs_card(card, positions, leads);

@@ -1,5 +1,6 @@
 // Reads a card from standard input and prints its plan, with the argument `loop` its plan as a loop and with `pairs` that of half blocks: five
-// named figures, then the position, time and lead of each block. A half block has two positions and the time of both halves.
+// named figures, of a shelf of more than one film where each begins, then the position, time and lead of each block, counted through the films. A
+// half block has two positions and the time of both halves.
 use libc::STDIN_FILENO;
 use lines::asked_showing;
 use lines::empty;
@@ -13,10 +14,12 @@ use lines::put_number;
 use lines::put_text;
 use numbers::showings::PAIRS;
 use plan::Plan;
+use plan::blocks_before;
 ghost use mathlib.Core.Path.{_≡_};
 ghost use mathlib.Core.Bool.{true};
 ghost use Prim.Native.Nat.{_<_};
-ghost use Rattle.placement.specs.Showing.{pairs};
+ghost use Rattle.card.specs.Card.{Legal, blocksOf};
+ghost use Rattle.placement.specs.Showing.{pairs, visitsOf};
 ghost use Rattle.plan.specs.Plan.{showingIn};
 ghost use Rattle.plan.specs.Answer.{isPlan};
 
@@ -32,9 +35,31 @@ fn print_figures(plan: Plan) {
     print_figure(b"margin", plan.margin);
 }
 
+// The line of film i, which begins at a block, counted through the films.
+fn print_film(i: u32, first: u32) {
+    let film = put_next(put_text(empty(), b"film"), i as u64);
+    print(put_next(put_text(film, b" at"), first as u64));
+}
+
+// The line of each film, where there is more than one.
+fn print_films(plan: Plan)
+    requires { ⌜ Legal (visitsOf (showingIn plan)) (plan .figures) ⌝ }
+{
+    let figures = plan.figures;
+    let films = figures.films;
+    if films < 2 {
+        return;
+    }
+    let mut i: u32 = 0;
+    while i < films {
+        print_film(i, blocks_before(&figures.blocks, i));
+        i += 1;
+    }
+}
+
 // The line of block b: its number, position, time and lead.
 fn print_block(plan: Plan, positions: &[u8], leads: &[u8], b: u32)
-    requires { ⌜ (isPlan plan (now positions) (now leads) ≡ true) × (b < plan .figures .blocks) ⌝ }
+    requires { ⌜ (isPlan plan (now positions) (now leads) ≡ true) × (b < blocksOf (plan .figures)) ⌝ }
 {
     let figures = plan.figures;
     let position = words::word_at(positions, b as usize);
@@ -46,7 +71,7 @@ fn print_block(plan: Plan, positions: &[u8], leads: &[u8], b: u32)
 
 // The line of block b of half blocks: its number, both positions, the time of both and its lead.
 fn print_halves(plan: Plan, positions: &[u8], leads: &[u8], b: u32)
-    requires { ⌜ (isPlan plan (now positions) (now leads) ≡ true) × (showingIn plan ≡ pairs) × (b < plan .figures .blocks) ⌝ }
+    requires { ⌜ (isPlan plan (now positions) (now leads) ≡ true) × (showingIn plan ≡ pairs) × (b < blocksOf (plan .figures)) ⌝ }
 {
     let figures = plan.figures;
     let low = words::word_at(positions, 2 * b as usize);
@@ -65,7 +90,7 @@ fn print_blocks(plan: Plan, positions: &[u8], leads: &[u8])
 {
     print(put_text(empty(), b"block position time lead"));
     let figures = plan.figures;
-    let blocks = figures.blocks;
+    let blocks = blocks_before(&figures.blocks, figures.films);
     let mut b: u32 = 0;
     while b < blocks {
         print_block(plan, positions, leads, b);
@@ -79,7 +104,7 @@ fn print_all_halves(plan: Plan, positions: &[u8], leads: &[u8])
 {
     print(put_text(empty(), b"block position position time lead"));
     let figures = plan.figures;
-    let blocks = figures.blocks;
+    let blocks = blocks_before(&figures.blocks, figures.films);
     let mut b: u32 = 0;
     while b < blocks {
         print_halves(plan, positions, leads, b);
@@ -99,6 +124,7 @@ fn list(showing: u32, card: &[u8]) {
     }
     let plan = planned.plan;
     print_figures(plan);
+    print_films(plan);
     if plan.showing == PAIRS {
         print_all_halves(plan, &positions, &leads);
         return;
@@ -106,7 +132,7 @@ fn list(showing: u32, card: &[u8]) {
     print_blocks(plan, &positions, &leads);
 }
 
-// Every refusal of a card is decided within its first 1,490 bytes, so what is read is enough of any input.
+// Every refusal of a card is decided within its first 1,520 bytes, so what is read is enough of any input.
 fn main() {
     let showing = asked_showing();
     if has_more_arguments(showing) {

@@ -13,10 +13,10 @@ use Rattle.numbers.specs.Refusals.{lineForm, wrongHeading, wrongZones}
 use Rattle.decimal.specs.declared.Decimal.the-variants.{Number}
 use Rattle.card.specs.declared.Figures.{Figures}
 use Rattle.card_field.specs.declared.Rule.the-variants as rule
-use Rattle.card_field.specs.Ranges.{first, below, above, outside, faultOf, blocksFault}
+use Rattle.card_field.specs.Ranges.{first, below, above, outside, faultOf}
 use Rattle.card_field.specs.RangeLaws.{first-none}
 use Rattle.card_table.specs.Table.{straight, tableFault}
-use Rattle.card.specs.Card.{recordFault, filmFault}
+use Rattle.card.specs.Card.{oneFilm, shelfFault, recordFault, filmFault}
 use Rattle.card.specs.Read.{blankZones}
 use Rattle.tracks.specs.Tracks.{positionsIn, timeIn, narrowed}
 use Rattle.maker.specs.declared.Drive.{Drive}
@@ -162,7 +162,7 @@ filled-narrow z z′ ps ts ps′ ts′ block n c hop ret a b d = record {
   zones = a;
   positions = b;
   times = d;
-  film = λ total. ap (λ (k : ℕ). first (blocksFault 1 total n)
+  film = λ total. ap (λ (k : ℕ). first (shelfFault 1 total 1 (oneFilm n))
       (first (faultOf rule.Measure maxBytes (sectorBytes * block)) (first (faultOf rule.Measure maxRate c) k))) (table-same hop ret);
 }
 
@@ -171,7 +171,7 @@ filled-moves : (z : ℕ) (ps ts : List ℕ) (block n c hop ret total : ℕ) → 
     → (moveIn hop ≡ hop) × (moveIn ret ≡ ret)
 unfolding filled filmFault
 filled-moves z ps ts block n c hop ret total e =
-    let a = first-none (blocksFault 1 total n) _ e in
+    let a = first-none (shelfFault 1 total 1 (oneFilm n)) _ e in
     let b = first-none (faultOf rule.Measure maxBytes (sectorBytes * block)) _ (a .1) in
     let r = first-none (faultOf rule.Measure maxRate c) _ (b .1) in
     moves-kept hop ret (r .1)

@@ -6,7 +6,7 @@ use Rattle.numbers.specs.Limits.{straightKind}
 use Rattle.numbers.specs.Units.{sectorBytes}
 use Rattle.card.specs.declared.Figures.{Figures}
 use Rattle.card_table.specs.Table.{straight}
-use Rattle.card.specs.Card.{recordFault}
+use Rattle.card.specs.Card.{oneFilm, recordFault}
 use Rattle.card.specs.Read.{blankZones, blankFigures, accepted}
 use Rattle.tracks.specs.Tracks.{positionsIn, timeIn}
 use Rattle.maker.specs.declared.Drive.{Drive}
@@ -23,10 +23,20 @@ unfoldable pub padded : List ℕ → List ℕ
 padded xs = xs ++ drop (length xs) blankZones
 
 -- the record of figures: z zones with their positions and times; B is 512 × sectors in a block (T1.9); N, c, hop and return come beside the
--- text (T1.10) and make the table of a card of kind 1 (T3.3)
+-- text (T1.10), hop and return make the table of a card of kind 1 (T3.3), and the shelf has one film (T14)
 unfoldable pub filled : ℕ → List ℕ → List ℕ → ℕ → ℕ → ℕ → ℕ → ℕ → Figures
 filled z positions times block n c hop ret =
-    record { kind = straightKind; zones = z; positions = positions; times = times; blocks = n; bytes = sectorBytes * block; rate = c; table = straight hop ret }
+    record {
+      kind = straightKind;
+      zones = z;
+      positions = positions;
+      times = times;
+      films = 1;
+      blocks = oneFilm n;
+      bytes = sectorBytes * block;
+      rate = c;
+      table = straight hop ret;
+    }
 
 -- a zone's positions and its time (T1.5 to T1.7)
 unfoldable pub positionsOf : Drive → Row → ℕ

@@ -3,6 +3,7 @@ use crate::Drive;
 use crate::MakerRead;
 use card::Figures;
 use card::Verdict;
+use card::one_film;
 use card_table::fill_straight;
 use maker_rows::Rows;
 use numbers::limits::MAX_MOVE;
@@ -13,7 +14,7 @@ ghost use Prim.Native.Nat.{_≤_, _<_};
 ghost use lib.ListN.{getD};
 ghost use Rattle.numbers.specs.Limits.{maxBlock};
 ghost use Rattle.card_table.specs.Table.{straight};
-ghost use Rattle.card.specs.Read.{blankFigures, blankZones, blankTable};
+ghost use Rattle.card.specs.Read.{blankFigures, blankZones, blankFilms, blankTable};
 ghost use Rattle.tracks.specs.Tracks.{positionsIn, timeIn, narrowed};
 ghost use Rattle.maker_rows.specs.Kept.{backBy};
 ghost use Rattle.maker.specs.Fitting.{moveIn, Fitting};
@@ -29,6 +30,12 @@ fn no_zones() -> [u32; 64]
     ensures { λ r. ⌜ r ≡ blankZones ⌝ }
 {
     [0u32; 64]
+}
+
+fn no_films() -> [u32; 16]
+    ensures { λ r. ⌜ r ≡ blankFilms ⌝ }
+{
+    [0u32; 16]
 }
 
 fn no_table() -> [u32; 257]
@@ -80,7 +87,7 @@ fn table_of(hop: u32, back: u32) -> [u32; 257]
     table
 }
 
-// The record: the zones, and the film's figures beside them.
+// The record: the zones, and the figures of its one film beside them.
 pub fn figures_of(
     count: u32,
     zones: Zones,
@@ -100,7 +107,8 @@ pub fn figures_of(
         zones: count,
         positions: positions,
         times: times,
-        blocks: blocks,
+        films: 1,
+        blocks: one_film(blocks),
         bytes: SECTOR_BYTES * block,
         rate: rate,
         table: table_of(hop, back),
@@ -116,7 +124,8 @@ fn no_figures() -> Figures
         zones: 0,
         positions: no_zones(),
         times: no_zones(),
-        blocks: 0,
+        films: 0,
+        blocks: no_films(),
         bytes: 0,
         rate: 0,
         table: no_table(),

@@ -13,7 +13,7 @@ use Rattle.numbers.specs.Refusals.{lineForm, wrongHeading}
 use Rattle.card.specs.declared.Figures.{Figures}
 use Rattle.card.specs.Card.{Legal, recordFault, judgeRecord, cardOf}
 use Rattle.card.specs.Read.{accepted, blankZones, blankFigures, readCard}
-use Rattle.card.specs.CardLaws.{fault-zones}
+use Rattle.card.specs.CardLaws.{fault-zones, length-oneFilm}
 use Rattle.card_table.specs.TableLaws.{straight-long}
 use Rattle.legality.specs.Legality.{Wide, fault-legal, legal-fault}
 use Rattle.round_trip.specs.RoundTrip.{legal-read}
@@ -92,6 +92,7 @@ module _ (d : Drive) (zs : List Row) (n c hop ret : ℕ) where
   figures-wide h = (
     padded-wide (map (positionsOf d) zs) (omega (arith, map-long (positionsOf d) zs)),
     padded-wide (map (timeOf d) zs) (omega (arith, map-long (timeOf d) zs)),
+    length-oneFilm n,
     straight-long hop ret,
   )
 

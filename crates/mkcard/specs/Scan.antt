@@ -14,16 +14,16 @@ use Rattle.mkcard.specs.declared.make.Made.{Made}
 
 -- the words that are kept, and the bytes of their numbers, five each
 abbrev pub mostWords : ℕ
-mostWords = 391
+mostWords = 407
 
 abbrev pub mostBytes : ℕ
-mostBytes = 1955
+mostBytes = 2035
 
 -- before the first byte
 unfoldable pub begun : Scan
 begun = record { line = 1; comment = false; inside = false; value = 0; count = 0; values = replicate mostWords 0; lines = replicate mostWords 0 }
 
--- a word ends: its value and its line are kept, if it is among the first 391
+-- a word ends: its value and its line are kept, if it is among the first 407
 unfoldable pub ended : Scan → Scan
 ended s =
     cond (s .inside)

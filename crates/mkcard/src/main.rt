@@ -11,6 +11,7 @@ use libc::STDIN_FILENO;
 use libc::STDOUT_FILENO;
 use numbers::limits::MAX_NUMBER;
 use numbers::refusals::HALF_DEAD_TIME;
+use numbers::refusals::WRONG_FILMS;
 use numbers::refusals::WRONG_OVERHEAD;
 
 fn say(text: &[u8]) {
@@ -36,7 +37,7 @@ fn say_line(text: &[u8], n: u32) {
     }
 }
 
-// Says the cause of a refusal, 1 to 11 of document 01 or 25 and 26 of document 02.
+// Says the cause of a refusal, 1 to 11 of document 01 or 25, 26 and 30 of document 02.
 fn say_cause(number: u32) {
     if number == WRONG_OVERHEAD {
         say(b"overhead out of range, or below the one before\n");
@@ -44,6 +45,10 @@ fn say_cause(number: u32) {
     }
     if number == HALF_DEAD_TIME {
         say(b"zone time, times three, below the first zone's time\n");
+        return;
+    }
+    if number == WRONG_FILMS {
+        say(b"films out of range, or blocks of all films above 16,384\n");
         return;
     }
     say_line(

@@ -104,7 +104,7 @@ pub fn make_card(s: Scan, out: &mut [u8]) -> Made
     }
 }
 
-// A text of at most 391 numbers of 32 bits in decimal, a line for each, makes the bytes of these numbers: of figures in the card's order, their card.
+// A text of at most 407 numbers of 32 bits in decimal, a line for each, makes the bytes of these numbers: of figures in the card's order, their card.
 fn text_makes_its_card()
     ensures { λ _. ⌜ ((more : ℕ → ℕ) (vs : List ℕ) → length vs ≤ mostWords → Spelled more vs → cardOfText (textOf more vs) ≡ bytesOf vs) ⌝ }
 {}

@@ -3,9 +3,9 @@ use decimal::grow;
 ghost use mathlib.Core.Path.{_≡_};
 ghost use Rattle.mkcard.specs.Scan.{begun, ended, stepped, scanned};
 
-// The most words that are kept. A card has at most 390 numbers (kind, zones, 64 zones of two, N, B, c, 257 overheads), so one word more is
-// left over, and words after that change no answer.
-pub const WORDS: usize = 391;
+// The most words that are kept. A card has at most 406 numbers (kind, zones, 64 zones of two, films, N of 16, B, c, 257 overheads), so one
+// word more is left over, and words after that change no answer.
+pub const WORDS: usize = 407;
 
 // Lines are counted so far.
 const MAX_LINE: u64 = 18446744073709551615;

@@ -15,7 +15,7 @@ use Rattle.desk.specs.Records.{answers, withSlot}
 use Rattle.soundness.specs.Facts.{soundDesk}
 use Rattle.admission.specs.declared.Move.{Move}
 use Rattle.admission.specs.Moves.{moveDesk, kindAfter, nextAfter}
-use Rattle.admission.specs.Places.{placesAfter, Movable}
+use Rattle.admission.specs.Places.{placesAfter, Nameable, Movable}
 use Rattle.admission.specs.Answers.{move-refused, move-made, sound-movable}
 use Rattle.layout.specs.declared.FilmdiskAnswer.{FilmdiskAnswer}
 use Rattle.layout.specs.Answers.{verdictAnswer}
@@ -39,15 +39,15 @@ module _ (ps ls : List ℕ) (m : Move) (D : List ℕ) (v : Verdict) (h : Judged 
 
   module _ (n : v .number ≡ 0) where
     abbrev made : (soundDesk (said D) ps ls ≡ true) × (m .slot < said D .plan .streams)
-        × (answers (withSlot (said D) (m .slot) (kindAfter m) (nextAfter m) (placesAfter (said D) m)) 0 0 ≡ moveDesk (said D) ps ls m)
-    made = move-made (said D) (wide-of (said D) sized) ps ls m (said-number _ D v h ∙ n)
+        × (answers (withSlot (said D) (m .slot) (kindAfter m) (nextAfter m) (placesAfter (said D) m)) 0 0 ≡ moveDesk (said D) ps ls m) × Nameable m
+    made = move-made (said D) (wide-of (said D) sized) ps ls m (slim-of (said D) sized) (said-number _ D v h ∙ n)
 
     -- what its writing is told
     pub move-told : (deskSize ≤ length D) × Movable (deskIn (wordsOf D)) m
     unfolding said
     move-told = (
       omega (arith, h .right),
-      sound-movable (said D) (wide-of (said D) sized) ps ls (made .0) (slim-of (said D) sized) m (made .1),
+      sound-movable (said D) (wide-of (said D) sized) ps ls (made .0) (slim-of (said D) sized) m (made .3) (made .1),
     )
 
     pub move-put : (r : FilmdiskAnswer) (t : List ℕ) → r ≡ verdictAnswer v

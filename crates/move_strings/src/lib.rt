@@ -67,7 +67,7 @@ fn write_move(desk: &mut [u8], step: Move)
     lower_places(desk, streams, gone);
 }
 
-// Makes a move: 14 to 18. A refused one writes nothing.
+// Makes a move: 14 to 17, 31, 18. A refused one writes nothing.
 pub fn make_move(
     desk: &mut [u8],
     positions: &[u8],
@@ -90,18 +90,19 @@ pub fn make_move(
     verdict_answer(judged)
 }
 
-// A free slot becomes asked, behind all that ask: 14 to 18. A refused call writes nothing, another its slot alone.
+// A free slot becomes asked, behind all that ask: 14 to 17, 31, 18. A refused call writes nothing, another its slot alone.
 pub fn join(
     desk: &mut [u8],
     positions: &[u8],
     leads: &[u8],
     slot: u32,
     block: u32,
+    film: u32,
 ) -> FilmdiskAnswer
-    ensures { λ r. ⌜ (r ≡ joinAnswer (now (desk .entry)) (now (positions .entry)) (now (leads .entry)) slot block)
-        × (now (desk .exit) ≡ joinString (now (desk .entry)) (now (positions .entry)) (now (leads .entry)) slot block) ⌝ }
+    ensures { λ r. ⌜ (r ≡ joinAnswer (now (desk .entry)) (now (positions .entry)) (now (leads .entry)) slot block film)
+        × (now (desk .exit) ≡ joinString (now (desk .entry)) (now (positions .entry)) (now (leads .entry)) slot block film) ⌝ }
 {
-    make_move(desk, positions, leads, true, join_of(slot, block))
+    make_move(desk, positions, leads, true, join_of(slot, block, film))
 }
 
 // An occupied slot becomes free: 14 to 17. A refused call writes nothing, another its slot, and where that one asked the places of all.

@@ -1,5 +1,6 @@
 // The small cards one after the other: the first, the one after a card, and a card's figures.
 use card::Figures;
+use card::one_film;
 use card_table::fill_straight;
 use numbers::limits::MAX_TRIED;
 use numbers::limits::MIN_BLOCKS;
@@ -202,7 +203,8 @@ pub fn figures_of(card: SmallCard) -> Figures
         zones: card.zones,
         positions: positions,
         times: times,
-        blocks: card.blocks,
+        films: 1,
+        blocks: one_film(card.blocks),
         bytes: 1000,
         rate: 1000,
         table: overheads(),

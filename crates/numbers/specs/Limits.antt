@@ -68,10 +68,10 @@ maxOverhead = 257000000
 
 -- the bytes of a card
 abbrev pub minCard : ℕ
-minCard = 9
+minCard = 10
 
 abbrev pub maxCard : ℕ
-maxCard = 1489
+maxCard = 1519
 
 -- n, and the slots of a desk
 abbrev pub maxStreams : ℕ

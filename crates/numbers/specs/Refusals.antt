@@ -113,7 +113,7 @@ wrongWindow = 27
 abbrev pub halvesAbovePositions : ℕ
 halvesAbovePositions = 28
 
--- film of more blocks than are tried (document 02, ticket 12)
+-- film of more blocks than are tried (document 02, ticket 12), or more films than one (ticket 14)
 abbrev pub filmTooLong : ℕ
 filmTooLong = 29
 

@@ -48,9 +48,9 @@ pub const TABLE_LENGTH: u32 = 257;
 pub const MAX_OVERHEAD: u32 = 257000000;
 
 // The bytes of a card.
-pub const MIN_CARD: u32 = 9;
+pub const MIN_CARD: u32 = 10;
 
-pub const MAX_CARD: u32 = 1489;
+pub const MAX_CARD: u32 = 1519;
 
 // n, and the slots of a desk.
 pub const MAX_STREAMS: u32 = 256;

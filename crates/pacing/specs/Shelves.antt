@@ -1,8 +1,8 @@
 -- Document 02, ticket 14: the films of a disk as they are laid, and the shelf that they make: paced by the greatest of their worst times, and no
 -- laying of a film feeds more streams.
 -- Assumes nothing.
-use Prim.Native.Nat.{ℕ, zero, suc, _+_, _*_, _-_, _≤_, _<_}
-use mathlib.Core.Path.{_≡_, refl, sym, ap, _∙_}
+use Prim.Native.Nat.{ℕ, suc, _+_, _*_, _-_, _≤_, _<_}
+use mathlib.Core.Path.{_≡_, ap, _∙_}
 use mathlib.Core.Logic.{by-cases, _≢_}
 use mathlib.Core.Bool.{true}
 use native.Mathlib.Omega.{arith}
@@ -81,6 +81,10 @@ module _ (x : Showing) (τ : ℕ → ℕ) (P : ℕ) (N : ℕ → ℕ) where
   next-low pairs M b h u = omega arith
 
   -- F films, none of which is too long to be named; a join to another is refused by `none`
+  module _ (F : ℕ) (low : (i : ℕ) → i < F → N i < nameStep) where
+    pub next-named : (i b : ℕ) → i < F → laidIn i .isBlock b ≡ true → laidIn i .next b < nameStep
+    next-named i b u e = next-low x (N i) b (low i u) (ltb-true b (N i) e)
+
   module _ (F none : ℕ) (low : (i : ℕ) → i < F → N i < nameStep) where
     abbrev pub shelfFilm : Film ℕ
     shelfFilm = shelf F laidIn none
@@ -88,7 +92,7 @@ module _ (x : Showing) (τ : ℕ → ℕ) (P : ℕ) (N : ℕ → ℕ) where
     -- THE SHELF IS PACED by the greatest of the films' worst times
     pub shelf-is-paced : Paced shelfFilm (worstShelf F) (slowestShelf F)
     shelf-is-paced =
-        shelf-paced F laidIn none (λ i b u e. next-low x (N i) b (low i u) (ltb-true b (N i) e)) (worstShelf F) (slowestShelf F)
+        shelf-paced F laidIn none (next-named F low) (worstShelf F) (slowestShelf F)
         (λ i u. paced-more (laidIn i) (worstIn i) (worstShelf F) (slowestIn i) (slowestShelf F) (worst-above F i u) (slowest-above F i u)
         (laid-paced τ (layingIn x P N i) (N i) x))
 

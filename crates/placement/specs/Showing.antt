@@ -83,6 +83,11 @@ pairsOf one N = N - 1
 pairsOf loop N = N
 pairsOf pairs N = N
 
+pub pairs-few : (x : Showing) (N : ℕ) → pairsOf x N ≤ N
+pairs-few one N = omega arith
+pairs-few loop N = omega arith
+pairs-few pairs N = omega arith
+
 pub some-pairs : (x : Showing) (N : ℕ) → 1 < N → (0 < pairsOf x N) × (pairsOf x N ≤ N)
 some-pairs one N h = omega arith
 some-pairs loop N h = omega arith

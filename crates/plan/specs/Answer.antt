@@ -7,7 +7,7 @@ use lib.Dec.{ltb, eqb}
 use Rattle.numbers.specs.Refusals.{tooShort, noStream}
 use Rattle.card.specs.declared.Figures.{Figures}
 use Rattle.card.specs.declared.CardRead.{CardRead}
-use Rattle.card.specs.Card.{recordFault, judgeRecord}
+use Rattle.card.specs.Card.{blocksOf, recordFault, judgeRecord}
 use Rattle.words.specs.Words.{wordsOf, withWords}
 use Rattle.placement.specs.Showing.{Showing, visitsOf}
 use Rattle.plan.specs.declared.Plan.{Plan}
@@ -18,7 +18,7 @@ use Rattle.plan.specs.Plan.{showingIn, entriesOf, streamsOf, planOf, bla
 
 -- after the figures are accepted: 13 where a lent list, of np or nl entries, is too short, then 12 where 'not even one stream fits'
 unfoldable pub planFault : Showing → Figures → ℕ → ℕ → ℕ
-planFault x f np nl = cond (ltb np (entriesOf x f) || ltb nl (f .blocks)) tooShort (cond (eqb (streamsOf x f) 0) noStream 0)
+planFault x f np nl = cond (ltb np (entriesOf x f) || ltb nl (blocksOf f)) tooShort (cond (eqb (streamsOf x f) 0) noStream 0)
 
 abbrev pub faultAfter : Showing → CardRead → List ℕ → List ℕ → ℕ
 faultAfter x r ps ls = planFault x (r .figures) (length (wordsOf ps)) (length (wordsOf ls))
@@ -50,7 +50,7 @@ positionsAfter x r ps ls = filled (r .verdict .number) (faultAfter x r ps ls) ps
 unfoldable pub leadsAfter : Showing → CardRead → List ℕ → List ℕ → List ℕ
 leadsAfter x r ps ls = filled (r .verdict .number) (faultAfter x r ps ls) ls (leadsOf x (r .figures))
 
--- a record's figures, judged for blocks of k positions each: 3 to 10, 25, 26 and 28, offset 0
+-- a record's figures, judged for blocks of k positions each: 3 to 10, 25, 26, 28 and 30, offset 0
 unfoldable pub judged : ℕ → Figures → CardRead
 judged k f = record { verdict = judgeRecord k f; figures = f }
 
@@ -75,7 +75,7 @@ hasNumbers p =
     eqb (recordFault (visitsOf (showingIn p)) (p .figures)) 0
     && (ltb 0 (streamsOf (showingIn p) (p .figures)) && sameNumbers p (planOf (showingIn p) (p .figures)))
 
--- a list begins with the film's positions, one with its leads
+-- a list begins with the films' positions, one with their leads
 unfoldable pub hasPositions : Plan → List ℕ → Bool
 hasPositions p ps = begins (positionsOf (showingIn p) (p .figures)) (wordsOf ps)
 

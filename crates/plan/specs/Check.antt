@@ -1,27 +1,27 @@
 -- What a passed check says, and that the planner's own answers pass it.
 -- Assumes nothing.
-use Prim.Native.Nat.{ℕ, zero, suc, _+_, _≤_, _<_}
-use mathlib.Core.Path.{_≡_, refl, ap, _∙_}
+use Prim.Native.Nat.{ℕ, _+_, _*_, _≤_, _<_}
+use mathlib.Core.Path.{_≡_, refl, ap}
 use mathlib.Core.Bool.{Bool, true, false, cond}
 use mathlib.Core.List.{List}
 use native.Mathlib.Omega.{arith}
-use lib.ListN.{length, getD, take}
+use lib.ListN.{length, getD}
 use lib.Dec.{ltb, eqb}
 use borrow.Author.Tests.{ltb-true, eqb-true, lt-ltb, eq-eqb, ne-eqb}
 use Rattle.laws.specs.Bools.{and-left, and-right, and-both}
 use Rattle.numbers.specs.Showings.{loopWord, pairsWord}
-use Rattle.card.specs.Card.{Legal, recordFault}
+use Rattle.card.specs.Card.{Legal, lengthIn, blocksOf, recordFault}
 use Rattle.legality.specs.Legality.{Wide, fault-legal, legal-fault}
 use Rattle.words.specs.Words.{Words, wordsOf, withWords}
 use Rattle.words.specs.Laws.{read-written}
 use Rattle.card.specs.declared.Figures.{Figures}
 use Rattle.placement.specs.Showing.{Showing, one, loop, pairs, visitsOf, walked}
 use Rattle.plan.specs.declared.Plan.{Plan}
-use Rattle.plan.specs.Plan.{wordOf, showingOf, walkOf, showingIn, positionOf, entriesOf, leadOf, streamsOf, bufferSize}
-use Rattle.plan.specs.Plan.{worst2Of, worstAtOf, marginOf, planOf, row, positionsOf, leadsOf}
+use Rattle.plan.specs.Plan.{wordOf, showingOf, walkOf, showingIn, startIn, positionIn, entriesOf, leadIn, streamsOf, bufferSize}
+use Rattle.plan.specs.Plan.{worst2Of, worstAtOf, marginOf, planOf, positionsOf, leadsOf}
 use Rattle.plan.specs.Answer.{begins, sameNumbers, hasNumbers, hasPositions, hasLeads, isPlan}
-use Rattle.plan.specs.Legal.{position-below, lead-small}
-use Rattle.plan.specs.Rows.{row-length, begins-at, begins-long, take-begins}
+use Rattle.plan.specs.Rows.{begins-long, take-begins}
+use Rattle.plan.specs.Films.{positions-length, leads-length, positions-at, leads-at, positions-words, leads-words}
 
 -- a plan has the numbers of its figures, which are legal and feed a stream
 pub record Numbered (p : Plan) : Type 0 where
@@ -29,14 +29,16 @@ pub record Numbered (p : Plan) : Type 0 where
   pub fed : 0 < streamsOf (showingIn p) (p .figures)
   pub plan : p ≡ planOf (showingIn p) (p .figures)
 
--- a passed check: the same, and both lists begin with the film's entries
+-- a passed check: the same, and both lists begin with the films' entries, film i's behind those of the films before it
 pub record Checked (p : Plan) (ps ls : List ℕ) : Type 0 where
   pub clear : recordFault (visitsOf (showingIn p)) (p .figures) ≡ 0
   pub fed : 0 < streamsOf (showingIn p) (p .figures)
   pub plan : p ≡ planOf (showingIn p) (p .figures)
-  pub long : (entriesOf (showingIn p) (p .figures) ≤ length (wordsOf ps)) × (p .figures .blocks ≤ length (wordsOf ls))
-  pub position-at : (v : ℕ) → v < entriesOf (showingIn p) (p .figures) → getD (wordsOf ps) v 0 ≡ positionOf (showingIn p) (p .figures) v
-  pub lead-at : (b : ℕ) → b < p .figures .blocks → getD (wordsOf ls) b 0 ≡ leadOf (showingIn p) (p .figures) b
+  pub long : (entriesOf (showingIn p) (p .figures) ≤ length (wordsOf ps)) × (blocksOf (p .figures) ≤ length (wordsOf ls))
+  pub position-at : (i v : ℕ) → i < p .figures .films → v < visitsOf (showingIn p) * lengthIn (p .figures) i
+      → getD (wordsOf ps) (visitsOf (showingIn p) * startIn (p .figures) i + v) 0 ≡ positionIn (showingIn p) (p .figures) i v
+  pub lead-at : (i b : ℕ) → i < p .figures .films → b < lengthIn (p .figures) i
+      → getD (wordsOf ls) (startIn (p .figures) i + b) 0 ≡ leadIn (showingIn p) (p .figures) i b
 
 same-plan : (p : Plan) (x : Showing) (f : Figures) → p .figures ≡ f → sameNumbers p (planOf x f) ≡ true → p ≡ planOf x f
 unfolding planOf
@@ -70,11 +72,8 @@ numbers-say p e =
 pub numbered : (p : Plan) → Wide (p .figures) → hasNumbers p ≡ true → Numbered p
 numbered p w e = let n = numbers-say p e in record { legal = fault-legal (visitsOf (showingIn p)) (p .figures) w (n .0); fed = n .1; plan = n .2 }
 
-row-here : (g : ℕ → ℕ) (n : ℕ) (ws : List ℕ) → begins (row g 0 n) ws ≡ true → (b : ℕ) → b < n → getD ws b 0 ≡ g b
-row-here g n ws e b u = let z : 0 + b ≡ b = omega arith in begins-at g 0 n ws e b u ∙ ap g z
-
 pub checked : (p : Plan) (ps ls : List ℕ) → isPlan p ps ls ≡ true → Checked p ps ls
-unfolding isPlan hasPositions hasLeads positionsOf leadsOf
+unfolding isPlan hasPositions hasLeads
 checked p ps ls e =
     let x = showingIn p in
     let f = p .figures in
@@ -86,9 +85,12 @@ checked p ps ls e =
       clear = n .0;
       fed = n .1;
       plan = n .2;
-      long = (begins-long (positionOf x f) 0 (entriesOf x f) (wordsOf ps) b, begins-long (leadOf x f) 0 (f .blocks) (wordsOf ls) d);
-      position-at = row-here (positionOf x f) (entriesOf x f) (wordsOf ps) b;
-      lead-at = row-here (leadOf x f) (f .blocks) (wordsOf ls) d;
+      long = (
+        omega (arith, begins-long (positionsOf x f) (wordsOf ps) b, positions-length x f),
+        omega (arith, begins-long (leadsOf x f) (wordsOf ls) d, leads-length x f),
+      );
+      position-at = positions-at x f (wordsOf ps) b;
+      lead-at = leads-at x f (wordsOf ls) d;
     }
 
 -- its figures are legal
@@ -144,28 +146,20 @@ same-numbers-self p =
     (and-both (eq-eqb (p .worst2) (p .worst2) refl) (and-both (eq-eqb (p .margin) (p .margin) refl)
     (and-both (eq-eqb (p .showing) (p .showing) refl) (eq-eqb (p .worstat) (p .worstat) refl)))))
 
-pub row-words : (g : ℕ → ℕ) (b n : ℕ) → ((k : ℕ) → k < b + n → g k < 4294967296) → Words (row g b n)
-unfolding row
-row-words g b zero h i = omega arith
-row-words g b (suc n) h zero = h b (omega arith)
-row-words g b (suc n) h (suc i) = row-words g (suc b) n (λ k u. h k (omega arith)) i
-
--- a list in which a row was written begins with it
-pub written-begins : (g : ℕ → ℕ) (n : ℕ) (s : List ℕ) → Words (row g 0 n) → n ≤ length (wordsOf s)
-    → begins (row g 0 n) (wordsOf (withWords s 0 (row g 0 n))) ≡ true
-written-begins g n s w h = take-begins (row g 0 n) _ (read-written s 0 (row g 0 n) w (omega (arith, row-length g 0 n)))
+-- a list in which numbers were written begins with them
+pub written-begins : (vs s : List ℕ) → Words vs → length vs ≤ length (wordsOf s) → begins vs (wordsOf (withWords s 0 vs)) ≡ true
+written-begins vs s w h = take-begins vs _ (read-written s 0 vs w (omega arith))
 
 -- THE PLAN OF LEGAL FIGURES PASSES, with the lists that the planner leaves
 pub plan-passes : (x : Showing) (f : Figures) → Legal (visitsOf x) f → 0 < streamsOf x f → (ps ls : List ℕ) → entriesOf x f ≤ length (wordsOf ps)
-    → f .blocks ≤ length (wordsOf ls)
+    → blocksOf f ≤ length (wordsOf ls)
     → isPlan (planOf x f) (withWords ps 0 (positionsOf x f)) (withWords ls 0 (leadsOf x f)) ≡ true
-unfolding isPlan hasNumbers hasPositions hasLeads planOf positionsOf leadsOf
+unfolding isPlan hasNumbers hasPositions hasLeads planOf
 plan-passes x f ok fed ps ls lp ll =
     rw (showing-back x)
     (and-both
     (and-both (eq-eqb (recordFault (visitsOf x) f) 0 (legal-fault (visitsOf x) f ok))
     (and-both (lt-ltb 0 (streamsOf x f) fed) (same-numbers-self (planOf x f))))
     (and-both
-    (written-begins (positionOf x f) (entriesOf x f) ps
-    (row-words (positionOf x f) 0 (entriesOf x f) (λ b u. omega (arith, position-below x f ok b (omega arith), ok .total))) lp)
-    (written-begins (leadOf x f) (f .blocks) ls (row-words (leadOf x f) 0 (f .blocks) (λ b u. omega (arith, lead-small x f ok b (omega arith)))) ll)))
+    (written-begins (positionsOf x f) ps (positions-words x f ok) (omega (arith, positions-length x f)))
+    (written-begins (leadsOf x f) ls (leads-words x f ok) (omega (arith, leads-length x f)))))

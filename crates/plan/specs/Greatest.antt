@@ -4,10 +4,11 @@ use mathlib.Core.Path.{_≡_}
 use lib.ListN.{getD}
 use Rattle.numbers.specs.Units.{parts}
 use Rattle.card.specs.declared.Figures.{Figures}
+use Rattle.card.specs.Card.{lengthIn}
 use Rattle.placement.specs.Showing.{Showing, one, loop, pairs, visitsOf, pairsOf, pairTime}
 use Rattle.pacing.specs.Film.{span}
 use Rattle.pacing.specs.Streams.{capOf}
-use Rattle.plan.specs.Plan.{timeOn, positionOf, worst2Of, filmOf}
+use Rattle.plan.specs.Plan.{startIn, timeOn, positionIn, worst2Of, filmAt}
 
 -- ---- runs
 
@@ -26,15 +27,15 @@ Starts pairs N b = b ≤ N
 module _ (x : Showing) (f : Figures) where
   -- ---- P6: lead
 
-  -- the times of j blocks in a row, b the first, added up
-  abbrev pub runTime : ℕ → ℕ → ℕ
-  runTime b j = span (filmOf x f) j b
+  -- the times of j blocks of film i in a row, b the first, added up
+  abbrev pub runTime : ℕ → ℕ → ℕ → ℕ
+  runTime i b j = span (filmAt x f i) j b
 
-  -- m is the greatest sum of 2 × time − worst2 over a run starting at b: no run of the film's blocks has a greater one, and some run has it.
-  -- (The empty run has 0; what is taken off stands on the other side.)
-  pub record GreatestRun (b m : ℕ) : Type 0 where
-    pub above : (j : ℕ) → IsRun x (f .blocks) b j → 2 * runTime b j ≤ j * worst2Of x f + m
-    pub reached : (j : ℕ) × IsRun x (f .blocks) b j × (2 * runTime b j ≡ j * worst2Of x f + m)
+  -- m is the greatest sum of 2 × time − worst2 over a run of film i starting at b: no run of the film's blocks has a greater one, and some run has
+  -- it. (The empty run has 0; what is taken off stands on the other side.)
+  pub record GreatestRun (i b m : ℕ) : Type 0 where
+    pub above : (j : ℕ) → IsRun x (lengthIn f i) b j → 2 * runTime i b j ≤ j * worst2Of x f + m
+    pub reached : (j : ℕ) × IsRun x (lengthIn f i) b j × (2 * runTime i b j ≡ j * worst2Of x f + m)
 
   -- ---- P4: streams
 
@@ -53,12 +54,15 @@ module _ (x : Showing) (f : Figures) where
 
   -- ---- T2.1: the worst pair
 
-  -- what block b and the one after it take, of half blocks twice what block b takes
-  abbrev pub pairOf : ℕ → ℕ
-  pairOf b = pairTime x (timeOn f) (positionOf x f) (f .blocks) b
+  -- what block b of film i and the one after it take, of half blocks twice what block b takes
+  abbrev pub pairIn : ℕ → ℕ → ℕ
+  pairIn i b = pairTime x (timeOn f) (positionIn x f i) (lengthIn f i) b
 
-  -- the pair of block b takes worst2, and no pair before it does
-  pub record EarliestPair (b : ℕ) : Type 0 where
-    pub pair : b < pairsOf x (f .blocks)
-    pub worst : pairOf b ≡ worst2Of x f
-    pub first : (a : ℕ) → a < b → pairOf a < worst2Of x f
+  -- the blocks of film i that begin a pair within it
+  abbrev pub pairsIn : ℕ → ℕ
+  pairsIn i = pairsOf x (lengthIn f i)
+
+  -- the pair of block `at`, counted through the films, takes worst2, and no pair before it does
+  pub record EarliestPair (at : ℕ) : Type 0 where
+    pub pair : (i : ℕ) × (b : ℕ) × (i < f .films) × (b < pairsIn i) × (at ≡ startIn f i + b) × (pairIn i b ≡ worst2Of x f)
+    pub first : (i b : ℕ) → i < f .films → b < pairsIn i → startIn f i + b < at → pairIn i b < worst2Of x f

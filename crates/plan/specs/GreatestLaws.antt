@@ -1,28 +1,32 @@
 -- Leads and streams are the greatest of their kind, the worst pair the earliest, and no other number is; and where 12 is answered.
 -- Assumes nothing.
 use Prim.Native.Nat.{ℕ, zero, suc, _+_, _*_, _≤_, _<_}
-use mathlib.Core.Path.{_≡_, refl, ap}
+use mathlib.Core.Path.{_≡_, refl, sym, ap, _∙_, subst}
 use mathlib.Core.Bool.{Bool, true, false, cond, _||_}
 use mathlib.Core.List.{List}
 use native.Mathlib.Omega.{arith}
-use native.Mathlib.Nat.{le-refl, mul-le-mul-left}
+use native.Mathlib.Nat.{le-refl}
 use lib.ListN.{getD}
 use lib.Dec.{ltb, eqb}
 use borrow.Author.Tests.{ltb-true, le-ltb, eqb-true}
 use Rattle.laws.specs.Bools.{and-left, and-right}
-use Rattle.laws.specs.Greatest.{greatestOf, Earliest, earliest-unique, earliest-is}
+use Rattle.laws.specs.Greatest.{greatestOf, greatestOf-above, earliest-is}
+use Rattle.laws.specs.Through.{EarliestThrough, through-only, through-is}
+use Rattle.numbers.specs.Limits.{nameStep}
 use Rattle.numbers.specs.Refusals.{tooShort, noStream}
 use Rattle.card.specs.declared.Figures.{Figures}
-use Rattle.card.specs.Card.{Legal}
-use Rattle.placement.specs.Showing.{Showing, one, loop, pairs, visitsOf, worstAt, pairsOf, some-pairs, worst-pair}
+use Rattle.card.specs.Card.{Legal, lengthIn, blocksOf}
+use Rattle.placement.specs.Showing.{Showing, one, loop, pairs, visitsOf, worstAt, some-pairs, worst-pair}
 use Rattle.pacing.specs.Film.{row, longestRun, shown}
 use Rattle.pacing.specs.Shown.{once-in, loop-in}
 use Rattle.pacing.specs.Lead.{lead-above, lead-attained, lead-only}
 use Rattle.pacing.specs.Streams.{capOf, cap-some, cap-visits, overhead-entry, load, streams-le, streams-fits, streams-best, streams-only, streams-none}
-use Rattle.plan.specs.Plan.{timeOn, positionOf, timeOf, firstOf, othersOf, entriesOf, worst2Of, worstAtOf, overOf, streamsOf, filmOf, leadOf}
-use Rattle.plan.specs.Legal.{over-rises}
+use Rattle.pacing.specs.Shelves.{worstShelf}
+use Rattle.plan.specs.Plan.{timeOn, positionIn, timeIn, firstIn, othersIn, entriesOf, worst2In, worst2Of, worstFilmOf, worstAtOf, overOf, streamsOf}
+use Rattle.plan.specs.Plan.{filmAt, leadIn}
+use Rattle.plan.specs.Legal.{film-two, film-named, some-film, lead-own, over-rises}
 use Rattle.plan.specs.Answer.{planFault}
-use Rattle.plan.specs.Greatest.{IsRun, Starts, GreatestRun, TooMany, MostStreams, pairOf, EarliestPair}
+use Rattle.plan.specs.Greatest.{IsRun, Starts, GreatestRun, TooMany, MostStreams, pairIn, pairsIn, EarliestPair}
 
 module _ (N : ℕ) (time position : ℕ → ℕ) (others : ℕ → List ℕ) where
   -- a run stays within the film
@@ -47,27 +51,36 @@ in-run one N time position others j b h u r = once-out N time position others j 
 in-run pairs N time position others j b h u r = once-out N time position others j b h r
 in-run loop N time position others j b h u r = u
 
-module _ (x : Showing) (f : Figures) where
+module _ (x : Showing) (f : Figures) (ok : Legal (visitsOf x) f) where
   -- ---- lead
 
+  -- what has a lead has a name
+  starts-named : (y : Showing) (i b : ℕ) → i < f .films → Starts y (lengthIn f i) b → b < nameStep
+  starts-named one i b u h = omega (arith, film-named f ok i u)
+  starts-named loop i b u h = omega (arith, film-named f ok i u)
+  starts-named pairs i b u h = omega (arith, film-named f ok i u)
+
   -- the lead is that number
-  pub lead-greatest : (b : ℕ) → Starts x (f .blocks) b → GreatestRun x f b (leadOf x f b)
-  lead-greatest b h =
-      let (j, u, r, e) = lead-attained (filmOf x f) (worst2Of x f) b in
+  pub lead-greatest : (i b : ℕ) → i < f .films → Starts x (lengthIn f i) b → GreatestRun x f i b (leadIn x f i b)
+  lead-greatest i b l h =
+      let e = lead-own x f ok i b l (starts-named x i b l h) in
+      let (j, u, r, d) = lead-attained (filmAt x f i) (worst2Of x f) b in
       record {
-        above = λ j u. let v = run-in x (f .blocks) (timeOf x f) (firstOf x f) (othersOf x f) j b h u in
-            lead-above (filmOf x f) (worst2Of x f) j b (v .0) (v .1);
-        reached = (j, in-run x (f .blocks) (timeOf x f) (firstOf x f) (othersOf x f) j b h u r, e);
+        above = λ j u. let v = run-in x (lengthIn f i) (timeIn x f i) (firstIn x f i) (othersIn x f i) j b h u in
+            omega (arith, e, lead-above (filmAt x f i) (worst2Of x f) j b (v .0) (v .1));
+        reached = (j, in-run x (lengthIn f i) (timeIn x f i) (firstIn x f i) (othersIn x f i) j b h u r, omega (arith, e, d));
       }
 
   -- and no other is
-  pub greatest-lead : (b m : ℕ) → Starts x (f .blocks) b → GreatestRun x f b m → m ≡ leadOf x f b
-  greatest-lead b m h g =
+  pub greatest-lead : (i b m : ℕ) → i < f .films → Starts x (lengthIn f i) b → GreatestRun x f i b m → m ≡ leadIn x f i b
+  greatest-lead i b m l h g =
       let (j, u, e) = g .reached in
-      let v = run-in x (f .blocks) (timeOf x f) (firstOf x f) (othersOf x f) j b h u in
-      lead-only (filmOf x f) (worst2Of x f) m b
-      (λ k u r. g .above k (in-run x (f .blocks) (timeOf x f) (firstOf x f) (othersOf x f) k b h u r)) j (v .0) (v .1) e
+      let v = run-in x (lengthIn f i) (timeIn x f i) (firstIn x f i) (othersIn x f i) j b h u in
+      lead-only (filmAt x f i) (worst2Of x f) m b
+      (λ k u r. g .above k (in-run x (lengthIn f i) (timeIn x f i) (firstIn x f i) (othersIn x f i) k b h u r)) j (v .0) (v .1) e
+      ∙ sym (lead-own x f ok i b l (starts-named x i b l h))
 
+module _ (x : Showing) (f : Figures) where
   -- ---- streams
 
   -- the load of n streams, in the table's words
@@ -103,7 +116,7 @@ module _ (x : Showing) (f : Figures) where
   -- only where no number fits
   pub none-fits : (np nl : ℕ) → planFault x f np nl ≡ noStream → (n : ℕ) → 1 ≤ n → n ≤ capOf x → TooMany x f n
   unfolding planFault
-  none-fits np nl e n l u = too-many n (go (ltb np (entriesOf x f) || ltb nl (f .blocks)) (eqb (streamsOf x f) 0) refl e) u
+  none-fits np nl e n l u = too-many n (go (ltb np (entriesOf x f) || ltb nl (blocksOf f)) (eqb (streamsOf x f) 0) refl e) u
     where
       go : (s t : Bool) → eqb (streamsOf x f) 0 ≡ t → _≡_ {A = ℕ} (cond s tooShort (cond t noStream 0)) noStream → streamsOf x f < n
       go true t q e = absurd (omega arith)
@@ -111,30 +124,42 @@ module _ (x : Showing) (f : Figures) where
       go false false q e = absurd (omega arith)
 
   -- and always where not even one does
-  pub one-fails : Legal (visitsOf x) f → (np nl : ℕ) → entriesOf x f ≤ np → f .blocks ≤ nl → TooMany x f 1 → planFault x f np nl ≡ noStream
+  pub one-fails : Legal (visitsOf x) f → (np nl : ℕ) → entriesOf x f ≤ np → blocksOf f ≤ nl → TooMany x f 1 → planFault x f np nl ≡ noStream
   unfolding planFault streamsOf
   one-fails ok np nl p l h =
       let none = streams-none (capOf x) (f .rate) (worst2Of x f) (overOf x f) (f .bytes) (over-rises x f ok)
       (omega (arith, load-entry 1 (cap-some x))) in
-      rw (le-ltb np (entriesOf x f) p, le-ltb nl (f .blocks) l, none)
+      rw (le-ltb np (entriesOf x f) p, le-ltb nl (blocksOf f) l, none)
 
-  -- ---- the worst pair
+-- ---- the worst pair
 
-  worst-is : worst2Of x f ≡ greatestOf (pairOf x f) (pairsOf x (f .blocks))
-  unfolding worst2Of
-  worst-is = worst-pair x (timeOn f) (positionOf x f) (f .blocks)
+module _ (x : Showing) (f : Figures) (ok : Legal (visitsOf x) f) where
+  -- a film's own worst time is the most that a pair of it takes
+  own-is : (i : ℕ) → worst2In x f i ≡ greatestOf (pairIn x f i) (pairsIn x f i)
+  own-is i = worst-pair x (timeOn f) (positionIn x f i) (lengthIn f i)
+
+  pairs-some : (i : ℕ) → i < f .films → (0 < pairsIn x f i) × (pairsIn x f i ≤ lengthIn f i)
+  pairs-some i u = some-pairs x (lengthIn f i) (film-two f ok i u)
+
+  -- the block that the plan names takes the most of all, and is the earliest
+  pair-through : EarliestThrough (pairIn x f) (pairsIn x f) (lengthIn f) (f .films) (worst2Of x f) (worstAtOf x f)
+  unfolding worst2Of worstShelf worstFilmOf worstAtOf worstAt
+  pair-through =
+      let e = earliest-is (worst2In x f) (f .films) (some-film f ok) in
+      let i = worstFilmOf x f in
+      let same = sym (own-is i) ∙ e .reached in
+      subst (λ (w : ℕ). EarliestThrough (pairIn x f) (pairsIn x f) (lengthIn f) (f .films) w (worstAtOf x f)) same
+      (through-is (pairIn x f) (pairsIn x f) (lengthIn f) (f .films) (λ j u. pairs-some j u .1) i (e .below) (pairs-some i (e .below) .0)
+      (λ j u. omega (arith, own-is j, own-is i, e .reached, greatestOf-above (worst2In x f) (f .films) j u))
+      (λ j u s. omega (arith, own-is j, own-is i, e .reached, e .first j u)))
 
   -- the block that the plan names is that one
-  pub pair-earliest : Legal (visitsOf x) f → EarliestPair x f (worstAtOf x f)
-  unfolding worstAtOf worstAt
-  pair-earliest ok =
-      let e = earliest-is (pairOf x f) (pairsOf x (f .blocks)) (some-pairs x (f .blocks) (omega (arith, ok .blocks)) .0) in
-      record { pair = e .below; worst = omega (arith, e .reached, worst-is); first = λ a u. omega (arith, e .first a u, worst-is) }
+  pub pair-earliest : EarliestPair x f (worstAtOf x f)
+  pair-earliest = record { pair = pair-through .here; first = pair-through .first }
 
   -- and no other is
   pub earliest-pair : (b : ℕ) → EarliestPair x f b → b ≡ worstAtOf x f
-  unfolding worstAtOf worstAt
   earliest-pair b p =
-      let here : Earliest (pairOf x f) (pairsOf x (f .blocks)) b =
-      record { below = p .pair; reached = omega (arith, p .worst, worst-is); first = λ a u. omega (arith, p .first a u, worst-is) } in
-      earliest-unique (pairOf x f) (pairsOf x (f .blocks)) b _ here (earliest-is (pairOf x f) (pairsOf x (f .blocks)) (omega (arith, p .pair)))
+      let here : EarliestThrough (pairIn x f) (pairsIn x f) (lengthIn f) (f .films) (worst2Of x f) b =
+      record { here = p .pair; above = pair-through .above; first = p .first } in
+      through-only (pairIn x f) (pairsIn x f) (lengthIn f) (f .films) _ _ b _ here pair-through .1

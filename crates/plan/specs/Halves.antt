@@ -1,56 +1,65 @@
--- Half blocks on paired tracks (document 02, ticket 11): what the plan of them is, in the ticket's words, and that no matching is better.
+-- Half blocks on paired tracks (document 02, ticket 11): what the plan of them is, in the ticket's words, and that no matching is better; of each
+-- film of a shelf (ticket 14) on the positions that are free for it.
 -- Assumes nothing.
 use Prim.Native.Nat.{ℕ, suc, _+_, _*_, _-_, _≤_, _<_}
-use mathlib.Core.Path.{_≡_, refl, ap, _∙_}
+use mathlib.Core.Path.{_≡_, refl, sym, ap, _∙_}
+use mathlib.Core.Logic.{_≢_}
 use native.Mathlib.Omega.{arith}
 use lib.ListN.{getD}
+use Rattle.laws.specs.Greatest.{greatestOf}
 use Rattle.numbers.specs.Limits.{maxPairStreams}
 use Rattle.numbers.specs.Units.{parts, micros}
 use Rattle.card.specs.declared.Figures.{Figures}
-use Rattle.card.specs.Card.{Legal, totalPositions}
+use Rattle.card.specs.Card.{Legal, lengthIn}
 use Rattle.placement.specs.Placement.{Laying, zigzag-even, zigzag-odd}
 use Rattle.placement.specs.Pairs.{worstMatch}
-use Rattle.placement.specs.Showing.{pairs, laying-high}
+use Rattle.placement.specs.Showing.{pairs, laying-high, greatest-twice}
 use Rattle.pacing.specs.Streams.{overhead-entry, load, bufferOf}
-use Rattle.plan.specs.Plan.{timeOn, positionOf, timeOf, worst2Of, worstAtOf, overOf, streamsOf, marginOf, leadOf, bufferSize}
-use Rattle.plan.specs.Legal.{legal-laying, halves-lead, halves-margin, streams-few, streams-fit}
+use Rattle.pacing.specs.Shelves.{worstShelf}
+use Rattle.plan.specs.Plan.{startIn, timeOn, freeIn, positionIn, timeIn, worst2Of, worstAtOf, overOf, streamsOf, marginOf, leadIn, bufferSize}
+use Rattle.plan.specs.Legal.{room-in, legal-laying, halves-lead, halves-margin, streams-few, streams-fit}
 use Rattle.plan.specs.GreatestLaws.{pair-earliest}
 use Rattle.plan.specs.Promise.{best-time, best-streams}
 
 module _ (f : Figures) where
-  -- p of a matching: halves 2b and 2b + 1 are block b's, and the pair that takes the most takes p
-  abbrev pub matchedTime : (ℕ → ℕ) → ℕ
-  matchedTime l = worstMatch (timeOn f) l (f .blocks)
+  -- the greatest pair time of a matching of film i: halves 2b and 2b + 1 are block b's
+  abbrev pub matchedTime : ℕ → (ℕ → ℕ) → ℕ
+  matchedTime i l = worstMatch (timeOn f) l (lengthIn f i)
 
   -- that of the plan
+  abbrev pub planTimeIn : ℕ → ℕ
+  planTimeIn i = matchedTime i (positionIn pairs f i)
+
+  -- p, the greatest of all films'
   abbrev pub planTime : ℕ
-  planTime = matchedTime (positionOf pairs f)
+  planTime = greatestOf planTimeIn (f .films)
 
   -- what the formula of streams compares with 1,000,000 × B: c × (n × p + the overhead for 2 × n visits)
   abbrev pub halvesLoad : ℕ → ℕ → ℕ
   halvesLoad p n = f .rate * (n * p + getD (f .table) (2 * n) 0)
 
-  -- a matching is no better than the plan's: p is not smaller, and with it no more streams are fed
-  pub record NoBetter (l : ℕ → ℕ) : Type 0 where
-    pub time : planTime ≤ matchedTime l
-    pub streams : (n : ℕ) → streamsOf pairs f < n → n ≤ maxPairStreams → micros * f .bytes < halvesLoad (matchedTime l) n
+  -- a matching of film i is no better than the plan's: its greatest time is not smaller, and with it, the other films' as they are, no more streams are fed
+  pub record NoBetter (i : ℕ) (l : ℕ → ℕ) : Type 0 where
+    pub time : planTimeIn i ≤ matchedTime i l
+    pub streams : (p n : ℕ) → matchedTime i l ≤ p → ((j : ℕ) → j < f .films → j ≢ i → planTimeIn j ≤ p)
+        → streamsOf pairs f < n → n ≤ maxPairStreams → micros * f .bytes < halvesLoad p n
 
   -- the plan of half blocks
   pub record HalvesPlan : Type 0 where
-    -- the 2 × N highest positions, no two alike, and of each block the lower first
-    pub matching : Laying (totalPositions f) (2 * f .blocks) (positionOf pairs f)
-    pub highest : (v : ℕ) → v < 2 * f .blocks → totalPositions f - 2 * f .blocks ≤ positionOf pairs f v
-    pub lower-first : (b : ℕ) → b < f .blocks → positionOf pairs f (2 * b) < positionOf pairs f (suc (2 * b))
+    -- of each film the 2 × N highest of the free positions, no two alike, and of each block the lower first
+    pub matching : (i : ℕ) → i < f .films → Laying (freeIn pairs f i) (2 * lengthIn f i) (positionIn pairs f i)
+    pub highest : (i v : ℕ) → i < f .films → v < 2 * lengthIn f i → freeIn pairs f i - 2 * lengthIn f i ≤ positionIn pairs f i v
+    pub lower-first : (i b : ℕ) → i < f .films → b < lengthIn f i → positionIn pairs f i (2 * b) < positionIn pairs f i (suc (2 * b))
     -- a block's time is its pair's
-    pub time : (b : ℕ) → timeOf pairs f b ≡ timeOn f (positionOf pairs f (2 * b)) + timeOn f (positionOf pairs f (suc (2 * b)))
+    pub time : (i b : ℕ) → timeIn pairs f i b ≡ timeOn f (positionIn pairs f i (2 * b)) + timeOn f (positionIn pairs f i (suc (2 * b)))
     pub streams : 0 < streamsOf pairs f → (streamsOf pairs f ≤ maxPairStreams) × (halvesLoad planTime (streamsOf pairs f) ≤ micros * f .bytes)
     pub buffer : bufferSize pairs f ≡ 3 * f .bytes
-    pub leads : (b : ℕ) → b < f .blocks → leadOf pairs f b ≡ 0
+    pub leads : (i b : ℕ) → i < f .films → b < lengthIn f i → leadIn pairs f i b ≡ 0
     pub margin : marginOf pairs f ≡ 0
     pub worst2 : worst2Of pairs f ≡ 2 * planTime
-    -- the first block taking p
-    pub worstat : (worstAtOf pairs f < f .blocks) × (timeOf pairs f (worstAtOf pairs f) ≡ planTime)
-    pub before : (b : ℕ) → b < worstAtOf pairs f → timeOf pairs f b < planTime
+    -- the first block taking p, counted through the films
+    pub worstat : (i : ℕ) × (b : ℕ) × (i < f .films) × (b < lengthIn f i) × (worstAtOf pairs f ≡ startIn f i + b) × (timeIn pairs f i b ≡ planTime)
+    pub before : (i b : ℕ) → i < f .films → b < lengthIn f i → startIn f i + b < worstAtOf pairs f → timeIn pairs f i b < planTime
 
   -- both sides of the formula are twice those of document 01's
   halves-load : (p n : ℕ) → n ≤ maxPairStreams → load (f .rate) (2 * p) (overOf pairs f) n ≡ 2 * halvesLoad p n
@@ -63,21 +72,22 @@ module _ (f : Figures) where
       twice c o = omega arith
 
   worst-twice : worst2Of pairs f ≡ 2 * planTime
-  unfolding worst2Of
-  worst-twice = refl
+  unfolding worst2Of worstShelf
+  worst-twice = sym (greatest-twice planTimeIn (f .films))
 
   module _ (ok : Legal 2 f) where
     -- NO MATCHING IS BETTER
-    pub no-matching-better : (l : ℕ → ℕ) → Laying (totalPositions f) (2 * f .blocks) l → NoBetter l
-    no-matching-better l lay = record {
-      time = omega (arith, best-time pairs f ok l lay, worst-twice);
-      streams = λ n h u. omega (arith, best-streams pairs f ok l lay n h u, halves-load (matchedTime l) n u);
+    pub no-matching-better : (i : ℕ) → i < f .films → (l : ℕ → ℕ) → Laying (freeIn pairs f i) (2 * lengthIn f i) l → NoBetter i l
+    no-matching-better i u l lay = record {
+      time = omega (arith, best-time pairs f ok i u l lay);
+      streams = λ p n h others m k.
+          omega (arith, best-streams pairs f ok i u l lay (2 * p) n (omega arith) (λ j v d. omega (arith, others j v d)) m k, halves-load p n k);
     }
 
-    lower : (b : ℕ) → b < f .blocks → positionOf pairs f (2 * b) < positionOf pairs f (suc (2 * b))
-    lower b u =
+    lower : (i b : ℕ) → i < f .films → b < lengthIn f i → positionIn pairs f i (2 * b) < positionIn pairs f i (suc (2 * b))
+    lower i b u h =
         let e : suc (2 * b) ≡ 2 * b + 1 = omega arith in
-        rw (zigzag-even (totalPositions f) (2 * f .blocks) b, e, zigzag-odd (totalPositions f) (2 * f .blocks) b) (omega (arith, ok .room))
+        rw (zigzag-even (freeIn pairs f i) (2 * lengthIn f i) b, e, zigzag-odd (freeIn pairs f i) (2 * lengthIn f i) b) (omega (arith, room-in pairs f ok i u))
 
     fed : 0 < streamsOf pairs f → halvesLoad planTime (streamsOf pairs f) ≤ micros * f .bytes
     fed h =
@@ -91,16 +101,17 @@ module _ (f : Figures) where
     pub halves-plan : HalvesPlan
     halves-plan =
         let e = pair-earliest pairs f ok in
+        let (i, b, u, h, at, takes) = e .pair in
         record {
           matching = legal-laying pairs f ok;
-          highest = λ v u. laying-high pairs (totalPositions f) (f .blocks) v (ok .room) u;
+          highest = λ i v u h. laying-high pairs (freeIn pairs f i) (lengthIn f i) v (room-in pairs f ok i u) h;
           lower-first = lower;
-          time = λ b. refl;
+          time = λ i b. refl;
           streams = λ h. (streams-few pairs f ok, fed h);
           buffer = three;
-          leads = halves-lead f;
+          leads = halves-lead f ok;
           margin = halves-margin f;
           worst2 = worst-twice;
-          worstat = (e .pair, omega (arith, e .worst, worst-twice));
-          before = λ b u. omega (arith, e .first b u, worst-twice);
+          worstat = (i, b, u, h, at, omega (arith, takes, worst-twice));
+          before = λ i b u h l. omega (arith, e .first i b u h l, worst-twice);
         }

@@ -6,10 +6,12 @@ pub mod Halves
 pub mod GreatestLaws
 pub mod Legal
 pub mod Lent
+pub mod Names
 pub mod Plan
 pub mod Promise
 pub mod Rows
 pub mod Films
+pub mod FilmWalk
 pub mod Scratch
 pub mod ScratchLaws
 pub mod Ways

@@ -1,7 +1,7 @@
 -- Rows of entries, and lists that begin with them.
 -- Assumes nothing.
 use Prim.Native.Nat.{ℕ, zero, suc, _+_, _≤_, _<_}
-use mathlib.Core.Path.{_≡_, refl, sym, ap, ap₂, _∙_}
+use mathlib.Core.Path.{_≡_, refl, sym, ap, _∙_}
 use mathlib.Core.Bool.{true, false, _&&_, and-assoc}
 use mathlib.Core.List.{List, [], _∷_, _++_}
 use native.Mathlib.Omega.{arith}
@@ -47,11 +47,12 @@ begins-at g b (suc n) (w ∷ ws) e zero u = let z : b ≡ b + 0 = omega arith in
 begins-at g b (suc n) (w ∷ ws) e (suc k) u = let z : suc b + k ≡ b + suc k = omega arith in
     begins-at g (suc b) n ws (and-right (eqb w (g b)) _ e) k (omega arith) ∙ ap g z
 
-pub begins-long : (g : ℕ → ℕ) (b n : ℕ) (ws : List ℕ) → begins (row g b n) ws ≡ true → n ≤ length ws
-unfolding begins row
-begins-long g b zero ws e = omega arith
-begins-long g b (suc n) [] e = clash e refl
-begins-long g b (suc n) (w ∷ ws) e = omega (arith, begins-long g (suc b) n ws (and-right (eqb w (g b)) _ e))
+-- and is as long
+pub begins-long : (vs ws : List ℕ) → begins vs ws ≡ true → length vs ≤ length ws
+unfolding begins
+begins-long [] ws e = omega arith
+begins-long (v ∷ vs) [] e = clash e refl
+begins-long (v ∷ vs) (w ∷ ws) e = omega (arith, begins-long vs ws (and-right (eqb w v) _ e))
 
 -- a list begins with itself
 pub begins-self : (vs : List ℕ) → begins vs vs ≡ true
@@ -60,8 +61,11 @@ begins-self [] = refl
 begins-self (v ∷ vs) = and-both (eq-eqb v v refl) (begins-self vs)
 
 -- a shorter list does not begin with them
+pub begins-none : (vs ws : List ℕ) → length ws < length vs → false ≡ begins vs ws
+begins-none vs ws h = sym (is-false (begins vs ws) (λ e. omega (arith, begins-long vs ws e)))
+
 pub begins-short : (g : ℕ → ℕ) (b n : ℕ) (ws : List ℕ) → length ws < n → begins (row g b n) ws ≡ false
-begins-short g b n ws h = is-false (begins (row g b n) ws) (λ e. omega (arith, begins-long g b n ws e))
+begins-short g b n ws h = sym (begins-none (row g b n) ws (omega (arith, row-length g b n)))
 
 -- a list whose first entries they are
 pub take-begins : (vs ws : List ℕ) → take (length vs) ws ≡ vs → begins vs ws ≡ true

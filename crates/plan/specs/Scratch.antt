@@ -15,7 +15,7 @@ use Rattle.plan.specs.declared.Planned.{Planned}
 use Rattle.plan.specs.Plan.{showingIn, leadsOf}
 use Rattle.plan.specs.Answer.{planned, positionsAfter, leadsAfter}
 
--- the film's own lead list, as bytes
+-- the films' own lead list, as bytes
 unfoldable pub ownLeads : Showing → Figures → List ℕ
 ownLeads x f = bytesOf (leadsOf x f)
 
@@ -25,7 +25,7 @@ scratchShort s = ltb (length (wordsOf s)) scratchLength
 
 -- ---- the planner (T10.1)
 
--- the lead list in whose place a scratch stands: the film's own, or none where the scratch is too short, which is then 13 in 13's place
+-- the lead list in whose place a scratch stands: the films' own, or none where the scratch is too short, which is then 13 in 13's place
 unfoldable pub scratchLeads : Showing → Figures → List ℕ → List ℕ
 scratchLeads x f s = cond (scratchShort s) [] (ownLeads x f)
 
@@ -46,11 +46,11 @@ leadsLent listed x f ls = cond listed ls (scratchLeads x f ls)
 abbrev pub lentAfter : Bool → Showing → CardRead → List ℕ → List ℕ → List ℕ
 lentAfter listed x r ps ls = cond listed (leadsAfter x r ps ls) ls
 
--- the entries asked of it: N of a lead list, 512 of a scratch
+-- the entries asked of it: n of a lead list, one for each block, 512 of a scratch
 abbrev pub entriesAsked : Bool → ℕ → ℕ
 entriesAsked listed n = cond listed n scratchLength
 
--- is it too short, or the positions list of a film of n blocks with v positions each?
+-- is it too short, or the positions list of n blocks with v positions each?
 abbrev pub listsShort : Bool → ℕ → ℕ → List ℕ → List ℕ → Bool
 listsShort listed v n ps ls = ltb (length (wordsOf ps)) (v * n) || ltb (length (wordsOf ls)) (entriesAsked listed n)
 

@@ -2,36 +2,34 @@
 -- Assumes nothing.
 use Prim.Native.Nat.{ℕ, _≤_, _<_}
 use mathlib.Core.Path.{_≡_, refl, sym, ap, _∙_}
-use mathlib.Core.List.{List, []}
-use mathlib.Core.Bool.{Bool, true, false, not, _&&_, _||_, and-true}
-use native.Mathlib.Omega.{arith}
+use mathlib.Core.List.{List}
+use mathlib.Core.Bool.{Bool, true, false, not, _&&_, _||_}
 use lib.ListN.{length}
 use borrow.Author.Tests.{lt-ltb, le-ltb}
-use Rattle.laws.specs.Bools.{and-both}
 use Rattle.numbers.specs.Limits.{scratchLength}
-use Rattle.words.specs.Words.{wordsOf, bytesOf}
+use Rattle.words.specs.Words.{wordsOf}
 use Rattle.words.specs.Laws.{words-bytes, bytes-entries}
 use Rattle.card.specs.declared.Figures.{Figures}
-use Rattle.card.specs.Card.{Legal}
+use Rattle.card.specs.Card.{Legal, blocksOf}
 use Rattle.legality.specs.Legality.{Wide}
 use Rattle.placement.specs.Showing.{Showing, visitsOf}
 use Rattle.plan.specs.declared.Plan.{Plan}
-use Rattle.plan.specs.Plan.{showingIn, leadOf, row, leadsOf}
-use Rattle.plan.specs.Answer.{begins, hasNumbers, hasPositions, hasLeads, isPlan}
-use Rattle.plan.specs.Check.{numbered, row-words}
-use Rattle.plan.specs.Legal.{lead-small}
-use Rattle.plan.specs.Rows.{row-length, begins-self}
+use Rattle.plan.specs.Plan.{showingIn, leadsOf}
+use Rattle.plan.specs.Answer.{hasNumbers, hasPositions, hasLeads, isPlan}
+use Rattle.plan.specs.Check.{numbered}
+use Rattle.plan.specs.Rows.{begins-self}
+use Rattle.plan.specs.Films.{leads-length, leads-words}
 use Rattle.plan.specs.Scratch.{ownLeads, scratchShort, scratchLeads, leadsBy}
 
--- it has N entries
-pub own-entries : (x : Showing) (f : Figures) → length (wordsOf (ownLeads x f)) ≡ f .blocks
-unfolding ownLeads leadsOf
-own-entries x f = bytes-entries (leadsOf x f) ∙ row-length (leadOf x f) 0 (f .blocks)
+-- it has an entry for each block
+pub own-entries : (x : Showing) (f : Figures) → length (wordsOf (ownLeads x f)) ≡ blocksOf f
+unfolding ownLeads
+own-entries x f = bytes-entries (leadsOf x f) ∙ leads-length x f
 
 -- and says the leads of legal figures
 pub own-words : (x : Showing) (f : Figures) → Legal (visitsOf x) f → wordsOf (ownLeads x f) ≡ leadsOf x f
-unfolding ownLeads leadsOf
-own-words x f ok = words-bytes (leadsOf x f) (row-words (leadOf x f) 0 (f .blocks) (λ b u. omega (arith, lead-small x f ok b (omega arith))))
+unfolding ownLeads
+own-words x f ok = words-bytes (leadsOf x f) (leads-words x f ok)
 
 -- a scratch by its length
 pub scratch-short : (s : List ℕ) → length (wordsOf s) < scratchLength → scratchShort s ≡ true
@@ -47,7 +45,7 @@ pub short-leads-none : (x : Showing) (f : Figures) (s : List ℕ) → scratchSho
 unfolding scratchLeads wordsOf
 short-leads-none x f s e = rw e
 
-pub long-leads-all : (x : Showing) (f : Figures) (s : List ℕ) → scratchShort s ≡ false → length (wordsOf (scratchLeads x f s)) ≡ f .blocks
+pub long-leads-all : (x : Showing) (f : Figures) (s : List ℕ) → scratchShort s ≡ false → length (wordsOf (scratchLeads x f s)) ≡ blocksOf f
 unfolding scratchLeads
 long-leads-all x f s e = rw e (own-entries x f)
 

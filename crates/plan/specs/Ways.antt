@@ -1,32 +1,34 @@
 -- Each way that the planner can answer.
 -- Assumes nothing.
-use Prim.Native.Nat.{ℕ, zero, suc, _*_, _-_, _/_, _≤_, _<_}
+use Prim.Native.Nat.{ℕ, zero, suc, _+_, _≤_, _<_}
 use mathlib.Core.Path.{_≡_, refl, sym, ap, ap₂, _∙_, subst}
 use mathlib.Core.Bool.{Bool, true, false, cond, _&&_, _||_}
 use mathlib.Core.List.{List}
-use native.Mathlib.Nat.{mul-le-mul, mul-le-mul-right, mul-pos}
 use native.Mathlib.Omega.{arith}
 use lib.ListN.{length}
 use lib.Dec.{ltb}
 use borrow.Author.Tests.{ltb-true, ltb-false, lt-ltb, le-ltb, eq-eqb, ne-eqb}
 use Rattle.laws.specs.Bools.{clash}
-use Rattle.numbers.specs.Limits.{maxPositions, maxBlocks, scratchLength}
+use Rattle.laws.specs.Greatest.{peak-same, peak-earliest}
+use Rattle.laws.specs.Through.{Found}
+use Rattle.numbers.specs.Limits.{scratchLength}
 use Rattle.numbers.specs.Refusals.{tooShort, noStream}
 use Rattle.card.specs.declared.Figures.{Figures}
 use Rattle.card.specs.declared.CardRead.{CardRead}
 use Rattle.card.specs.declared.Verdict.{Verdict}
-use Rattle.card.specs.Card.{Legal, totalPositions, recordFault, judgeRecord}
-use Rattle.card.specs.Read.{readCard}
+use Rattle.card.specs.Card.{Legal, totalPositions, lengthIn, blocksOf, recordFault, judgeRecord}
 use Rattle.legality.specs.Legality.{Wide, fault-legal}
-use Rattle.placement.specs.Showing.{Showing, visitsOf, visits-few, laying, worstOf, worstAt, walked, walked-laying, walked-worst, walked-at}
-use Rattle.words.specs.Words.{Bytes, wordsOf, withWords}
+use Rattle.placement.specs.Showing.{Showing, visitsOf, walked-worst, walked-at}
+use Rattle.pacing.specs.Shelves.{worstShelf}
+use Rattle.words.specs.Words.{wordsOf}
 use Rattle.plan.specs.declared.Plan.{Plan}
 use Rattle.plan.specs.declared.Planned.{Planned}
-use Rattle.plan.specs.Plan.{showingIn, timeOn, positionOf, entriesOf, worst2Of, worstAtOf, streamsOf, leadOf, planOf, row, positionsOf, leadsOf}
-use Rattle.plan.specs.Disk.{OnDisk, leadAt}
-use Rattle.plan.specs.Legal.{total-is, legal-disk, legal-falling, walked-lead}
+use Rattle.plan.specs.Plan.{showingIn, startIn, timeOn, freeIn, entriesOf, worst2In, worst2Of, worstFilmOf, worstAtIn, worstAtOf, streamsOf}
+use Rattle.plan.specs.Plan.{leadIn, planOf, positionsOf, leadsOf}
+use Rattle.plan.specs.Disk.{Shelved, OnShelf, shelfPositions, walkedLeads, shelfLeads, walkedWorst, walkedAt}
+use Rattle.plan.specs.Legal.{total-is, legal-disk, some-film, film-two, room-in, free-falling, margin-less, walked-lead}
 use Rattle.plan.specs.Answer.{planFault, faultAfter, refusal, answer, filled, planned, positionsAfter, leadsAfter, judged, sameNumbers, hasNumbers}
-use Rattle.plan.specs.Rows.{row-same}
+use Rattle.plan.specs.Films.{rows-same}
 use Rattle.plan.specs.Scratch.{scratchLeads, leadsLent, lentAfter, entriesAsked, listsShort}
 use Rattle.plan.specs.ScratchLaws.{scratch-short, scratch-long, short-leads-none, long-leads-all}
 
@@ -95,52 +97,52 @@ module _ (x : Showing) (f : Figures) (np nl : ℕ) where
   unfolding planFault
   short-positions h = rw (lt-ltb np (entriesOf x f) h)
 
-  pub short-leads : entriesOf x f ≤ np → nl < f .blocks → planFault x f np nl ≡ tooShort
+  pub short-leads : entriesOf x f ≤ np → nl < blocksOf f → planFault x f np nl ≡ tooShort
   unfolding planFault
-  short-leads l h = rw (le-ltb np (entriesOf x f) l, lt-ltb nl (f .blocks) h)
+  short-leads l h = rw (le-ltb np (entriesOf x f) l, lt-ltb nl (blocksOf f) h)
 
-  pub no-stream : entriesOf x f ≤ np → f .blocks ≤ nl → streamsOf x f ≡ 0 → planFault x f np nl ≡ noStream
+  pub no-stream : entriesOf x f ≤ np → blocksOf f ≤ nl → streamsOf x f ≡ 0 → planFault x f np nl ≡ noStream
   unfolding planFault
-  no-stream l m e = rw (le-ltb np (entriesOf x f) l, le-ltb nl (f .blocks) m, eq-eqb (streamsOf x f) 0 e)
+  no-stream l m e = rw (le-ltb np (entriesOf x f) l, le-ltb nl (blocksOf f) m, eq-eqb (streamsOf x f) 0 e)
 
-  pub some-stream : entriesOf x f ≤ np → f .blocks ≤ nl → (streamsOf x f ≡ 0 → ⊥) → planFault x f np nl ≡ 0
+  pub some-stream : entriesOf x f ≤ np → blocksOf f ≤ nl → (streamsOf x f ≡ 0 → ⊥) → planFault x f np nl ≡ 0
   unfolding planFault
-  some-stream l m e = rw (le-ltb np (entriesOf x f) l, le-ltb nl (f .blocks) m, ne-eqb (streamsOf x f) 0 e)
+  some-stream l m e = rw (le-ltb np (entriesOf x f) l, le-ltb nl (blocksOf f) m, ne-eqb (streamsOf x f) 0 e)
 
 -- the two lengths, with a lead list or with a scratch
 module _ (listed : Bool) (x : Showing) (f : Figures) (ps ls : List ℕ) where
   -- one is too short: 13
-  pub lent-short : 0 < f .blocks → listsShort listed (visitsOf x) (f .blocks) ps ls ≡ true
+  pub lent-short : 0 < blocksOf f → listsShort listed (visitsOf x) (blocksOf f) ps ls ≡ true
       → planFault x f (length (wordsOf ps)) (length (wordsOf (leadsLent listed x f ls))) ≡ tooShort
   unfolding planFault
   lent-short some e = go listed e
     where
-      alone : (t : Bool) → (t || ltb (length (wordsOf ls)) scratchLength) ≡ true → (t || ltb (length (wordsOf (scratchLeads x f ls))) (f .blocks)) ≡ true
+      alone : (t : Bool) → (t || ltb (length (wordsOf ls)) scratchLength) ≡ true → (t || ltb (length (wordsOf (scratchLeads x f ls))) (blocksOf f)) ≡ true
       alone true h = refl
       alone false h =
           let none = short-leads-none x f ls (scratch-short ls (ltb-true (length (wordsOf ls)) scratchLength h)) in
-          lt-ltb (length (wordsOf (scratchLeads x f ls))) (f .blocks) (omega arith)
+          lt-ltb (length (wordsOf (scratchLeads x f ls))) (blocksOf f) (omega arith)
 
-      go : (b : Bool) → listsShort b (visitsOf x) (f .blocks) ps ls ≡ true
+      go : (b : Bool) → listsShort b (visitsOf x) (blocksOf f) ps ls ≡ true
           → planFault x f (length (wordsOf ps)) (length (wordsOf (leadsLent b x f ls))) ≡ tooShort
       go true h = rw h
       go false h = rw (alone (ltb (length (wordsOf ps)) (entriesOf x f)) h)
 
   -- neither is: each has its entries
-  pub lent-long : listsShort listed (visitsOf x) (f .blocks) ps ls ≡ false
-      → (entriesOf x f ≤ length (wordsOf ps)) × (f .blocks ≤ length (wordsOf (leadsLent listed x f ls)))
-      × (entriesAsked listed (f .blocks) ≤ length (wordsOf ls))
+  pub lent-long : listsShort listed (visitsOf x) (blocksOf f) ps ls ≡ false
+      → (entriesOf x f ≤ length (wordsOf ps)) × (blocksOf f ≤ length (wordsOf (leadsLent listed x f ls)))
+      × (entriesAsked listed (blocksOf f) ≤ length (wordsOf ls))
   lent-long e = go listed e
     where
       neither : (a b : Bool) → (a || b) ≡ false → (a ≡ false) × (b ≡ false)
       neither true b h = clash refl h
       neither false b h = (refl, h)
 
-      go : (b : Bool) → listsShort b (visitsOf x) (f .blocks) ps ls ≡ false
-          → (entriesOf x f ≤ length (wordsOf ps)) × (f .blocks ≤ length (wordsOf (leadsLent b x f ls))) × (entriesAsked b (f .blocks) ≤ length (wordsOf ls))
+      go : (b : Bool) → listsShort b (visitsOf x) (blocksOf f) ps ls ≡ false
+          → (entriesOf x f ≤ length (wordsOf ps)) × (blocksOf f ≤ length (wordsOf (leadsLent b x f ls))) × (entriesAsked b (blocksOf f) ≤ length (wordsOf ls))
       go true h =
-          let n = neither (ltb (length (wordsOf ps)) (entriesOf x f)) (ltb (length (wordsOf ls)) (f .blocks)) h in
-          let l = ltb-false (length (wordsOf ls)) (f .blocks) (n .1) in
+          let n = neither (ltb (length (wordsOf ps)) (entriesOf x f)) (ltb (length (wordsOf ls)) (blocksOf f)) h in
+          let l = ltb-false (length (wordsOf ls)) (blocksOf f) (n .1) in
           (ltb-false (length (wordsOf ps)) (entriesOf x f) (n .0), l, l)
       go false h =
           let n = neither (ltb (length (wordsOf ps)) (entriesOf x f)) (ltb (length (wordsOf ls)) scratchLength) h in
@@ -158,65 +160,59 @@ pub plan-worst2 : (x : Showing) (f : Figures) (p : Plan) → p ≡ planOf x f �
 unfolding planOf
 plan-worst2 x f p e = ap (λ (q : Plan). q .worst2) e
 
+-- t being P, the films of legal figures as the code walks them
 module _ (x : Showing) (f : Figures) (ok : Legal (visitsOf x) f) (t : ℕ) (e : t ≡ totalPositions f) where
-  -- the film's visits, as the code walks them
-  pub film-on : OnDisk (f .positions) (f .times) t (entriesOf x f)
-  film-on = record {
-    disk = legal-disk f ok;
-    whole = omega (arith, e, total-is f ok);
-    some = mul-pos (visits-few x .0) (omega (arith, ok .blocks));
+  pub shelved : Shelved x t (f .blocks) (f .films)
+  shelved = record {
+    wide = ok .wide .2;
+    few = ok .films .1;
+    each = λ i u. omega (arith, ok .blocks i u);
+    all = ok .all;
     room = omega (arith, ok .room);
+    small = omega (arith, ok .total);
   }
 
-  pub small-on : t ≤ maxPositions
-  small-on = omega (arith, ok .total)
+  pub on-shelf : OnShelf (f .positions) (f .times) x t (f .blocks) (f .films)
+  on-shelf = record { disk = legal-disk f ok; whole = omega (arith, e, total-is f ok); films = shelved }
 
-  pub worst2-is : visitsOf x * worstOf (walked x) (timeOn f) (laying (walked x) t (entriesOf x f)) (entriesOf x f) ≡ worst2Of x f
-  unfolding worst2Of
-  worst2-is =
-      ap (λ (n : ℕ). visitsOf x * worstOf (walked x) (timeOn f) (laying (walked x) n (entriesOf x f)) (entriesOf x f)) e
-      ∙ walked-worst (totalPositions f) (f .blocks) (timeOn f) (legal-falling f ok) x (ok .room)
-
-  pub worstAt-is : worstAt (walked x) (timeOn f) (laying (walked x) t (entriesOf x f)) (entriesOf x f) / visitsOf x ≡ worstAtOf x f
-  unfolding worstAtOf
-  worstAt-is =
-      ap (λ (n : ℕ). worstAt (walked x) (timeOn f) (laying (walked x) n (entriesOf x f)) (entriesOf x f) / visitsOf x) e
-      ∙ walked-at (totalPositions f) (f .blocks) (timeOn f) (legal-falling f ok) x (ok .room) (omega (arith, ok .blocks))
-
-  pub positions-are : row (laying (walked x) t (entriesOf x f)) 0 (entriesOf x f) ≡ positionsOf x f
+  -- the positions are written film by film
+  pub positions-are : shelfPositions x t (f .blocks) (f .films) ≡ positionsOf x f
   unfolding positionsOf
-  positions-are =
-      ap (λ (n : ℕ). row (laying (walked x) n (entriesOf x f)) 0 (entriesOf x f)) e
-      ∙ ap (λ (l : ℕ → ℕ). row l 0 (entriesOf x f)) (walked-laying x (totalPositions f) (f .blocks))
+  positions-are = ap (λ (n : ℕ). shelfPositions x n (f .blocks) (f .films)) e
 
-  -- of its N blocks alone
-  pub blocks-on : OnDisk (f .positions) (f .times) t (f .blocks)
-  blocks-on = record {
-    disk = legal-disk f ok;
-    whole = omega (arith, e, total-is f ok);
-    some = omega (arith, ok .blocks);
-    room = omega (arith, ok .room, mul-le-mul-right (f .blocks) (visits-few x .0));
-  }
+  -- and the leads, by the walk of one visit a block: of half blocks each is 0, a half taking less than both
+  pub leads-are : (w : ℕ) → w ≡ worst2Of x f → shelfLeads (f .positions) (f .times) x t (f .blocks) w (f .films) ≡ leadsOf x f
+  unfolding leadsOf
+  leads-are w d =
+      ap₂ (λ (n v : ℕ). shelfLeads (f .positions) (f .times) x n (f .blocks) v (f .films)) e d
+      ∙ rows-same (walkedLeads (f .positions) (f .times) x (totalPositions f) (f .blocks) (worst2Of x f)) (leadIn x f) (lengthIn f) (f .films)
+      (λ i b u h. sym (walked-lead x f ok i b u h))
 
--- the same with the visits of a block as the code has them
-module _ (x : Showing) (f : Figures) (ok : Legal (visitsOf x) f) (t : ℕ) (e : t ≡ totalPositions f) (v : ℕ) (q : v ≡ visitsOf x) where
-  pub all-on : OnDisk (f .positions) (f .times) t (v * f .blocks)
-  all-on = subst (λ (n : ℕ). OnDisk (f .positions) (f .times) t (n * f .blocks)) (sym q) (film-on x f ok t e)
+  -- film i's own worst pair
+  module _ (i : ℕ) (u : i < f .films) where
+    worst2-is : walkedWorst (f .positions) (f .times) x t (f .blocks) i ≡ worst2In x f i
+    worst2-is =
+        ap (λ (n : ℕ). walkedWorst (f .positions) (f .times) x n (f .blocks) i) e
+        ∙ walked-worst (freeIn x f i) (lengthIn f i) (timeOn f) (free-falling x f ok i) x (room-in x f ok i u)
 
-  pub all-few : v * f .blocks ≤ 2 * maxBlocks
-  all-few = let few : v ≤ 2 = omega (arith, visits-few x) in mul-le-mul few (ok .blocks .1)
+    worstAt-is : walkedAt (f .positions) (f .times) x t (f .blocks) i ≡ worstAtIn x f i
+    worstAt-is =
+        ap (λ (n : ℕ). walkedAt (f .positions) (f .times) x n (f .blocks) i) e
+        ∙ ap (λ (b : ℕ). startIn f i + b)
+        (walked-at (freeIn x f i) (lengthIn f i) (timeOn f) (free-falling x f ok i) x (room-in x f ok i u) (omega (arith, film-two f ok i u)))
 
-  pub all-positions : row (laying (walked x) t (v * f .blocks)) 0 (v * f .blocks) ≡ positionsOf x f
-  all-positions = ap (λ (n : ℕ). row (laying (walked x) t (n * f .blocks)) 0 (n * f .blocks)) q ∙ positions-are x f ok t e
-
--- the leads, by the walk of one visit a block: of half blocks each is 0, a half taking less than both
-pub leads-are : (x : Showing) (f : Figures) → Legal (visitsOf x) f → (t : ℕ) → t ≡ totalPositions f → (w : ℕ) → w ≡ worst2Of x f
-    → row (leadAt (f .positions) (f .times) (laying (walked x) t (f .blocks)) w) 0 (f .blocks) ≡ leadsOf x f
-unfolding leadsOf
-leads-are x f ok t e w d =
-    ap₂ (λ (n v : ℕ). row (leadAt (f .positions) (f .times) (laying (walked x) n (f .blocks)) v) 0 (f .blocks)) e d
-    ∙ row-same (leadAt (f .positions) (f .times) (laying (walked x) (totalPositions f) (f .blocks)) (worst2Of x f)) (leadOf x f) 0 (f .blocks)
-    (λ b l u. sym (walked-lead x f ok b (omega arith)))
+  -- THE WORST PAIR OF ALL FILMS, as a walk over them finds it
+  pub shelf-worst : (w b : ℕ)
+      → Found (walkedWorst (f .positions) (f .times) x t (f .blocks)) (walkedAt (f .positions) (f .times) x t (f .blocks)) (f .films) w b
+      → (w ≡ worst2Of x f) × (b ≡ worstAtOf x f)
+  unfolding worst2Of worstShelf worstFilmOf worstAtOf
+  shelf-worst w b d =
+      let peak = peak-same (walkedWorst (f .positions) (f .times) x t (f .blocks)) (worst2In x f) (f .films) (d .row) w worst2-is (d .peak) in
+      let film = peak-earliest (worst2In x f) (f .films) (d .row) w peak in
+      let below = peak .some (some-film f ok) .below in (
+        peak .value,
+        d .place (omega (arith, peak .value, margin-less x f ok)) ∙ worstAt-is (d .row) below ∙ ap (worstAtIn x f) film,
+      )
 
 -- ---- figures that are judged, for blocks of k positions each
 

@@ -7,16 +7,21 @@ use card::Verdict;
 use numbers::limits::SCRATCH_LENGTH;
 use numbers::showings::PAIRS;
 ghost use mathlib.Core.Path.{_≡_};
-ghost use Prim.Native.Nat.{ℕ, _*_, _≤_, _<_};
+ghost use mathlib.Core.Logic.{_≢_};
+ghost use Prim.Native.Nat.{ℕ, _+_, _*_, _≤_, _<_};
+ghost use lib.ListN.{getD};
+ghost use Rattle.laws.specs.Starts.{startOf};
+ghost use Rattle.numbers.specs.Limits.{maxFilms, maxNumber};
 ghost use Rattle.numbers.specs.Refusals.{noStream};
 ghost use Rattle.numbers.specs.Units.{parts};
 ghost use Rattle.card.specs.declared.Figures.{Figures};
-ghost use Rattle.card.specs.Card.{Legal, totalPositions};
+ghost use Rattle.card.specs.Card.{Legal, totalPositions, lengthIn, blocksOf};
 ghost use Rattle.card.specs.Read.{figuresFrom};
 ghost use Rattle.placement.specs.Placement.{Laying};
-ghost use Rattle.placement.specs.Showing.{Showing, visitsOf, worstOf};
+ghost use Rattle.placement.specs.Showing.{Showing, pairs, visitsOf, worstOf};
 ghost use Rattle.pacing.specs.Streams.{capOf, load};
-ghost use Rattle.plan.specs.Plan.{showingOf, planFrom, timeOn, positionOf, entriesOf, worst2Of, worstAtOf, overOf, streamsOf, leadOf, blankPlan};
+ghost use Rattle.plan.specs.Plan.{showingOf, planFrom, startIn, timeOn, freeIn, positionIn, entriesOf, worst2In, worst2Of, worstAtOf, overOf, streamsOf};
+ghost use Rattle.plan.specs.Plan.{leadIn, blankPlan};
 ghost use Rattle.plan.specs.Answer.{planFault, judged};
 ghost use Rattle.plan.specs.Greatest.{Starts, GreatestRun, MostStreams, TooMany, EarliestPair};
 ghost use Rattle.plan.specs.Halves.{NoBetter, HalvesPlan};
@@ -36,7 +41,7 @@ pub struct Plan {
     pub margin: u32,
     // Which showing it is: 0 once through, 1 round and round, 2 once through in half blocks.
     pub showing: u32,
-    // The first block of the worst pair, the earliest where several are equal.
+    // The first block of the worst pair, the earliest where several are equal, counted through the films.
     pub worstat: u32,
 }
 
@@ -73,16 +78,34 @@ pub fn visits_of(showing: u32) -> u32
     1
 }
 
-// The single numbers among a plan's figures.
+// The blocks of the first `films` films: all that stand in the lists before the next one.
+pub fn blocks_before(blocks: &[u32; 16], films: u32) -> u32
+    requires { ⌜ (films ≤ maxFilms) × (startOf (λ i. getD (now blocks) i 0) films ≤ maxNumber) ⌝ }
+    ensures { λ r. ⌜ r ≡ startOf (λ i. getD (now (blocks .entry)) i 0) films ⌝ }
+{
+    let count = films as usize;
+    let mut sum: u32 = 0;
+    let mut i: usize = 0;
+    while i < count {
+        sum += blocks[i];
+        i += 1;
+    }
+    sum
+}
+
+// The single numbers among a plan's figures, and its films.
 pub fn scalars_in(plan: Plan) -> Scalars
     ensures { λ r. ⌜ figuresFrom r (plan .figures .positions) (plan .figures .times) (plan .figures .table) ≡ plan .figures ⌝ }
 {
+    let figures = plan.figures;
+    let blocks = figures.blocks;
     Scalars {
-        kind: plan.figures.kind,
-        zones: plan.figures.zones,
-        blocks: plan.figures.blocks,
-        bytes: plan.figures.bytes,
-        rate: plan.figures.rate,
+        kind: figures.kind,
+        zones: figures.zones,
+        films: figures.films,
+        blocks: blocks,
+        bytes: figures.bytes,
+        rate: figures.rate,
     }
 }
 
@@ -111,7 +134,8 @@ pub fn blank_plan() -> Plan
             zones: 0,
             positions: none,
             times: none,
-            blocks: 0,
+            films: 0,
+            blocks: [0u32; 16],
             bytes: 0,
             rate: 0,
             table: [0u32; 257],
@@ -142,35 +166,48 @@ pub fn judged_figures_of(figures: Figures, visits: u32) -> CardRead
     }
 }
 
-// No laying is better, in any showing: every laying's worst time is at least worst2, and with it no number above the plan's streams meets
-// the formula. The plan's own laying is a laying and reaches worst2.
+// No laying of a film on the positions that were free for it is better, in any showing: its own worst time is at least the film's, and with it and
+// the other films' worst times as they are no number above the plan's streams meets the formula. The plan's own is a laying there, the films before
+// it lie above, and worst2 is the greatest of the films' own.
 pub fn placement_best()
-    ensures best { λ _. ⌜ ((x : Showing) (f : Figures) → Legal (visitsOf x) f → (l : ℕ → ℕ) → Laying (totalPositions f) (entriesOf x f) l
-        → (worst2Of x f ≤ worstOf x (timeOn f) l (f .blocks))
-        × ((n : ℕ) → streamsOf x f < n → n ≤ capOf x → parts * f .bytes < load (f .rate) (worstOf x (timeOn f) l (f .blocks)) (overOf x f) n)) ⌝ }
-    ensures own { λ _. ⌜ ((x : Showing) (f : Figures) → Legal (visitsOf x) f
-        → Laying (totalPositions f) (entriesOf x f) (positionOf x f) × (worstOf x (timeOn f) (positionOf x f) (f .blocks) ≡ worst2Of x f)) ⌝ }
+    ensures best { λ _. ⌜ ((x : Showing) (f : Figures) → Legal (visitsOf x) f → (i : ℕ) → i < f .films
+        → (l : ℕ → ℕ) → Laying (freeIn x f i) (visitsOf x * lengthIn f i) l
+        → (worst2In x f i ≤ worstOf x (timeOn f) l (lengthIn f i))
+        × ((w n : ℕ) → worstOf x (timeOn f) l (lengthIn f i) ≤ w → ((j : ℕ) → j < f .films → j ≢ i → worst2In x f j ≤ w)
+        → streamsOf x f < n → n ≤ capOf x → parts * f .bytes < load (f .rate) w (overOf x f) n)) ⌝ }
+    ensures own { λ _. ⌜ ((x : Showing) (f : Figures) → Legal (visitsOf x) f → (i : ℕ) → i < f .films
+        → Laying (freeIn x f i) (visitsOf x * lengthIn f i) (positionIn x f i)
+        × (worstOf x (timeOn f) (positionIn x f i) (lengthIn f i) ≡ worst2In x f i)) ⌝ }
+    ensures free { λ _. ⌜ ((x : Showing) (f : Figures) → Legal (visitsOf x) f → (i : ℕ) → i < f .films
+        → (freeIn x f i + visitsOf x * startIn f i ≡ totalPositions f)
+        × ((j v : ℕ) → j < i → v < visitsOf x * lengthIn f j → freeIn x f i ≤ positionIn x f j v)) ⌝ }
+    ensures greatest { λ _. ⌜ ((x : Showing) (f : Figures) → Legal (visitsOf x) f → ((i : ℕ) → i < f .films → worst2In x f i ≤ worst2Of x f)
+        × ((i : ℕ) × (i < f .films) × (worst2In x f i ≡ worst2Of x f))) ⌝ }
 {}
 
-// Half blocks, in document 02's words: no matching on any 2 × N different positions has a smaller greatest pair time p, and with any matching's p no
-// number above the plan's streams, up to 128, meets c × (n × p + the overhead for 2 × n visits) ≤ 1,000,000 × B, which they meet. The buffer is
-// 3 × B, leads and margin are 0, worst2 is 2 × p, worstat the first block taking p; a block's lower position stands first.
+// Half blocks, in document 02's words: no matching of a film on any 2 × N different positions of those that were free for it has a smaller greatest
+// pair time, and with it and the other films' as they are, p being the greatest, no number above the plan's streams, up to 128, meets
+// c × (n × p + the overhead for 2 × n visits) ≤ 1,000,000 × B, which they meet. The buffer is 3 × B, leads and margin are 0, worst2 is 2 × p, worstat
+// the first block taking p; a block's lower position stands first.
 pub fn halves_matched_best()
-    ensures best { λ _. ⌜ ((f : Figures) → Legal 2 f → (l : ℕ → ℕ) → Laying (totalPositions f) (2 * f .blocks) l → NoBetter f l) ⌝ }
+    ensures best { λ _. ⌜ ((f : Figures) → Legal 2 f → (i : ℕ) → i < f .films → (l : ℕ → ℕ) → Laying (freeIn pairs f i) (2 * lengthIn f i) l
+        → NoBetter f i l) ⌝ }
     ensures own { λ _. ⌜ ((f : Figures) → Legal 2 f → HalvesPlan f) ⌝ }
 {}
 
-// The lead laws hold of every legal film in every showing, and of each that feeds a stream all that the desk relies on.
+// The lead laws hold of every legal shelf in every showing, and of each that feeds a stream all that the desk relies on.
 pub fn lead_promise()
     ensures leads { λ _. ⌜ ((x : Showing) (f : Figures) → Legal (visitsOf x) f → LeadLaws x f) ⌝ }
     ensures all { λ _. ⌜ ((x : Showing) (f : Figures) → Legal (visitsOf x) f → 0 < streamsOf x f → Promise x f) ⌝ }
 {}
 
-// A lead is the greatest sum over the runs from its block, the empty run included, and no other number is: runs to the film's end, in a loop
-// runs of at most N blocks round the circle. For every film, N and block.
+// A lead is the greatest sum over the runs from its block, the empty run included, and no other number is: runs to the end of its film, in a loop
+// runs of at most N blocks round the circle. For every film and block of a shelf.
 pub fn lead_is_the_greatest()
-    ensures greatest { λ _. ⌜ ((x : Showing) (f : Figures) (b : ℕ) → Starts x (f .blocks) b → GreatestRun x f b (leadOf x f b)) ⌝ }
-    ensures only { λ _. ⌜ ((x : Showing) (f : Figures) (b m : ℕ) → Starts x (f .blocks) b → GreatestRun x f b m → m ≡ leadOf x f b) ⌝ }
+    ensures greatest { λ _. ⌜ ((x : Showing) (f : Figures) → Legal (visitsOf x) f → (i b : ℕ) → i < f .films → Starts x (lengthIn f i) b
+        → GreatestRun x f i b (leadIn x f i b)) ⌝ }
+    ensures only { λ _. ⌜ ((x : Showing) (f : Figures) → Legal (visitsOf x) f → (i b m : ℕ) → i < f .films → Starts x (lengthIn f i) b
+        → GreatestRun x f i b m → m ≡ leadIn x f i b) ⌝ }
 {}
 
 // The streams of a plan are the greatest whole number from 1 to 256, of half blocks to 128, that meets the formula, and no other number is. 12 is answered only
@@ -179,12 +216,13 @@ pub fn streams_are_the_most()
     ensures most { λ _. ⌜ ((x : Showing) (f : Figures) → 0 < streamsOf x f → MostStreams x f (streamsOf x f)) ⌝ }
     ensures only { λ _. ⌜ ((x : Showing) (f : Figures) (n : ℕ) → MostStreams x f n → n ≡ streamsOf x f) ⌝ }
     ensures none { λ _. ⌜ ((x : Showing) (f : Figures) (np nl : ℕ) → planFault x f np nl ≡ noStream → (n : ℕ) → 1 ≤ n → n ≤ capOf x → TooMany x f n) ⌝ }
-    ensures one { λ _. ⌜ ((x : Showing) (f : Figures) → Legal (visitsOf x) f → (np nl : ℕ) → entriesOf x f ≤ np → f .blocks ≤ nl → TooMany x f 1
+    ensures one { λ _. ⌜ ((x : Showing) (f : Figures) → Legal (visitsOf x) f → (np nl : ℕ) → entriesOf x f ≤ np → blocksOf f ≤ nl → TooMany x f 1
         → planFault x f np nl ≡ noStream) ⌝ }
 {}
 
-// The block that a plan names is the first of a pair that takes worst2, no pair before it does, and no other block has both.
+// The block that a plan names, counted through the films, is the first of a pair within its film that takes worst2, no pair before it does, and no other
+// block has both.
 pub fn worst_pair_is_the_earliest()
     ensures earliest { λ _. ⌜ ((x : Showing) (f : Figures) → Legal (visitsOf x) f → EarliestPair x f (worstAtOf x f)) ⌝ }
-    ensures only { λ _. ⌜ ((x : Showing) (f : Figures) (b : ℕ) → EarliestPair x f b → b ≡ worstAtOf x f) ⌝ }
+    ensures only { λ _. ⌜ ((x : Showing) (f : Figures) → Legal (visitsOf x) f → (b : ℕ) → EarliestPair x f b → b ≡ worstAtOf x f) ⌝ }
 {}

@@ -1,15 +1,15 @@
-// Runs the planner on the cases of document 01, on real disks, on loops, on measured overheads and on refusals, and the check of a plan on
-// altered plans. Standard input has a case on each line: its name, which has no colon, then a colon, a letter for what is done, and what it
-// is done to. P and L are the bytes of the lists of positions and leads, 65,536 at most. RECORD is kind zones N B c, then 257 overheads in
-// runs (V+S*N is V, V + S, .., N numbers), then positions and time of each zone; what is missing is 0. PLAN is streams, buffer, worst2,
-// margin, showing and worstat, then RECORD.
+// Runs the planner on the cases of document 01, on real disks, on loops, on measured overheads, on shelves, also as half blocks, and on refusals, and
+// the check of a plan on altered plans. Standard input has a case on each line: its name, which has no colon, then a colon, a letter for what is done,
+// and what it is done to. P and L are the bytes of the lists of positions and leads, 65,536 at most. RECORD is kind zones films, then 16 film entries
+// in runs (V*N is N times V, V+S*N is V, V + S, .., N numbers), then B c, 257 overheads in runs, then positions and time of each zone; what is
+// missing is 0. PLAN is streams, buffer, worst2, margin, showing and worstat, then RECORD.
 //
-//     NAME: r P L RECORD    plans a record, with lists of a pattern; R plans it as a loop
-//     NAME: c P L CARD      plans a card, its bytes in hexadecimal, with lists of a pattern; C plans it as a loop
+//     NAME: r P L RECORD    plans a record, with lists of a pattern; R plans it as loops, h as half blocks
+//     NAME: c P L CARD      plans a card, its bytes in hexadecimal, with lists of a pattern; C plans it as loops, H as half blocks
 //     NAME: k P L PLAN      is this the plan of its figures, with the first bytes of the lists as the last plan left them?
 //     NAME: b P L PLAN      the same with each of the first 28 bytes altered, of the positions and of the leads in turn
 //
-// A line is printed for each: its name and the answer, which of a planned film is streams, buffer, worst2, margin, showing and worstat, or the
+// A line is printed for each: its name and the answer, which of a planned shelf is streams, buffer, worst2, margin, showing and worstat, or the
 // refusal, then a sum of each list.
 use card::Figures;
 use case_text::is_record;
@@ -113,18 +113,32 @@ fn check_altered(plan: Plan, positions: &mut [u8], leads: &mut [u8]) {
     }
 }
 
-// Plans a record, by `R` as a loop.
+// Does this letter stand before a record that is planned?
+fn plans_record(letter: u8) -> bool {
+    if letter == b'h' {
+        return true;
+    }
+    is_record(letter)
+}
+
+// Plans a record, by `R` as loops, by `h` as half blocks.
 fn plan_record(letter: u8, figures: Figures, positions: &mut [u8], leads: &mut [u8]) -> Planned {
     if letter == b'R' {
         return planner::plan_loop_record(figures, positions, leads);
     }
+    if letter == b'h' {
+        return planner::plan_pairs_record(figures, positions, leads);
+    }
     planner::plan_record(figures, positions, leads)
 }
 
-// Plans a card, by `C` as a loop.
+// Plans a card, by `C` as loops, by `H` as half blocks.
 fn plan_card(letter: u8, card: &[u8], positions: &mut [u8], leads: &mut [u8]) -> Planned {
     if letter == b'C' {
         return planner::plan_loop_card(card, positions, leads);
+    }
+    if letter == b'H' {
+        return planner::plan_pairs_card(card, positions, leads);
     }
     planner::plan_card(card, positions, leads)
 }
@@ -144,7 +158,7 @@ fn plan_bytes(text: &[u8], letter: u8, start: usize, positions: &mut [u8], leads
 fn plan_film(text: &[u8], letter: u8, start: usize, positions: &mut [u8], leads: &mut [u8]) {
     fill(positions);
     fill(leads);
-    if is_record(letter) {
+    if plans_record(letter) {
         print_answer(
             plan_record(letter, read_record(text, start), positions, leads),
             positions,

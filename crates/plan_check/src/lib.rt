@@ -1,7 +1,5 @@
 // The check of a plan: is a record the plan of its figures, and do the lists begin with its entries?
 use block_lists::both;
-use block_lists::same_leads;
-use block_lists::same_positions;
 use card::Scalars;
 use card::judge::fault_of_figures;
 use numbers::refusals::ACCEPTED;
@@ -11,6 +9,8 @@ use plan::numbers_in;
 use plan::scalars_in;
 use plan::visits_of;
 use plan_numbers::plan_numbers;
+use shelf_lists::same_shelf_leads;
+use shelf_lists::same_shelf_positions;
 use zones::sum_positions;
 ghost use mathlib.Core.Path.{_≡_};
 ghost use mathlib.Core.Bool.{not, _&&_, _||_};
@@ -74,18 +74,20 @@ fn is_plan_with<'a>(
     if !has_numbers(figures, sizes, times, table, plan) {
         return false;
     }
+    let films = figures.films;
+    let blocks = figures.blocks;
     let total = sum_positions(sizes, figures.zones);
-    let all = visits_of(plan.showing) * figures.blocks;
-    let placed = same_positions(plan.showing, total, all, positions);
+    let placed = same_shelf_positions(plan.showing, total, &blocks, films, positions);
     if !asked {
         return placed;
     }
-    let led = same_leads(
+    let led = same_shelf_leads(
         sizes,
         times,
         plan.showing,
         total,
-        figures.blocks,
+        &blocks,
+        films,
         plan.worst2,
         leads,
     );

@@ -3,7 +3,7 @@
 use Prim.Native.Nat.{ℕ, _*_}
 use mathlib.Core.List.{List, [], _∷_, _++_}
 use lib.ListN.{replicate}
-use Rattle.numbers.specs.Limits.{maxZones, tableLength}
+use Rattle.numbers.specs.Limits.{maxZones, maxFilms, tableLength}
 use Rattle.card.specs.declared.Figures.{Figures}
 use Rattle.plan.specs.declared.Plan.{Plan}
 use Rattle.fields.specs.Fields.{Field, word, array, Values, _&_, wordCount, packed, unpacked, joined, front, behind}
@@ -17,19 +17,30 @@ figureFields =
     ∷ word
     ∷ array maxZones
     ∷ array maxZones
-    -- N, B, c; the table of overheads
+    -- films, and N of each
     ∷ word
+    ∷ array maxFilms
+    -- B, c; the table of overheads
     ∷ word
     ∷ word
     ∷ array tableLength
     ∷ []
 
 abbrev pub figureValues : Figures → Values figureFields
-figureValues f = f .kind & f .zones & f .positions & f .times & f .blocks & f .bytes & f .rate & f .table & tt
+figureValues f = f .kind & f .zones & f .positions & f .times & f .films & f .blocks & f .bytes & f .rate & f .table & tt
 
 abbrev pub figuresOf : Values figureFields → Figures
-figuresOf (kind, (zones, (positions, (times, (blocks, (bytes, (rate, (table, end)))))))) =
-    record { kind = kind; zones = zones; positions = positions; times = times; blocks = blocks; bytes = bytes; rate = rate; table = table }
+figuresOf (kind, (zones, (positions, (times, (films, (blocks, (bytes, (rate, (table, end))))))))) = record {
+  kind = kind;
+  zones = zones;
+  positions = positions;
+  times = times;
+  films = films;
+  blocks = blocks;
+  bytes = bytes;
+  rate = rate;
+  table = table;
+}
 
 -- ---- a plan: its figures, then what was planned
 

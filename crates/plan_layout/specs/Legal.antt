@@ -1,4 +1,4 @@
--- The plan of legal figures can be written and read back: its arrays have 64 and 257 entries, its numbers 32 bits.
+-- The plan of legal figures can be written and read back: its arrays have 64, 16 and 257 entries, its numbers 32 bits.
 -- Assumes nothing.
 use Prim.Native.Nat.{suc, _<_}
 use mathlib.Core.Path.{_≡_}
@@ -29,7 +29,7 @@ word-small pairs = omega arith
 module _ (x : Showing) (f : Figures) (ok : Legal (visitsOf x) f) where
   pub legal-sized : PlanSized (planOf x f)
   unfolding planOf
-  legal-sized = record { positions = ok .wide .0; times = ok .wide .1; table = ok .wide .2 }
+  legal-sized = record { positions = ok .wide .0; times = ok .wide .1; blocks = ok .wide .2; table = ok .wide .3 }
 
   positions-small : Words (f .positions)
   positions-small i = by-cases (decLt i (f .zones))
@@ -38,6 +38,9 @@ module _ (x : Showing) (f : Figures) (ok : Legal (visitsOf x) f) where
 
   times-small : Words (f .times)
   times-small i = by-cases (decLt i (f .zones)) (λ h. omega (arith, ok .times i h)) (λ h. omega (arith, ok .unused i (omega arith)))
+
+  blocks-small : Words (f .blocks)
+  blocks-small i = by-cases (decLt i (f .films)) (λ h. omega (arith, ok .blocks i h)) (λ h. omega (arith, ok .idle i (omega arith)))
 
   table-small : Words (f .table)
   table-small i = by-cases (decLt i tableLength)
@@ -54,7 +57,8 @@ module _ (x : Showing) (f : Figures) (ok : Legal (visitsOf x) f) where
       & omega (arith, ok .zones)
       & positions-small
       & times-small
-      & omega (arith, ok .blocks)
+      & omega (arith, ok .films)
+      & blocks-small
       & omega (arith, ok .bytes)
       & omega (arith, ok .rate)
       & table-small
@@ -63,7 +67,7 @@ module _ (x : Showing) (f : Figures) (ok : Legal (visitsOf x) f) where
       & omega (arith, worst2-small x f ok, visits-few x)
       & omega (arith, margin-less x f ok, worst2-small x f ok, visits-few x)
       & word-small x
-      & omega (arith, worstAt-small x f ok, ok .blocks)
+      & omega (arith, worstAt-small x f ok, ok .all)
       & tt
 
   pub legal-words : Words (planWords (planOf x f))

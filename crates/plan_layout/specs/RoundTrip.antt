@@ -6,10 +6,11 @@ use mathlib.Core.Path.{_≡_, refl, ap, _∙_}
 use mathlib.Core.List.{List, []}
 use native.Mathlib.Omega.{arith}
 use lib.ListN.{length}
-use Rattle.numbers.specs.Limits.{maxZones, tableLength}
+use Rattle.numbers.specs.Limits.{maxZones, maxFilms, tableLength}
 use Rattle.words.specs.Words.{Bytes, Words, wordsOf, withWords, zeroWords}
 use Rattle.words.specs.Zero.{words-zero}
-use Rattle.card.specs.Read.{blankZones, blankTable, blankFigures}
+use Rattle.card.specs.Read.{blankZones, blankFilms, blankTable, blankFigures}
+use Rattle.card.specs.declared.Figures.{Figures}
 use Rattle.plan.specs.declared.Plan.{Plan}
 use Rattle.plan.specs.Plan.{blankPlan}
 use Rattle.fields.specs.Fields.{unpacked, wordCount, Sized, Same}
@@ -19,11 +20,16 @@ use Rattle.plan_layout.specs.Layout.{planOfValues, planWords, planIn, pl
 
 -- ---- sizes
 
--- the arrays of a plan have 64 and 257 entries
-pub record PlanSized (p : Plan) : Type 0 where
-  pub positions : length (p .figures .positions) ≡ maxZones
-  pub times : length (p .figures .times) ≡ maxZones
-  pub table : length (p .figures .table) ≡ tableLength
+-- the arrays of figures have 64, 16 and 257 entries
+pub record FiguresSized (f : Figures) : Type 0 where
+  pub positions : length (f .positions) ≡ maxZones
+  pub times : length (f .times) ≡ maxZones
+  pub blocks : length (f .blocks) ≡ maxFilms
+  pub table : length (f .table) ≡ tableLength
+
+-- and so have those of a plan
+abbrev pub PlanSized : Plan → Type 0
+PlanSized p = FiguresSized (p .figures)
 
 plan-table : (p : Plan) → PlanSized p → Sized planFields (planValues p)
 plan-table p z = omega arith
@@ -64,10 +70,10 @@ plan-kept s y h = fields-kept planFields 0 s y h
 
 -- the plan that is all zero is zeros
 pub plan-blank : planWords blankPlan ≡ zeroWords planWordCount
-unfolding zeroWords planWords blankPlan blankFigures blankZones blankTable
+unfolding zeroWords planWords blankPlan blankFigures blankZones blankFilms blankTable
 plan-blank = refl
 
 -- a refused plan is all zero
 pub plan-zero : (s : List ℕ) → length s ≡ planSize → withWords s 0 (planWords blankPlan) ≡ zeroBytes planSize
-unfolding zeroBytes planWords blankPlan blankFigures blankZones blankTable
+unfolding zeroBytes planWords blankPlan blankFigures blankZones blankFilms blankTable
 plan-zero s e = words-zero s planWordCount e

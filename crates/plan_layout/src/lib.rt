@@ -6,20 +6,25 @@ use card::Scalars;
 use plan::Numbers;
 use plan::Plan;
 use words::clear_words;
+use words::read_16;
 use words::read_64;
 use words::read_257;
 use words::word_at;
+use words::write_16;
 use words::write_64;
 use words::write_257;
 use words::write_words;
 ghost use mathlib.Core.Path.{_≡_};
+ghost use mathlib.Core.List.{[]};
 ghost use Prim.Native.Nat.{_≤_};
 ghost use lib.ListN.{length};
 ghost use Rattle.words.specs.Words.{wordsOf, withWords};
 ghost use Rattle.card.specs.Read.{figuresFrom};
 ghost use Rattle.plan.specs.Plan.{planFrom, lentPlan, blankPlan};
 ghost use Rattle.fields.specs.Fields.{wordCount, unpacked, Same};
+ghost use Rattle.fields.specs.FieldLaws.{stored};
 ghost use Rattle.plan_layout.specs.Layout.{figureFields, figureValues, plannedFields, plannedValues, planWords, planIn, planWordCount, planSize};
+ghost use Rattle.plan_layout.specs.RoundTrip.{FiguresSized};
 
 // Bytes of a plan.
 pub const PLAN_BYTES: usize = 4 * offsets::PLAN_WORDS;
@@ -34,7 +39,8 @@ fn figures_at(list: &[u8]) -> Figures
         zones: word_at(list, offsets::ZONES),
         positions: read_64(list, offsets::POSITIONS),
         times: read_64(list, offsets::TIMES),
-        blocks: word_at(list, offsets::BLOCKS),
+        films: word_at(list, offsets::FILMS),
+        blocks: read_16(list, offsets::BLOCKS),
         bytes: word_at(list, offsets::BYTES),
         rate: word_at(list, offsets::RATE),
         table: read_257(list, offsets::TABLE),
@@ -66,7 +72,7 @@ pub fn read_plan(list: &[u8]) -> Plan
     plan_at(list)
 }
 
-// The single numbers of the figures of the plan at the front of a string.
+// The single numbers and the films of the figures of the plan at the front of a string.
 pub fn scalars_at(list: &[u8]) -> Scalars
     requires { ⌜ planWordCount ≤ length (wordsOf (now list)) ⌝ }
     ensures { λ r. ⌜ (let f = planIn (wordsOf (now (list .entry))) .figures in figuresFrom r (f .positions) (f .times) (f .table) ≡ f) ⌝ }
@@ -74,7 +80,8 @@ pub fn scalars_at(list: &[u8]) -> Scalars
     Scalars {
         kind: word_at(list, offsets::KIND),
         zones: word_at(list, offsets::ZONES),
-        blocks: word_at(list, offsets::BLOCKS),
+        films: word_at(list, offsets::FILMS),
+        blocks: read_16(list, offsets::BLOCKS),
         bytes: word_at(list, offsets::BYTES),
         rate: word_at(list, offsets::RATE),
     }
@@ -117,6 +124,27 @@ pub fn table_at(list: &[u8]) -> [u32; 257]
     read_257(list, offsets::TABLE)
 }
 
+// Writes the figures of a plan, their arrays lent, at the front of a string.
+fn write_figures<'a>(
+    list: &mut [u8],
+    figures: Scalars,
+    sizes: &'a [u32; 64],
+    times: &'a [u32; 64],
+    table: &'a [u32; 257],
+)
+    requires { ⌜ planSize ≤ length (now list) ⌝ }
+    ensures { λ _. ⌜ (let f = figuresFrom figures (now (sizes .entry)) (now (times .entry)) (now (table .entry)) in
+        (now (list .exit) ≡ stored figureFields 0 (now (list .entry)) [] (figureValues f)) × FiguresSized f) ⌝ }
+{
+    write_words(list, offsets::KIND, &[figures.kind, figures.zones]);
+    write_64(list, offsets::POSITIONS, sizes);
+    write_64(list, offsets::TIMES, times);
+    write_words(list, offsets::FILMS, &[figures.films]);
+    write_16(list, offsets::BLOCKS, &figures.blocks);
+    write_words(list, offsets::BYTES, &[figures.bytes, figures.rate]);
+    write_257(list, offsets::TABLE, table);
+}
+
 // Writes a plan, its arrays lent, at the front of a string.
 pub fn write_parts<'a>(
     list: &mut [u8],
@@ -130,15 +158,7 @@ pub fn write_parts<'a>(
     ensures { λ _. ⌜ (let p = lentPlan figures (now (sizes .entry)) (now (times .entry)) (now (table .entry)) plan in
         (now (list .exit) ≡ withWords (now (list .entry)) 0 (planWords p)) × (length (planWords p) ≡ planWordCount)) ⌝ }
 {
-    write_words(list, offsets::KIND, &[figures.kind, figures.zones]);
-    write_64(list, offsets::POSITIONS, sizes);
-    write_64(list, offsets::TIMES, times);
-    write_words(
-        list,
-        offsets::BLOCKS,
-        &[figures.blocks, figures.bytes, figures.rate],
-    );
-    write_257(list, offsets::TABLE, table);
+    write_figures(list, figures, sizes, times, table);
     write_words(
         list,
         offsets::STREAMS,

@@ -1,4 +1,5 @@
 // The word at which each field of a plan starts: where the one before it ends.
+use numbers::limits::MAX_FILMS;
 use numbers::limits::MAX_ZONES;
 use numbers::limits::TABLE_LENGTH;
 
@@ -10,9 +11,11 @@ pub const POSITIONS: usize = ZONES + 1;
 
 pub const TIMES: usize = POSITIONS + MAX_ZONES as usize;
 
-pub const BLOCKS: usize = TIMES + MAX_ZONES as usize;
+pub const FILMS: usize = TIMES + MAX_ZONES as usize;
 
-pub const BYTES: usize = BLOCKS + 1;
+pub const BLOCKS: usize = FILMS + 1;
+
+pub const BYTES: usize = BLOCKS + MAX_FILMS as usize;
 
 pub const RATE: usize = BYTES + 1;
 

@@ -1,15 +1,16 @@
 // The plan of legal figures and its lists, with a lead list or with a scratch in its place: 13 where a list is too short, then 12 where no
 // stream fits.
-use block_lists::write_leads;
-use block_lists::write_positions;
 use card::Scalars;
 use numbers::limits::SCRATCH_LENGTH;
 use numbers::refusals::ACCEPTED;
 use numbers::refusals::NO_STREAM;
 use numbers::refusals::TOO_SHORT;
 use plan::Numbers;
+use plan::blocks_before;
 use plan::visits_of;
 use plan_numbers::plan_numbers;
+use shelf_lists::write_shelf_leads;
+use shelf_lists::write_shelf_positions;
 use zones::sum_positions;
 ghost use mathlib.Core.Path.{_≡_};
 ghost use mathlib.Core.Bool.{cond};
@@ -98,8 +99,10 @@ pub fn plan_legal<'a>(
         × (now (positions .exit) ≡ filled 0 fault (now (positions .entry)) (positionsOf x f))
         × (now (leads .exit) ≡ cond listed (filled 0 fault (now (leads .entry)) (leadsOf x f)) (now (leads .entry)))) ⌝ }
 {
-    let visits = visits_of(showing);
-    if lists_short(figures.blocks, visits, positions, leads, listed) {
+    let films = figures.films;
+    let blocks = figures.blocks;
+    let all = blocks_before(&blocks, films);
+    if lists_short(all, visits_of(showing), positions, leads, listed) {
         return not_made(TOO_SHORT);
     }
     let own = plan_numbers(figures, sizes, times, table, showing);
@@ -113,10 +116,10 @@ pub fn plan_legal<'a>(
         plan: own,
     };
     let total = sum_positions(sizes, figures.zones);
-    write_positions(showing, total, visits * figures.blocks, positions);
+    write_shelf_positions(showing, total, &blocks, films, positions);
     if !listed {
         return made;
     }
-    write_leads(sizes, times, showing, total, figures.blocks, worst2, leads);
+    write_shelf_leads(sizes, times, showing, total, &blocks, films, worst2, leads);
     made
 }

@@ -93,7 +93,7 @@ module _ (listed : Bool) (x : Showing) (s p ps ls : List ℕ) where
         → (r : FilmdiskAnswer) → r ≡ verdictAnswer (record { number = k; place = at }) → (q : List ℕ) → q ≡ withWords p 0 (planWords blankPlan) → PlanCall listed x s p ps ls r q ps ls
     unfolding refusedCard blankFigures refusal
     refused-card y k at e r v q w =
-        let refused : k ≢ 0 = λ z. let ok = card-legal (visitsOf x) s y (refusedCard k at) e z in omega (arith, ok .blocks) in
+        let refused : k ≢ 0 = λ z. let ok = card-legal (visitsOf x) s y (refusedCard k at) e z in omega (arith, ok .films) in
         let other : k ≢ tooShort = λ z. read-other (visitsOf x) s (sym (ap (λ (c : CardRead). c .verdict .number) e) ∙ z) in
         let o = plan.outcome-same listed ps ls _ ps ls refl e (plan.by-figures listed x (refusedCard k at) ps ls refused) in
         outcome (refusal k at) ps ls o r v q (filled-plan p l (refusal k at) other q w)

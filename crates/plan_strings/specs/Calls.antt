@@ -28,7 +28,7 @@ planFaultOf x r p ps ls = cond (eqb (length p) planSize) (faultAfter x r ps ls) 
 unfoldable pub plannedOf : Showing → CardRead → List ℕ → List ℕ → List ℕ → Planned
 plannedOf x r p ps ls = answer x (r .verdict .number) (planFaultOf x r p ps ls) r
 
--- the plan string after an answer: the plan, all zero after 1 to 12, 25, 26 and 28; as it was after 13, and where it has another length
+-- the plan string after an answer: the plan, all zero after 1 to 12, 25, 26, 28 and 30; as it was after 13, and where it has another length
 unfoldable pub planFilled : List ℕ → Planned → List ℕ
 planFilled p a = cond (eqb (length p) planSize && not (eqb (a .verdict .number) tooShort)) (withWords p 0 (planWords (a .plan))) p
 

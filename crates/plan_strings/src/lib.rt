@@ -101,7 +101,7 @@ fn plan_into<'a>(
     answer
 }
 
-// Plans a card in a showing, with a lead list or with a scratch in its place: 1 to 11, 25, 26 and 28, then 13, then 12.
+// Plans a card in a showing, with a lead list or with a scratch in its place: 1 to 11, 25, 26, 28 and 30, then 13, then 12.
 fn plan_showing(
     showing: u32,
     card: &[u8],
@@ -119,14 +119,23 @@ fn plan_showing(
     }
     let mut sizes = [0u32; 64];
     let mut times = [0u32; 64];
+    let mut blocks = [0u32; 16];
     let mut table = [0u32; 257];
-    let told = card_reader::read_into(card, &mut sizes, &mut times, &mut table, visits);
+    let told = card_reader::read_into(
+        card,
+        &mut sizes,
+        &mut times,
+        &mut blocks,
+        &mut table,
+        visits,
+    );
     match told {
         Told::Refused(number, place) => refused(plan, number, place),
-        Told::Figures(kind, zones, blocks, bytes, rate) => plan_into(
+        Told::Figures(kind, zones, films, bytes, rate) => plan_into(
             Scalars {
                 kind: kind,
                 zones: zones,
+                films: films,
                 blocks: blocks,
                 bytes: bytes,
                 rate: rate,

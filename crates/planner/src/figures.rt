@@ -69,13 +69,16 @@ pub fn plan_figures(
     if verdict.number != ACCEPTED {
         return refused(verdict.number, verdict.place);
     }
+    let figures = read.figures;
+    let blocks = figures.blocks;
     let made = plan_legal(
         Scalars {
-            kind: read.figures.kind,
-            zones: read.figures.zones,
-            blocks: read.figures.blocks,
-            bytes: read.figures.bytes,
-            rate: read.figures.rate,
+            kind: figures.kind,
+            zones: figures.zones,
+            films: figures.films,
+            blocks: blocks,
+            bytes: figures.bytes,
+            rate: figures.rate,
         },
         &read.figures.positions,
         &read.figures.times,

@@ -1,4 +1,4 @@
-// The planner: from the figures of a card it lays the film, for one showing, for a loop or for one showing of half blocks, and says how many
+// The planner: from the figures of a card it lays the films, for one showing, for a loop or for one showing of half blocks, and says how many
 // streams may be fed and with what buffers.
 mod figures; // the answer to figures that were read or judged
 
@@ -18,7 +18,7 @@ ghost use Rattle.placement.specs.Showing.{one, loop, pairs, visitsOf};
 ghost use Rattle.plan.specs.Answer.{planned, positionsAfter, leadsAfter, judged};
 ghost use Rattle.plan.specs.Scratch.{plannedScratch, positionsScratch};
 
-// Plans a card for one showing: 1 to 11, 25 and 26 as the reader gives them, then 13, then 12. A refusal leaves both lists.
+// Plans a card for one showing: 1 to 11, 25, 26 and 30 as the reader gives them, then 13, then 12. A refusal leaves both lists.
 pub fn plan_card(card: &[u8], positions: &mut [u8], leads: &mut [u8]) -> Planned
     ensures { λ r. ⌜ (r ≡ planned one (readCard 1 (now (card .entry))) (now (positions .entry)) (now (leads .entry)))
         × (now (positions .exit) ≡ positionsAfter one (readCard 1 (now (card .entry))) (now (positions .entry)) (now (leads .entry)))
@@ -45,7 +45,7 @@ pub fn plan_pairs_card(card: &[u8], positions: &mut [u8], leads: &mut [u8]) -> P
     plan_figures(read_card_of(card, 2), PAIRS, positions, leads, true)
 }
 
-// Plans a record of figures for one showing: 3 to 10, 25 and 26, then 13, then 12, place 0. A refusal leaves both lists.
+// Plans a record of figures for one showing: 3 to 10, 25, 26 and 30, then 13, then 12, place 0. A refusal leaves both lists.
 pub fn plan_record(figures: Figures, positions: &mut [u8], leads: &mut [u8]) -> Planned
     ensures { λ r. ⌜ (r ≡ planned one (judged 1 figures) (now (positions .entry)) (now (leads .entry)))
         × (now (positions .exit) ≡ positionsAfter one (judged 1 figures) (now (positions .entry)) (now (leads .entry)))

@@ -11,15 +11,15 @@ use lib.ListN.{length, getD, set, drop, length-set}
 use lib.Dec.{leb}
 use borrow.Author.Tests.{le-leb}
 use Rattle.laws.specs.Each.{zero-at}
-use Rattle.numbers.specs.Limits.{straightKind, measuredKind, noNumber, maxZones, maxTime, timesAsFast, maxBytes, maxRate, tableLength}
+use Rattle.numbers.specs.Limits.{straightKind, measuredKind, noNumber, maxZones, maxTime, timesAsFast, maxFilms, maxBytes, maxRate}
 use Rattle.leb128.specs.Number.{Bytes}
 use Rattle.card.specs.declared.Figures.{Figures}
 use Rattle.card.specs.declared.Scalars.{Scalars}
 use Rattle.card.specs.declared.CardRead.{CardRead}
 use Rattle.card_field.specs.declared.Rule.the-variants.{Kind, Zones, Positions, Measure}
-use Rattle.card_field.specs.Ranges.{first, faultOf, timeFault, blocksFault}
+use Rattle.card_field.specs.Ranges.{first, faultOf, timeFault}
 use Rattle.card_table.specs.Table.{tableFault, tableNumbers}
-use Rattle.card.specs.Card.{Legal, filmFault, zoneFaults, recordFault, filmNumbers, zoneNumbers, numbersOf, cardOf, writeFault, writtenCard, bufferAfter}
+use Rattle.card.specs.Card.{Legal, shelfFault, filmFault, zoneFaults, recordFault, filmNumbers, zoneNumbers, numbersOf, cardOf, writeFault, writtenCard, bufferAfter}
 use Rattle.card.specs.Read.{blankZones, blankFigures, accepted, refusedCard, figuresFrom, cardEnd, filmFrom, zonesFrom, afterZones, readCard}
 use Rattle.card.specs.CardLaws.{legal-fewer}
 use Rattle.card.specs.ReadLaws.{read-holds}
@@ -27,6 +27,7 @@ use Rattle.card_field.specs.RangeLaws.{first-none, first-clear, kind-range, zon
 use Rattle.round_trip.specs.Ahead.{Ahead, ahead-next, field-goes, end-goes, Got, got-goes, still-accepted, accepted-field, end-got, ahead-more}
 use Rattle.round_trip.specs.Entries.{Agree, agree-self, agree-all, agree-next, agree-back}
 use Rattle.legality.specs.Legality.{Wide, Kinded, fault-judged, judged-fault, fault-film, fault-legal, legal-fault}
+use Rattle.round_trip.specs.ShelfTrip.{shelf-goes, ShelfRest, shelf-got}
 use Rattle.round_trip.specs.TableTrip.{table-goes, TableRest, table-got}
 
 -- a time that is not refused beside one first time is not refused beside another that it is not too fast for
@@ -35,22 +36,21 @@ time-beside innermost other before v h e = let r = time-range before v innermost
 
 -- ---- what is written is read back
 
--- N, B and c are read, and the overheads stand after them
-film-goes : (k : ℕ) (s : List ℕ) (f : Figures) (at total : ℕ) (go : ℕ → ℕ → ℕ → ℕ → CardRead) {r : CardRead}
-    → ((next : ℕ) → Ahead s next (tableNumbers (f .kind) (f .table)) → tableFault (f .kind) (f .table) ≡ 0 → go (f .blocks) (f .bytes) (f .rate) next ≡ r)
-    → length (f .table) ≡ tableLength → Ahead s at (filmNumbers f) → filmFault k f total ≡ 0 → filmFrom k s at total go ≡ r
+-- the films, B and c are read, and the overheads stand after them
+film-goes : (k : ℕ) (s : List ℕ) (f : Figures) (at total : ℕ) (go : ℕ → List ℕ → ℕ → ℕ → ℕ → CardRead) {r : CardRead}
+    → ((next : ℕ) → Ahead s next (tableNumbers (f .kind) (f .table)) → tableFault (f .kind) (f .table) ≡ 0
+    → go (f .films) (f .blocks) (f .bytes) (f .rate) next ≡ r)
+    → Wide f → Ahead s at (filmNumbers f) → filmFault k f total ≡ 0 → filmFrom k s at total go ≡ r
 unfolding filmFrom filmNumbers filmFault
 film-goes k s f at total go on w a e =
-    let l = fault-film k f total w e in
-    let n = first-none (blocksFault k total (f .blocks)) _ e in
+    let l = fault-film k f total (w .3) e in
+    let n = first-none (shelfFault k total (f .films) (f .blocks)) _ e in
     let b = first-none (faultOf Measure maxBytes (f .bytes)) _ (n .1) in
     let c = first-none (faultOf Measure maxRate (f .rate)) _ (b .1) in
-    let a₁ = ahead-next a in
-    let a₂ = ahead-next a₁ in
-    field-goes a (blocksFault k total) _ (omega (arith, l .blocks)) (n .0)
-    ∙ field-goes a₁ (faultOf Measure maxBytes) _ (omega (arith, l .bytes)) (b .0)
-    ∙ field-goes a₂ (faultOf Measure maxRate) _ (omega (arith, l .rate)) (c .0)
-    ∙ on _ (ahead-next a₂) (c .1)
+    shelf-goes k s (f .blocks) _ (f .films) at total _ (λ next a₁.
+    field-goes a₁ (faultOf Measure maxBytes) _ (omega (arith, l .bytes)) (b .0)
+    ∙ field-goes (ahead-next a₁) (faultOf Measure maxRate) _ (omega (arith, l .rate)) (c .0)
+    ∙ on _ (ahead-next (ahead-next a₁)) (c .1)) (w .2) a (n .0)
 
 -- positions and times are those of f but for `left` entries from the i-th on; the first time is 0 or that of f
 record Filled (i left : ℕ) (ps ts : List ℕ) (f : Figures) : Type 0 where
@@ -58,7 +58,7 @@ record Filled (i left : ℕ) (ps ts : List ℕ) (f : Figures) : Type 0 where
   times : Agree i left ts (f .times)
   innermost : getD ts 0 0 ≤ getD (f .times) 0 0
 
--- the zones from the i-th on are read, and the film stands after them
+-- the zones from the i-th on are read, and the films stand after them
 zones-go : (k : ℕ) (s : List ℕ) (f : Figures) → Wide f → (go : List ℕ → List ℕ → ℕ → ℕ → CardRead) {r : CardRead}
     → ((total next : ℕ) → Ahead s next (filmNumbers f) → filmFault k f total ≡ 0 → go (f .positions) (f .times) total next ≡ r)
     → (left at i : ℕ) (ps ts : List ℕ) (total before : ℕ) → i + left ≤ maxZones → Filled i left ps ts f
@@ -82,12 +82,12 @@ zones-go k s f w go on (suc left) at i ps ts total before b u a e =
     (time-beside (getD (f .times) 0 0) (getD ts 0 0) before (getD (f .times) i 0) (omega (arith, u .innermost)) (q .0))
     ∙ zones-go k s f w go on left _ (i + 1) _ _ _ _ (omega arith) next (ahead-next (ahead-next a)) (q .1)
 
--- the film, the overheads and the end are read
+-- the films, the overheads and the end are read
 rest-goes : (k : ℕ) (s : List ℕ) (f : Figures) → Wide f → Kinded f → (total at : ℕ) → Ahead s at (filmNumbers f) → filmFault k f total ≡ 0
     → afterZones k s (f .kind) (f .zones) (f .positions) (f .times) total at ≡ record { verdict = accepted; figures = f }
 rest-goes k s f w d total at a e =
     film-goes k s f at total _ (λ next a₁ e₁.
-    table-goes s (f .table) (w .2) next _ (λ end a₂. end-goes s end f a₂) (f .kind) d a₁ e₁) (w .2) a e
+    table-goes s (f .table) (w .3) next _ (λ end a₂. end-goes s end f a₂) (f .kind) d a₁ e₁) w a e
 
 -- the entries of a record before any is read
 pub blank-at : (i : ℕ) → getD blankZones i 0 ≡ 0
@@ -120,37 +120,49 @@ card-read k f w e =
 
 -- ---- what is accepted is what would be written
 
--- N, B and c that are read from an offset on
+-- the single numbers of a card
+abbrev scalarsOf : ℕ → ℕ → ℕ → List ℕ → ℕ → ℕ → Scalars
+scalarsOf kind z films ns b c = record { kind = kind; zones = z; films = films; blocks = ns; bytes = b; rate = c }
+
+-- the films, B and c that are read from an offset on
 record FilmRest (k : ℕ) (s : List ℕ) (at total : ℕ) : Type 0 where
-  blocks : ℕ
+  films : ℕ
+  blocks : List ℕ
   bytes : ℕ
   rate : ℕ
   next : ℕ
   inside : next ≤ length s
-  is : (go : ℕ → ℕ → ℕ → ℕ → CardRead) → filmFrom k s at total go ≡ go blocks bytes rate next
-  faults : (kind z : ℕ) (ps ts os : List ℕ) → tableFault kind os ≡ 0
-      → filmFault k (figuresFrom (record { kind = kind; zones = z; blocks = blocks; bytes = bytes; rate = rate }) ps ts os) total ≡ 0
+  long : length blocks ≡ maxFilms
+  is : (go : ℕ → List ℕ → ℕ → ℕ → ℕ → CardRead) → filmFrom k s at total go ≡ go films blocks bytes rate next
+  faults : (kind z : ℕ) (ps ts os : List ℕ) → tableFault kind os ≡ 0 → filmFault k (figuresFrom (scalarsOf kind z films blocks bytes rate) ps ts os) total ≡ 0
   ahead : (kind z : ℕ) (ps ts os : List ℕ) → Ahead s next (tableNumbers kind os)
-      → Ahead s at (filmNumbers (figuresFrom (record { kind = kind; zones = z; blocks = blocks; bytes = bytes; rate = rate }) ps ts os))
+      → Ahead s at (filmNumbers (figuresFrom (scalarsOf kind z films blocks bytes rate) ps ts os))
+
+-- B and c after the films
+measures-rest : (k : ℕ) (s : List ℕ) (at total : ℕ) (n : ShelfRest k s at total) (b : Got (faultOf Measure maxBytes) s (n .next))
+    (c : Got (faultOf Measure maxRate) s (b .next)) → FilmRest k s at total
+unfolding filmFrom filmFault filmNumbers
+measures-rest k s at total n b c = record {
+  films = n .films;
+  blocks = n .blocks;
+  bytes = b .value;
+  rate = c .value;
+  next = c .next;
+  inside = c .stands .inside;
+  long = n .long;
+  is = λ g. n .is _ ∙ got-goes (faultOf Measure maxBytes) s (n .next) _ b ∙ got-goes (faultOf Measure maxRate) s (b .next) _ c;
+  faults = λ kind z ps ts os t. first-clear (n .faults) (first-clear (b .clear) (first-clear (c .clear) t));
+  ahead = λ kind z ps ts os a. n .ahead _ (ahead-more (b .stands) (ahead-more (c .stands) a));
+}
 
 -- an accepted card has them
-film-got : (k : ℕ) (s : List ℕ) (at total : ℕ) (go : ℕ → ℕ → ℕ → ℕ → CardRead) → Bytes s → filmFrom k s at total go .verdict .number ≡ 0 → FilmRest k s at total
-unfolding filmFrom filmFault filmNumbers
+film-got : (k : ℕ) (s : List ℕ) (at total : ℕ) (go : ℕ → List ℕ → ℕ → ℕ → ℕ → CardRead) → Bytes s → filmFrom k s at total go .verdict .number ≡ 0
+    → FilmRest k s at total
+unfolding filmFrom
 film-got k s at total go y e =
-    accepted-field (blocksFault k total) s at _ y e (λ n e₁.
-    accepted-field (faultOf Measure maxBytes) s (n .next) _ y e₁ (λ b e₂.
-    accepted-field (faultOf Measure maxRate) s (b .next) _ y e₂ (λ c e₃.
-    record {
-      blocks = n .value;
-      bytes = b .value;
-      rate = c .value;
-      next = c .next;
-      inside = c .stands .inside;
-      is = λ g. got-goes (blocksFault k total) s at _ n ∙ got-goes (faultOf Measure maxBytes) s (n .next) _ b
-          ∙ got-goes (faultOf Measure maxRate) s (b .next) _ c;
-      faults = λ kind z ps ts os t. first-clear (n .clear) (first-clear (b .clear) (first-clear (c .clear) t));
-      ahead = λ kind z ps ts os a. ahead-more (n .stands) (ahead-more (b .stands) (ahead-more (c .stands) a));
-    })))
+    let n = shelf-got k s at total _ y e in
+    accepted-field (faultOf Measure maxBytes) s (n .next) _ y (still-accepted (n .is _) e) (λ b e₁.
+    accepted-field (faultOf Measure maxRate) s (b .next) _ y e₁ (λ c e₂. measures-rest k s at total n b c))
 
 -- the zones that are read from an offset on into ps and ts, from the i-th entry on
 record ZonesRest (left : ℕ) (s : List ℕ) (at i : ℕ) (ps ts : List ℕ) (total before : ℕ) : Type 0 where
@@ -238,7 +250,7 @@ module _ (k : ℕ) (s : List ℕ) (d : Got (faultOf Kind 0) s 0) (z : Got (fault
     (r : ZonesRest (z .value) s (z .next) 0 blankZones blankZones 0 maxTime) (m : FilmRest k s (r .next) (r .all)) (o : TableRest (d .value) s (m .next)) where
   abbrev figuresRead : Figures
   figuresRead =
-      figuresFrom (record { kind = d .value; zones = z .value; blocks = m .blocks; bytes = m .bytes; rate = m .rate }) (r .positions) (r .times) (o .table)
+      figuresFrom (scalarsOf (d .value) (z .value) (m .films) (m .blocks) (m .bytes) (m .rate)) (r .positions) (r .times) (o .table)
 
   accepted-parts : cardEnd s (o .next) figuresRead .verdict .number ≡ 0 → AcceptedWith k s figuresRead
   unfolding readCard cardOf numbersOf
@@ -246,7 +258,7 @@ module _ (k : ℕ) (s : List ℕ) (d : Got (faultOf Kind 0) s 0) (z : Got (fault
       let end = end-got s (o .next) figuresRead (o .inside) e in
       let film = m .ahead (d .value) (z .value) (r .positions) (r .times) (o .table) (o .ahead (end .1)) in
       record {
-        wide = (sym (r .placed .long) ∙ blank-long, sym (r .timed .long) ∙ blank-long, o .long);
+        wide = (sym (r .placed .long) ∙ blank-long, sym (r .timed .long) ∙ blank-long, m .long, o .long);
         clear = judged-fault k figuresRead (record {
           kind = kind-range 0 (d .value) (d .clear);
           zones = zones-range 0 (z .value) (z .clear);
@@ -342,5 +354,5 @@ refused-blank j s = read-holds (λ r. (k : ℕ) → r .verdict .number ≡ suc k
   over = tt;
   rule = λ u bound v. tt;
   time = λ innermost before v. tt;
-  blocks = λ k total v. tt;
+  blocks = λ k total sofar v. tt;
 }) j s

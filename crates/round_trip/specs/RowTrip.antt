@@ -8,17 +8,12 @@ use lib.ListN.{length, getD, set, drop, length-set, drop-of-length-le}
 use lib.Seq.{drop-cons}
 use Rattle.numbers.specs.Limits.{noNumber}
 use Rattle.leb128.specs.Number.{Bytes}
-use Rattle.card_field.specs.Row.{rowFault}
+use Rattle.card_field.specs.Row.{rowFault, rowNumbers}
 use Rattle.card_field.specs.RangeLaws.{first-none, first-clear}
 use Rattle.card.specs.declared.CardRead.{CardRead}
 use Rattle.card.specs.Read.{rowFrom}
 use Rattle.round_trip.specs.Ahead.{Ahead, ahead-next, field-goes, Got, got-goes, accepted-field, ahead-more}
 use Rattle.round_trip.specs.Entries.{Agree, agree-self, agree-all, agree-next, agree-back}
-
--- `left` numbers of a list from the k-th on, and the rest after them
-unfoldable pub rowNumbers : ℕ → ℕ → List ℕ → List ℕ → List ℕ
-rowNumbers zero k vs rest = rest
-rowNumbers (suc left) k vs rest = getD vs k 0 ∷ rowNumbers left (k + 1) vs rest
 
 -- all of them to its end are the list from there on
 pub row-all : (left k : ℕ) (vs : List ℕ) → k + left ≡ length vs → rowNumbers left k vs [] ≡ drop k vs

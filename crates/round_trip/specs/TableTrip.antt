@@ -12,13 +12,14 @@ use Rattle.leb128.specs.Number.{Bytes}
 use Rattle.card.specs.declared.CardRead.{CardRead}
 use Rattle.card_field.specs.declared.Rule.the-variants.{Measure, Overhead}
 use Rattle.card_field.specs.Ranges.{faultOf}
+use Rattle.card_field.specs.Row.{rowNumbers}
 use Rattle.card_field.specs.RangeLaws.{first-none, measure-range, overhead-range}
 use Rattle.card_table.specs.Table.{straight, hopIn, backIn, straightFault, lastEntry, measuredFault, tableFault, tableNumbers}
 use Rattle.card_table.specs.TableLaws.{straight-long}
 use Rattle.card_table.specs.TableFaults.{straight-is, straight-hop, straight-back, straight-fault}
 use Rattle.card.specs.Read.{blankTable, movesFrom, entriesFrom, tableFrom}
 use Rattle.round_trip.specs.Ahead.{Ahead, ahead-next, field-goes, Got, got-goes, still-accepted, accepted-field, ahead-more}
-use Rattle.round_trip.specs.RowTrip.{row-all, rowNumbers, row-goes, RowRest, row-got}
+use Rattle.round_trip.specs.RowTrip.{row-all, row-goes, RowRest, row-got}
 use Rattle.round_trip.specs.Entries.{Agree}
 
 -- past the last entry both are 0

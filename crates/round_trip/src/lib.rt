@@ -7,7 +7,7 @@ ghost use lib.ListN.{length, drop};
 ghost use Rattle.numbers.specs.Limits.{minCard, maxCard};
 ghost use Rattle.leb128.specs.Number.{Bytes};
 ghost use Rattle.card.specs.declared.Figures.{Figures};
-ghost use Rattle.card.specs.Card.{Legal, totalPositions, recordFault, judgeRecord, cardOf, writtenCard, bufferAfter};
+ghost use Rattle.card.specs.Card.{Legal, totalPositions, blocksOf, recordFault, judgeRecord, cardOf, writtenCard, bufferAfter};
 ghost use Rattle.card.specs.Read.{accepted, blankFigures, readCard};
 ghost use Rattle.legality.specs.Legality.{Wide};
 
@@ -38,7 +38,7 @@ pub fn refused_card_has_no_figures()
     ensures { λ _. ⌜ ((s : List ℕ) (k : ℕ) → readCard 1 s .verdict .number ≡ suc k → readCard 1 s .figures ≡ blankFigures) ⌝ }
 {}
 
-// The card of legal figures has 9 to 1,489 bytes.
+// The card of legal figures has 10 to 1,519 bytes.
 pub fn legal_card_is_short()
     ensures { λ _. ⌜ ((f : Figures) → Legal 1 f → (minCard ≤ length (cardOf f)) × (length (cardOf f) ≤ maxCard)) ⌝ }
 {}
@@ -53,5 +53,5 @@ pub fn halved_card_is_a_card()
 // The same of a record.
 pub fn halved_record_is_a_record()
     ensures { λ _. ⌜ ((f : Figures) → Wide f → ((judgeRecord 2 f ≡ accepted) ↔ Legal 2 f) × ((recordFault 2 f ≡ 0) ↔ Legal 2 f)
-        × (judgeRecord 2 f ≡ accepted → judgeRecord 1 f ≡ accepted) × (Legal 2 f ↔ (Legal 1 f × (2 * f .blocks ≤ totalPositions f)))) ⌝ }
+        × (judgeRecord 2 f ≡ accepted → judgeRecord 1 f ≡ accepted) × (Legal 2 f ↔ (Legal 1 f × (2 * blocksOf f ≤ totalPositions f)))) ⌝ }
 {}

@@ -10,6 +10,7 @@ use lib.ListN.{length}
 use Rattle.numbers.specs.Limits.{maxStreams}
 use Rattle.legality.specs.Legality as legality
 use Rattle.placement.specs.Showing.{Showing, one, loop, pairs, visitsOf, visits-few, otherPlaces}
+use Rattle.pacing.specs.Shelf.{blockIn}
 use Rattle.plan.specs.declared.Plan.{Plan}
 use Rattle.plan.specs.Plan.{showingIn}
 use Rattle.rules.specs.Scheduler.{Slot, entries, fetchCount}
@@ -38,7 +39,7 @@ each-visit p ss = entries-length (supplyOf p) (visitsIn p - 1) others ss ∙ mul
     ∙ ap (λ (v : ℕ). v * fetchCount (supplyOf p) ss) (omega (arith, visits-few (showingIn p)))
   where
     others : (b : ℕ) → length (supplyOf p .others b) ≡ visitsIn p - 1
-    others b = unfold supplyOf in others-count (showingIn p) _ b
+    others b = unfold supplyOf in others-count (showingIn p) _ (blockIn b)
 
 streams-are : (p : Plan) → supplyOf p .n ≡ p .streams
 unfolding supplyOf

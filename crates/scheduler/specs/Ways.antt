@@ -43,7 +43,8 @@ module _ (d : Desk) (w : Wide d) (z : legality.Wide (d .plan .figures)) (ps ls :
     pub begin-ways : ((k : ℕ) × NotBegun k) ⊎ HasBegun
     begin-ways = go (soundDesk d ps ls) refl (ℕ-discrete (d .phase) between) (decLe (visitsIn (d .plan) * d .plan .streams) room)
       where
-        go : (t : Bool) → soundDesk d ps ls ≡ t → Dec (d .phase ≡ between) → Dec (visitsIn (d .plan) * d .plan .streams ≤ room) → ((k : ℕ) × NotBegun k) ⊎ HasBegun
+        go : (t : Bool) → soundDesk d ps ls ≡ t → Dec (d .phase ≡ between) → Dec (visitsIn (d .plan) * d .plan .streams ≤ room)
+            → ((k : ℕ) × NotBegun k) ⊎ HasBegun
         go false s p l = inl (notSound, record { some = omega arith; answer = begin-unsound d w ps ls room s })
         go true s (no p) l = inl (wrongPhase, record { some = omega arith; answer = begin-in-sweep d w ps ls room s p })
         go true s (yes p) (no l) = inl (tooShort, record { some = omega arith; answer = begin-no-room d w ps ls room s p (omega arith) })

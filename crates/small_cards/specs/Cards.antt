@@ -9,7 +9,7 @@ use Rattle.laws.specs.Runs.{sumBy}
 use Rattle.numbers.specs.Limits.{straightKind, maxZones, minBlocks, maxTried}
 use Rattle.card.specs.declared.Figures.{Figures}
 use Rattle.card_table.specs.Table.{straight}
-use Rattle.card.specs.Card.{Legal}
+use Rattle.card.specs.Card.{Legal, lengthIn, oneFilm}
 use Rattle.card.specs.Read.{blankZones}
 
 -- ---- the figures of a small card
@@ -18,7 +18,7 @@ use Rattle.card.specs.Read.{blankZones}
 unfoldable pub entered : List ℕ → List ℕ
 entered xs = take maxZones (xs ++ blankZones)
 
--- zones of given positions and times and a film of n blocks, with the measures that every small card has: B 1000, c 1000, and the
+-- zones of given positions and times and one film of n blocks, with the measures that every small card has: B 1000, c 1000, and the
 -- overheads of hop 1 and return 1, as cards of kind 1 have them
 unfoldable pub smallFigures : ℕ → List ℕ → List ℕ → ℕ → Figures
 smallFigures z ps ts n = record {
@@ -26,7 +26,8 @@ smallFigures z ps ts n = record {
   zones = z;
   positions = entered ps;
   times = entered ts;
-  blocks = n;
+  films = 1;
+  blocks = oneFilm n;
   bytes = 1000;
   rate = 1000;
   table = straight 1 1;
@@ -34,13 +35,15 @@ smallFigures z ps ts n = record {
 
 -- ---- which cards are small (T13.1)
 
--- a legal card with at most 3 zones, at most 3 positions a zone, times of at most 3, at most 8 blocks, and these measures
+-- a legal card with at most 3 zones, at most 3 positions a zone, times of at most 3, one film of at most 8 blocks, and these
+-- measures
 pub record Small (f : Figures) : Type 0 where
   pub legal : Legal 1 f
   pub zones : f .zones ≤ 3
   pub positions : (i : ℕ) → i < f .zones → getD (f .positions) i 0 ≤ 3
   pub times : (i : ℕ) → i < f .zones → getD (f .times) i 0 ≤ 3
-  pub blocks : f .blocks ≤ maxTried
+  pub film : f .films ≡ 1
+  pub blocks : lengthIn f 0 ≤ maxTried
   pub measures : (f .kind ≡ straightKind) × (f .bytes ≡ 1000) × (f .rate ≡ 1000) × (f .table ≡ straight 1 1)
 
 -- ---- the list of them
@@ -56,12 +59,12 @@ falling zero m = [] ∷ []
 falling (suc z) m = each (upto 1 m) (λ t. map (λ ts. t ∷ ts) (falling z t))
 
 -- every N that the positions have room for, from 2 to 8
-unfoldable pub films : List ℕ → List ℕ
-films ps = upto minBlocks (suc (min maxTried (sumBy (λ (p : ℕ). p) ps)) - minBlocks)
+unfoldable pub lengths : List ℕ → List ℕ
+lengths ps = upto minBlocks (suc (min maxTried (sumBy (λ (p : ℕ). p) ps)) - minBlocks)
 
 -- all small cards: by zones, then positions, then times, then N (T13.2)
 unfoldable pub smallCards : List Figures
-smallCards = each (upto 1 3) (λ z. each (threes z) (λ ps. each (falling z 3) (λ ts. map (smallFigures z ps ts) (films ps))))
+smallCards = each (upto 1 3) (λ z. each (threes z) (λ ps. each (falling z 3) (λ ts. map (smallFigures z ps ts) (lengths ps))))
 
 -- ---- their order (T13.2)
 
@@ -73,7 +76,7 @@ Before (x ∷ xs) (y ∷ ys) = (x < y) ⊎ ((x ≡ y) × Before xs ys)
 
 -- what cards are ordered by: zones, then the positions of all zones from the innermost, then the times likewise, then N
 abbrev pub orderOf : Figures → List ℕ
-orderOf f = f .zones ∷ (f .positions ++ (f .times ++ (f .blocks ∷ [])))
+orderOf f = f .zones ∷ (f .positions ++ (f .times ++ (lengthIn f 0 ∷ [])))
 
 abbrev pub Earlier : Figures → Figures → Type 0
 Earlier f g = Before (orderOf f) (orderOf g)

@@ -12,17 +12,17 @@ use borrow.Author.Tests.{leb-true, eqb-true}
 use Rattle.laws.specs.Bools.{and-left, and-right}
 use Rattle.laws.specs.Members.{In, upto, each, in-all, of-each, of-map}
 use Rattle.laws.specs.Runs.{allBy, all-at}
-use Rattle.numbers.specs.Limits.{straightKind, maxZones, maxTime, maxBytes, maxRate, maxTried}
+use Rattle.numbers.specs.Limits.{straightKind, maxZones, maxTime, maxFilms, maxBytes, maxRate, maxTried}
 use Rattle.card.specs.declared.Figures.{Figures}
 use Rattle.card_field.specs.declared.Rule.the-variants.{Zones, Positions, Measure}
-use Rattle.card_field.specs.Ranges.{faultOf, timeFault, blocksFault}
+use Rattle.card_field.specs.Ranges.{faultOf, timeFault}
 use Rattle.card_field.specs.RangeLaws.{first-clear, kind-legal}
 use Rattle.card_table.specs.Table.{straight, tableFault}
 use Rattle.card_table.specs.TableLaws.{straight-long}
 use Rattle.card_table.specs.TableFaults.{table-fault}
-use Rattle.card.specs.Card.{filmFault, zoneFaults, unusedZero, recordFault}
+use Rattle.card.specs.Card.{lengthIn, shelfFault, filmFault, zoneFaults, unusedZero, recordFault}
 use Rattle.legality.specs.Legality.{fault-legal}
-use Rattle.small_cards.specs.Cards.{smallFigures, Small, threes, falling, films, smallCards}
+use Rattle.small_cards.specs.Cards.{smallFigures, Small, threes, falling, lengths, smallCards}
 use Rattle.small_cards.specs.Computed.{zonesPass, passes, hasForm, all-have-form}
 
 -- ---- the overheads
@@ -38,10 +38,10 @@ moves-clear f k t = table-fault (f .kind) (f .table) (inl k) (record {
 listed-moves : (f : Figures) → In f smallCards → (f .kind ≡ straightKind) × (f .table ≡ straight 1 1)
 unfolding smallCards smallFigures
 listed-moves f h =
-    let z = of-each (λ z. each (threes z) (λ ps. each (falling z 3) (λ ts. map (smallFigures z ps ts) (films ps)))) f (upto 1 3) h in
-    let ps = of-each (λ ps. each (falling (z .0) 3) (λ ts. map (smallFigures (z .0) ps ts) (films ps))) f (threes (z .0)) (z .2) in
-    let ts = of-each (λ ts. map (smallFigures (z .0) (ps .0) ts) (films (ps .0))) f (falling (z .0) 3) (ps .2) in
-    let n = of-map (smallFigures (z .0) (ps .0) (ts .0)) f (films (ps .0)) (ts .2) in
+    let z = of-each (λ z. each (threes z) (λ ps. each (falling z 3) (λ ts. map (smallFigures z ps ts) (lengths ps)))) f (upto 1 3) h in
+    let ps = of-each (λ ps. each (falling (z .0) 3) (λ ts. map (smallFigures (z .0) ps ts) (lengths ps))) f (threes (z .0)) (z .2) in
+    let ts = of-each (λ ts. map (smallFigures (z .0) (ps .0) ts) (lengths (ps .0))) f (falling (z .0) 3) (ps .2) in
+    let n = of-map (smallFigures (z .0) (ps .0) (ts .0)) f (lengths (ps .0)) (ts .2) in
     (ap (λ (g : Figures). g .kind) (n .2), ap (λ (g : Figures). g .table) (n .2))
 
 -- ---- all else
@@ -50,7 +50,7 @@ zones-clear : (f : Figures) → tableFault (f .kind) (f .table) ≡ 0 → (left 
     → zoneFaults 1 left i f total before ≡ 0
 unfolding zonesPass zoneFaults filmFault
 zones-clear f t zero i total before e =
-    let n = blocksFault 1 total (f .blocks) in
+    let n = shelfFault 1 total (f .films) (f .blocks) in
     let b = faultOf Measure maxBytes (f .bytes) in
     let c = faultOf Measure maxRate (f .rate) in
     let later = and-right (eqb n 0) _ e in
@@ -78,15 +78,18 @@ form-small : (f : Figures) → f .kind ≡ straightKind → f .table ≡ straigh
 unfolding hasForm
 form-small f k t e =
     let e₁ = and-right (passes f) _ e in
-    let e₂ = and-right (eqb (length (f .positions)) maxZones && eqb (length (f .times)) maxZones) _ e₁ in
-    let e₃ = and-right (leb (f .zones) 3 && leb (f .blocks) maxTried) _ e₂ in
+    let e₂ = and-right (eqb (length (f .positions)) maxZones && (eqb (length (f .times)) maxZones && eqb (length (f .blocks)) maxFilms)) _ e₁ in
+    let e₃ = and-right (leb (f .zones) 3 && (eqb (f .films) 1 && leb (lengthIn f 0) maxTried)) _ e₂ in
     let e₄ = and-right (allBy (λ (p : ℕ). leb p 3) (f .positions) && allBy (λ (t : ℕ). leb t 3) (f .times)) _ e₃ in
-    let wide = and-left (eqb (length (f .positions)) maxZones && eqb (length (f .times)) maxZones) _ e₁ in
-    let few = and-left (leb (f .zones) 3 && leb (f .blocks) maxTried) _ e₂ in
+    let wide = and-left (eqb (length (f .positions)) maxZones && (eqb (length (f .times)) maxZones && eqb (length (f .blocks)) maxFilms)) _ e₁ in
+    let few = and-left (leb (f .zones) 3 && (eqb (f .films) 1 && leb (lengthIn f 0) maxTried)) _ e₂ in
     let low = and-left (allBy (λ (p : ℕ). leb p 3) (f .positions) && allBy (λ (t : ℕ). leb t 3) (f .times)) _ e₃ in
     let long = eqb-true (length (f .positions)) maxZones (and-left (eqb (length (f .positions)) maxZones) _ wide) in
-    let wide₂ = eqb-true (length (f .times)) maxZones (and-right (eqb (length (f .positions)) maxZones) _ wide) in
-    let ok = fault-legal 1 f (long, wide₂, ap length t ∙ straight-long 1 1) (passes-clear f k t (and-left (passes f) _ e)) in
+    let others = and-right (eqb (length (f .positions)) maxZones) _ wide in
+    let wide₂ = eqb-true (length (f .times)) maxZones (and-left (eqb (length (f .times)) maxZones) _ others) in
+    let wide₃ = eqb-true (length (f .blocks)) maxFilms (and-right (eqb (length (f .times)) maxZones) _ others) in
+    let film = and-right (leb (f .zones) 3) _ few in
+    let ok = fault-legal 1 f (long, wide₂, wide₃, ap length t ∙ straight-long 1 1) (passes-clear f k t (and-left (passes f) _ e)) in
     let ps = and-left (allBy (λ (p : ℕ). leb p 3) (f .positions)) _ low in
     let ts = and-right (allBy (λ (p : ℕ). leb p 3) (f .positions)) _ low in
     record {
@@ -94,7 +97,8 @@ form-small f k t e =
       zones = omega (arith, leb-true (f .zones) 3 (and-left (leb (f .zones) 3) _ few));
       positions = λ i h. leb-true (getD (f .positions) i 0) 3 (all-at 0 (λ (p : ℕ). leb p 3) (f .positions) i ps (omega (arith, ok .zones)));
       times = λ i h. leb-true (getD (f .times) i 0) 3 (all-at 0 (λ (t : ℕ). leb t 3) (f .times) i ts (omega (arith, ok .zones)));
-      blocks = leb-true (f .blocks) maxTried (and-right (leb (f .zones) 3) _ few);
+      film = eqb-true (f .films) 1 (and-left (eqb (f .films) 1) _ film);
+      blocks = leb-true (lengthIn f 0) maxTried (and-right (eqb (f .films) 1) _ film);
       measures = (
         k,
         eqb-true (f .bytes) 1000 (and-left (eqb (f .bytes) 1000) _ e₄),

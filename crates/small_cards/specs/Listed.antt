@@ -12,10 +12,12 @@ use Rattle.laws.specs.Members.{In, upto, each, in-map, in-upto, in-each}
 use Rattle.laws.specs.Runs.{sumBy}
 use Rattle.numbers.specs.Limits.{maxZones, minBlocks}
 use Rattle.card.specs.declared.Figures.{Figures}
-use Rattle.card.specs.Card.{Legal, totalPositions}
+use Rattle.laws.specs.Starts.{start-none, start-next}
+use Rattle.card.specs.Card.{Legal, totalPositions, lengthIn, blocksOf}
+use Rattle.card.specs.CardLaws.{oneFilm-is}
 use Rattle.card.specs.Read.{blankZones}
 use Rattle.round_trip.specs.RoundTrip.{blank-at, blank-long}
-use Rattle.small_cards.specs.Cards.{entered, smallFigures, Small, threes, falling, films, smallCards}
+use Rattle.small_cards.specs.Cards.{entered, smallFigures, Small, threes, falling, lengths, smallCards}
 
 -- ---- positions and times
 
@@ -67,29 +69,40 @@ entered-back xs z l u rest =
 -- ---- the card
 
 -- it is made of its zones and its N
-made-of : (f : Figures) → Small f → f ≡ smallFigures (f .zones) (take (f .zones) (f .positions)) (take (f .zones) (f .times)) (f .blocks)
+made-of : (f : Figures) → Small f → f ≡ smallFigures (f .zones) (take (f .zones) (f .positions)) (take (f .zones) (f .times)) (lengthIn f 0)
 unfolding smallFigures
 made-of f s =
     let ok = s .legal in
     let ps = entered-back (f .positions) (f .zones) (ok .wide .0) (ok .zones .1) (λ i h. ok .unused i h .0) in
     let ts = entered-back (f .times) (f .zones) (ok .wide .1) (ok .zones .1) (λ i h. ok .unused i h .1) in
     let m = s .measures in
-    λ i. record { kind = m .0 i; zones = f .zones; positions = sym ps i; times = sym ts i; blocks = f .blocks; bytes = m .1 i; rate = m .2 i; table = m .3 i }
+    let ns = oneFilm-is (f .blocks) (ok .wide .2) (λ i h. ok .idle i (omega (arith, s .film))) in
+    λ i. record {
+      kind = m .0 i;
+      zones = f .zones;
+      positions = sym ps i;
+      times = sym ts i;
+      films = s .film i;
+      blocks = ns i;
+      bytes = m .1 i;
+      rate = m .2 i;
+      table = m .3 i;
+    }
 
 -- EVERY SMALL CARD IS IN THE LIST
 pub small-listed : (f : Figures) → Small f → In f smallCards
 unfolding smallCards
 small-listed f s =
     subst (λ (g : Figures). In g smallCards) (sym (made-of f s))
-    (in-each (λ y. each (threes y) (λ us. each (falling y 3) (λ vs. map (smallFigures y us vs) (films us)))) z (smallFigures z ps ts (f .blocks)) (upto 1 3)
+    (in-each (λ y. each (threes y) (λ us. each (falling y 3) (λ vs. map (smallFigures y us vs) (lengths us)))) z (smallFigures z ps ts n) (upto 1 3)
     (in-upto 1 3 z (ok .zones .0) (omega (arith, s .zones)))
-    (in-each (λ us. each (falling z 3) (λ vs. map (smallFigures z us vs) (films us))) ps (smallFigures z ps ts (f .blocks)) (threes z)
+    (in-each (λ us. each (falling z 3) (λ vs. map (smallFigures z us vs) (lengths us))) ps (smallFigures z ps ts n) (threes z)
     (in-threes z ps (size (f .positions) (ok .wide .0)) (λ i u. rw (getD-take z (f .positions) i 0 u) (ok .positions i u, s .positions i u)))
-    (in-each (λ vs. map (smallFigures z ps vs) (films ps)) ts (smallFigures z ps ts (f .blocks)) (falling z 3)
+    (in-each (λ vs. map (smallFigures z ps vs) (lengths ps)) ts (smallFigures z ps ts n) (falling z 3)
     (in-falling z 3 ts (size (f .times) (ok .wide .1))
     (λ i u. rw (getD-take z (f .times) i 0 u) (ok .times i u .0)) (λ u. rw (getD-take z (f .times) 0 0 u) (s .times 0 u))
     (λ i u. let v : i < z = omega arith in rw (getD-take z (f .times) (suc i) 0 u, getD-take z (f .times) i 0 v) (ok .falling i u)))
-    (in-map (smallFigures z ps ts) (f .blocks) (films ps) (unfold films in in-upto minBlocks _ (f .blocks) (ok .blocks .0) (omega (arith, s .blocks, room)))))))
+    (in-map (smallFigures z ps ts) n (lengths ps) (unfold lengths in in-upto minBlocks _ n some (omega (arith, s .blocks, room)))))))
   where
     ok : Legal 1 f
     ok = s .legal
@@ -106,5 +119,15 @@ small-listed f s =
     size : (xs : List ℕ) → length xs ≡ maxZones → length (take z xs) ≡ z
     size xs l = length-take-le z xs (omega (arith, ok .zones))
 
-    room : f .blocks ≤ sumBy (λ (p : ℕ). p) ps
-    room = unfold totalPositions in omega (arith, ok .room)
+    n : ℕ
+    n = lengthIn f 0
+
+    some : minBlocks ≤ n
+    some = ok .blocks 0 (omega (arith, s .film)) .0
+
+    -- the blocks of the one film are all
+    alone : n ≡ blocksOf f
+    alone = rw (s .film) (omega (arith, start-none (lengthIn f), start-next (lengthIn f) 0))
+
+    room : n ≤ sumBy (λ (p : ℕ). p) ps
+    room = unfold totalPositions in omega (arith, ok .room, alone)

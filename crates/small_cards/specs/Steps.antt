@@ -15,16 +15,17 @@ use Rattle.laws.specs.Each.{Each, each-map, each-of-all}
 use Rattle.laws.specs.Members.{upto, each, map-at}
 use Rattle.laws.specs.Runs.{sumBy, allBy, all-at}
 use Rattle.card.specs.declared.Figures.{Figures}
+use Rattle.card.specs.Card.{oneFilm}
 use Rattle.card.specs.Read.{blankZones, blankFigures}
 use Rattle.small_cards.specs.declared.SmallCard.{SmallCard}
-use Rattle.small_cards.specs.Cards.{entered, smallFigures, threes, falling, films, smallCards}
+use Rattle.small_cards.specs.Cards.{entered, smallFigures, threes, falling, lengths, smallCards}
 use Rattle.small_cards.specs.Next.{figuresOf, limitOf, risen, mostBlocks, zoneMore, positionsMore, timesMore, nextCard, firstCard, after, walk}
 use Rattle.small_cards.specs.Computed.{how-many}
 
 -- ---- computed
 
 walked : map figuresOf (take 1511 (walk 1511 firstCard)) ≡ smallCards
-unfolding smallCards each threes falling films upto sumBy smallFigures entered blankZones figuresOf limitOf risen mostBlocks zoneMore positionsMore timesMore nextCard firstCard walk
+unfolding smallCards each threes falling lengths upto sumBy smallFigures oneFilm entered blankZones figuresOf limitOf risen mostBlocks zoneMore positionsMore timesMore nextCard firstCard walk
 walked = refl
 
 -- a card on the way, as a test

@@ -12,7 +12,8 @@ use borrow.Author.Tests.{leb-true, ltb-true, eqb-true, eqb-false, lt-ltb, le-leb
 use Rattle.laws.specs.Bools.{clash}
 use Rattle.numbers.specs.Slots.{free, filling, draining}
 use Rattle.numbers.specs.Showings.{loopWord}
-use Rattle.soundness.specs.Facts.{Tells, LastKind, Tidy}
+use Rattle.card.specs.declared.Figures.{Figures}
+use Rattle.soundness.specs.Facts.{Tells, LastKind, Tidy, TidyWithin}
 
 pub tells-yes : {P : Type 0} → P → Tells true P
 tells-yes p = record { yes = λ _. p; no = λ e _. clash refl e }
@@ -30,7 +31,7 @@ pub tells-within : {P : Type 0} (a b : ℕ) → (a ≤ b → P) → (P → a ≤
 tells-within a b f g = record { yes = λ e. f (leb-true a b e); no = λ e p. clash (le-leb a b (g p)) e }
 
 -- a slot that is all zero is tidy
-pub zero-tidy : {w N buffer k x h : ℕ} → k ≡ 0 → x ≡ 0 → h ≡ 0 → Tidy w N buffer k x h
+pub zero-tidy : {w : ℕ} {f : Figures} {buffer k x h : ℕ} → k ≡ 0 → x ≡ 0 → h ≡ 0 → Tidy w f buffer k x h
 zero-tidy k x h = record {
   kinds = omega arith;
   zeros = λ _. (x, h);
@@ -78,7 +79,7 @@ pub record Clear (top N buffer end k x h : ℕ) : Type 0 where
 
 module _ {w top N end k : ℕ} (last : LastKind w top) (ends : (k ≡ free → end ≡ 1) × (k ≢ free → end ≡ N)) {buffer x h : ℕ} where
   -- it is tidy just there
-  pub clear-tidy : Clear top N buffer end k x h → Tidy w N buffer k x h
+  pub clear-tidy : Clear top N buffer end k x h → TidyWithin w N buffer k x h
   clear-tidy c = record {
     kinds = by-cases (ℕ-discrete w loopWord) (λ e. omega (arith, last .0 e, c .known)) (λ e. omega (arith, last .1 e, c .known));
     zeros = λ e. (omega (arith, c .named (omega arith), ends .0 e), c .empty (omega arith));
@@ -90,7 +91,7 @@ module _ {w top N end k : ℕ} (last : LastKind w top) (ends : (k ≡ free → e
     fits = c .fits;
   }
 
-  pub tidy-clear : Tidy w N buffer k x h → Clear top N buffer end k x h
+  pub tidy-clear : TidyWithin w N buffer k x h → Clear top N buffer end k x h
   tidy-clear t = record {
     known = by-cases (ℕ-discrete w loopWord)
         (λ e. by-cases (ℕ-discrete k draining) (λ d. absurd (t .ends d e)) (λ d. omega (arith, last .0 e, t .kinds)))

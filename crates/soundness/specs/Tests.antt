@@ -6,14 +6,16 @@ use mathlib.Core.Bool.{Bool, true, false}
 use mathlib.Core.List.{List}
 use mathlib.Core.Logic.{by-cases}
 use native.Mathlib.Omega.{arith}
-use native.Mathlib.Decide.{decLt}
+use native.Mathlib.Decide.{decLt, ℕ-discrete}
 use lib.ListN.{getD, List·getD-eq-default}
-use borrow.Author.Tests.{ltb-true, lt-ltb}
 use Rattle.numbers.specs.Limits.{maxStreams}
-use Rattle.numbers.specs.Slots.{waiting, playing, sweeping}
+use Rattle.numbers.specs.Slots.{free, waiting, playing, draining, sweeping}
 use Rattle.numbers.specs.Units.{parts}
+use Rattle.card.specs.declared.Figures.{Figures}
+use Rattle.pacing.specs.Shelf.{filmIn}
 use Rattle.plan.specs.declared.Plan.{Plan}
 use Rattle.plan.specs.Plan.{showingIn, leadOf}
+use Rattle.plan.specs.Names.{Named, block-names, names-block}
 use Rattle.rules.specs.Scheduler.{leads, lowWater}
 use Rattle.rules.specs.Arrays.{slotOf}
 use Rattle.turns.specs.Facts.{Good, Sound, sound-of-good}
@@ -25,6 +27,7 @@ use Rattle.desk.specs.Shown.{Slots}
 use Rattle.desk.specs.FilmEnd.{end-says, end-at}
 use Rattle.desk.specs.Promise.{supply-named}
 use Rattle.desk.specs.Slots.{length-in, slot-in, kind-in}
+use Rattle.desk_columns.specs.Films.{ShelfSmall}
 use Rattle.floor.specs.Floor.{leadSum, Added, LeadsSummed, mark-is}
 use Rattle.floor.specs.Sources.{leadsNext, Found}
 use Rattle.soundness.specs.Facts.{slotsSound, Tells, Tidy, AllTidy, OthersIdle, PlayersHold, LeadSource, ZonesRead}
@@ -33,32 +36,39 @@ use Rattle.soundness.specs.Places.{AllPlaced, sound-idle, sound-placed, 
 -- ---- one slot
 
 -- a good slot is tidy, and a tidy one is good where it holds the low-water mark
-pub good-tidy : (p : Plan) (L k x h : ℕ) → Good (supplyOf p) L (slotOf (supplyOf p) k x h) → Tidy (p .showing) (p .figures .blocks) (p .buffer) k x h
+pub good-tidy : (p : Plan) (L k x h : ℕ) → Good (supplyOf p) L (slotOf (supplyOf p) k x h) → Tidy (p .showing) (p .figures) (p .buffer) k x h
 unfolding supplyOf
 good-tidy p L k x h g = record {
   kinds = g .kinds;
   zeros = g .zeros;
   empty = g .empty;
-  named = λ a b. ltb-true x (p .figures .blocks) (g .named a b);
+  named = λ a b. block-names (showingIn p) (p .figures) x (g .named a b);
   ends = λ e. end-says p x (g .past e) .0;
-  past = λ e. end-says p x (g .past e) .1;
+  past = λ e. let q = end-says p x (g .past e) in (q .1, q .2);
   some = g .some;
   fits = g .fits;
 }
 
-pub tidy-good : (p : Plan) (L k x h : ℕ) → Tidy (p .showing) (p .figures .blocks) (p .buffer) k x h → (k ≡ playing → lowWater (supplyOf p) L ≤ parts * h)
+pub tidy-good : (p : Plan) (L k x h : ℕ) → Tidy (p .showing) (p .figures) (p .buffer) k x h → (k ≡ playing → lowWater (supplyOf p) L ≤ parts * h)
     → Good (supplyOf p) L (slotOf (supplyOf p) k x h)
 unfolding supplyOf
 tidy-good p L k x h t f = record {
   kinds = t .kinds;
   zeros = t .zeros;
   empty = t .empty;
-  named = λ a b. lt-ltb x (p .figures .blocks) (t .named a b);
-  past = λ e. end-at p x (t .ends e) (t .past e);
+  named = λ a b. names-block (showingIn p) (p .figures) x (t .named a b);
+  past = λ e. let q = t .past e in end-at p x (t .ends e) (q .0) (q .1);
   some = t .some;
   fits = t .fits;
   floored = f;
 }
+
+-- a tidy slot names a film of the shelf
+pub film-tidy : {w : ℕ} {f : Figures} {buffer k x h : ℕ} → Tidy w f buffer k x h → 0 < f .films → filmIn x < f .films
+film-tidy {k = k} t some =
+    by-cases (ℕ-discrete k free)
+    (λ e. omega (arith, t .zeros e .0))
+    (λ e. by-cases (ℕ-discrete k draining) (λ q. t .past q .0) (λ q. t .named (omega arith) (omega (arith, t .kinds)) .0))
 
 -- ---- the whole record
 
@@ -96,22 +106,25 @@ module _ (d : Desk) (w : Wide d) where
   }
 
   -- its next blocks are in the source of leads, and what is added up there is the sum of its leads
-  module _ (t : AllTidy d) (n : d .plan .streams ≤ maxStreams) (listed : Bool) (ps ls : List ℕ) (q : LeadSource listed (d .plan) ps ls) where
-    -- the next block of slot i is one of the film
-    block : (i : ℕ) → i < d .plan .streams → waiting ≤ getD (d .kinds) i 0 → getD (d .kinds) i 0 ≤ playing → getD (d .next) i 0 < d .plan .figures .blocks
+  module _ (t : AllTidy d) (n : d .plan .streams ≤ maxStreams) (f : ShelfSmall (d .plan .figures)) (some : 0 < d .plan .figures .films) (listed : Bool)
+      (ps ls : List ℕ) (q : LeadSource listed (d .plan) ps ls) where
+    -- the next block of slot i is one of its film
+    block : (i : ℕ) → i < d .plan .streams → waiting ≤ getD (d .kinds) i 0 → getD (d .kinds) i 0 ≤ playing → Named (d .plan .figures) (getD (d .next) i 0)
     block i l a b = t .slots i (omega arith) .named a b
 
     -- of the zones as they were read, and n
     module _ (sizes times : List ℕ) (z : ZonesRead d sizes times) (m : ℕ) (e : m ≡ d .plan .streams) where
       abbrev lead : ℕ → ℕ
-      lead = leadsNext listed sizes times (d .plan .worst2) ps ls (d .next)
+      lead = leadsNext listed d sizes times ps ls
 
       pub lead-says : (i : ℕ) → i < m → waiting ≤ getD (d .kinds) i 0 → getD (d .kinds) i 0 ≤ playing
           → lead i ≡ leadOf (showingIn (d .plan)) (d .plan .figures) (getD (d .next) i 0)
       lead-says i l a b = rw (z .0, z .1) (q .says _ (block i (omega arith) a b))
 
-      pub tidy-found : Found listed sizes times (d .plan .worst2) ps ls (d .kinds) (d .next) m
+      pub tidy-found : Found listed d sizes times ps ls m
       tidy-found = record {
+        shelved = f;
+        films = λ i l. film-tidy (t .slots i (omega arith)) some;
         here = λ i l a b. rw (z .0, z .1) (q .here _ (block i (omega arith) a b));
         small = λ i l a b. omega (arith, lead-says i l a b, q .small _ (block i (omega arith) a b));
       }

@@ -23,8 +23,10 @@ use Rattle.legality.specs.Legality.{Wide}
 use Rattle.plan.specs.declared.Plan.{Plan}
 use Rattle.plan.specs.Plan.{showingIn, planOf}
 use Rattle.plan.specs.Answer.{isPlan}
+use Rattle.plan.specs.Names.{block-names}
 use Rattle.plan.specs.Check.{checked, checked-legal}
 use Rattle.plan.specs.Legal.{buffer-small}
+use Rattle.pacing.specs.Shelf.{nameOf, filmIn}
 use Rattle.rules.specs.Scheduler.{Slot, Call, join, leave, begin, end}
 use Rattle.rules.specs.Order.{Scheduler, waitingCount, byPlace}
 use Rattle.turns.specs.Facts.{Good, Sound, sound-says}
@@ -85,13 +87,17 @@ module _ (p : Plan) (ps ls : List ℕ) (w : Wide (p .figures)) (i : isPlan p ps 
   unfolding supplyOf
   next-fits L s g = by-kind (s .kind) refl
     where
+      -- a film of the shelf is one of 16
+      of-film : filmIn (s .next) < p .figures .films → s .next < noNumber
+      of-film u = omega (arith, u, legal .films)
+
       block : (1 ≤ s .kind) → s .kind ≤ 3 → s .next < noNumber
-      block m n = omega (arith, ltb-true (s .next) (p .figures .blocks) (g .named m n), legal .blocks)
+      block m n = of-film (block-names (showingIn p) (p .figures) (s .next) (g .named m n) .0)
 
       by-kind : (k : ℕ) → s .kind ≡ k → s .next < noNumber
       by-kind zero e = omega (arith, g .zeros e .0)
       by-kind (suc k) e = by-cases (ℕ-discrete k 3)
-          (λ z. omega (arith, end-says p (s .next) (g .past (omega arith)) .1, legal .blocks))
+          (λ z. of-film (end-says p (s .next) (g .past (omega arith)) .1))
           (λ z. block (omega arith) (omega (arith, g .kinds)))
 
   module _ (L : ℕ) where
@@ -158,7 +164,7 @@ module _ (D ps ls : List ℕ) where
     p = said D .plan
 
     pub wide : Wide (p .figures)
-    wide = let s = said-sized D right in (s .plan .positions, s .plan .times, s .plan .table)
+    wide = let s = said-sized D right in (s .plan .positions, s .plan .times, s .plan .blocks, s .plan .table)
 
     judged : rulesOf p .verdict (viewOf d) (record { call = call; fair = isPlan p ps ls; room = room }) .number ≡ 0
     unfolding answerOf
@@ -196,9 +202,9 @@ module _ (D ps ls : List ℕ) where
         ∙ (unfold said in desk-written D (deskOf p s) (desk-of-sized p s (said-sized D right .plan) stays-sound stays-long)
         (sound-fits p ps ls wide fair s stays-sound stays-long) (enough D right))
 
-  pub join-back : (slot block : ℕ) → joinAnswer D ps ls slot block .number ≡ 0 → said (joinString D ps ls slot block) ≡ joinDesk (said D) ps ls slot block .desk
+  pub join-back : (slot block film : ℕ) → joinAnswer D ps ls slot block film .number ≡ 0 → said (joinString D ps ls slot block film) ≡ joinDesk (said D) ps ls slot block film .desk
   unfolding joinAnswer joinString joinDesk answered verdictAnswer
-  join-back slot block n = let (l, z) = accepted-right 0 (join slot block) _ refl n in call-back 0 (join slot block) l z
+  join-back slot block film n = let (l, z) = accepted-right 0 (join slot (nameOf film block)) _ refl n in call-back 0 (join slot (nameOf film block)) l z
 
   pub leave-back : (slot : ℕ) → leaveAnswer D ps ls slot .number ≡ 0 → said (leaveString D ps ls slot) ≡ leaveDesk (said D) ps ls slot .desk
   unfolding leaveAnswer leaveString leaveDesk answered verdictAnswer
@@ -225,7 +231,7 @@ fresh-fits p y =
     desk-fit (freshDesk p) y (omega arith & z & z & z & z & tt)
 
 pub opened-wide : (P : List ℕ) → length P ≡ planSize → Wide (planIn (wordsOf P) .figures)
-opened-wide P l = let z = plan-sized (wordsOf P) (omega (arith, words-length P, l)) in (z .positions, z .times, z .table)
+opened-wide P l = let z = plan-sized (wordsOf P) (omega (arith, words-length P, l)) in (z .positions, z .times, z .blocks, z .table)
 
 module _ (P ps ls : List ℕ) where
   -- it has a plan string of the right length, and is the plan of its figures
@@ -257,4 +263,4 @@ module _ (P ps ls : List ℕ) where
       let t = opened-plan (l .1) in
       let z : PlanSized p = plan-sized (wordsOf P) (omega (arith, words-length P, t .0)) in
       ap (λ (s : List ℕ). deskIn (wordsOf s)) (open-right P ps ls D (l .0) ∙ ap (λ (x : Desk). withWords D 0 (deskWords x)) (t .2))
-      ∙ desk-written D (freshDesk p) (fresh-sized p z) (fresh-fits p (plan-fits p ps ls (z .positions, z .times, z .table) (t .1))) (enough D (l .0))
+      ∙ desk-written D (freshDesk p) (fresh-sized p z) (fresh-fits p (plan-fits p ps ls (z .positions, z .times, z .blocks, z .table) (t .1))) (enough D (l .0))

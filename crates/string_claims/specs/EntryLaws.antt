@@ -16,8 +16,10 @@ use Rattle.laws.specs.Overwrite.{overwrite-front}
 use Rattle.words.specs.Laws.{words-withWords}
 use Rattle.card.specs.Card.{Legal}
 use Rattle.pacing.specs.Streams.{cap-visits}
+use Rattle.pacing.specs.Shelf.{filmIn, blockIn}
 use Rattle.plan.specs.declared.Plan.{Plan}
 use Rattle.plan.specs.Plan.{showingIn, planOf}
+use Rattle.plan.specs.Names.{Named, block-names}
 use Rattle.plan.specs.Check.{checked, checked-legal}
 use Rattle.plan.specs.Legal.{position-below, streams-few}
 use Rattle.rules.specs.Scheduler.{Entry, begin, freeSlot, at, leads}
@@ -92,8 +94,8 @@ module _ (D ps ls F : List ℕ) (l : length D ≡ deskSize) where
     sound : Sound (supplyOf p) (orderOf p) s
     sound = stays-sound D ps ls (roomIn F) begin l z
 
-    -- a slot that is fetched for is one of the n, and its next block is one of the film
-    fetched-within : (i : ℕ) → NeedsBlock (deskOf p s) i → (i < p .streams) × (getD (deskOf p s .next) i 0 < p .figures .blocks)
+    -- a slot that is fetched for is one of the n, and its next block is one of a film's
+    fetched-within : (i : ℕ) → NeedsBlock (deskOf p s) i → (i < p .streams) × Named (p .figures) (getD (deskOf p s .next) i 0)
     unfolding supplyOf
     fetched-within i h =
         let kind = kind-at p s i in
@@ -102,7 +104,7 @@ module _ (D ps ls F : List ℕ) (l : length D ≡ deskSize) where
         let good = each-at (Good (supplyOf p) (leads (supplyOf p) (s .slots))) (s .slots) i (freeSlot (supplyOf p)) (sound .slots)
         (good-free (supplyOf p) _) in (
           by-cases (decLt i (p .streams)) (λ u. u) (λ u. absurd (omega (arith, kind, sound .unused i (omega arith)))),
-          omega (arith, next-at p s i, ltb-true (x .next) (p .figures .blocks) (good .named (omega arith) (omega arith))),
+          subst (Named (p .figures)) (sym (next-at p s i)) (block-names (showingIn p) (p .figures) (x .next) (good .named (omega arith) (omega arith))),
         )
 
     streams-small : p .streams ≤ maxStreams
@@ -110,14 +112,15 @@ module _ (D ps ls F : List ℕ) (l : length D ≡ deskSize) where
     streams-small =
         omega (arith, cap-visits (showingIn p) _ (streams-few (showingIn p) (p .figures) legal), ap (λ (q : Plan). q .streams) (checked p ps ls (fair D ps ls (roomIn F) begin l z) .plan))
 
-    fetched-fits : (e : Entry) → NeedsBlock (deskOf p s) (e .slot) × (e .block ≡ getD (deskOf p s .next) (e .slot) 0)
-        × ((v : ℕ) × (v < visitsIn p) × (e .position ≡ placeOf p (e .block) v))
+    fetched-fits : (e : Entry) → NeedsBlock (deskOf p s) (e .slot) × (e .block ≡ blockIn (getD (deskOf p s .next) (e .slot) 0))
+        × ((v : ℕ) × (v < visitsIn p) × (e .position ≡ placeOf p (getD (deskOf p s .next) (e .slot) 0) v))
         → Fits e
     fetched-fits e (h, b, (v, u, q)) =
+        let a = getD (deskOf p s .next) (e .slot) 0 in
         let w = fetched-within (e .slot) h in
-        let r = position-below (showingIn p) (p .figures) legal (visitsIn p * e .block + v)
-        (omega (arith, mul-le-mul-left (visitsIn p) (w .1), ap (λ (n : ℕ). visitsIn p * n) b)) in
-        (omega (arith, legal .total), omega (arith, w .0, streams-small), omega (arith, w .1, legal .blocks))
+        let r = position-below (showingIn p) (p .figures) legal (filmIn a) (visitsIn p * blockIn a + v) (w .1 .0)
+        (omega (arith, mul-le-mul-left (visitsIn p) (w .1 .1))) in
+        (omega (arith, legal .total), omega (arith, w .0, streams-small), omega (arith, b))
 
     entries-fit : Each Fits es
     unfolding beginDesk deskOf

@@ -15,6 +15,7 @@ use Rattle.words.specs.Words.{Bytes, wordsOf, withWords}
 use Rattle.card.specs.declared.Verdict.{Verdict}
 use Rattle.plan.specs.declared.Plan.{Plan}
 use Rattle.plan.specs.Answer.{isPlan}
+use Rattle.pacing.specs.Shelf.{nameOf}
 use Rattle.rules.specs.Scheduler.{Entry, Call, join, leave, begin, end}
 use Rattle.desk.specs.declared.Desk.{Desk}
 use Rattle.desk.specs.declared.Answer.{Answer}
@@ -51,9 +52,9 @@ module _ (D : List ℕ) where
           → length D ≡ deskSize → answerOf (said D) ps ls room call .number ≡ 0 → ⊥
       refused-number a e n l z = n (ap (λ (x : FilmdiskAnswer). x .number) (right-answer D l a) ∙ e ∙ z)
 
-    pub join-kept : (slot block : ℕ) → Bytes D → (joinAnswer D ps ls slot block .number ≡ 0 → ⊥) → joinString D ps ls slot block ≡ D
+    pub join-kept : (slot block film : ℕ) → Bytes D → (joinAnswer D ps ls slot block film .number ≡ 0 → ⊥) → joinString D ps ls slot block film ≡ D
     unfolding joinAnswer joinString joinDesk answered verdictAnswer
-    join-kept slot block y n = call-kept 0 (join slot block) y (refused-number 0 (join slot block) _ refl n)
+    join-kept slot block film y n = call-kept 0 (join slot (nameOf film block)) y (refused-number 0 (join slot (nameOf film block)) _ refl n)
 
     pub leave-kept : (slot : ℕ) → Bytes D → (leaveAnswer D ps ls slot .number ≡ 0 → ⊥) → leaveString D ps ls slot ≡ D
     unfolding leaveAnswer leaveString leaveDesk answered verdictAnswer

@@ -14,6 +14,7 @@ use Rattle.legality.specs.Legality.{Wide}
 use Rattle.plan.specs.declared.Plan.{Plan}
 use Rattle.plan.specs.Answer.{isPlan}
 use Rattle.plan.specs.Scratch.{scratchShort}
+use Rattle.pacing.specs.Shelf.{nameOf}
 use Rattle.rules.specs.Scheduler.{Entry, Call, join, leave, begin, end}
 use Rattle.rules.specs.Ledger.{openedLedger, recorded}
 use Rattle.rules.specs.Calls.{isAccepted}
@@ -45,7 +46,7 @@ use Rattle.string_claims.specs.Lists.{entriesIn, entriesRead, answerOn, 
 -- ---- the same call on the record that the string says
 
 abbrev requestOf : StringRequest → Request
-requestOf (joinSlot slot block) = joins slot block
+requestOf (joinSlot slot block film) = joins slot block film
 requestOf (leaveSlot slot) = leaves slot
 requestOf (beginSweep F) = begins (roomIn F)
 requestOf (endSweep draws) = ends draws
@@ -54,13 +55,13 @@ abbrev lentOf : StringCall → Lent
 lentOf x = record { request = requestOf (x .request); positions = x .positions; leads = x .leads; listed = x .listed }
 
 move-same : (r : StringRequest) → moveIn r ≡ moveOf (requestOf r)
-move-same (joinSlot slot block) = refl
+move-same (joinSlot slot block film) = refl
 move-same (leaveSlot slot) = refl
 move-same (beginSweep F) = refl
 move-same (endSweep draws) = refl
 
 room-same : (r : StringRequest) → roomAsked r ≡ roomOf (requestOf r)
-room-same (joinSlot slot block) = refl
+room-same (joinSlot slot block film) = refl
 room-same (leaveSlot slot) = refl
 room-same (beginSweep F) = refl
 room-same (endSweep draws) = refl
@@ -104,7 +105,7 @@ module _ (D : List ℕ) (y : Bytes D) (l : length D ≡ deskSize) where
 
   same-listed : (ps ls : List ℕ) (r : StringRequest) → Same true ps ls r
   unfolding joinAnswer leaveAnswer beginAnswer endAnswer joinString leaveString beginString endString answerTo joinDesk leaveDesk beginDesk endDesk answered verdictAnswer begunAnswer
-  same-listed ps ls (joinSlot slot block) = same-by _ _ _ _ (says ps ls 0 (join slot block)) refl refl refl
+  same-listed ps ls (joinSlot slot block film) = same-by _ _ _ _ (says ps ls 0 (join slot (nameOf film block))) refl refl refl
   same-listed ps ls (leaveSlot slot) = same-by _ _ _ _ (says ps ls 0 (leave slot)) refl refl refl
   same-listed ps ls (beginSweep F) = same-by _ _ _ _ (says ps ls (roomIn F) begin) refl refl (begin-reads D ps ls F l)
   same-listed ps ls (endSweep draws) = same-by _ _ _ _ (says ps ls 0 (end (wordsOf draws))) refl refl refl
@@ -112,7 +113,7 @@ module _ (D : List ℕ) (y : Bytes D) (l : length D ≡ deskSize) where
   -- a scratch that is long enough stands for the film's own leads
   same-long : (ps s : List ℕ) → scratchShort s ≡ false → (r : StringRequest) → Same false ps s r
   unfolding joinScratchAnswer leaveScratchAnswer beginScratchAnswer endScratchAnswer joinScratchString leaveScratchString beginScratchString fetchScratchString endScratchString
-  same-long ps s e (joinSlot slot block) = rw (e, ← long-answer (said D) ps s (joins slot block) e) (same-listed ps (leadsOfDesk D) (joinSlot slot block))
+  same-long ps s e (joinSlot slot block film) = rw (e, ← long-answer (said D) ps s (joins slot block film) e) (same-listed ps (leadsOfDesk D) (joinSlot slot block film))
   same-long ps s e (leaveSlot slot) = rw (e, ← long-answer (said D) ps s (leaves slot) e) (same-listed ps (leadsOfDesk D) (leaveSlot slot))
   same-long ps s e (beginSweep F) = rw (e, ← long-answer (said D) ps s (begins (roomIn F)) e) (same-listed ps (leadsOfDesk D) (beginSweep F))
   same-long ps s e (endSweep draws) = rw (e, ← long-answer (said D) ps s (ends draws) e) (same-listed ps (leadsOfDesk D) (endSweep draws))
@@ -124,7 +125,7 @@ module _ (D : List ℕ) (y : Bytes D) (l : length D ≡ deskSize) where
 
   same-short : (ps s : List ℕ) → scratchShort s ≡ true → (r : StringRequest) → Same false ps s r
   unfolding joinScratchAnswer leaveScratchAnswer beginScratchAnswer endScratchAnswer joinScratchString leaveScratchString beginScratchString fetchScratchString endScratchString entriesRead verdictAnswer
-  same-short ps s e (joinSlot slot block) = rw (e, short-answer (said D) ps s (joins slot block) e) none
+  same-short ps s e (joinSlot slot block film) = rw (e, short-answer (said D) ps s (joins slot block film) e) none
   same-short ps s e (leaveSlot slot) = rw (e, short-answer (said D) ps s (leaves slot) e) none
   same-short ps s e (beginSweep F) = rw (e, short-answer (said D) ps s (begins (roomIn F)) e) none
   same-short ps s e (endSweep draws) = rw (e, short-answer (said D) ps s (ends draws) e) none

@@ -4,6 +4,7 @@ use mathlib.Core.List.{List, [], _∷_}
 use mathlib.Core.Bool.{Bool, cond}
 use lib.ListN.{getD, drop}
 use Rattle.words.specs.Words.{wordsOf}
+use Rattle.pacing.specs.Shelf.{nameOf}
 use Rattle.rules.specs.Scheduler.{Entry, Call, join, leave, begin, end}
 use Rattle.rules.specs.Ledger.{Line, openedLedger, recorded}
 use Rattle.rules.specs.Calls.{isAccepted}
@@ -19,7 +20,7 @@ use Rattle.desk_calls.specs.Calls.{beginScratchString, fetchScratchString, endS
 
 -- what the playout process asks of its desk string
 pub data StringRequest : Type 0 where
-  joinSlot : ℕ → ℕ → StringRequest
+  joinSlot : ℕ → ℕ → ℕ → StringRequest
   leaveSlot : ℕ → StringRequest
   -- with the fetch string
   beginSweep : List ℕ → StringRequest
@@ -35,14 +36,14 @@ pub record StringCall : Type 0 where
 
 -- the move that the book is told of: the draws are the words of their string
 abbrev pub moveIn : StringRequest → Call ℕ
-moveIn (joinSlot slot block) = join slot block
+moveIn (joinSlot slot block film) = join slot (nameOf film block)
 moveIn (leaveSlot slot) = leave slot
 moveIn (beginSweep F) = begin
 moveIn (endSweep draws) = end (wordsOf draws)
 
 -- and the room that it gives for fetch entries
 abbrev pub roomAsked : StringRequest → ℕ
-roomAsked (joinSlot slot block) = 0
+roomAsked (joinSlot slot block film) = 0
 roomAsked (leaveSlot slot) = 0
 roomAsked (beginSweep F) = roomIn F
 roomAsked (endSweep draws) = 0
@@ -55,13 +56,13 @@ entriesRead (suc k) ws = record { position = getD ws 0 0; slot = getD ws 1 0; bl
 -- the answer of a call, the desk string after it, and the entries of the fetch string after it, as many as the answer counts
 module _ (D : List ℕ) (listed : Bool) (ps ls : List ℕ) where
   abbrev pub answerIn : StringRequest → FilmdiskAnswer
-  answerIn (joinSlot slot block) = cond listed (joinAnswer D ps ls slot block) (joinScratchAnswer D ps ls slot block)
+  answerIn (joinSlot slot block film) = cond listed (joinAnswer D ps ls slot block film) (joinScratchAnswer D ps ls slot block film)
   answerIn (leaveSlot slot) = cond listed (leaveAnswer D ps ls slot) (leaveScratchAnswer D ps ls slot)
   answerIn (beginSweep F) = cond listed (beginAnswer D ps ls F) (beginScratchAnswer D ps ls F)
   answerIn (endSweep draws) = cond listed (endAnswer D ps ls draws) (endScratchAnswer D ps ls draws)
 
   abbrev pub stringIn : StringRequest → List ℕ
-  stringIn (joinSlot slot block) = cond listed (joinString D ps ls slot block) (joinScratchString D ps ls slot block)
+  stringIn (joinSlot slot block film) = cond listed (joinString D ps ls slot block film) (joinScratchString D ps ls slot block film)
   stringIn (leaveSlot slot) = cond listed (leaveString D ps ls slot) (leaveScratchString D ps ls slot)
   stringIn (beginSweep F) = cond listed (beginString D ps ls F) (beginScratchString D ps ls F)
   stringIn (endSweep draws) = cond listed (endString D ps ls draws) (endScratchString D ps ls draws)
@@ -70,7 +71,7 @@ module _ (D : List ℕ) (listed : Bool) (ps ls : List ℕ) where
   fetchesIn F = cond listed (fetchString D ps ls F) (fetchScratchString D ps ls F)
 
   abbrev pub entriesIn : StringRequest → List Entry
-  entriesIn (joinSlot slot block) = []
+  entriesIn (joinSlot slot block film) = []
   entriesIn (leaveSlot slot) = []
   entriesIn (beginSweep F) = entriesRead (answerIn (beginSweep F) .count) (wordsOf (fetchesIn F))
   entriesIn (endSweep draws) = []

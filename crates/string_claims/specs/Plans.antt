@@ -17,7 +17,7 @@ use Rattle.card.specs.declared.CardRead.{CardRead}
 use Rattle.card.specs.Read.{readCard}
 use Rattle.placement.specs.Showing.{Showing, visitsOf}
 use Rattle.plan.specs.declared.Plan.{Plan}
-use Rattle.plan.specs.Plan.{showingIn, planOf, blankPlan, positionsOf, leadsOf}
+use Rattle.plan.specs.Plan.{showingIn, longestOf, planOf, blankPlan, positionsOf, leadsOf}
 use Rattle.plan.specs.Answer.{refusal, answer, filled}
 use Rattle.round_trip.specs.RoundTrip.{card-legal}
 use Rattle.plan_layout.specs.Layout.{planWords, planIn, zeroBytes, planSize}
@@ -139,7 +139,7 @@ module _ (x : Showing) (s p ps ls : List ℕ) where
 
     -- AND HAS WINDOWS: 27 alone may come
     pub strings-windows : (k : ℕ) → windowCall (planString x s p ps ls) (positionsString x s p ps ls) k .number ≡ cond
-        (isOutside k (readCard (visitsOf x) s .figures .blocks)) wrongWindow 0
+        (isOutside k (longestOf (readCard (visitsOf x) s .figures))) wrongWindow 0
     unfolding planAnswer verdictAnswer plannedOf positionsString planFaultOf
     strings-windows k =
         let r = readCard (visitsOf x) s in

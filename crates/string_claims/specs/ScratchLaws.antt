@@ -13,6 +13,7 @@ use borrow.Author.Tests.{eq-eqb, ne-eqb}
 use Rattle.numbers.specs.Limits.{scratchLength}
 use Rattle.numbers.specs.Refusals.{tooShort}
 use Rattle.words.specs.Words.{wordsOf, withWords}
+use Rattle.card.specs.Card.{blocksOf}
 use Rattle.card.specs.Read.{readCard}
 use Rattle.legality.specs.Legality.{Wide}
 use Rattle.placement.specs.Showing.{Showing, visitsOf}
@@ -50,7 +51,7 @@ module _ (x : Showing) (s p ps t : List ℕ) where
   PlansAs ls = (planScratchAnswer x s p ps t ≡ planAnswer x s p ps ls) × (planScratchString x s p ps t ≡ planString x s p ps ls)
       × (positionsScratchString x s p ps t ≡ positionsString x s p ps ls)
 
-  pub same-plans : (ls : List ℕ) → scratchLength ≤ length (wordsOf t) → readCard (visitsOf x) s .figures .blocks ≤ length (wordsOf ls) → PlansAs ls
+  pub same-plans : (ls : List ℕ) → scratchLength ≤ length (wordsOf t) → blocksOf (readCard (visitsOf x) s .figures) ≤ length (wordsOf ls) → PlansAs ls
   unfolding planScratchAnswer planScratchString positionsScratchString planAnswer planString positionsString plannedOf planFaultOf
   same-plans ls long full =
       let r = readCard (visitsOf x) s in
@@ -61,7 +62,7 @@ module _ (x : Showing) (s p ps t : List ℕ) where
       )
 
   -- 13, where the card is accepted
-  module _ (h : length (wordsOf t) < scratchLength) (some : 0 < readCard (visitsOf x) s .figures .blocks) (n : readCard (visitsOf x) s .verdict .number ≡ 0) where
+  module _ (h : length (wordsOf t) < scratchLength) (some : 0 < blocksOf (readCard (visitsOf x) s .figures)) (n : readCard (visitsOf x) s .verdict .number ≡ 0) where
     short-planned : planFaultOf x (readCard (visitsOf x) s) p ps own ≡ tooShort
     unfolding planFaultOf
     short-planned = ap (λ (k : ℕ). cond (eqb (length p) planSize) k tooShort) (short-fault x (readCard (visitsOf x) s) ps t h some) ∙ go (eqb (length p) planSize)
@@ -91,12 +92,12 @@ module _ (D : List ℕ) where
       by-cases (ℕ-discrete (length D) deskSize) (λ l. ap (stringBy D) (q l)) (λ n. other-string D n d ∙ sym (other-string D n e))
 
   slim : length D ≡ deskSize → Wide (said D .plan .figures)
-  slim l = let z = said-sized D l .plan in (z .positions, z .times, z .table)
+  slim l = let z = said-sized D l .plan in (z .positions, z .times, z .blocks, z .table)
 
   -- each call with a scratch s is that with the list ls
   pub record EqualStrings (ps ls s : List ℕ) : Type 0 where
-    pub joins : (slot block : ℕ)
-        → (joinScratchAnswer D ps s slot block ≡ joinAnswer D ps ls slot block) × (joinScratchString D ps s slot block ≡ joinString D ps ls slot block)
+    pub joins : (slot block film : ℕ)
+        → (joinScratchAnswer D ps s slot block film ≡ joinAnswer D ps ls slot block film) × (joinScratchString D ps s slot block film ≡ joinString D ps ls slot block film)
     pub leaves : (slot : ℕ) → (leaveScratchAnswer D ps s slot ≡ leaveAnswer D ps ls slot) × (leaveScratchString D ps s slot ≡ leaveString D ps ls slot)
     pub begins : (F : List ℕ) → (beginScratchAnswer D ps s F ≡ beginAnswer D ps ls F) × (beginScratchString D ps s F ≡ beginString D ps ls F)
         × (fetchScratchString D ps s F ≡ fetchString D ps ls F)
@@ -121,7 +122,7 @@ module _ (D : List ℕ) where
     same-strings s long =
         let e = scratch-long s long in
         record {
-          joins = λ slot block. rw e (moves-same _ _ (λ l. same-join (said D) ps ls (slim l) full slot block));
+          joins = λ slot block film. rw e (moves-same _ _ (λ l. same-join (said D) ps ls (slim l) full slot block film));
           leaves = λ slot. rw e (moves-same _ _ (λ l. same-leave (said D) ps ls (slim l) full slot));
           begins = λ F. rw e (
             same-answer _ _ (λ l. ap begunAnswer (same-begin (said D) ps ls (slim l) full (roomIn F))),
@@ -134,7 +135,7 @@ module _ (D : List ℕ) where
   -- or is 13, ahead of all else, and leaves every string
   pub record RefusedStrings (ps s : List ℕ) : Type 0 where
     pub opens : (P : List ℕ) → (openScratchAnswer P ps s D ≡ refusedBy tooShort) × (openScratchString P ps s D ≡ D)
-    pub joins : (slot block : ℕ) → (joinScratchAnswer D ps s slot block ≡ refusedBy tooShort) × (joinScratchString D ps s slot block ≡ D)
+    pub joins : (slot block film : ℕ) → (joinScratchAnswer D ps s slot block film ≡ refusedBy tooShort) × (joinScratchString D ps s slot block film ≡ D)
     pub leaves : (slot : ℕ) → (leaveScratchAnswer D ps s slot ≡ refusedBy tooShort) × (leaveScratchString D ps s slot ≡ D)
     pub begins : (F : List ℕ) → (beginScratchAnswer D ps s F ≡ refusedBy tooShort) × (beginScratchString D ps s F ≡ D) × (fetchScratchString D ps s F ≡ F)
     pub ends : (draws : List ℕ) → (endScratchAnswer D ps s draws ≡ refusedBy tooShort) × (endScratchString D ps s draws ≡ D)
@@ -145,7 +146,7 @@ module _ (D : List ℕ) where
       let e = scratch-short s h in
       record {
         opens = λ P. rw e (refl, refl);
-        joins = λ slot block. rw e (refl, refl);
+        joins = λ slot block film. rw e (refl, refl);
         leaves = λ slot. rw e (refl, refl);
         begins = λ F. rw e (refl, refl, refl);
         ends = λ draws. rw e (refl, refl);

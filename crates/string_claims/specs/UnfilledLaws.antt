@@ -14,11 +14,12 @@ use Rattle.words.specs.Words.{withWords}
 use Rattle.words.specs.Laws.{withWords-length, withWords-after}
 use Rattle.card.specs.declared.Figures.{Figures}
 use Rattle.card.specs.declared.CardRead.{CardRead}
-use Rattle.card.specs.Card.{recordFault, cardOf, writeFault, writtenBy, bufferBy, writtenCard, bufferAfter}
+use Rattle.card.specs.Card.{blocksOf, recordFault, cardOf, writeFault, writtenBy, bufferBy, writtenCard, bufferAfter}
 use Rattle.card_field.specs.Ranges.{first}
 use Rattle.card.specs.Read.{readCard}
 use Rattle.placement.specs.Showing.{Showing, visitsOf}
-use Rattle.plan.specs.Plan.{positionOf, leadOf, row, positionsOf, leadsOf}
+use Rattle.plan.specs.Plan.{positionsOf, leadsOf}
+use Rattle.plan.specs.Films.{positions-length, leads-length}
 use Rattle.plan.specs.Rows.{row-length}
 use Rattle.plan.specs.Answer.{faultAfter, filled, positionsAfter, leadsAfter}
 use Rattle.desk.specs.Desk.{fetchesOf, beginDesk, entriesOf, entryWords, fetchListAfter}
@@ -33,30 +34,30 @@ use Rattle.string_claims.specs.Unfilled.{SameFrom}
 written-past : (s vs : List ℕ) (m : ℕ) → 4 * length vs ≤ m → SameFrom m s (withWords s 0 vs)
 written-past s vs m h = (withWords-length s 0 vs, λ j u. withWords-after s 0 vs j (omega arith))
 
--- ---- positions and leads, past those of N blocks
+-- ---- positions and leads, past those of all blocks
 
-filled-past : (j k : ℕ) (s : List ℕ) (g : ℕ → ℕ) (n : ℕ) → SameFrom (4 * n) s (filled j k s (row g 0 n))
-filled-past zero zero s g n = written-past s (row g 0 n) (4 * n) (omega (arith, row-length g 0 n))
-filled-past zero (suc k) s g n = (refl, λ i u. refl)
-filled-past (suc j) k s g n = (refl, λ i u. refl)
+filled-past : (j k : ℕ) (s vs : List ℕ) (n : ℕ) → length vs ≡ n → SameFrom (4 * n) s (filled j k s vs)
+filled-past zero zero s vs n l = written-past s vs (4 * n) (omega arith)
+filled-past zero (suc k) s vs n l = (refl, λ i u. refl)
+filled-past (suc j) k s vs n l = (refl, λ i u. refl)
 
 -- after the planner on a record or a card, and after the plan call
 pub lists-past : (x : Showing) (r : CardRead) (ps ls : List ℕ)
-    → SameFrom (4 * (visitsOf x * r .figures .blocks)) ps (positionsAfter x r ps ls) × SameFrom (4 * r .figures .blocks) ls (leadsAfter x r ps ls)
-unfolding positionsAfter leadsAfter positionsOf leadsOf
+    → SameFrom (4 * (visitsOf x * blocksOf (r .figures))) ps (positionsAfter x r ps ls) × SameFrom (4 * blocksOf (r .figures)) ls (leadsAfter x r ps ls)
+unfolding positionsAfter leadsAfter
 lists-past x r ps ls = (
-  filled-past (r .verdict .number) (faultAfter x r ps ls) ps (positionOf x (r .figures)) (visitsOf x * r .figures .blocks),
-  filled-past (r .verdict .number) (faultAfter x r ps ls) ls (leadOf x (r .figures)) (r .figures .blocks),
+  filled-past (r .verdict .number) (faultAfter x r ps ls) ps (positionsOf x (r .figures)) _ (positions-length x (r .figures)),
+  filled-past (r .verdict .number) (faultAfter x r ps ls) ls (leadsOf x (r .figures)) _ (leads-length x (r .figures)),
 )
 
 pub strings-past : (x : Showing) (s p ps ls : List ℕ)
-    → SameFrom (4 * (visitsOf x * readCard (visitsOf x) s .figures .blocks)) ps (positionsString x s p ps ls)
-    × SameFrom (4 * readCard (visitsOf x) s .figures .blocks) ls (leadsString x s p ps ls)
-unfolding positionsString leadsString positionsOf leadsOf
+    → SameFrom (4 * (visitsOf x * blocksOf (readCard (visitsOf x) s .figures))) ps (positionsString x s p ps ls)
+    × SameFrom (4 * blocksOf (readCard (visitsOf x) s .figures)) ls (leadsString x s p ps ls)
+unfolding positionsString leadsString
 strings-past x s p ps ls =
     let r = readCard (visitsOf x) s in (
-      filled-past (r .verdict .number) (planFaultOf x r p ps ls) ps (positionOf x (r .figures)) (visitsOf x * r .figures .blocks),
-      filled-past (r .verdict .number) (planFaultOf x r p ps ls) ls (leadOf x (r .figures)) (r .figures .blocks),
+      filled-past (r .verdict .number) (planFaultOf x r p ps ls) ps (positionsOf x (r .figures)) _ (positions-length x (r .figures)),
+      filled-past (r .verdict .number) (planFaultOf x r p ps ls) ls (leadsOf x (r .figures)) _ (leads-length x (r .figures)),
     )
 
 -- ---- the fetch list, past the count: an entry has 12 bytes

@@ -9,10 +9,10 @@ ghost use Rattle.numbers.specs.Refusals.{tooShort, wrongWindow};
 ghost use Rattle.words.specs.Words.{Bytes, wordsOf};
 ghost use Rattle.card.specs.declared.Figures.{Figures};
 ghost use Rattle.card.specs.declared.CardRead.{CardRead};
-ghost use Rattle.card.specs.Card.{writtenCard, bufferAfter};
+ghost use Rattle.card.specs.Card.{blocksOf, writtenCard, bufferAfter};
 ghost use Rattle.card.specs.Read.{readCard};
 ghost use Rattle.placement.specs.Showing.{Showing, visitsOf};
-ghost use Rattle.plan.specs.Plan.{planOf};
+ghost use Rattle.plan.specs.Plan.{longestOf, planOf};
 ghost use Rattle.plan.specs.Answer.{positionsAfter, leadsAfter, hasLeads};
 ghost use Rattle.desk.specs.Desk.{freshDesk, joinDesk, leaveDesk, endDesk, beginDesk};
 ghost use Rattle.trace.specs.Safe.{Safe};
@@ -33,8 +33,8 @@ ghost use Rattle.string_claims.specs.Unfilled.{SameFrom};
 
 // A refused join, leave, begin or end leaves every string as it was: desk (D), fetch list (F). The lists are only read.
 pub fn refused_call_keeps_strings()
-    ensures joins { λ _. ⌜ ((D ps ls : List ℕ) (slot block : ℕ) → Bytes D → (joinAnswer D ps ls slot block .number ≡ 0 → ⊥)
-        → joinString D ps ls slot block ≡ D) ⌝ }
+    ensures joins { λ _. ⌜ ((D ps ls : List ℕ) (slot block film : ℕ) → Bytes D → (joinAnswer D ps ls slot block film .number ≡ 0 → ⊥)
+        → joinString D ps ls slot block film ≡ D) ⌝ }
     ensures leaves { λ _. ⌜ ((D ps ls : List ℕ) (slot : ℕ) → Bytes D → (leaveAnswer D ps ls slot .number ≡ 0 → ⊥) → leaveString D ps ls slot ≡ D) ⌝ }
     ensures begins { λ _. ⌜ ((D ps ls F : List ℕ) → Bytes D → (beginAnswer D ps ls F .number ≡ 0 → ⊥) → (beginString D ps ls F ≡ D)
         × (fetchString D ps ls F ≡ F)) ⌝ }
@@ -51,8 +51,8 @@ pub fn refused_opening_clears()
 // After an accepted call the desk string says the desk that the call answered.
 pub fn accepted_desk_reads_back()
     ensures opens { λ _. ⌜ ((P ps ls D : List ℕ) → openAnswer P ps ls D .number ≡ 0 → said (openString P ps ls D) ≡ freshDesk (planIn (wordsOf P))) ⌝ }
-    ensures joins { λ _. ⌜ ((D ps ls : List ℕ) (slot block : ℕ) → joinAnswer D ps ls slot block .number ≡ 0
-        → said (joinString D ps ls slot block) ≡ joinDesk (said D) ps ls slot block .desk) ⌝ }
+    ensures joins { λ _. ⌜ ((D ps ls : List ℕ) (slot block film : ℕ) → joinAnswer D ps ls slot block film .number ≡ 0
+        → said (joinString D ps ls slot block film) ≡ joinDesk (said D) ps ls slot block film .desk) ⌝ }
     ensures leaves { λ _. ⌜ ((D ps ls : List ℕ) (slot : ℕ) → leaveAnswer D ps ls slot .number ≡ 0
         → said (leaveString D ps ls slot) ≡ leaveDesk (said D) ps ls slot .desk) ⌝ }
     ensures begins { λ _. ⌜ ((D ps ls F : List ℕ) → beginAnswer D ps ls F .number ≡ 0
@@ -102,17 +102,17 @@ pub fn planned_strings_open()
 // What the plan call of every showing leaves has windows: a window of it is never 14, and each that is in range is accepted.
 pub fn planned_strings_have_windows()
     ensures { λ _. ⌜ ((x : Showing) (s p ps ls : List ℕ) → Bytes s → planAnswer x s p ps ls .number ≡ 0 → (k : ℕ)
-        → windowCall (planString x s p ps ls) (positionsString x s p ps ls) k .number ≡ cond (isOutside k (readCard (visitsOf x) s .figures .blocks)) wrongWindow 0) ⌝ }
+        → windowCall (planString x s p ps ls) (positionsString x s p ps ls) k .number ≡ cond (isOutside k (longestOf (readCard (visitsOf x) s .figures))) wrongWindow 0) ⌝ }
 {}
 
 // Bytes that an answer does not fill keep their contents, spare ones too: of both lists past those of N blocks, of the fetch list past the counted
 // entries of 12 bytes, of the buffer past the written card. Each keeps its length.
 pub fn unfilled_entries_stay()
     ensures planner { λ _. ⌜ ((x : Showing) (r : CardRead) (ps ls : List ℕ)
-        → SameFrom (4 * (visitsOf x * r .figures .blocks)) ps (positionsAfter x r ps ls) × SameFrom (4 * r .figures .blocks) ls (leadsAfter x r ps ls)) ⌝ }
+        → SameFrom (4 * (visitsOf x * blocksOf (r .figures))) ps (positionsAfter x r ps ls) × SameFrom (4 * blocksOf (r .figures)) ls (leadsAfter x r ps ls)) ⌝ }
     ensures plans { λ _. ⌜ ((x : Showing) (s p ps ls : List ℕ)
-        → SameFrom (4 * (visitsOf x * readCard (visitsOf x) s .figures .blocks)) ps (positionsString x s p ps ls)
-        × SameFrom (4 * readCard (visitsOf x) s .figures .blocks) ls (leadsString x s p ps ls)) ⌝ }
+        → SameFrom (4 * (visitsOf x * blocksOf (readCard (visitsOf x) s .figures))) ps (positionsString x s p ps ls)
+        × SameFrom (4 * blocksOf (readCard (visitsOf x) s .figures)) ls (leadsString x s p ps ls)) ⌝ }
     ensures begins { λ _. ⌜ ((D ps ls F : List ℕ) → SameFrom (12 * beginAnswer D ps ls F .count) F (fetchString D ps ls F)) ⌝ }
     ensures writer { λ _. ⌜ ((f : Figures) (out : List ℕ) → SameFrom (writtenCard f out .length) out (bufferAfter f out)) ⌝ }
 {}
@@ -130,7 +130,7 @@ pub fn end_judges_by_draw_limit()
 // A scratch of 512 numbers or more (ticket 10 of document 02): each call answers, and leaves in every string, what it does with the full list of
 // leads. The planner's list has room for N entries, the desk's begins with the film's N leads.
 pub fn scratch_strings_equal_lists()
-    ensures plans { λ _. ⌜ ((x : Showing) (s p ps t ls : List ℕ) → scratchLength ≤ length (wordsOf t) → readCard (visitsOf x) s .figures .blocks ≤ length (wordsOf ls)
+    ensures plans { λ _. ⌜ ((x : Showing) (s p ps t ls : List ℕ) → scratchLength ≤ length (wordsOf t) → blocksOf (readCard (visitsOf x) s .figures) ≤ length (wordsOf ls)
         → PlansAs x s p ps t ls) ⌝ }
     ensures opens { λ _. ⌜ ((P ps ls s D : List ℕ) → hasLeads (planIn (wordsOf P)) ls ≡ true → scratchLength ≤ length (wordsOf s)
         → (openScratchAnswer P ps s D ≡ openAnswer P ps ls D) × (openScratchString P ps s D ≡ openString P ps ls D)) ⌝ }
@@ -141,7 +141,7 @@ pub fn scratch_strings_equal_lists()
 // A scratch below 512 is 13: of a plan call where 13 stands, after the card's own refusals and before 12; of the desk ahead of all else. It leaves
 // every string.
 pub fn short_scratch_keeps_strings()
-    ensures plans { λ _. ⌜ ((x : Showing) (s p ps t : List ℕ) → length (wordsOf t) < scratchLength → 0 < readCard (visitsOf x) s .figures .blocks
+    ensures plans { λ _. ⌜ ((x : Showing) (s p ps t : List ℕ) → length (wordsOf t) < scratchLength → 0 < blocksOf (readCard (visitsOf x) s .figures)
         → readCard (visitsOf x) s .verdict .number ≡ 0 → (planScratchAnswer x s p ps t ≡ refusedBy tooShort) × (planScratchString x s p ps t ≡ p)
         × (positionsScratchString x s p ps t ≡ ps)) ⌝ }
     ensures desk { λ _. ⌜ ((D ps s : List ℕ) → length (wordsOf s) < scratchLength → RefusedStrings D ps s) ⌝ }

@@ -35,6 +35,7 @@ use Rattle.desk.specs.View.{Wide}
 use Rattle.desk.specs.Ready.{Ready, streams-are, overheads-are, ready-slots, room-left}
 use Rattle.desk.specs.Slots.{length-in, slot-in, kind-in}
 use Rattle.floor.specs.Floor.{mostLead, ample, LeadsSummed, mark-is}
+use Rattle.desk_columns.specs.Films.{legal-small}
 use Rattle.soundness.specs.Facts.{LeadSource, ZonesRead}
 use Rattle.soundness.specs.Tests.{sound-tidy, lead-says, tidy-found}
 use Rattle.grants.specs.Grants.{mostFloor, leadsBySlot, InLine, Asked, Asks, servedTo}
@@ -64,10 +65,14 @@ module _ (d : Desk) (w : Wide d) (r : Ready d) where
   ready-queued =
       places-queued (supplyOf (d .plan)) (d .plan .streams) (slotsIn d) (d .places) (length-in d w) (ready-slots d w r .unused) ready-places
 
-  -- the leads of its requests, by a source of them and the zones as they were read
-  module _ (listed : Bool) (ps ls : List ℕ) (q : LeadSource listed (d .plan) ps ls) (sizes times : List ℕ) (z : ZonesRead d sizes times) where
+  -- the leads of its requests, by a source of them
+  module _ (listed : Bool) (ps ls : List ℕ) (q : LeadSource listed (d .plan) ps ls) where
+    -- the zones are its own
+    zones : ZonesRead d (d .plan .figures .positions) (d .plan .figures .times)
+    zones = (refl, refl)
+
     abbrev lead : ℕ → ℕ
-    lead = leadsBySlot listed d sizes times ps ls
+    lead = leadsBySlot listed d ps ls
 
     -- a slot that is not free is one of the first n
     below : (i : ℕ) → waiting ≤ getD (d .kinds) i 0 → i < d .plan .streams
@@ -77,7 +82,9 @@ module _ (d : Desk) (w : Wide d) (r : Ready d) where
     pub own-lead : (i : ℕ) → waiting ≤ getD (d .kinds) i 0 → getD (d .kinds) i 0 ≤ playing
         → lead i ≡ supplyOf (d .plan) .lead (getD (d .next) i (supplyOf (d .plan) .none))
     unfolding supplyOf
-    own-lead i a b = lead-says d w (sound-tidy d w (r .sound)) (streams-are d r) listed ps ls q sizes times z _ refl i (below i a) a b
+    own-lead i a b =
+        lead-says d w (sound-tidy d w (r .sound)) (streams-are d r) (legal-small _ (r .legal)) (r .legal .films .0) listed ps ls q _ _ zones _ refl i
+        (below i a) a b
 
     pub ready-asked : Asked (supplyOf (d .plan)) lead (d .kinds) (d .next) (d .held) (d .places)
     ready-asked = record { places = ready-places; own = λ i h k. own-lead i (omega arith) (omega arith) }
@@ -89,11 +96,14 @@ module _ (d : Desk) (w : Wide d) (r : Ready d) where
         sym (kind-in d w i) ∙ by-cases (ℕ-discrete (at (supplyOf (d .plan)) (slotsIn d) i .kind) waiting) (λ e. e)
         (λ e. absurd (omega (arith, ready-places .idle i e, o .slot k h m)))
 
-    pub ready-line : (line : List ℕ) (count : ℕ) → Lined (d .places) line count → InLine listed d sizes times ps ls line count
+    pub ready-line : (line : List ℕ) (count : ℕ) → Lined (d .places) line count → InLine listed d ps ls line count
     ready-line line count o =
-        let f = tidy-found d w (sound-tidy d w (r .sound)) (streams-are d r) listed ps ls q sizes times z _ refl in
+        let f = tidy-found d w (sound-tidy d w (r .sound)) (streams-are d r) (legal-small _ (r .legal)) (r .legal .films .0) listed ps ls q _ _ zones _ refl in
         record {
-          here = λ k h m. let e = in-line line count o k h m in f .here _ (below _ (omega arith)) (omega arith) (omega arith);
+          shelved = f .shelved;
+          here = λ k h m. let e = in-line line count o k h m in
+              let l = below (getD line k 0) (omega arith) in
+              record { shelved = f .shelved; film = f .films _ l; here = f .here _ l (omega arith) (omega arith) };
           small = λ k h m. let e = in-line line count o k h m in f .small _ (below _ (omega arith)) (omega arith) (omega arith);
         }
 

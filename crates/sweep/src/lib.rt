@@ -15,8 +15,6 @@ use desk_columns::overheads;
 use desk_columns::rate_in;
 use desk_columns::streams_in;
 use desk_columns::visits_in;
-use desk_columns::zone_sizes;
-use desk_columns::zone_times;
 use desk_record::string_of;
 use ends::end_slots;
 use fetches::list_fetches;
@@ -88,8 +86,6 @@ fn serve(
     requires { ⌜ (deskSize ≤ length (now desk)) × Serves (deskIn (wordsOf (now desk))) listed (now held) (now positions) (now leads) sum ⌝ }
     ensures { λ r. ⌜ begins.Served (deskIn (wordsOf (now (desk .entry)))) (r .kinds) (r .places) ⌝ }
 {
-    let sizes = zone_sizes(desk);
-    let times = zone_times(desk);
     let bytes = bytes_in(desk);
     let rate = rate_in(desk);
     let streams = streams_in(desk) as usize;
@@ -97,7 +93,7 @@ fn serve(
     let mut places = all_places(desk);
     let mut line = empty_line();
     let count = line_up(&places, streams, &mut line);
-    let eldest = eldest_lead(desk, &line, count, &sizes, &times, positions, leads, listed);
+    let eldest = eldest_lead(desk, &line, count, positions, leads, listed);
     let mark = low_water(bytes, rate, sum + eldest);
     start_playing(&mut kinds, held, streams, mark);
     let level = least_level(&kinds, held, streams);
@@ -107,8 +103,6 @@ fn serve(
         &mut kinds,
         &line,
         count,
-        &sizes,
-        &times,
         positions,
         leads,
         listed,

@@ -7,8 +7,9 @@ use lib.ListN.{length, getD}
 use Rattle.numbers.specs.Limits.{maxStreams}
 use Rattle.numbers.specs.Slots.{filling, playing}
 use Rattle.words.specs.Words.{wordsOf}
+use Rattle.pacing.specs.Shelf.{filmIn, blockIn}
 use Rattle.plan.specs.declared.Plan.{Plan}
-use Rattle.plan.specs.Plan.{showingIn, positionOf}
+use Rattle.plan.specs.Plan.{showingIn, positionIn}
 use Rattle.rules.specs.Scheduler.{Entry, at, mostDrawn, drawLimit}
 use Rattle.desk.specs.declared.Desk.{Desk}
 use Rattle.desk.specs.Desk.{visitsIn, supplyOf, slotsIn, freshDesk, openDesk}
@@ -32,19 +33,20 @@ blankEntry = record { position = 0; slot = 0; block = 0 }
 abbrev pub entryAt : List Entry → ℕ → Entry
 entryAt es k = getD es k blankEntry
 
--- where visit v to block b goes: a block is visited once, and two halves of it are where the plan says so (T11)
+-- where visit v to the block of name a goes: a block is visited once, and two halves of it are where the plan says so (T11), each where its film
+-- is laid (T14)
 abbrev pub placeOf : Plan → ℕ → ℕ → ℕ
-placeOf p b v = positionOf (showingIn p) (p .figures) (visitsIn p * b + v)
+placeOf p a v = positionIn (showingIn p) (p .figures) (filmIn a) (visitsIn p * blockIn a + v)
 
 -- D9, D10: d is the desk that a begin left, es are the entries that it answered
 pub record Fetched (d : Desk) (es : List Entry) : Type 0 where
   -- each such slot has an entry for each visit to its next block
   pub each : (i : ℕ) → NeedsBlock d i → (v : ℕ) → v < visitsIn (d .plan)
       → (k : ℕ) × (k < length es) × (entryAt es k .slot ≡ i) × (entryAt es k .position ≡ placeOf (d .plan) (getD (d .next) i 0) v)
-  -- no other has: an entry names such a slot, its next block and where a visit to that goes
+  -- no other has: an entry names such a slot, its next block within its film and where a visit to that goes
   pub only : (k : ℕ) → k < length es
-      → NeedsBlock d (entryAt es k .slot) × (entryAt es k .block ≡ getD (d .next) (entryAt es k .slot) 0)
-      × ((v : ℕ) × (v < visitsIn (d .plan)) × (entryAt es k .position ≡ placeOf (d .plan) (entryAt es k .block) v))
+      → NeedsBlock d (entryAt es k .slot) × (entryAt es k .block ≡ blockIn (getD (d .next) (entryAt es k .slot) 0))
+      × ((v : ℕ) × (v < visitsIn (d .plan)) × (entryAt es k .position ≡ placeOf (d .plan) (getD (d .next) (entryAt es k .slot) 0) v))
   -- by rising position, then slot; so no slot has two at one position
   pub order : (j k : ℕ) → j < k → k < length es
       → (entryAt es j .position < entryAt es k .position) ⊎ ((entryAt es j .position ≡ entryAt es k .position) × (entryAt es j .slot < entryAt es k .slot))

@@ -9,19 +9,22 @@ use native.Mathlib.Omega.{arith}
 use native.Mathlib.Decide.{decLe, ℕ-discrete}
 use lib.ListN.{length, getD}
 use lib.Dec.{eqb}
-use borrow.Author.Tests.{leb-true, le-leb, ltb-true, eqb-true, eq-eqb}
+use borrow.Author.Tests.{leb-true, le-leb, eqb-true, eq-eqb}
 use Rattle.laws.specs.Bools.{bit, and-left, and-right, and-both, or-cases, clash}
 use Rattle.laws.specs.Runs.{sumBy}
 use Rattle.laws.specs.Each.{each-at, both-at}
 use Rattle.numbers.specs.Slots.{filling, playing}
-use Rattle.card.specs.Card.{totalPositions}
+use Rattle.card.specs.Card.{totalPositions, lengthIn, blocksOf}
 use Rattle.legality.specs.Room.{fault-room}
 use Rattle.placement.specs.Best.{zigzag-laying}
 use Rattle.placement.specs.Showing.{Showing, one, loop, pairs, visitsOf, laying, firstPlace, otherPlaces}
+use Rattle.placement.specs.Shelf.{film-room}
+use Rattle.pacing.specs.Shelf.{filmIn, blockIn}
 use Rattle.plan.specs.declared.Plan.{Plan}
-use Rattle.plan.specs.Plan.{showingIn, positionOf}
+use Rattle.plan.specs.Plan.{showingIn, freeIn, positionIn}
 use Rattle.plan.specs.Answer.{isPlan}
 use Rattle.plan.specs.Check.{checked}
+use Rattle.plan.specs.Names.{Named, block-names}
 use Rattle.rules.specs.Supply.{Supply}
 use Rattle.rules.specs.Scheduler.{Slot, Entry, begin, freeSlot, at, leads, entriesAt, reads, isFetched, entriesFrom, entries}
 use Rattle.rules.specs.Order.{Scheduler}
@@ -319,37 +322,52 @@ module _ (q : Plan) (s : Scheduler ℕ Queue) where
       kind (inl t) = inl (kind-at q s i ∙ eqb-true (at (supplyOf q) (s .slots) i .kind) filling t)
       kind (inr t) = inr (kind-at q s i ∙ eqb-true (at (supplyOf q) (s .slots) i .kind) playing t)
 
-  -- the plan has room for the film, and slots that are fetched for read a block of it
-  module _ (room : visitsIn q * q .figures .blocks ≤ totalPositions (q .figures)) (named : (i : ℕ) → isFetched (supplyOf q) (at (supplyOf q) (s .slots) i) ≡ true
-      → at (supplyOf q) (s .slots) i .next < q .figures .blocks) where
+  -- the plan has room for the films, and slots that are fetched for read a block of one
+  module _ (room : visitsIn q * blocksOf (q .figures) ≤ totalPositions (q .figures)) (named : (i : ℕ) → isFetched (supplyOf q) (at (supplyOf q) (s .slots) i) ≡ true
+      → Named (q .figures) (at (supplyOf q) (s .slots) i .next)) where
+    -- the visits to the block of name a are at different positions
+    named-apart : (a : ℕ) → Named (q .figures) a
+        → Apart (firstPlace (showingIn q) (positionIn (showingIn q) (q .figures) (filmIn a)) (blockIn a)
+        ∷ otherPlaces (showingIn q) (positionIn (showingIn q) (q .figures) (filmIn a)) (blockIn a))
+    named-apart a n =
+        let x = showingIn q in
+        let f = q .figures in
+        places-apart x (freeIn x f (filmIn a)) (lengthIn f (filmIn a)) (blockIn a)
+        (film-room x (totalPositions f) (lengthIn f) (f .films) room (filmIn a) (n .0)) (n .1)
+
     slots-fetched : Fetched (deskOf q s) (entries (supplyOf q) (s .slots))
     unfolding supplyOf deskOf
     slots-fetched =
         let x = showingIn q in
         let f = q .figures in
-        let l = positionOf x f in
         record {
-          each = λ i h v u. let b = at (supplyOf q) (s .slots) i .next in
-              let (k, m, e) = each-entry (supplyOf q) (s .slots) i v (needs-fetched i h) (omega (arith, places-count l b x)) in (
+          each = λ i h v u. let a = at (supplyOf q) (s .slots) i .next in
+              let l = positionIn x f (filmIn a) in
+              let (k, m, e) = each-entry (supplyOf q) (s .slots) i v (needs-fetched i h) (omega (arith, places-count l (blockIn a) x)) in (
                 k,
                 m,
                 ap (λ (x : Entry). x .slot) e,
-                ap (λ (x : Entry). x .position) e ∙ places-at l b x v u
-                    ∙ ap (λ (b : ℕ). placeOf q b v) (sym (next-at q s i)),
+                ap (λ (x : Entry). x .position) e ∙ places-at l (blockIn a) x v u
+                    ∙ ap (λ (a : ℕ). placeOf q a v) (sym (next-at q s i)),
               );
           only = λ k m. let (i, h, (v, u, e)) = only-entry (supplyOf q) (s .slots) k m in
-              let b = at (supplyOf q) (s .slots) i .next in
-              let w : v < visitsOf x = omega (arith, places-count l b x) in
-              subst (λ (e : Entry). NeedsBlock (deskOf q s) (e .slot) × (e .block ≡ getD (deskOf q s .next) (e .slot) 0)
-              × ((v : ℕ) × (v < visitsOf x) × (e .position ≡ placeOf q (e .block) v)))
-              (sym e) (fetched-needs i h, sym (next-at q s i), (v, w, places-at l b x v w));
-          order = entry-order (supplyOf q) (s .slots) (λ j h. places-apart x (totalPositions f) (f .blocks) _ room (named j h));
+              let a = at (supplyOf q) (s .slots) i .next in
+              let l = positionIn x f (filmIn a) in
+              let w : v < visitsOf x = omega (arith, places-count l (blockIn a) x) in
+              subst (λ (e : Entry). NeedsBlock (deskOf q s) (e .slot) × (e .block ≡ blockIn (getD (deskOf q s .next) (e .slot) 0))
+              × ((v : ℕ) × (v < visitsOf x) × (e .position ≡ placeOf q (getD (deskOf q s .next) (e .slot) 0) v)))
+              (sym e) (
+                fetched-needs i h,
+                ap blockIn (sym (next-at q s i)),
+                (v, w, places-at l (blockIn a) x v w ∙ ap (λ (a : ℕ). placeOf q a v) (sym (next-at q s i))),
+              );
+          order = entry-order (supplyOf q) (s .slots) (λ j h. named-apart _ (named j h));
         }
 
--- a block's number is below N
-below : (q : Plan) (x y : ℕ) → x ≡ y → supplyOf q .isBlock y ≡ true → x < q .figures .blocks
+-- a block is one of its film's
+below : (q : Plan) (x y : ℕ) → x ≡ y → supplyOf q .isBlock y ≡ true → Named (q .figures) x
 unfolding supplyOf
-below q x y e b = omega (arith, ltb-true y (q .figures .blocks) b)
+below q x y e b = subst (Named (q .figures)) (sym e) (block-names (showingIn q) (q .figures) y b)
 
 module _ (d : Desk) (ps ls : List ℕ) (room : ℕ) (n : beginDesk d ps ls room .verdict .number ≡ 0) where
   abbrev given : Given ℕ
@@ -368,14 +386,14 @@ module _ (d : Desk) (ps ls : List ℕ) (room : ℕ) (n : beginDesk d ps ls room 
   begin-entries =
       ap (λ (x : C.Answer ℕ Queue). x .entries) accepted ∙ sym (ap (λ (x : C.Answer ℕ Queue). entries (supplyOf (d .plan)) (x .scheduler .slots)) accepted)
 
-  -- the plan passed the check, so there is room for the film
-  begin-room : visitsIn (d .plan) * d .plan .figures .blocks ≤ totalPositions (d .plan .figures)
+  -- the plan passed the check, so there is room for the films
+  begin-room : visitsIn (d .plan) * blocksOf (d .plan .figures) ≤ totalPositions (d .plan .figures)
   begin-room = fault-room (visitsIn (d .plan)) (d .plan .figures) (checked (d .plan) ps ls (fair-of (d .plan) (viewOf d) given judged) .clear)
 
   -- and the record was sound; a begin moves no slot's next block
   begin-named : (i : ℕ) → (let p = supplyOf (d .plan) in
       let s = at p (answerOf d ps ls room begin .scheduler .slots) i in
-      isFetched p s ≡ true → s .next < d .plan .figures .blocks)
+      isFetched p s ≡ true → Named (d .plan .figures) (s .next))
   unfolding C.accepted C.refusals
   begin-named i =
       let p = supplyOf (d .plan) in

@@ -3,6 +3,7 @@ use Prim.Native.Nat.{ℕ}
 use mathlib.Core.List.{List, [], _∷_}
 use mathlib.Core.Bool.{Bool, cond, not, _&&_}
 use Rattle.words.specs.Words.{wordsOf}
+use Rattle.pacing.specs.Shelf.{nameOf}
 use Rattle.plan.specs.declared.Plan.{Plan}
 use Rattle.plan.specs.Answer.{isPlan}
 use Rattle.plan.specs.Scratch.{scratchShort}
@@ -16,9 +17,9 @@ use Rattle.desk.specs.Desk.{joinDesk, leaveDesk, beginDesk, endDesk}
 use Rattle.desk.specs.Scratch.{planLeads, joinScratch, leaveScratch, beginScratch, endScratch}
 use Rattle.desk.specs.Entries.{entriesIn}
 
--- a call of the playout process. Slots, blocks, draws and the room of the fetch list may be anything
+-- a call of the playout process. Slots, blocks, films, draws and the room of the fetch list may be anything
 pub data Request : Type 0 where
-  joins : ℕ → ℕ → Request
+  joins : ℕ → ℕ → ℕ → Request
   leaves : ℕ → Request
   -- with the number of entries that the lent fetch list has
   begins : ℕ → Request
@@ -35,14 +36,14 @@ pub record Lent : Type 0 where
 
 -- the move that the book is told of
 abbrev pub moveOf : Request → Call ℕ
-moveOf (joins slot block) = join slot block
+moveOf (joins slot block film) = join slot (nameOf film block)
 moveOf (leaves slot) = leave slot
 moveOf (begins room) = begin
 moveOf (ends draws) = end (wordsOf draws)
 
 -- the room that it gives for fetch entries
 abbrev pub roomOf : Request → ℕ
-roomOf (joins slot block) = 0
+roomOf (joins slot block film) = 0
 roomOf (leaves slot) = 0
 roomOf (begins room) = room
 roomOf (ends draws) = 0
@@ -62,7 +63,7 @@ abbrev pub begunly : Begun → Answered
 begunly b = record { number = b .verdict .number; desk = b .desk; entries = entriesIn (b .fetches); bound = b .bound }
 
 unfoldable pub answerTo : Desk → Bool → List ℕ → List ℕ → Request → Answered
-answerTo d listed ps ls (joins slot block) = plainly (cond listed (joinDesk d ps ls slot block) (joinScratch d ps ls slot block))
+answerTo d listed ps ls (joins slot block film) = plainly (cond listed (joinDesk d ps ls slot block film) (joinScratch d ps ls slot block film))
 answerTo d listed ps ls (leaves slot) = plainly (cond listed (leaveDesk d ps ls slot) (leaveScratch d ps ls slot))
 answerTo d listed ps ls (begins room) = begunly (cond listed (beginDesk d ps ls room) (beginScratch d ps ls room))
 answerTo d listed ps ls (ends draws) = plainly (cond listed (endDesk d ps ls draws) (endScratch d ps ls draws))

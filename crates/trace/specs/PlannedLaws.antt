@@ -12,7 +12,7 @@ use Rattle.numbers.specs.Refusals.{noStream, tooShort}
 use Rattle.words.specs.Words.{Bytes, wordsOf, withWords}
 use Rattle.card.specs.declared.Figures.{Figures}
 use Rattle.card.specs.declared.CardRead.{CardRead}
-use Rattle.card.specs.Card.{Legal, judgeRecord}
+use Rattle.card.specs.Card.{Legal, blocksOf, judgeRecord}
 use Rattle.card.specs.Read.{readCard}
 use Rattle.legality.specs.Legality.{Wide, fault-legal}
 use Rattle.placement.specs.Showing.{Showing, visitsOf}
@@ -46,17 +46,17 @@ lists-kept x r ps ls h =
     (list-kept x r ps (positionsOf x (r .figures)) j k h, list-kept x r ls (leadsOf x (r .figures)) j k h)
 
 -- neither 13 nor 12
-pub fault-none : (x : Showing) (f : Figures) (np nl : ℕ) → planFault x f np nl ≡ 0 → (entriesOf x f ≤ np) × (f .blocks ≤ nl) × (0 < streamsOf x f)
+pub fault-none : (x : Showing) (f : Figures) (np nl : ℕ) → planFault x f np nl ≡ 0 → (entriesOf x f ≤ np) × (blocksOf f ≤ nl) × (0 < streamsOf x f)
 unfolding planFault
-fault-none x f np nl e = go (ltb np (entriesOf x f)) refl (ltb nl (f .blocks)) refl (eqb (streamsOf x f) 0) refl e
+fault-none x f np nl e = go (ltb np (entriesOf x f)) refl (ltb nl (blocksOf f)) refl (eqb (streamsOf x f) 0) refl e
   where
-    go : (s : Bool) → ltb np (entriesOf x f) ≡ s → (t : Bool) → ltb nl (f .blocks) ≡ t → (u : Bool) → eqb (streamsOf x f) 0 ≡ u
-        → _≡_ {A = ℕ} (cond (s || t) tooShort (cond u noStream 0)) 0 → (entriesOf x f ≤ np) × (f .blocks ≤ nl) × (0 < streamsOf x f)
+    go : (s : Bool) → ltb np (entriesOf x f) ≡ s → (t : Bool) → ltb nl (blocksOf f) ≡ t → (u : Bool) → eqb (streamsOf x f) 0 ≡ u
+        → _≡_ {A = ℕ} (cond (s || t) tooShort (cond u noStream 0)) 0 → (entriesOf x f ≤ np) × (blocksOf f ≤ nl) × (0 < streamsOf x f)
     go true a t b u c e = absurd (omega arith)
     go false a true b u c e = absurd (omega arith)
     go false a false b true c e = absurd (omega arith)
     go false a false b false c e =
-        (ltb-false np (entriesOf x f) a, ltb-false nl (f .blocks) b, omega (arith, eqb-false (streamsOf x f) 0 c))
+        (ltb-false np (entriesOf x f) a, ltb-false nl (blocksOf f) b, omega (arith, eqb-false (streamsOf x f) 0 c))
 
 -- the plan of legal figures, with the lists in which it was written
 pub plan-opens : (x : Showing) (f : Figures) → Legal (visitsOf x) f → (ps ls : List ℕ) → planFault x f (length (wordsOf ps)) (length (wordsOf ls)) ≡ 0

@@ -150,8 +150,8 @@ module _ (p : Plan) where
 -- with the lead list: that of its view
 listed-rules : (d : Desk) (ps ls : List ℕ) (r : Request) → RuledBy (d .plan) (viewOf d) (answerTo d true ps ls r) (asGiven (d .plan) true ps ls r)
 unfolding answerTo joinDesk leaveDesk beginDesk endDesk answered answerOf C.accepted
-listed-rules d ps ls (joins slot block) =
-    let q = quiet (d .plan) (viewOf d) (asGiven (d .plan) true ps ls (joins slot block)) refl refl in
+listed-rules d ps ls (joins slot block film) =
+    let q = quiet (d .plan) (viewOf d) (asGiven (d .plan) true ps ls (joins slot block film)) refl refl in
     record { accepted = refl; number = λ _. refl; desk = refl; entries = sym (q .0); bound = sym (q .1) }
 listed-rules d ps ls (leaves slot) =
     let q = quiet (d .plan) (viewOf d) (asGiven (d .plan) true ps ls (leaves slot)) refl refl in
@@ -164,7 +164,7 @@ listed-rules d ps ls (ends draws) =
 -- with a scratch: that with the film's own leads
 pub long-answer : (d : Desk) (ps s : List ℕ) (r : Request) → scratchShort s ≡ false → answerTo d true ps (deskLeads d) r ≡ answerTo d false ps s r
 unfolding answerTo joinScratch leaveScratch beginScratch endScratch
-long-answer d ps s (joins slot block) e = rw e
+long-answer d ps s (joins slot block film) e = rw e
 long-answer d ps s (leaves slot) e = rw e
 long-answer d ps s (begins room) e = rw e
 long-answer d ps s (ends draws) e = rw e
@@ -181,7 +181,7 @@ long-rules d ps s r e =
 pub short-answer : (d : Desk) (ps s : List ℕ) (r : Request) → scratchShort s ≡ true
     → answerTo d false ps s r ≡ record { number = tooShort; desk = d; entries = []; bound = 0 }
 unfolding answerTo joinScratch leaveScratch beginScratch endScratch notBegun
-short-answer d ps s (joins slot block) e = rw e
+short-answer d ps s (joins slot block film) e = rw e
 short-answer d ps s (leaves slot) e = rw e
 short-answer d ps s (begins room) e = rw e (λ t. record { number = tooShort; desk = d; entries = entries-in [] t; bound = 0 })
 short-answer d ps s (ends draws) e = rw e

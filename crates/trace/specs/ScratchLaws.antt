@@ -14,9 +14,10 @@ use Rattle.words.specs.Words.{wordsOf, withWords}
 use Rattle.laws.specs.Bools.{and-right}
 use Rattle.card.specs.declared.Figures.{Figures}
 use Rattle.card.specs.declared.CardRead.{CardRead}
-use Rattle.card.specs.Card.{Legal}
+use Rattle.card.specs.Card.{Legal, blocksOf}
 use Rattle.legality.specs.Legality.{Wide}
 use Rattle.placement.specs.Showing.{Showing, visitsOf}
+use Rattle.pacing.specs.Shelf.{nameOf}
 use Rattle.plan.specs.declared.Plan.{Plan}
 use Rattle.plan.specs.declared.Planned.{Planned}
 use Rattle.plan.specs.Plan.{entriesOf, streamsOf, planOf, positionsOf, leadsOf}
@@ -50,11 +51,11 @@ same-check p ps ls w full = go (hasNumbers p) refl
 -- ---- the planner
 
 module _ (x : Showing) (r : CardRead) (ps s : List ℕ) where
-  module _ (ls : List ℕ) (long : scratchLength ≤ length (wordsOf s)) (full : r .figures .blocks ≤ length (wordsOf ls)) where
+  module _ (ls : List ℕ) (long : scratchLength ≤ length (wordsOf s)) (full : blocksOf (r .figures) ≤ length (wordsOf ls)) where
     pub same-fault : faultAfter x r ps (scratchLeads x (r .figures) s) ≡ faultAfter x r ps ls
     unfolding planFault
     same-fault =
-        let n = r .figures .blocks in
+        let n = blocksOf (r .figures) in
         let own = long-leads-all x (r .figures) s (scratch-long s long) in
         let a : ltb (length (wordsOf (scratchLeads x (r .figures) s))) n ≡ false = le-ltb _ n (omega (arith, own)) in
         let b : ltb (length (wordsOf ls)) n ≡ false = le-ltb _ n full in
@@ -68,15 +69,15 @@ module _ (x : Showing) (r : CardRead) (ps s : List ℕ) where
     )
 
   -- 13, where the figures are accepted
-  module _ (h : length (wordsOf s) < scratchLength) (some : 0 < r .figures .blocks) where
+  module _ (h : length (wordsOf s) < scratchLength) (some : 0 < blocksOf (r .figures)) where
     pub short-fault : faultAfter x r ps (scratchLeads x (r .figures) s) ≡ tooShort
     unfolding planFault
     short-fault = go (ltb (length (wordsOf ps)) (entriesOf x (r .figures)))
       where
-        none : ltb (length (wordsOf (scratchLeads x (r .figures) s))) (r .figures .blocks) ≡ true
-        none = lt-ltb _ (r .figures .blocks) (omega (arith, short-leads-none x (r .figures) s (scratch-short s h)))
+        none : ltb (length (wordsOf (scratchLeads x (r .figures) s))) (blocksOf (r .figures)) ≡ true
+        none = lt-ltb _ (blocksOf (r .figures)) (omega (arith, short-leads-none x (r .figures) s (scratch-short s h)))
 
-        go : (t : Bool) → cond (t || ltb (length (wordsOf (scratchLeads x (r .figures) s))) (r .figures .blocks)) tooShort
+        go : (t : Bool) → cond (t || ltb (length (wordsOf (scratchLeads x (r .figures) s))) (blocksOf (r .figures))) tooShort
             (cond (eqb (streamsOf x (r .figures)) 0) noStream 0) ≡ tooShort
         go true = refl
         go false = rw none
@@ -101,9 +102,9 @@ module _ (d : Desk) (ps ls : List ℕ) (w : Wide (d .plan .figures)) (full : has
       ap (λ (t : Bool). C.answer (supplyOf (d .plan)) (orderOf (d .plan)) (rulesOf (d .plan)) (viewOf d) (record { call = call; fair = t; room = room }))
       (same-check (d .plan) ps ls w full)
 
-  pub same-join : (slot block : ℕ) → joinDesk d ps (deskLeads d) slot block ≡ joinDesk d ps ls slot block
+  pub same-join : (slot block film : ℕ) → joinDesk d ps (deskLeads d) slot block film ≡ joinDesk d ps ls slot block film
   unfolding joinDesk
-  same-join slot block = ap (answered d) (same-answer 0 (join slot block))
+  same-join slot block film = ap (answered d) (same-answer 0 (join slot (nameOf film block)))
 
   pub same-leave : (slot : ℕ) → leaveDesk d ps (deskLeads d) slot ≡ leaveDesk d ps ls slot
   unfolding leaveDesk
@@ -129,7 +130,7 @@ module _ (d : Desk) (ps ls : List ℕ) (w : Wide (d .plan .figures)) (full : has
 
 -- every call of the desk is that with a list
 pub record EqualTo (d : Desk) (ps ls s : List ℕ) : Type 0 where
-  pub joins : (slot block : ℕ) → joinScratch d ps s slot block ≡ joinDesk d ps ls slot block
+  pub joins : (slot block film : ℕ) → joinScratch d ps s slot block film ≡ joinDesk d ps ls slot block film
   pub leaves : (slot : ℕ) → leaveScratch d ps s slot ≡ leaveDesk d ps ls slot
   pub begins : (room : ℕ) → beginScratch d ps s room ≡ beginDesk d ps ls room
   pub fetches : (room : ℕ) (F : List ℕ) → fetchListScratch d ps s room F ≡ fetchListAfter d ps ls room F
@@ -141,7 +142,7 @@ unfolding joinScratch leaveScratch endScratch beginScratch fetchListScratch
 same-desk d ps ls s w long full =
     let e = scratch-long s long in
     record {
-      joins = λ slot block. rw e (same-join d ps ls w full slot block);
+      joins = λ slot block film. rw e (same-join d ps ls w full slot block film);
       leaves = λ slot. rw e (same-leave d ps ls w full slot);
       begins = λ room. rw e (same-begin d ps ls w full room);
       fetches = λ room F. rw e (same-fetches d ps ls w full room F);
@@ -151,7 +152,7 @@ same-desk d ps ls s w long full =
 -- or is 13, ahead of all else, and leaves all
 pub record RefusedFor (d : Desk) (ps s : List ℕ) : Type 0 where
   pub opens : (p : Plan) → openScratch p ps s ≡ answers blankDesk tooShort 0
-  pub joins : (slot block : ℕ) → joinScratch d ps s slot block ≡ answers d tooShort 0
+  pub joins : (slot block film : ℕ) → joinScratch d ps s slot block film ≡ answers d tooShort 0
   pub leaves : (slot : ℕ) → leaveScratch d ps s slot ≡ answers d tooShort 0
   pub begins : (room : ℕ) → beginScratch d ps s room ≡ notBegun d tooShort
   pub fetches : (room : ℕ) (F : List ℕ) → fetchListScratch d ps s room F ≡ F
@@ -163,7 +164,7 @@ short-desk d ps s h =
     let e = scratch-short s h in
     record {
       opens = λ p. rw e;
-      joins = λ slot block. rw e;
+      joins = λ slot block film. rw e;
       leaves = λ slot. rw e;
       begins = λ room. rw e;
       fetches = λ room F. rw e;

@@ -10,7 +10,7 @@ ghost use Rattle.numbers.specs.Refusals.{tooShort, drawAboveLimit, drawAboveHel
 ghost use Rattle.words.specs.Words.{Bytes, wordsOf};
 ghost use Rattle.card.specs.declared.Figures.{Figures};
 ghost use Rattle.card.specs.declared.CardRead.{CardRead};
-ghost use Rattle.card.specs.Card.{Legal};
+ghost use Rattle.card.specs.Card.{Legal, blocksOf};
 ghost use Rattle.card.specs.Read.{readCard};
 ghost use Rattle.legality.specs.Legality.{Wide};
 ghost use Rattle.placement.specs.Showing.{Showing, visitsOf};
@@ -121,7 +121,7 @@ pub fn refused_call_leaves_all()
 // A scratch of 512 numbers or more (ticket 10 of document 02): each call answers, and leaves, what it does with the full list of leads. The
 // planner's list has room for N entries, the desk's begins with the film's N leads.
 pub fn scratch_equals_list()
-    ensures planner { λ _. ⌜ ((x : Showing) (r : CardRead) (ps s ls : List ℕ) → scratchLength ≤ length (wordsOf s) → r .figures .blocks ≤ length (wordsOf ls)
+    ensures planner { λ _. ⌜ ((x : Showing) (r : CardRead) (ps s ls : List ℕ) → scratchLength ≤ length (wordsOf s) → blocksOf (r .figures) ≤ length (wordsOf ls)
         → (plannedScratch x r ps s ≡ planned x r ps ls) × (positionsScratch x r ps s ≡ positionsAfter x r ps ls)) ⌝ }
     ensures opens { λ _. ⌜ ((p : Plan) (ps ls s : List ℕ) → Wide (p .figures) → scratchLength ≤ length (wordsOf s) → hasLeads p ls ≡ true
         → openScratch p ps s ≡ openDesk p ps ls) ⌝ }
@@ -131,7 +131,7 @@ pub fn scratch_equals_list()
 
 // A scratch below 512 is 13: of the planner where 13 stands, after the refusals of the figures and before 12; of the desk ahead of all else.
 pub fn short_scratch_is_refused()
-    ensures planner { λ _. ⌜ ((x : Showing) (r : CardRead) (ps s : List ℕ) → length (wordsOf s) < scratchLength → 0 < r .figures .blocks
+    ensures planner { λ _. ⌜ ((x : Showing) (r : CardRead) (ps s : List ℕ) → length (wordsOf s) < scratchLength → 0 < blocksOf (r .figures)
         → r .verdict .number ≡ 0 → (plannedScratch x r ps s ≡ refusal tooShort 0) × (positionsScratch x r ps s ≡ ps)) ⌝ }
     ensures desk { λ _. ⌜ ((d : Desk) (ps s : List ℕ) → length (wordsOf s) < scratchLength → RefusedFor d ps s) ⌝ }
 {}

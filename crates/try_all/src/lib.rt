@@ -1,5 +1,6 @@
 // The second planner (document 02, ticket 12): it tries every laying of a film of up to 8 blocks on the film's positions, for one showing or for
-// a loop, and answers the smallest worst2 and how many layings have it. It is lent no list, and names neither the planner nor its laying.
+// a loop, and answers the smallest worst2 and how many layings have it. The film is alone on its shelf (ticket 14). It is lent no list, and names
+// neither the planner nor its laying.
 use card::CardRead;
 use card::Figures;
 use card::Verdict;
@@ -59,10 +60,14 @@ fn try_figures(read: CardRead, showing: u32) -> Tried
         return refused(verdict.number, verdict.place);
     }
     let figures = read.figures;
-    if MAX_TRIED < figures.blocks {
+    if 1 < figures.films {
         return refused(FILM_TOO_LONG, 0);
     }
-    let found = try_layings(film_times(figures), figures.blocks, showing);
+    let blocks = figures.blocks[0];
+    if MAX_TRIED < blocks {
+        return refused(FILM_TOO_LONG, 0);
+    }
+    let found = try_layings(film_times(figures), blocks, showing);
     let streams = count_streams(figures.rate, found.least, &figures.table, figures.bytes, 1);
     if streams == 0 {
         return refused(NO_STREAM, 0);
@@ -77,7 +82,7 @@ fn try_figures(read: CardRead, showing: u32) -> Tried
     }
 }
 
-// Tries every laying of a card's film for one showing: 1 to 11, 25 and 26 as the reader gives them, then 29, then 12.
+// Tries every laying of a card's film for one showing: 1 to 11, 25, 26 and 30 as the reader gives them, then 29, then 12.
 pub fn try_card(card: &[u8]) -> Tried
     ensures { λ r. ⌜ r ≡ tried one (readCard 1 (now (card .entry))) ⌝ }
 {
@@ -91,7 +96,7 @@ pub fn try_loop_card(card: &[u8]) -> Tried
     try_figures(card_reader::read_card(card), LOOP)
 }
 
-// Tries every laying of a record's film for one showing: 3 to 10, 25 and 26, then 29, then 12, place 0.
+// Tries every laying of a record's film for one showing: 3 to 10, 25, 26 and 30, then 29, then 12, place 0.
 pub fn try_record(figures: Figures) -> Tried
     ensures { λ r. ⌜ r ≡ tried one (judged 1 figures) ⌝ }
 {
@@ -105,8 +110,8 @@ pub fn try_loop_record(figures: Figures) -> Tried
     try_figures(judged_figures(figures), LOOP)
 }
 
-// Its worst2 is the planner's, for one showing and for a loop, of any card and any record: where the film has at most 8 blocks and the planner's
-// lists have room, both answer the same verdict too.
+// Its worst2 is the planner's, for one showing and for a loop, of any card and any record: where there is no film but one, of at most 8 blocks, and
+// the planner's lists have room, both answer the same verdict too.
 pub fn both_planners_agree()
     ensures cards { λ _. ⌜ ((x : Showing) → visitsOf x ≡ 1 → (s : List ℕ) → Bytes s → SameAnswer x (readCard 1 s)) ⌝ }
     ensures records { λ _. ⌜ ((x : Showing) → visitsOf x ≡ 1 → (f : Figures) → Wide f → SameAnswer x (judged 1 f)) ⌝ }

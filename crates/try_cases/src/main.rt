@@ -1,6 +1,6 @@
 // Runs the second planner on cases. Standard input has a case on each line: its name, which has no colon, then a colon, a letter, and what is
-// tried. RECORD is kind zones N B c, then 257 overheads in runs (V+S*N is V, V + S, .., N numbers), then positions and time of
-// each zone; what is missing is 0.
+// tried. RECORD is kind zones films, then 16 film entries in runs (V*N is N times V, V+S*N is V, V + S, .., N numbers), then B c, 257 overheads in
+// runs, then positions and time of each zone; what is missing is 0.
 //
 //     NAME: r RECORD    tries every laying of a record's film; R tries them as a loop
 //     NAME: c CARD      of a card's, its bytes in hexadecimal; C as a loop

@@ -1,18 +1,17 @@
 -- The ways that the call can answer.
 -- Assumes nothing.
-use Prim.Native.Nat.{ℕ, zero, suc, _*_, _/_, _≤_, _<_}
-use mathlib.Core.Path.{_≡_, refl, sym, ap, _∙_, subst}
-use mathlib.Core.Bool.{Bool, true, false, cond, _||_}
+use Prim.Native.Nat.{ℕ, _*_, _/_, _≤_, _<_}
+use mathlib.Core.Path.{_≡_, refl, ap, _∙_, subst}
+use mathlib.Core.Bool.{Bool, true, false, _||_}
 use mathlib.Core.List.{List}
 use native.Mathlib.Omega.{arith}
 use lib.Dec.{ltb, eqb}
 use borrow.Author.Tests.{eqb-false, ltb-false}
-use Rattle.laws.specs.Bools.{and-left}
+use Rattle.laws.specs.Bools.{and-left, clash}
 use Rattle.laws.specs.Greatest.{Peak, peak-earliest, peak-same}
 use Rattle.numbers.specs.Limits.{maxWindow}
 use Rattle.numbers.specs.Refusals.{notSound, wrongWindow}
-use Rattle.card.specs.declared.Figures.{Figures}
-use Rattle.card.specs.Card.{Legal, totalPositions}
+use Rattle.card.specs.Card.{Legal}
 use Rattle.legality.specs.Legality.{Wide}
 use Rattle.placement.specs.Placement.{Falling}
 use Rattle.placement.specs.Showing.{Showing, visitsOf, laying, walked, walked-single}
@@ -20,12 +19,12 @@ use Rattle.placement.specs.Zones.{timeAt}
 use Rattle.pacing.specs.Window.{placesOf, windowTime, worstWindow, windowAt}
 use Rattle.pacing.specs.HalfWindows.{walked-window, walked-window-at}
 use Rattle.plan.specs.declared.Plan.{Plan}
-use Rattle.plan.specs.Plan.{showingIn, timeOn}
+use Rattle.plan.specs.Plan.{showingIn, longestOf}
 use Rattle.plan.specs.Answer.{hasNumbers}
 use Rattle.plan.specs.Check.{numbered}
 use Rattle.window.specs.declared.Window.{Window}
 use Rattle.worst_row.specs.Rows.{rowTime}
-use Rattle.window.specs.Window.{worstWindowOf, windowAtOf, isLaid, isOutside, windowFault, refusal, answerBy, windowAnswer}
+use Rattle.window.specs.Window.{worstWindowOf, windowAtOf, isLaid, isOutside, windowFault, refusal, windowAnswer}
 use Rattle.worst_row.proofs.RowLaws.{row-window}
 
 -- the worst row over all visits of a film of N blocks on P positions is its worst window, and starts at a visit of its first block
@@ -50,52 +49,33 @@ pub worst-visits : (x : Showing) (ps ts : List ℕ) (P N k v n at w : ℕ) → v
     → (w ≡ worstWindow x (timeAt ps ts) (laying x P N) N k) × (at / v ≡ windowAt x (timeAt ps ts) (laying x P N) N k)
 worst-visits x ps ts P N k v n at w e np falls some within d p = rw e (worst-is x ps ts P N k n at w np falls some within (rw e at d) (rw e at p))
 
--- the same of figures; P is the disk's positions
-pub window-is : (x : Showing) (f : Figures) (k P w at : ℕ) → P ≡ totalPositions f → w ≡ worstWindow x (timeOn f) (laying x P (f .blocks)) (f .blocks) k
-    → at ≡ windowAt x (timeOn f) (laying x P (f .blocks)) (f .blocks) k → (w ≡ worstWindowOf x f k) × (at ≡ windowAtOf x f k)
-unfolding worstWindowOf windowAtOf
-window-is x f k P w at e t d = (rw e at t, rw e at d)
+module _ (p : Plan) (ps : List ℕ) (k : ℕ) where
+  -- 14
+  pub not-laid : isLaid p ps ≡ false → refusal notSound ≡ windowAnswer p ps k
+  unfolding windowAnswer windowFault
+  not-laid e = rw e
 
-module _ (p : Plan) (ps : List ℕ) (k n : ℕ) (e : n ≡ windowFault p ps k) where
-  -- refused
-  pub refused-by : (n ≡ 0 → ⊥) → refusal n ≡ windowAnswer p ps k
-  unfolding windowAnswer
-  refused-by some = go n e some
-    where
-      go : (m : ℕ) → m ≡ windowFault p ps k → (m ≡ 0 → ⊥) → refusal m ≡ answerBy (windowFault p ps k) (showingIn p) (p .figures) k
-      go zero d s = absurd (s refl)
-      go (suc m) d s = rw (sym d) refl
+  module _ (l : isLaid p ps ≡ true) where
+    -- 27
+    pub out-of-range : isOutside k (longestOf (p .figures)) ≡ true → refusal wrongWindow ≡ windowAnswer p ps k
+    unfolding windowAnswer windowFault
+    out-of-range e = rw (l, e)
 
-  -- accepted
-  pub answered : (t b bytes : ℕ) → n ≡ 0 → (t ≡ worstWindowOf (showingIn p) (p .figures) k) × (b ≡ windowAtOf (showingIn p) (p .figures) k)
-      → bytes ≡ k * p .figures .bytes
-      → _≡_ {A = Window} (record { verdict = record { number = n; place = 0 }; time = t; first = b; bytes = bytes }) (windowAnswer p ps k)
-  unfolding windowAnswer
-  answered t b bytes z w q =
-      let d : windowFault p ps k ≡ 0 = sym e ∙ z in
-      rw d (λ i. record { verdict = record { number = z i; place = 0 }; time = w .0 i; first = w .1 i; bytes = q i })
+    -- accepted
+    pub answered : isOutside k (longestOf (p .figures)) ≡ false → (t b bytes : ℕ)
+        → (t ≡ worstWindowOf (showingIn p) (p .figures) k) × (b ≡ windowAtOf (showingIn p) (p .figures) k) → bytes ≡ k * p .figures .bytes
+        → _≡_ {A = Window} (record { verdict = record { number = 0; place = 0 }; time = t; first = b; bytes = bytes }) (windowAnswer p ps k)
+    unfolding windowAnswer windowFault
+    answered e t b bytes w q = rw (l, e) (λ i. record { verdict = record { number = 0; place = 0 }; time = w .0 i; first = w .1 i; bytes = q i })
 
--- what an accepted call knows
-pub record Accepted (p : Plan) (ps : List ℕ) (k : ℕ) : Type 0 where
-  pub laid : isLaid p ps ≡ true
-  pub some : 0 < k
-  pub most : k ≤ maxWindow
-  pub within : k ≤ p .figures .blocks
-
-pub accepted : (p : Plan) (ps : List ℕ) (k : ℕ) → windowFault p ps k ≡ 0 → Accepted p ps k
-unfolding windowFault isOutside
-accepted p ps k e = go (isLaid p ps) refl (eqb k 0) refl (ltb maxWindow k) refl (ltb (p .figures .blocks) k) refl e
+-- what a window in range is
+pub in-range : (k N : ℕ) → isOutside k N ≡ false → (0 < k) × (k ≤ maxWindow) × (k ≤ N)
+unfolding isOutside
+in-range k N e = go (eqb k 0) refl (ltb maxWindow k) refl (ltb N k) refl e
   where
-    go : (r : Bool) → isLaid p ps ≡ r → (s : Bool) → eqb k 0 ≡ s → (t : Bool) → ltb maxWindow k ≡ t → (u : Bool) → ltb (p .figures .blocks) k ≡ u
-        → _≡_ {A = ℕ} (cond r (cond (s || (t || u)) wrongWindow 0) notSound) 0 → Accepted p ps k
-    go false l s a t b u c q = absurd (omega arith)
-    go true l true a t b u c q = absurd (omega arith)
-    go true l false a true b u c q = absurd (omega arith)
-    go true l false a false b true c q = absurd (omega arith)
-    go true l false a false b false c q =
-        record { laid = l; some = omega (arith, eqb-false k 0 a); most = ltb-false maxWindow k b; within = ltb-false (p .figures .blocks) k c }
-
--- what is laid has legal figures
-pub laid-legal : (p : Plan) (ps : List ℕ) → Wide (p .figures) → isLaid p ps ≡ true → Legal (visitsOf (showingIn p)) (p .figures)
-unfolding isLaid
-laid-legal p ps w e = numbered p w (and-left (hasNumbers p) _ e) .legal
+    go : (s : Bool) → eqb k 0 ≡ s → (t : Bool) → ltb maxWindow k ≡ t → (u : Bool) → ltb N k ≡ u → (s || (t || u)) ≡ false
+        → (0 < k) × (k ≤ maxWindow) × (k ≤ N)
+    go true a t b u c q = clash refl q
+    go false a true b u c q = clash refl q
+    go false a false b true c q = clash refl q
+    go false a false b false c q = (omega (arith, eqb-false k 0 a), ltb-false maxWindow k b, ltb-false N k c)

@@ -1,26 +1,47 @@
--- Document 02, ticket 9: the worst window of k blocks of a plan's film, and the answer of the call.
-use Prim.Native.Nat.{ℕ, zero, suc, _*_}
+-- Document 02, ticket 9: the worst window of k blocks of a plan's films, each window within one film (ticket 14), and the answer of the call.
+use Prim.Native.Nat.{ℕ, zero, suc, _+_, _*_}
 use mathlib.Core.List.{List}
 use mathlib.Core.Bool.{Bool, cond, _&&_, _||_}
 use lib.Dec.{ltb, eqb}
 use Rattle.numbers.specs.Limits.{maxWindow}
 use Rattle.numbers.specs.Refusals.{notSound, wrongWindow}
 use Rattle.card.specs.declared.Figures.{Figures}
+use Rattle.card.specs.Card.{totalPositions, lengthIn}
+use Rattle.laws.specs.Greatest.{greatestOf, earliestOf}
+use Rattle.laws.specs.Starts.{startOf}
 use Rattle.placement.specs.Showing.{Showing}
+use Rattle.placement.specs.Shelf.{layingIn}
 use Rattle.pacing.specs.Window.{worstWindow, windowAt}
 use Rattle.plan.specs.declared.Plan.{Plan}
-use Rattle.plan.specs.Plan.{showingIn, timeOn, positionOf}
+use Rattle.plan.specs.Plan.{showingIn, timeOn, longestOf}
 use Rattle.plan.specs.Answer.{hasNumbers, hasPositions}
 use Rattle.window.specs.declared.Window.{Window}
 
-module _ (x : Showing) (f : Figures) (k : ℕ) where
-  -- the worst time of k successive blocks (T9.2)
-  unfoldable pub worstWindowOf : ℕ
-  worstWindowOf = worstWindow x (timeOn f) (positionOf x f) (f .blocks) k
+-- ---- films of N i blocks on P positions, τ being the time of a position
 
-  -- the earliest place where they take it (T9.3)
+module _ (x : Showing) (τ : ℕ → ℕ) (P : ℕ) (N : ℕ → ℕ) (k : ℕ) where
+  -- the worst time of k successive blocks of film i (T9.2); a film of fewer has no window, and counts as 0
+  unfoldable pub filmWindow : ℕ → ℕ
+  filmWindow i = cond (ltb (N i) k) 0 (worstWindow x τ (layingIn x P N i) (N i) k)
+
+  -- the earliest place where they take it (T9.3), counted through the films
+  unfoldable pub filmWindowAt : ℕ → ℕ
+  filmWindowAt i = startOf N i + cond (ltb (N i) k) 0 (windowAt x τ (layingIn x P N i) (N i) k)
+
+module _ (x : Showing) (f : Figures) (k : ℕ) where
+  abbrev pub windowIn : ℕ → ℕ
+  windowIn = filmWindow x (timeOn f) (totalPositions f) (lengthIn f) k
+
+  abbrev pub windowAtIn : ℕ → ℕ
+  windowAtIn = filmWindowAt x (timeOn f) (totalPositions f) (lengthIn f) k
+
+  -- the worst time of k successive blocks of one film
+  unfoldable pub worstWindowOf : ℕ
+  worstWindowOf = greatestOf windowIn (f .films)
+
+  -- the earliest place where they take it, through the films
   unfoldable pub windowAtOf : ℕ
-  windowAtOf = windowAt x (timeOn f) (positionOf x f) (f .blocks) k
+  windowAtOf = windowAtIn (earliestOf windowIn (f .films))
 
 -- ---- the answer
 
@@ -28,13 +49,13 @@ module _ (x : Showing) (f : Figures) (k : ℕ) where
 unfoldable pub isLaid : Plan → List ℕ → Bool
 isLaid p ps = hasNumbers p && hasPositions p ps
 
--- a window of k blocks is out of range for a film of N (T9.8): 0 blocks, above 64 or above N
+-- a window of k blocks is out of range for films of at most N (T9.8): 0 blocks, above 64 or above N
 unfoldable pub isOutside : ℕ → ℕ → Bool
 isOutside k N = eqb k 0 || (ltb maxWindow k || ltb N k)
 
 -- 14, then 27 (T9.8); 0 where neither is so
 unfoldable pub windowFault : Plan → List ℕ → ℕ → ℕ
-windowFault p ps k = cond (isLaid p ps) (cond (isOutside k (p .figures .blocks)) wrongWindow 0) notSound
+windowFault p ps k = cond (isLaid p ps) (cond (isOutside k (longestOf (p .figures))) wrongWindow 0) notSound
 
 -- a refusal: the number, place 0 and zero figures
 unfoldable pub refusal : ℕ → Window

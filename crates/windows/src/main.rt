@@ -1,5 +1,5 @@
-// Reads a card from standard input and prints what rates are guaranteed over windows of 1 to 64 blocks of its film, with the argument `loop`
-// those of the film as a loop, with `pairs` those of half blocks.
+// Reads a card from standard input and prints what rates are guaranteed over windows of 1 to 64 blocks of its films, with the argument `loop`
+// those of the films as loops, with `pairs` those of half blocks.
 use libc::STDIN_FILENO;
 use lines::asked_showing;
 use lines::empty;
@@ -14,10 +14,11 @@ use lines::put_text;
 use numbers::limits::MAX_WINDOW;
 use numbers::units::MICROS;
 use plan::Plan;
+use window::longest;
 use window::worst_window;
 ghost use mathlib.Core.Path.{_≡_};
-ghost use Prim.Native.Nat.{_*_, _/_, _<_, min};
-ghost use Rattle.numbers.specs.Limits.{maxWindow};
+ghost use Prim.Native.Nat.{_*_, _/_, _≤_, _<_, min};
+ghost use Rattle.numbers.specs.Limits.{maxFilms, maxWindow};
 ghost use Rattle.numbers.specs.Units.{micros};
 
 // Bytes a second, rounded down; 0 where no time is told.
@@ -41,8 +42,8 @@ fn print_window(plan: Plan, positions: &[u8], count: u32) {
     ));
 }
 
-// The blocks of the longest window.
-fn longest(blocks: u32) -> u32
+// The blocks of the longest window, by those of the longest film.
+fn longest_window(blocks: u32) -> u32
     ensures { λ r. ⌜ r ≡ min blocks maxWindow ⌝ }
 {
     if blocks < MAX_WINDOW {
@@ -52,10 +53,12 @@ fn longest(blocks: u32) -> u32
 }
 
 // The line of each window of a plan, with its list of positions.
-fn print_windows(plan: Plan, positions: &[u8]) {
+fn print_windows(plan: Plan, positions: &[u8])
+    requires { ⌜ plan .figures .films ≤ maxFilms ⌝ }
+{
     print(put_text(empty(), b"blocks time first bytes rate"));
     let figures = plan.figures;
-    let last = longest(figures.blocks);
+    let last = longest_window(longest(&figures.blocks, figures.films));
     let mut count: u32 = 1;
     while count <= last {
         print_window(plan, positions, count);
@@ -76,7 +79,7 @@ fn list(showing: u32, card: &[u8]) {
     print_windows(planned.plan, &positions);
 }
 
-// Every refusal of a card is decided within its first 1,490 bytes, so what is read is enough of any input.
+// Every refusal of a card is decided within its first 1,520 bytes, so what is read is enough of any input.
 fn main() {
     let showing = asked_showing();
     if has_more_arguments(showing) {

@@ -1,17 +1,17 @@
 -- Laws of entries in byte strings: what an entry is, what a store changes and keeps, and that reading and writing undo each other.
 -- Assumes nothing.
-use Prim.Native.Nat.{ℕ, zero, suc, _+_, _*_, _/_, _%_, _≤_, _<_}
+use Prim.Native.Nat.{ℕ, zero, suc, _+_, _*_, _-_, _/_, _%_, _≤_, _<_}
 use mathlib.Core.Path.{_≡_, refl, sym, ap, _∙_}
 use mathlib.Core.Logic.{_≢_, by-cases}
-use mathlib.Core.List.{List, [], _∷_, _++_, append-assoc}
+use mathlib.Core.List.{List, [], _∷_, _++_, append-assoc, append-nil}
 use native.Mathlib.Omega.{arith}
 use native.Mathlib.Nat.{div-div-eq-div-mul}
 use native.Mathlib.Decide.{decLt}
 use native.Mathlib.Numerals.{add-one, add-two, add-three}
 use mir.Syntax.{w8}
 use mir.Val.{Fits}
-use lib.ListN.{length, getD, set, take, drop, length-set, length-replicate, drop-of-length-le}
-use lib.Seq.{getD-set-other, drop-set-lt, drop-cons, take-append-seam, drop-at, length-take-le, sets, sets-eq}
+use lib.ListN.{length, getD, set, take, drop, length-set, length-drop, length-replicate, drop-of-length-le}
+use lib.Seq.{take-all, getD-set-other, drop-set-lt, drop-cons, take-append-seam, drop-at, length-take-le, sets, sets-eq}
 use Rattle.laws.specs.Each.{zero-at}
 use Rattle.laws.specs.Overwrite.{overwrite, overwrite-none, overwrite-more}
 use Rattle.words.specs.Words.{Bytes, Words, wordsOf, withWord, withWords, zeroWords, bytesOf}
@@ -187,6 +187,53 @@ pub withWords-bytes : (s : List ℕ) (start : ℕ) (vs : List ℕ) → Bytes s �
 unfolding withWords
 withWords-bytes s start [] y = y
 withWords-bytes s start (v ∷ vs) y = withWords-bytes (withWord s start v) (start + 1) vs (withWord-bytes s start v y)
+
+-- ---- the part of a string from an entry on
+
+-- its entries are those from there on
+pub words-part : (k : ℕ) (s : List ℕ) → wordsOf (drop (4 * k) s) ≡ drop k (wordsOf s)
+unfolding wordsOf
+words-part zero s = refl
+words-part (suc k) [] = rw (next-first k)
+words-part (suc k) (a ∷ []) = rw (next-first k)
+words-part (suc k) (a ∷ (b ∷ [])) = rw (next-first k)
+words-part (suc k) (a ∷ (b ∷ (c ∷ []))) = rw (next-first k)
+words-part (suc k) (a ∷ (b ∷ (c ∷ (d ∷ s)))) = rw (next-first k) (words-part k s)
+
+withWords-next : (a b c d : ℕ) (s : List ℕ) (start : ℕ) (vs : List ℕ)
+    → withWords (a ∷ (b ∷ (c ∷ (d ∷ s)))) (suc start) vs ≡ a ∷ (b ∷ (c ∷ (d ∷ withWords s start vs)))
+unfolding withWords
+withWords-next a b c d s start [] = refl
+withWords-next a b c d s start (v ∷ vs) =
+    let e : suc start + 1 ≡ suc (start + 1) = omega arith in
+    rw (withWord-next a b c d s start v, e) (withWords-next a b c d (withWord s start v) (start + 1) vs)
+
+-- entries stored in it are stored in the string
+pub withWords-part : (k : ℕ) (s : List ℕ) (start : ℕ) (vs : List ℕ) → 4 * k ≤ length s
+    → take (4 * k) s ++ withWords (drop (4 * k) s) start vs ≡ withWords s (k + start) vs
+withWords-part zero s start vs h = let e : 0 + start ≡ start = omega arith in rw e
+withWords-part (suc k) [] start vs h = absurd (omega arith)
+withWords-part (suc k) (a ∷ []) start vs h = absurd (omega arith)
+withWords-part (suc k) (a ∷ (b ∷ [])) start vs h = absurd (omega arith)
+withWords-part (suc k) (a ∷ (b ∷ (c ∷ []))) start vs h = absurd (omega arith)
+withWords-part (suc k) (a ∷ (b ∷ (c ∷ (d ∷ s)))) start vs h =
+    let e : suc k + start ≡ suc (k + start) = omega arith in
+    rw (next-first k, e, withWords-next a b c d s (k + start) vs)
+    (ap (λ (t : List ℕ). a ∷ (b ∷ (c ∷ (d ∷ t)))) (withWords-part k s start vs (omega arith)))
+
+-- the same of the part as code lends it, from byte `at` on to the end
+part-all : (s : List ℕ) (at : ℕ) → take (length s - at) (drop at s) ≡ drop at s
+part-all s at = take-all (length s - at) (drop at s) (omega (arith, length-drop at s))
+
+pub words-lent : (k : ℕ) (s : List ℕ) (at : ℕ) → at ≡ 4 * k → wordsOf (take (length s - at) (drop at s)) ≡ drop k (wordsOf s)
+words-lent k s at e = ap wordsOf (part-all s at) ∙ ap (λ (a : ℕ). wordsOf (drop a s)) e ∙ words-part k s
+
+pub words-returned : (k : ℕ) (s : List ℕ) (at : ℕ) (vs ys : List ℕ) → at ≡ 4 * k → 4 * k ≤ length s
+    → ys ≡ withWords (take (length s - at) (drop at s)) 0 vs → take at s ++ (ys ++ drop (length s - at) (drop at s)) ≡ withWords s k vs
+words-returned k s at vs ys e h q =
+    let none : drop (length s - at) (drop at s) ≡ [] = drop-of-length-le (drop at s) {i = length s - at} (omega (arith, length-drop at s)) in
+    let z : k + 0 ≡ k = omega arith in
+    rw (none, append-nil ys, q, part-all s at, e) (withWords-part k s 0 vs h ∙ ap (λ (j : ℕ). withWords s j vs) z)
 
 -- ---- zeros
 

@@ -87,6 +87,16 @@ pub fn clear_words(list: &mut [u8], start: usize, count: usize)
     }
 }
 
+// The 16 entries from start on.
+pub fn read_16(list: &[u8], start: usize) -> [u32; 16]
+    requires { ⌜ start + 16 ≤ length (wordsOf (now list)) ⌝ }
+    ensures { λ r. ⌜ r ≡ take 16 (drop start (wordsOf (now (list .entry)))) ⌝ }
+{
+    let mut a = [0u32; 16];
+    read_words(list, start, &mut a);
+    a
+}
+
 // The 64 entries from start on.
 pub fn read_64(list: &[u8], start: usize) -> [u32; 64]
     requires { ⌜ start + 64 ≤ length (wordsOf (now list)) ⌝ }
@@ -115,6 +125,14 @@ pub fn read_257(list: &[u8], start: usize) -> [u32; 257]
     let mut a = [0u32; 257];
     read_words(list, start, &mut a);
     a
+}
+
+// Writes the 16 numbers of a as the entries from start on.
+pub fn write_16(list: &mut [u8], start: usize, a: &[u32; 16])
+    requires { ⌜ 4 * (start + 16) ≤ length (now list) ⌝ }
+    ensures { λ _. ⌜ (now (list .exit) ≡ withWords (now (list .entry)) start (now (a .entry))) × (length (now (a .entry)) ≡ 16) ⌝ }
+{
+    write_words(list, start, a);
 }
 
 // Writes the 64 numbers of a as the entries from start on.

@@ -10,12 +10,13 @@ use Rattle.laws.specs.Greatest.{greatestOf, Peak}
 use Rattle.numbers.specs.Limits.{maxTime}
 use Rattle.placement.specs.Circle.{round}
 use Rattle.placement.specs.CircleBest.{round-last, round-next}
-use Rattle.placement.specs.Showing.{Showing, one, loop, pairs, visitsOf, laying, laying-lays}
-use Rattle.placement.specs.Zones.{timeAt, timeAt-zone, zone-of}
+use Rattle.placement.specs.Showing.{Showing, one, loop, pairs, visitsOf, laying}
+use Rattle.placement.specs.Zones.{timeAt}
 use Rattle.pacing.specs.Film.{span}
 use Rattle.pacing.specs.Shown.{round-below}
 use Rattle.pacing.specs.Window.{placesOf, windowTime}
 use Rattle.plan.specs.Disk.{OnDisk}
+use Rattle.plan.specs.FilmWalk.{visit-quick}
 use Rattle.worst_pair.specs.declared.Pair.{Pair}
 use Rattle.walk.specs.declared.Walk.{Walk}
 use Rattle.walk.specs.Walk.{Cursors}
@@ -101,14 +102,6 @@ comes-on ps ts l N w b c n s o u e = record {
       (by-cases (decLt (suc c) N) (λ h. omega (arith, round-next N c h)) (λ h. absurd (omega (arith, round-last N c (omega arith))))) v;
 }
 
--- no visit of a film takes more than the greatest time
-pub film-quick : (ps ts : List ℕ) (P N : ℕ) → OnDisk ps ts P N → (x : Showing) → visitsOf x ≡ 1 → (b : ℕ) → b < N → timeAt ps ts (laying x P N b) ≤ maxTime
-film-quick ps ts P N f x e b u =
-    let n : visitsOf x * N ≡ N = rw e (omega arith) in
-    let q = laying-lays x P N (omega (arith, f .room)) .into b (omega arith) in
-    let (i, r, lo, hi) = zone-of ps (laying x P N b) (omega (arith, q, f .whole)) in
-    omega (arith, timeAt-zone ps ts i (laying x P N b) lo hi, f .disk .quick i)
-
 -- the greatest and earliest of one
 pub peak-first : (g : ℕ → ℕ) → Peak g 1 0 (g 0)
 unfolding greatestOf
@@ -134,7 +127,7 @@ module _ (ps ts : List ℕ) (P N : ℕ) (film : OnDisk ps ts P N) (x : Showing) 
       → Peak (rowTime ps ts (laying x P N) N k) (suc b) (worst .first) (worst .time)
       → Slides (rowTime ps ts (laying x P N) N k) ahead behind a b to sum worst
   slides-run sum worst time found =
-      let quick = film-quick ps ts P N film x single in
+      let quick = visit-quick ps ts P N film x single in
       record {
         order = order;
         fits = omega (arith, front .film, film .room, film .whole, film .disk .zoned .small);

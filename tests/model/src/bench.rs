@@ -1,6 +1,7 @@
 //! The bench film and the other fixed cards.
 
-use crate::card::{card_bytes, Figures, ENTRIES};
+use crate::card::{Figures, ENTRIES};
+use crate::shelf::{self, card_bytes, one_film_card};
 
 /// Figures with these zones, each of positions and time, innermost first.
 pub fn figures_of(zones: &[(u32, u32)], blocks: u32, bytes: u32, rate: u32) -> Figures {
@@ -120,7 +121,44 @@ pub fn fixed_pairs_cards() -> Vec<Vec<u8>> {
         with_blocks(500, deskstar()),
         with_blocks(501, deskstar()),
     ];
-    records.iter().map(card_bytes).collect()
+    records.iter().map(one_film_card).collect()
+}
+
+/// The disk of the bench film with so many positions a zone, and films of these N.
+pub fn bench_shelf(positions: u32, lengths: &[u32]) -> shelf::Figures {
+    let mut disk = bench_film();
+    disk.positions[..6].fill(positions);
+    shelf::Figures::of(&disk, lengths)
+}
+
+/// Cards of shelves, some of which are refused.
+pub fn fixed_shelf_cards() -> Vec<Vec<u8>> {
+    let records = [
+        bench_shelf(1, &[2, 2, 2]),
+        bench_shelf(1, &[4, 2]),
+        bench_shelf(1, &[2, 4]),
+        bench_shelf(1, &[3, 3]),
+        bench_shelf(1, &[4, 3]),
+        bench_shelf(1, &[6, 2]),
+        bench_shelf(1, &[2, 1]),
+        bench_shelf(1, &[]),
+        bench_shelf(2, &[3, 2, 5]),
+        bench_shelf(2, &[5, 4, 2]),
+        bench_shelf(2, &[3, 3]),
+        bench_shelf(2, &[3, 2, 2]),
+        bench_shelf(20, &[70, 3, 40]),
+        bench_shelf(20, &[3, 64, 50]),
+        bench_shelf(6, &[2; 16]),
+        bench_shelf(1, &[2, 2, 2]).on(&bench_rising(9, 900_000)),
+        bench_shelf(4000, &[8192, 8192]),
+        bench_shelf(4000, &[8192, 8193]),
+        bench_shelf(4000, &[16_384, 2]),
+        bench_shelf(3000, &[1024; 16]),
+    ];
+    let mut cards: Vec<Vec<u8>> = records.iter().map(card_bytes).collect();
+    let seventeen = shelf::Figures { films: 17, ..bench_shelf(6, &[2; 16]) };
+    cards.push(card_bytes(&seventeen));
+    cards
 }
 
 /// Cards that every listing program is run on.
@@ -153,9 +191,9 @@ pub fn fixed_cards() -> Vec<Vec<u8>> {
         bench_entry(200, 14_999),
         bench_entry(0, 0),
     ];
-    let mut cards: Vec<Vec<u8>> = records.iter().map(card_bytes).collect();
+    let mut cards: Vec<Vec<u8>> = records.iter().map(one_film_card).collect();
     cards.push(Vec::new());
     cards.push(vec![0x81, 0x00]);
-    cards.push([card_bytes(&bench_film()), vec![b'\n']].concat());
+    cards.push([one_film_card(&bench_film()), vec![b'\n']].concat());
     cards
 }

@@ -1,15 +1,26 @@
-//! The listing program's text for a card, for one showing, for a loop and for pairs.
+//! The listing program's text for the card of a shelf, for one showing, for loops and for pairs.
 
-use crate::pairs::{plan_pairs_card, PAIRS, VISITS};
-use crate::plan::{plan_card, plan_loop_card, time_at, Planned};
+use crate::plan::time_at;
 use crate::refusal::Refusal;
+use crate::shelf::{plan_card, Figures, Planned, Rule};
 use std::fmt::Write;
 
 /// What the program says of any argument but `loop` and `pairs`.
 pub const USAGE: &str = "usage: listing [loop|pairs]\n";
 
-/// Five named figures, a header, then block, position, time and lead of each block. Of pairs a block
-/// has two positions, and its time is that of both halves.
+/// Where each film begins, a line for each; nothing for one film.
+fn film_lines(figures: &Figures) -> String {
+    let films = figures.lengths().len();
+    let line = |film| format!("film {film} at {}\n", figures.start(film));
+    match films {
+        1 => String::new(),
+        _ => (0..films).map(line).collect(),
+    }
+}
+
+/// Five named figures, of several films where each begins, a header, then block, position, time and
+/// lead of each block of all films, the blocks counted as the lists do. Of pairs a block has two
+/// positions, and its time is that of both halves.
 pub fn plan_text(planned: &Planned) -> String {
     let plan = &planned.plan;
     let mut text = String::new();
@@ -22,11 +33,13 @@ pub fn plan_text(planned: &Planned) -> String {
     ] {
         writeln!(text, "{name} {figure}").unwrap();
     }
-    let visits = if plan.showing == PAIRS { VISITS } else { 1 };
+    text.push_str(&film_lines(&plan.figures));
+    let visits = Rule::of(plan.showing).expect("the word of a plan").visits();
+    let disk = plan.figures.of_one(0);
     writeln!(text, "block{} time lead", " position".repeat(visits)).unwrap();
     let blocks = planned.positions.chunks(visits);
     for (block, (positions, lead)) in blocks.zip(&planned.leads).enumerate() {
-        let time: u32 = positions.iter().map(|&at| time_at(&plan.figures, at)).sum();
+        let time: u32 = positions.iter().map(|&at| time_at(&disk, at)).sum();
         let positions: String = positions.iter().map(|at| format!(" {at}")).collect();
         writeln!(text, "{block}{positions} {time} {lead}").unwrap();
     }
@@ -38,26 +51,27 @@ pub fn refusal_text(refusal: Refusal) -> String {
     format!("refused {} at {}\n", refusal.number, refusal.place)
 }
 
-fn answer_text(answer: Result<Planned, Refusal>) -> String {
-    match answer {
+/// What the listing program prints for its input, its lists being long enough.
+fn listing_for(card: &[u8], rule: Rule) -> String {
+    match plan_card(card, rule, usize::MAX, usize::MAX) {
         Ok(planned) => plan_text(&planned),
         Err(refusal) => refusal_text(refusal),
     }
 }
 
-/// What the listing program prints for its input, its lists being long enough.
+/// What it prints of films shown once.
 pub fn listing(card: &[u8]) -> String {
-    answer_text(plan_card(card, usize::MAX, usize::MAX))
+    listing_for(card, Rule::Once)
 }
 
-/// The same of the film as a loop.
+/// The same of loops.
 pub fn loop_listing(card: &[u8]) -> String {
-    answer_text(plan_loop_card(card, usize::MAX, usize::MAX))
+    listing_for(card, Rule::Loop)
 }
 
-/// The same of the film as pairs.
+/// The same of pairs.
 pub fn pairs_listing(card: &[u8]) -> String {
-    answer_text(plan_pairs_card(card, usize::MAX, usize::MAX))
+    listing_for(card, Rule::Pairs)
 }
 
 /// What the program prints with these arguments.

@@ -1,8 +1,9 @@
 //! Makers' zone listings (02, ticket 1): the figures of a maker's text with N, c, hop and return
-//! beside it, and what the makercard program writes.
+//! beside it, and what the makercard program writes: the card of one film.
 
-use crate::card::{card_bytes, judge_record, Figures, MAX_ZONES};
+use crate::card::{judge_record, Figures, MAX_ZONES};
 use crate::refusal::cause;
+use crate::shelf::one_film_card;
 use crate::text::TextRefusal;
 
 pub const MAX_TURNS: u64 = 30_000;
@@ -174,7 +175,7 @@ pub fn makercard(arguments: &[String], text: &[u8]) -> (Vec<u8>, String) {
         return (Vec::new(), USAGE.to_string());
     };
     match figures_of_text(text, Beside { blocks, rate, hop, ret }) {
-        Ok(figures) => (card_bytes(&figures), String::new()),
+        Ok(figures) => (one_film_card(&figures), String::new()),
         Err(TextRefusal { number, line: 0 }) => {
             (Vec::new(), format!("makercard: refused {number}: "))
         }

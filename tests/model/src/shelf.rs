@@ -24,7 +24,9 @@ pub mod window;
 
 pub use batch::{batch, batch_scratch, singly, Item};
 pub use book::{answer, Answer, Call, Run, Step};
-pub use card::{card_bytes, judge_record, read_card, write_card, Figures, MAX_FILMS};
+pub use card::{
+    card_bytes, judge_record, one_film_card, read_card, write_card, Figures, MAX_FILMS,
+};
 pub use desk::{begin, end, is_sound, join, leave, open, Begun, Desk};
 pub use plan::{is_plan, is_plan_with_positions, plan_card, plan_record, Plan, Planned};
 pub use scratch::{answer_scratch, open_scratch, plan_card_scratch, plan_record_scratch};

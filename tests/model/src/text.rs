@@ -1,7 +1,8 @@
 //! The card of a text of decimal figures, as the `mkcard` program makes it.
 
-use crate::card::{number_bytes, read_card};
+use crate::card::number_bytes;
 use crate::refusal::cause;
+use crate::shelf::{read_card, Rule};
 
 /// A word of the text with its line; no value where it is no decimal number of 32 bits.
 struct Word {
@@ -59,7 +60,7 @@ pub fn card_of_text(text: &[u8]) -> Result<Vec<u8>, TextRefusal> {
         card.extend(number_bytes(word.value.unwrap_or(0)));
     }
     let bad = words.get(good).map(|word| word.line);
-    match (read_card(&card), bad) {
+    match (read_card(&card, Rule::Once), bad) {
         (Ok(_), None) => Ok(card),
         (Ok(_), Some(line)) => Err(TextRefusal { number: cause::LEFT_OVER, line }),
         (Err(refusal), bad) if refusal.number == cause::ENDS_EARLY => Err(match bad {
@@ -89,6 +90,7 @@ fn meaning(number: u32) -> &'static str {
         10 => "block bytes, rate, hop or return out of range",
         cause::OVERHEAD => "overhead out of range, or below the one before",
         cause::HALF_DEAD => "zone time, times three, below the first zone's time",
+        cause::SHELF => "films out of range, or blocks of all films above 16,384",
         _ => "numbers left over",
     }
 }

@@ -2,9 +2,11 @@
 //! place and the bytes read in it; and the text of the windows program.
 
 use crate::listing::refusal_text;
-use crate::pairs::{pair_times, plan_pairs_card, window_pairs, PAIRS};
-use crate::plan::{plan_card_for, plan_record_for, time_at, Plan, Planned, Showing};
+use crate::pairs::{pair_times, window_pairs, PAIRS};
+use crate::plan::{plan_record_for, time_at, Plan, Showing};
 use crate::refusal::{cause, refuse, Refusal};
+use crate::shelf::window::window_of_plan;
+use crate::shelf::{plan_card, Planned, Rule};
 use std::fmt::Write;
 
 /// Most blocks of a window.
@@ -95,43 +97,33 @@ pub fn window(plan: &Plan, positions: &[u32], k: u32) -> Result<Window, Refusal>
     Ok(window_of(plan, &laid_times(plan, positions), k))
 }
 
-/// A header, then for each window its blocks, worst time, first block, bytes, and bytes a second
-/// rounded down.
+/// A header, then for each window its blocks, up to those of the longest film, worst time, first block
+/// as the lists count, bytes, and bytes a second rounded down.
 fn windows_text(planned: &Planned) -> String {
-    let Planned { plan, positions, .. } = planned;
-    let times = laid_times(plan, positions);
+    let plan = &planned.plan;
     let mut text = "blocks time first bytes rate\n".to_string();
-    for k in 1..=MAX_WINDOW.min(plan.figures.blocks) {
-        let Window { time, first, bytes } = window_of(plan, &times, k);
+    for k in 1..=MAX_WINDOW.min(plan.figures.longest()) {
+        let Window { time, first, bytes } = window_of_plan(plan, k);
         let rate = bytes as u64 * 1_000_000 / time as u64;
         writeln!(text, "{k} {time} {first} {bytes} {rate}").unwrap();
     }
     text
 }
 
-fn answer_text(answer: Result<Planned, Refusal>) -> String {
-    match answer {
+/// What the windows program prints for its input, its lists being long enough.
+pub fn windows(card: &[u8], rule: Rule) -> String {
+    match plan_card(card, rule, usize::MAX, usize::MAX) {
         Ok(planned) => windows_text(&planned),
         Err(refusal) => refusal_text(refusal),
     }
 }
 
-/// What the windows program prints for its input, its lists being long enough.
-pub fn windows(card: &[u8], showing: Showing) -> String {
-    answer_text(plan_card_for(card, showing, usize::MAX, usize::MAX))
-}
-
-/// The same of the film as pairs.
-pub fn windows_of_pairs(card: &[u8]) -> String {
-    answer_text(plan_pairs_card(card, usize::MAX, usize::MAX))
-}
-
 /// What the program prints with these arguments.
 pub fn windows_with(arguments: &[String], card: &[u8]) -> String {
     match arguments {
-        [] => windows(card, Showing::Once),
-        [word] if word == "loop" => windows(card, Showing::Loop),
-        [word] if word == "pairs" => windows_of_pairs(card),
+        [] => windows(card, Rule::Once),
+        [word] if word == "loop" => windows(card, Rule::Loop),
+        [word] if word == "pairs" => windows(card, Rule::Pairs),
         _ => USAGE.to_string(),
     }
 }

@@ -6,6 +6,7 @@ use film_disk_model::bench::{
 use film_disk_model::card::{number_bytes, read_number};
 use film_disk_model::desk::{floor, ASKED, FILLING, PLAYING};
 use film_disk_model::plan::{fits, plan_of, streams, times};
+use film_disk_model::shelf::one_film_card;
 use film_disk_model::*;
 
 fn planned(figures: &Figures) -> Planned {
@@ -45,12 +46,12 @@ block position time lead
 4 2 19090 190
 5 3 17810 0
 ";
-    assert_eq!(listing(&card_bytes(&bench_film())), text);
+    assert_eq!(listing(&one_film_card(&bench_film())), text);
 }
 
 #[test]
 fn zero_time_is_refused_6_at_7() {
-    assert_eq!(listing(&card_bytes(&bench_zero_time())), "refused 6 at 7\n");
+    assert_eq!(listing(&one_film_card(&bench_zero_time())), "refused 6 at 7\n");
     assert_eq!(refused(plan_record(&bench_zero_time(), 6, 6)), (6, 0));
 }
 

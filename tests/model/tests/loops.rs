@@ -8,6 +8,7 @@ use film_disk_model::desk::{drawn_in, ASKED, FILLING, FREE, PLAYING, SWEEPING, T
 use film_disk_model::plan::{is_laying, leads_by_runs, plan_of, positions, time_at, times};
 use film_disk_model::rng::cards::any_card;
 use film_disk_model::rng::figures::{large_figures, small_figures};
+use film_disk_model::shelf::one_film_card;
 use film_disk_model::*;
 use std::collections::VecDeque;
 
@@ -47,9 +48,9 @@ block position time lead
 5 4 16700 0
 ";
     let card = card_bytes(&bench_film());
-    assert_eq!(loop_listing(&card), text);
+    assert_eq!(loop_listing(&one_film_card(&bench_film())), text);
     assert_eq!(plan_loop_card(&card, 6, 6), Ok(looped(&bench_film())));
-    assert_eq!(loop_listing(&card_bytes(&bench_zero_time())), "refused 6 at 7\n");
+    assert_eq!(loop_listing(&one_film_card(&bench_zero_time())), "refused 6 at 7\n");
 }
 
 /// Three zones of times 30, 20 and 10: positions, worst2, margin and leads for each N.

@@ -3,6 +3,7 @@
 use film_disk_model::card::straight;
 use film_disk_model::maker::{figures_of_text, makercard, Beside};
 use film_disk_model::rng::makers::{any_maker, bench_listing, legal_listing};
+use film_disk_model::shelf::one_film_card;
 use film_disk_model::*;
 
 /// N, c, hop and return that go with small texts.
@@ -268,7 +269,7 @@ fn what_the_program_writes() {
     let right = words(["3600", "524288", "8380", "10090"]);
     let bench = bench_listing();
     let text = bench.words().text();
-    let card = card_bytes(&figures_of_text(&text, bench.beside).unwrap());
+    let card = one_film_card(&figures_of_text(&text, bench.beside).unwrap());
     assert_eq!(makercard(&right, &text), (card, String::new()));
     let message = |arguments: &[String], text: &str| {
         let (card, message) = makercard(arguments, text.as_bytes());

@@ -20,6 +20,7 @@ use film_disk_model::rng::pairs::{
 use film_disk_model::scratch::{
     full_leads, plan_pairs_card_scratch, plan_pairs_record_scratch, SCRATCH,
 };
+use film_disk_model::shelf::one_film_card;
 use film_disk_model::*;
 
 /// B of the bench film.
@@ -471,17 +472,17 @@ fn bench_windows() {
 /// The bench film with N 3 and with the N that it has, which is too many.
 #[test]
 fn bench_texts() {
-    let text = pairs_listing(&card_bytes(&bench_blocks(3)));
+    let text = pairs_listing(&one_film_card(&bench_blocks(3)));
     let expected = "streams 8\nbuffer 786432\nworst2 75980\nworstat 0\nmargin 0\n\
         block position position time lead\n0 0 5 37990 0\n1 1 4 37250 0\n2 2 3 36900 0\n";
     assert_eq!(text, expected);
     let windows = |card: &[u8]| windows_with(&["pairs".to_string()], card);
-    let text = windows(&card_bytes(&bench_blocks(3)));
+    let text = windows(&one_film_card(&bench_blocks(3)));
     let expected = "blocks time first bytes rate\n1 37990 0 262144 6900342\n\
         2 75240 0 524288 6968208\n3 112140 0 786432 7012948\n";
     assert_eq!(text, expected);
-    let too_many = card_bytes(&bench_film());
-    let at = offset_of_blocks(&bench_film());
+    let too_many = one_film_card(&bench_film());
+    let at = offset_of_blocks(&bench_film()) + 1;
     for text in [pairs_listing(&too_many), windows(&too_many)] {
         assert_eq!(text, format!("refused 28 at {at}\n"));
     }

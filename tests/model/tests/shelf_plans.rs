@@ -517,6 +517,21 @@ fn order_of_the_list() {
     }
 }
 
+/// Films further in are slower block by block, so the last film's own worst time is worst2 and the films
+/// before it have no leads. The words do not say this; docs/GUIDE.md does.
+#[test]
+fn the_last_film_sets_the_pace() {
+    each_plan(1414, 1500, |_, rule, made| {
+        let times = listed_times(&made);
+        let last = times.len() - 1;
+        assert_eq!(own_worst2(&times[last], rule), made.plan.worst2);
+        let start = made.plan.figures.start(last) as usize;
+        assert!(made.leads[..start].iter().all(|&lead| lead == 0));
+        let slowest = times[last].iter().max().expect("a block");
+        assert!(times.concat().iter().all(|time| time <= slowest));
+    });
+}
+
 // One film.
 
 /// The shelf's plan of one film is the plan of that film.

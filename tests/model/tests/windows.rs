@@ -6,6 +6,7 @@ use film_disk_model::bench::{
 use film_disk_model::plan::{plan_of, time_at};
 use film_disk_model::rng::desks::{alter_plan, longer_list, spoiled_list};
 use film_disk_model::rng::figures::{desk_plan_for, large_desk_plan_for, uneven_plan_for};
+use film_disk_model::shelf::one_film_card;
 use film_disk_model::window::{worst_window, MAX_WINDOW};
 use film_disk_model::*;
 
@@ -223,7 +224,7 @@ fn other_plans() {
 /// The lines of the program, and its refusals.
 #[test]
 fn texts() {
-    let card = card_bytes(&bench_film());
+    let card = one_film_card(&bench_film());
     let text = "\
 blocks time first bytes rate
 1 22270 0 262144 11771171
@@ -236,10 +237,10 @@ blocks time first bytes rate
     assert_eq!(windows_with(&[], &card), text);
     let looped = windows_with(&["loop".to_string()], &card);
     assert!(looped.contains("\n2 38970 5 524288 13453630\n"), "{looped}");
-    assert_eq!(windows_with(&[], &card_bytes(&bench_zero_time())), "refused 6 at 7\n");
+    assert_eq!(windows_with(&[], &one_film_card(&bench_zero_time())), "refused 6 at 7\n");
     assert_eq!(windows_with(&[], &[]), "refused 1 at 0\n");
     assert_eq!(windows_with(&["once".to_string()], &card), "usage: windows [loop|pairs]\n");
-    let long = windows_with(&[], &card_bytes(&barracuda(8871)));
+    let long = windows_with(&[], &one_film_card(&barracuda(8871)));
     assert_eq!(long.lines().count(), 65);
     assert_eq!(long.lines().nth(2), Some("2 222551 0 2097152 9423242"));
 }

@@ -4,8 +4,9 @@ use film_disk_model::bench::{
     barracuda, bench_blocks, bench_film, deskstar, figures_of, film_of, three_alike, two_alike,
 };
 use film_disk_model::plan::{plan_of, time_at};
-use film_disk_model::rng::cards::any_card;
 use film_disk_model::rng::figures::{desk_plan_for, large_desk_plan_for, uneven_plan_for};
+use film_disk_model::rng::shelf::cards::any_shelf_card;
+use film_disk_model::shelf::Rule;
 use film_disk_model::*;
 
 /// The plan of a film that feeds a stream.
@@ -170,14 +171,13 @@ fn line_of_the_listing() {
     let mut rng = Rng::new(53);
     let mut listed = 0;
     for case in 0..4000 {
-        let card = any_card(&mut rng);
-        let (answer, text) = match Showing::ALL[case % 2] {
-            Showing::Once => (plan_card(&card, 16_384, 16_384), listing(&card)),
-            Showing::Loop => (plan_loop_card(&card, 16_384, 16_384), loop_listing(&card)),
-        };
+        let rule = [Rule::Once, Rule::Loop][case % 2];
+        let card = any_shelf_card(&mut rng, rule);
+        let answer = shelf::plan_card(&card, rule, 16_384, 16_384);
+        let text = if rule == Rule::Once { listing(&card) } else { loop_listing(&card) };
         let lines: Vec<&str> = text.lines().take(5).collect();
         match answer {
-            Ok(Planned { plan, .. }) => {
+            Ok(shelf::Planned { plan, .. }) => {
                 assert_eq!(lines[2], format!("worst2 {}", plan.worst2));
                 assert_eq!(lines[3], format!("worstat {}", plan.worstat));
                 assert_eq!(lines[4], format!("margin {}", plan.margin));

@@ -8,7 +8,7 @@ use Rattle.admission.proofs.join.Tie as tie
 returns : tie.Need-returns
 returns c = let m = c .before in
     let a = m .before .before .before .args in
-    c .moved .ensures ∙ ap (moveDesk (a .desk) (a .positions .now) (a .leads .now)) (m .join-of .ensures) ∙ join-is _ _ _ _ _
+    c .moved .ensures ∙ ap (moveDesk (a .desk) (a .positions .now) (a .leads .now)) (m .join-of .ensures) ∙ join-is _ _ _ _ _ _
 
 pub join-spec : {M : Type 1} → statement M
 join-spec = tie.close (tie.spec (λ c κs. search needs) (λ c κs. search needs) returns)

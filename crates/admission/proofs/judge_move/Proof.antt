@@ -81,14 +81,15 @@ kind-in-requires c κs =
 returns-4 : tie.Need-returns-4
 returns-4 c =
     let b = c .before in
-    let k = b .before in
+    let i = b .before in
+    let k = i .before in
     let n = k .before .before in
     let p = between n in
     let e = first n in
     let s = start (e .before) in
     c .judge-state .ensures
-    ∙ ap₂ (λ (x y : ℕ). stateVerdict x y (s .args .step)) (k .kind-in .ensures) (b .blocks-in .ensures)
-    ∙ told (move-state (given s) (wide-in _ (s .pre)) _ _ (passed e) (sym (p .before .phase-in .ensures) ∙ p .if2 .left) (s .args .step)
+    ∙ (λ t. stateVerdict (k .kind-in .ensures t) (i .films-in .ensures t) (b .blocks-of .ensures t) (s .args .step))
+    ∙ told (move-state (given s) (wide-in _ (s .pre)) _ _ (slim-in _ (s .pre)) (passed e) (sym (p .before .phase-in .ensures) ∙ p .if2 .left) (s .args .step)
     (omega (arith, k .before .if3 .left, n .streams-in .ensures)))
 
 pub judge-move-spec : {M : Type 1} → statement M
@@ -107,6 +108,7 @@ judge-move-spec =
     (λ c κs. search needs)
     returns-3
     kind-in-requires
+    (λ c κs. search needs)
     (λ c κs. search needs)
     (λ c κs. search needs)
     returns-4)

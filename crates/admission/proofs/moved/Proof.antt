@@ -19,7 +19,7 @@ wide : (c : tie.Start) → Wide (c .args .desk)
 wide c = record { kinds = search needs; next = search needs; held = search needs; places = search needs }
 
 slim : (c : tie.Start) → legality.Wide (c .args .desk .plan .figures)
-slim c = (search needs, search needs, search needs)
+slim c = (search needs, search needs, search needs, search needs)
 
 abbrev start : tie.After-judge-move → tie.Start
 start c = c .before .before .before .before .before
@@ -52,8 +52,8 @@ made : (e : tie.Else1) → (let a = start (passed e) .args in Movable (a .desk) 
     ≡ moveDesk (a .desk) (a .positions .now) (leadsBy (a .listed) (a .desk .plan) (a .leads .now)) (a .step)))
 made e =
     let s = start (passed e) in
-    let m = move-made (s .args .desk) (wide s) _ _ _ (sym (number (passed e)) ∙ e .if1 .left) in
-    (sound-movable (s .args .desk) (wide s) _ _ (m .0) (slim s) (s .args .step) (m .1), m .2)
+    let m = move-made (s .args .desk) (wide s) _ _ _ (slim s) (sym (number (passed e)) ∙ e .if1 .left) in
+    (sound-movable (s .args .desk) (wide s) _ _ (m .0) (slim s) (s .args .step) (m .3) (m .1), m .2)
 
 -- the string says the desk
 said : (e : tie.Else1) → (let j = passed e in deskIn (wordsOf (j .before .before .string-of .result)) ≡ start j .args .desk)
@@ -94,7 +94,7 @@ moved-spec =
     (λ c. search needs)
     places-after-requires
     (λ c κs. search needs)
-    (λ c κs. search needs)
+    (λ c κs. made (c .before .before .before .before) .0 .named)
     with-slot-requires
     (λ c κs. search needs)
     returns-2)

@@ -2,7 +2,7 @@ use Prim.Native.Nat.{ℕ, _+_}
 use mathlib.Core.Path.{ap, _∙_}
 use Rattle.card_field.proofs.FieldWays.{by-rule}
 use Rattle.numbers.specs.Limits.{maxPositions}
-use Rattle.numbers.specs.Refusals.{wrongPositions, blocksAbovePositions, wrongOverhead}
+use Rattle.numbers.specs.Refusals.{wrongPositions, wrongOverhead}
 use Rattle.card_field.specs.Ranges.{faultOf, thenAbove, thenBelow}
 use borrow.Author.Needs.{needs}
 use Rattle.card_field.proofs.fault.Statement.{statement}
@@ -47,6 +47,12 @@ enum-told-5 c = search needs
 outside-requires-5 : tie.Need-outside-requires-5
 outside-requires-5 c κs = search needs
 
+enum-told-6 : tie.Need-enum-told-6
+enum-told-6 c = search needs
+
+outside-requires-6 : tie.Need-outside-requires-6
+outside-requires-6 c κs = search needs
+
 then-below-requires : tie.Need-then-below-requires
 then-below-requires c κs = search needs
 
@@ -72,11 +78,15 @@ returns-4 c = c .outside4 .ensures ∙ by-rule _ _ (c .before .enum-told4 .given
 
 returns-5 : tie.Need-returns-5
 unfolding faultOf
-returns-5 c =
+returns-5 c = c .outside5 .ensures ∙ by-rule _ _ (c .before .enum-told5 .given .1)
+
+returns-6 : tie.Need-returns-6
+unfolding faultOf
+returns-6 c =
     let a = c .before .before .before .before .args in
     c .then-below .ensures
-    ∙ ap (λ (k : ℕ). thenBelow k (a .bound) wrongOverhead (a .v)) (c .before .outside5 .ensures)
-    ∙ by-rule _ _ (c .before .before .enum-told5 .given .1)
+    ∙ ap (λ (k : ℕ). thenBelow k (a .bound) wrongOverhead (a .v)) (c .before .outside6 .ensures)
+    ∙ by-rule _ _ (c .before .before .enum-told6 .given .1)
 
 pub fault-spec : {M : Type 1} → statement M
 fault-spec =
@@ -95,9 +105,12 @@ fault-spec =
     outside-requires-4
     enum-told-5
     outside-requires-5
+    enum-told-6
+    outside-requires-6
     then-below-requires
     returns
     returns-2
     returns-3
     returns-4
-    returns-5)
+    returns-5
+    returns-6)

@@ -23,8 +23,8 @@ returns c =
     let v = f .before in
     let n = v .before in
     let a = n .before .before .args in
-    field-read (blocksFault (a .visits) (a .total)) _ _ (n .read-number .ensures)
-    (c .field-of .ensures _ (f .fault-of-blocks .ensures ∙ ap (blocksFault (a .visits) (a .total)) (v .value-in .ensures)))
+    field-read (blocksFault (a .visits) (a .total) (a .sofar)) _ _ (n .read-number .ensures)
+    (c .field-of .ensures _ (f .fault-of-blocks .ensures ∙ ap (blocksFault (a .visits) (a .total) (a .sofar)) (v .value-in .ensures)))
 
 pub read-blocks-spec : {M : Type 1} → statement M
 read-blocks-spec = tie.close (tie.spec read-number-requires value-in-requires fault-of-blocks-requires field-of-requires returns)

@@ -1,76 +1,75 @@
-use mathlib.Core.Path.{_∙_}
+use mathlib.Core.Path.{_≡_, refl, _∙_}
+use Rattle.card.specs.Read.{afterZones, readCard}
+use Rattle.card_reader.specs.Told.{zonesWith}
 use Rattle.card_reader.proofs.ReaderWays.{card-stops, card-goes, zones-bound, zones-blank}
-use Rattle.card.specs.Read.{readCard}
 use borrow.Author.Needs.{needs}
 use Rattle.card_reader.proofs.read_into.Statement.{statement}
 use Rattle.card_reader.proofs.read_into.Tie as tie
 
-read-field-requires : tie.Need-read-field-requires
-read-field-requires c κs = search needs
-
-enum-known-first : tie.Need-enum-known-first
-enum-known-first c = search needs
-
-enum-told : tie.Need-enum-told
-enum-told c = search needs
-
-refused-field-requires : tie.Need-refused-field-requires
-refused-field-requires c κs = search needs
-
 returns : tie.Need-returns
 unfolding readCard
-returns c = c .refused-field .ensures _ _ _ ∙ card-stops (c .before .before .before .read-field .ensures) _ _ (c .before .enum-told .given .1)
-
-read-field-requires-2 : tie.Need-read-field-requires-2
-read-field-requires-2 c κs = search needs
-
-enum-known-second : tie.Need-enum-known-second
-enum-known-second c = search needs
-
-enum-told-2 : tie.Need-enum-told-2
-enum-told-2 c = search needs
-
-refused-field-requires-2 : tie.Need-refused-field-requires-2
-refused-field-requires-2 c κs = search needs
+returns c = c .refused-field .ensures _ _ _ _ ∙ card-stops (c .before .before .before .read-field .ensures) _ _ (c .before .enum-told .given .1)
 
 returns-2 : tie.Need-returns-2
 unfolding readCard
 returns-2 c =
-    c .refused-field2 .ensures _ _ _
-    ∙ card-stops (c .before .before .before .read-field2 .ensures) _ _ (c .before .enum-told2 .given .1)
-    ∙ card-goes (c .before .before .before .before .before .before .before .read-field .ensures) _ (c .before .before .before .before .before .first .given .1)
+    let count = c .before .before .before in
+    let kind = count .before .before in
+    c .refused-field2 .ensures _ _ _ _
+    ∙ card-stops (count .read-field2 .ensures) _ _ (c .before .enum-told2 .given .1)
+    ∙ card-goes (kind .before .before .read-field .ensures) _ (kind .first .given .1)
+
+-- the number of zones is read
+abbrev counted : tie.After-read-zones-arg2 → tie.After-second
+counted c = c .before .before .before
 
 read-zones-requires : tie.Need-read-zones-requires
-read-zones-requires c κs =
-    let zones = c .before .before .before in
-    let kind = zones .before .before .before .before in
-    let start = kind .before .before .before .before .before in
-    (zones-bound _ _ _ (zones .before .before .before .read-field2 .ensures) (zones .before .second .given .1), start .pre .2)
+read-zones-requires c κs = let n = counted c in zones-bound _ _ _ (n .before .before .read-field2 .ensures) (n .second .given .1)
+
+-- the card is that of its zones, read into lists that are all zero, and of what follows them
+zones-read : (c : tie.After-read-zones)
+    → (let count = counted (c .before) in
+    let kind = count .before .before .before .before in
+    let a = kind .before .before .before .before .args in
+    zonesWith (c .read-zones .last .1 .1 .1 .0) (c .read-zones .last .1 .1 .1 .1 .0) (c .read-zones .result)
+    (afterZones (a .visits) (a .card .now) (kind .first .given .0 .0) (count .second .given .0 .0))
+    ≡ readCard (a .visits) (a .card .now))
+unfolding readCard
+zones-read c =
+    let count = counted (c .before) in
+    let kind = count .before .before .before .before in
+    let start = kind .before .before .before .before in
+    c .read-zones .ensures _
+    ∙ zones-blank _ _ _ _ (start .pre .0) (start .pre .1)
+    ∙ card-goes (count .before .before .read-field2 .ensures) _ (count .second .given .1)
+    ∙ card-goes (kind .before .before .read-field .ensures) _ (kind .first .given .1)
 
 returns-3 : tie.Need-returns-3
-unfolding readCard
-returns-3 c =
-    let zones = c .before .before .before .before in
-    let kind = zones .before .before .before .before in
-    let start = kind .before .before .before .before .before in
-    c .read-zones .ensures
-    ∙ zones-blank _ _ _ _ (start .pre .0) (start .pre .1)
-    ∙ card-goes (zones .before .before .before .read-field2 .ensures) _ (zones .before .second .given .1)
-    ∙ card-goes (kind .before .before .before .read-field .ensures) _ (kind .before .first .given .1)
+returns-3 c = c .refused-field3 .ensures _ _ _ _ ∙ card-stops refl _ _ (c .before .enum-told3 .given .1) ∙ zones-read (c .before .before .before)
+
+returns-4 : tie.Need-returns-4
+returns-4 c =
+    let third = c .before .before .before .before in
+    c .read-film .ensures _ _ ∙ card-goes refl _ (third .third .given .1) ∙ zones-read (third .before .before)
 
 pub read-into-spec : {M : Type 1} → statement M
 read-into-spec =
     tie.close
     (tie.spec
-    read-field-requires
-    enum-known-first
-    enum-told
-    refused-field-requires
+    (λ c κs. search needs)
+    (λ c. search needs)
+    (λ c. search needs)
+    (λ c κs. search needs)
     returns
-    read-field-requires-2
-    enum-known-second
-    enum-told-2
-    refused-field-requires-2
+    (λ c κs. search needs)
+    (λ c. search needs)
+    (λ c. search needs)
+    (λ c κs. search needs)
     returns-2
     read-zones-requires
-    returns-3)
+    (λ c. search needs)
+    (λ c. search needs)
+    (λ c κs. search needs)
+    returns-3
+    (λ c κs. search needs)
+    returns-4)

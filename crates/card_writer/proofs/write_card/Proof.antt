@@ -6,8 +6,8 @@ use native.Mathlib.Omega.{arith}
 use lib.ListN.{length}
 use borrow.Author.Needs.{needs}
 use Rattle.laws.specs.Overwrite.{overwrite}
-use Rattle.numbers.specs.Limits.{maxZones, tableLength}
-use Rattle.card.specs.CardLaws.{fault-zones}
+use Rattle.numbers.specs.Limits.{maxZones, maxFilms, tableLength}
+use Rattle.card.specs.CardLaws.{fault-zones, fault-films}
 use Rattle.card.specs.Card.{cardOf, recordFault}
 use Rattle.card_writer.specs.Put.{Puts}
 use Rattle.card_writer.proofs.WriterWays.{card-counted, write-faulty, write-short, write-fits}
@@ -32,8 +32,8 @@ start c = c .before .before .before
 legal : (c : tie.Else1) → recordFault 1 (start c .args .figures) ≡ 0
 legal c = sym (c .before .fault-of-record .ensures) ∙ c .if1 .left
 
-few : (c : tie.Else1) → start c .args .figures .zones ≤ maxZones
-few c = fault-zones 1 _ (legal c)
+few : (c : tie.Else1) → (start c .args .figures .zones ≤ maxZones) × (start c .args .figures .films ≤ maxFilms)
+few c = (fault-zones 1 _ (legal c), fault-films 1 _ (legal c))
 
 long : (c : tie.Start) → length (c .args .figures .table) ≡ tableLength
 long c = search needs
@@ -41,7 +41,8 @@ long c = search needs
 put-card-requires : tie.Need-put-card-requires
 put-card-requires c κs =
     let e = c .before in
-    (few e, record { counted = card-counted _ (long (start e)) (few e); written = λ t. absurd (true≢false (sym t)) })
+    let n = few e in
+    (n .0, n .1, record { counted = card-counted _ (long (start e)) (n .0) (n .1); written = λ t. absurd (true≢false (sym t)) })
 
 not-written-requires-2 : tie.Need-not-written-requires-2
 not-written-requires-2 c κs = search needs
@@ -67,8 +68,15 @@ put-card-requires-2 c κs =
     let sized = c .before in
     let p = sized .before .before .before in
     let e = p .before .before in
-    let n = counted p in
-    (few e, record { counted = card-counted _ (long (start e)) (few e); written = λ t. omega (arith, n .end, ap length (n .string), sized .if2 .left) })
+    let n = few e in
+    let w = counted p in (
+      n .0,
+      n .1,
+      record {
+        counted = card-counted _ (long (start e)) (n .0) (n .1);
+        written = λ t. omega (arith, w .end, ap length (w .string), sized .if2 .left);
+      },
+    )
 
 same-length-2 : tie.Need-same-length-2
 same-length-2 c = search needs

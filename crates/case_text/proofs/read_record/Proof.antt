@@ -4,10 +4,10 @@ use Rattle.case_text.proofs.read_record.Statement.{statement}
 use Rattle.case_text.proofs.read_record.Tie as tie
 
 abbrev Inv-loop : tie.InvT-loop
-Inv-loop text start kind zones blocks bytes rate overheads positions₀ times₀ at₀ i₀ positions times at i = i ≤ 64
+Inv-loop text start kind zones films blocks at₀ bytes rate table positions₀ times₀ i₀ at positions times i = i ≤ 64
 
 abbrev μ-loop : tie.MeasureT-loop
-μ-loop text start kind zones blocks bytes rate overheads positions₀ times₀ at₀ i₀ positions times at i = 64 - i
+μ-loop text start kind zones films blocks at₀ bytes rate table positions₀ times₀ i₀ at positions times i = 64 - i
 
 pub read-record-spec : {M : Type 1} → statement M
 read-record-spec =
@@ -19,7 +19,12 @@ read-record-spec =
     (λ c κs. search needs)
     (λ c κs. search needs)
     (λ c κs. search needs)
+    (λ c. search needs)
     (λ c κs. search needs)
+    (λ c κs. search needs)
+    (λ c κs. search needs)
+    (λ c κs. search needs)
+    (λ c. search needs)
     (λ c κs. search needs)
     (λ c κs. search needs)
     (λ c κs. search needs)

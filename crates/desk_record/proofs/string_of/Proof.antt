@@ -22,7 +22,7 @@ use Rattle.desk_record.proofs.string_of.Tie as tie
 -- the arrays have their lengths, and all numbers 32 bits
 sized : (c : tie.Start) → DeskSized (c .args .t1)
 sized c = record {
-  plan = record { positions = search needs; times = search needs; table = search needs };
+  plan = record { positions = search needs; times = search needs; blocks = search needs; table = search needs };
   kinds = search needs;
   next = search needs;
   held = search needs;
@@ -40,6 +40,7 @@ plan-small c =
     & below (f .positions) (search needs)
     & below (f .times) (search needs)
     & search needs
+    & below (f .blocks) (search needs)
     & search needs
     & search needs
     & below (f .table) (search needs)

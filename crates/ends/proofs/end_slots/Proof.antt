@@ -25,11 +25,11 @@ record Ending (d : Desk) (draws : List ℕ) (count : ℕ) (ks xs hs : List ℕ) 
   ended : recordOf (d .plan) (d .phase) ks xs hs (d .places) ≡ endedUpTo d draws i
 
 abbrev Inv-loop : tie.InvT-loop
-Inv-loop desk kinds₀ next₀ held₀ draws showing blocks bytes room count i₀ kinds next held i = Ending (deskIn (wordsOf desk))
+Inv-loop desk kinds₀ next₀ held₀ draws showing bytes room count i₀ kinds next held i = Ending (deskIn (wordsOf desk))
     (wordsOf draws) count kinds next held i
 
 abbrev μ-loop : tie.MeasureT-loop
-μ-loop desk kinds₀ next₀ held₀ draws showing blocks bytes room count i₀ kinds next held i = count - i
+μ-loop desk kinds₀ next₀ held₀ draws showing bytes room count i₀ kinds next held i = count - i
 
 -- ---- the places, each from a later one
 
@@ -37,10 +37,10 @@ abbrev sized : tie.At-loop Inv-loop μ-loop → tie.After-bytes-in Inv-loop μ-l
 sized c = c .before .before .before
 
 abbrev start : tie.After-bytes-in Inv-loop μ-loop → tie.Start Inv-loop μ-loop
-start c = c .before .before .before .before .before
+start c = c .before .before .before .before
 
 abbrev turn : tie.After-word-at Inv-loop μ-loop → tie.In-loop Inv-loop μ-loop
-turn c = c .before .before .before .before
+turn c = c .before .before .before .before .before
 
 -- ---- what is known there
 
@@ -48,29 +48,28 @@ abbrev given : tie.Start Inv-loop μ-loop → Desk
 given s = deskIn (wordsOf (s .args .desk .now))
 
 -- the numbers read are those of the desk
-record Read (d : Desk) (w N b r : ℕ) : Type 0 where
+record Read (d : Desk) (w b r : ℕ) : Type 0 where
   showing : w ≡ d .plan .showing
-  blocks : N ≡ d .plan .figures .blocks
   bytes : b ≡ d .plan .figures .bytes
   room : r ≡ d .plan .buffer - d .plan .figures .bytes
 
 numbers : (c : tie.At-loop Inv-loop μ-loop) → (let b = sized c in
-    Read (given (start b)) (b .before .before .showing-in .result) (b .before .blocks-in .result) (b .bytes-in .result)
+    Read (given (start b)) (b .before .showing-in .result) (b .bytes-in .result)
     (c .before .before .buffer-in .result - b .bytes-in .result))
 numbers c = let b = sized c in record {
-  showing = b .before .before .showing-in .ensures;
-  blocks = b .before .blocks-in .ensures;
+  showing = b .before .showing-in .ensures;
   bytes = b .bytes-in .ensures;
   room = ap₂ (λ (m n : ℕ). m - n) (c .before .before .buffer-in .ensures) (b .bytes-in .ensures);
 }
 
 -- what is asked for and what is told of a slot, of the numbers read
-fair-read : (d : Desk) {w N b r : ℕ} → Read d w N b r → (s : Slot) {x y : ℕ} → x ≡ y → Fair (d .plan .figures .blocks) s y → Fair N s x
-fair-read d q s e f = rw (q .blocks, e) f
+fair-read : (s : Slot) {N M x y : ℕ} → N ≡ M → x ≡ y → Fair M s y → Fair N s x
+fair-read s g e f = rw (g, e) f
 
-told-read : (d : Desk) {w N b r : ℕ} → Read d w N b r → (X : Supply ℕ → Type 0) → ((p : Supply ℕ) → Continues p (showingOf w) N b r → X p)
-    → (p : Supply ℕ) → Continues p (showingIn (d .plan)) (d .plan .figures .blocks) (d .plan .figures .bytes) (d .plan .buffer - d .plan .figures .bytes) → X p
-told-read d q X f = rw (sym (q .showing), sym (q .blocks), sym (q .room), sym (q .bytes)) f
+told-read : (d : Desk) {w b r : ℕ} → Read d w b r → (a : ℕ) {N M : ℕ} → N ≡ M → (X : Supply ℕ → Type 0)
+    → ((p : Supply ℕ) → Continues p (showingOf w) a N b r → X p)
+    → (p : Supply ℕ) → Continues p (showingIn (d .plan)) a M (d .plan .figures .bytes) (d .plan .buffer - d .plan .figures .bytes) → X p
+told-read d q a g X f = rw (sym (q .showing), sym g, sym (q .room), sym (q .bytes)) f
 
 -- n slots, and as many draws
 inside : (c : tie.In-loop Inv-loop μ-loop) → (c .before .loop .i < 256) × (c .before .loop .i < length (wordsOf (start (sized (c .before)) .args .draws .now)))
@@ -112,7 +111,7 @@ ended-slot-requires c κs =
     let d = given s in
     let q = numbers (t .before) in
     let f = fair-now d (e .wide) (e .ready) _ (e .drawn) (l .i) (inside t .0) _ (l .inv .ended) in (
-      fair-read d q _ (c .word-at .ensures) f,
+      fair-read _ (c .before .film-length .ensures) (c .word-at .ensures) f,
       omega (
         arith,
         buffer-has (d .plan) (e .ready .planned),
@@ -133,7 +132,7 @@ loop-again c =
       counts = l .inv .counts;
       few = omega (arith, t .loop-test .taken);
       ended = ends-turn (given s) (e .wide) (e .ready) _ (e .drawn) (l .i) (inside t .0) _ (l .inv .ended)
-          (w .word-at .result) (w .word-at .ensures) (c .ended-slot .result) (told-read (given s) (numbers (t .before)) _ (c .ended-slot .ensures));
+          (w .word-at .result) (w .word-at .ensures) (c .ended-slot .result) (told-read (given s) (numbers (t .before)) _ (w .before .film-length .ensures) _ (c .ended-slot .ensures));
     }
 
 returns : tie.Need-returns Inv-loop μ-loop
@@ -153,7 +152,6 @@ end-slots-spec =
     (λ c κs. omega arith)
     (λ c κs. omega arith)
     (λ c κs. omega arith)
-    (λ c κs. omega arith)
     sub-room
     (λ c κs. omega arith)
     (λ c. search needs)
@@ -164,7 +162,8 @@ end-slots-spec =
     (λ c. inside (c .before) .0)
     (λ c. omega (arith, inside (c .before .before)))
     (λ c. inside (c .before .before) .0)
-    (λ c κs. inside (c .before .before .before) .1)
+    (λ c κs. search needs)
+    (λ c κs. inside (c .before .before .before .before) .1)
     ended-slot-requires
     (λ c. omega (arith, inside (turn (c .before))))
     (λ c. inside (turn (c .before)) .0)

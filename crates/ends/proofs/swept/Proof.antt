@@ -13,11 +13,11 @@ sub-t10 c = omega (arith, c .before .before .before .pre .0 .drawn)
 
 returns : tie.Need-returns
 returns c = λ p f. let a = c .before .before .before in
-    swept-full p _ _ _ _ f (a .args .slot) (a .args .draw) (a .pre .1) (a .pre .2) (omega arith)
+    swept-full p _ _ _ _ (a .args .slot) f (a .args .draw) (a .pre .1) (a .pre .2) (omega arith)
 
 next-block-requires : tie.Need-next-block-requires
 next-block-requires c κs = let a = c .before .before in
-    a .pre .0 .named (a .pre .1) (a .pre .2)
+    (a .pre .0 .named (a .pre .1) (a .pre .2), a .pre .0 .few)
 
 sub-held : tie.Need-sub-held
 sub-held c = omega (arith, start (c .before) .pre .0 .drawn)
@@ -31,14 +31,14 @@ is-past-requires c κs = search needs
 returns-2 : tie.Need-returns-2
 returns-2 c = λ p f. let n = c .before .before .before in
     let a = start n in
-    swept-last p _ _ _ _ f (a .args .slot) (a .args .draw) (a .pre .1) (a .pre .2) (omega arith) (a .pre .0 .named (a .pre .1) (a .pre .2))
+    swept-last p _ _ _ _ (a .args .slot) f (a .args .draw) (a .pre .1) (a .pre .2) (omega arith) (a .pre .0 .named (a .pre .1) (a .pre .2))
     (n .next-block .result) (n .next-block .ensures)
     (sym (c .before .is-past .ensures) ∙ c .if2 .taken)
 
 returns-3 : tie.Need-returns-3
 returns-3 c = λ p f. let n = c .before .before .before in
     let a = start n in
-    swept-on p _ _ _ _ f (a .args .slot) (a .args .draw) (a .pre .1) (a .pre .2) (omega arith) (a .pre .0 .named (a .pre .1) (a .pre .2))
+    swept-on p _ _ _ _ (a .args .slot) f (a .args .draw) (a .pre .1) (a .pre .2) (omega arith) (a .pre .0 .named (a .pre .1) (a .pre .2))
     (n .next-block .result) (n .next-block .ensures)
     (sym (c .before .is-past .ensures) ∙ c .if2 .left)
 

@@ -8,7 +8,7 @@ use Rattle.floor.proofs.lead_from.Statement.{statement}
 use Rattle.floor.proofs.lead_from.Tie as tie
 
 -- where there is no list, the block has a place
-placed : (c : tie.Else1) → (let a = c .before .before .before .args in Placed (a .sizes .now) (a .times .now) (a .positions .now) (a .block))
+placed : (c : tie.Else1) → (let a = c .before .before .before .args in Placed (a .sizes .now) (a .times .now) (a .positions .now) (a .number))
 placed c = c .before .before .before .pre .place (c .if1 .left)
 
 word-at-requires : tie.Need-word-at-requires

@@ -1,12 +1,14 @@
-use Prim.Native.Nat.{ℕ, _-_, _≤_}
-use mathlib.Core.Path.{_≡_, sym}
+use Prim.Native.Nat.{ℕ, _-_, _≤_, _<_}
+use mathlib.Core.Path.{_≡_, sym, ap, subst, _∙_}
 use lib.ListN.{getD}
 use native.Mathlib.Omega.{arith}
 use borrow.Author.Needs.{needs}
 use Rattle.numbers.specs.Slots.{filling, playing}
 use Rattle.words.specs.Words.{wordsOf}
+use Rattle.plan.specs.Plan.{listedAt}
 use Rattle.desk.specs.declared.Desk.{Desk}
 use Rattle.desk_layout.specs.Layout.{deskIn}
+use Rattle.desk_columns.specs.Films.{HasStart, entryOf, entry-listed, has-start}
 use Rattle.floor.specs.Floor.{mostLead}
 use Rattle.floor.specs.Sources.{leadsNext}
 use Rattle.floor.proofs.Summing.{Summed, Adds, summed-none, added-small, summed-next, summed-end}
@@ -14,53 +16,72 @@ use Rattle.floor.proofs.sum_leads.Statement.{statement}
 use Rattle.floor.proofs.sum_leads.Tie as tie
 
 abbrev Inv-loop : tie.InvT-loop
-Inv-loop desk streams sizes times positions leads listed worst2 sum₀ i₀ sum i = (let d = deskIn (wordsOf desk) in
-    Summed (leadsNext listed sizes times (d .plan .worst2) positions leads (d .next)) (d .kinds) (d .next) streams sum i)
+Inv-loop desk streams sizes times positions leads listed worst2 starts sum₀ i₀ sum i = (let d = deskIn (wordsOf desk) in
+    Summed (leadsNext listed d sizes times positions leads) (d .kinds) (d .next) streams sum i)
 
 abbrev μ-loop : tie.MeasureT-loop
-μ-loop desk streams sizes times positions leads listed worst2 sum₀ i₀ sum i = streams - i
+μ-loop desk streams sizes times positions leads listed worst2 starts sum₀ i₀ sum i = streams - i
 
 -- ---- the places, each from a later one
 
-abbrev turn : tie.After-added-lead Inv-loop μ-loop → tie.In-loop Inv-loop μ-loop
-turn c = c .before .before .before
+abbrev turn : tie.After-entry-of Inv-loop μ-loop → tie.In-loop Inv-loop μ-loop
+turn c = c .before .before .before .before
 
 abbrev start : tie.At-loop Inv-loop μ-loop → tie.Start Inv-loop μ-loop
-start l = l .before .before .before .before .before
+start l = l .before .before .before .before .before .before
 
 abbrev given : tie.At-loop Inv-loop μ-loop → Desk
 given l = deskIn (wordsOf (start l .args .desk .now))
 
 -- the leads of the slots
 abbrev lead : tie.At-loop Inv-loop μ-loop → ℕ → ℕ
-lead l = let a = start l .args in
-    leadsNext (a .listed) (a .sizes .now) (a .times .now) (given l .plan .worst2) (a .positions .now) (a .leads .now) (given l .next)
+lead l = let a = start l .args in leadsNext (a .listed) (given l) (a .sizes .now) (a .times .now) (a .positions .now) (a .leads .now)
+
+-- the number through the lists of slot i's next block
+entry-is : (c : tie.After-entry-of Inv-loop μ-loop) → (let l = turn c .before in
+    c .entry-of .result ≡ listedAt (given l .plan .figures) (getD (given l .next) (l .loop .i) 0))
+entry-is c =
+    let t = turn c in
+    let l = t .before in
+    c .entry-of .ensures ∙ ap (entryOf (l .before .film-starts .result)) (c .before .next-in .ensures)
+    ∙ entry-listed _ _ (l .before .film-starts .ensures) _ (start l .pre .2 .films (l .loop .i) (t .loop-test .taken))
 
 -- ---- the needs
 
 worst2-in-requires : tie.Need-worst2-in-requires Inv-loop μ-loop
 worst2-in-requires c κs = c .before .before .before .pre .1
 
+film-starts-requires : tie.Need-film-starts-requires Inv-loop μ-loop
+film-starts-requires c κs = let s = c .before .before .before .before in (s .pre .1, s .pre .2 .shelved)
+
 loop-holds : tie.Need-loop-holds Inv-loop μ-loop
 loop-holds c = summed-none _ _ _ _
 
+entry-of-requires : tie.Need-entry-of-requires Inv-loop μ-loop
+entry-of-requires c κs =
+    let t = c .before .before .before in
+    let z = t .before .before .film-starts in
+    let f = start (t .before) .pre .2 in
+    subst (HasStart (z .result)) (sym (c .next-in .ensures))
+    (has-start _ _ (f .shelved) (z .ensures) _ (f .films (t .before .loop .i) (t .loop-test .taken)))
+
 added-lead-requires : tie.Need-added-lead-requires Inv-loop μ-loop
 added-lead-requires c κs =
-    let k = c .before in
-    let t = k .before in
+    let t = turn c in
     let here = start (t .before) .pre .2 .here (t .before .loop .i) (t .loop-test .taken) in
-    rw (k .kind-in .ensures, c .next-in .ensures) (λ a b. here (omega arith) b)
+    rw (c .before .before .before .kind-in .ensures, entry-is c) (λ a b. here (omega arith) b)
 
 -- what slot i adds, said of the desk
-adds : (c : tie.After-added-lead Inv-loop μ-loop) → (let l = turn c .before in
+adds : (c : tie.After-added-lead Inv-loop μ-loop) → (let l = turn (c .before) .before in
     Adds (getD (given l .kinds) (l .loop .i) 0) (lead l (l .loop .i)) (c .added-lead .result))
 adds c = let e = c .added-lead .ensures in
-    rw (sym (c .before .before .kind-in .ensures), sym (c .before .next-in .ensures), sym (turn c .before .before .worst2-in .ensures))
+    let n = c .before in
+    rw (sym (n .before .before .before .kind-in .ensures), sym (entry-is n), sym (turn n .before .before .before .worst2-in .ensures))
     (record { block = e .0; none = e .1 })
 
 add-sum : tie.Need-add-sum Inv-loop μ-loop
 add-sum c =
-    let t = turn c in
+    let t = turn (c .before) in
     let l = t .before .loop in
     let p = start (t .before) .pre in
     let d = given (t .before) in
@@ -71,7 +92,7 @@ add-sum c =
 
 loop-again : tie.Need-loop-again Inv-loop μ-loop
 loop-again c =
-    let t = turn c in
+    let t = turn (c .before) in
     let l = t .before .loop in
     let p = start (t .before) .pre in
     let d = given (t .before) in
@@ -89,9 +110,11 @@ sum-leads-spec =
     Inv-loop
     μ-loop
     worst2-in-requires
+    film-starts-requires
     loop-holds
     (λ c κs. omega arith)
     (λ c κs. omega arith)
+    entry-of-requires
     added-lead-requires
     add-sum
     (λ c. omega arith)

@@ -18,7 +18,7 @@ returns c =
     let ps = a .positions .now in
     let ls = a .leads .now in
     let step = m .before .join-of .ensures in
-    let same = join-is (said D) ps ls (a .slot) (a .block) in (
+    let same = join-is (said D) ps ls (a .slot) (a .block) (a .film) in (
       m .make-move .ensures .0 ∙ ap (moveAnswer D ps ls) step ∙ ap (λ (x : Answer). answerBy D (verdictAnswer (x .verdict))) same,
       m .make-move .ensures .1 ∙ ap (moveString D ps ls) step ∙ ap (λ (x : Answer). stringBy D (x .desk)) same,
     )

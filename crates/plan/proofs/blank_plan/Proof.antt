@@ -1,11 +1,11 @@
 use mathlib.Core.Path.{refl}
-use Rattle.card.specs.Read.{blankZones, blankTable, blankFigures}
+use Rattle.card.specs.Read.{blankZones, blankFilms, blankTable, blankFigures}
 use Rattle.plan.specs.Plan.{blankPlan}
 use Rattle.plan.proofs.blank_plan.Statement.{statement}
 use Rattle.plan.proofs.blank_plan.Tie as tie
 
 returns : tie.Need-returns
-unfolding blankZones blankTable blankFigures blankPlan
+unfolding blankZones blankFilms blankTable blankFigures blankPlan
 returns c = refl
 
 pub blank-plan-spec : {M : Type 1} → statement M

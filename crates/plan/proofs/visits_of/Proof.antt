@@ -1,6 +1,5 @@
-use Prim.Native.Nat.{ℕ}
 use mathlib.Core.Path.{sym, ap}
-use Rattle.placement.specs.Showing.{Showing, visitsOf}
+use Rattle.placement.specs.Showing.{visitsOf}
 use Rattle.plan.specs.Check.{shows-pairs, word-visits}
 use Rattle.plan.proofs.visits_of.Statement.{statement}
 use Rattle.plan.proofs.visits_of.Tie as tie

@@ -4,7 +4,7 @@ use mathlib.Core.Bool.{Bool, _&&_}
 use lib.Dec.{ltb}
 use Rattle.card.specs.Card.{recordFault}
 use Rattle.placement.specs.Showing.{visitsOf}
-use Rattle.legality.specs.Legality.{fault-legal}
+use Rattle.legality.specs.Legality.{Wide, fault-legal}
 use Rattle.plan.specs.declared.Plan.{Plan}
 use Rattle.plan.specs.Plan.{showingIn, lentPlan}
 use Rattle.plan.specs.Answer.{sameNumbers}
@@ -16,6 +16,10 @@ use Rattle.plan_check.proofs.has_numbers.Tie as tie
 -- the plan that is lent
 abbrev given : tie.Start → Plan
 given c = let a = c .args in lentPlan (a .figures) (a .sizes .now) (a .times .now) (a .table .now) (a .plan)
+
+-- its arrays have their entries
+wide : (c : tie.Start) → Wide (given c .figures)
+wide c = (c .pre .0, c .pre .1, search needs, c .pre .2)
 
 -- the judge's number, for blocks of as many positions as the plan's showing has
 judged : (c : tie.After-fault-of-figures)
@@ -34,7 +38,7 @@ returns : tie.Need-returns
 returns c = not-legal (given (c .before .before .before)) (λ e. c .if1 .taken (judged (c .before) ∙ e))
 
 plan-numbers-requires : tie.Need-plan-numbers-requires
-plan-numbers-requires c κs = let s = c .before .before .before in fault-legal (visitsOf (showingIn (given s))) (given s .figures) (s .pre) (clear c)
+plan-numbers-requires c κs = let s = c .before .before .before in fault-legal (visitsOf (showingIn (given s))) (given s .figures) (wide s) (clear c)
 
 returns-2 : tie.Need-returns-2
 returns-2 c = let o = c .before .before .before in

@@ -1,9 +1,10 @@
 use Prim.Native.Nat.{ℕ}
-use mathlib.Core.Path.{ap, _∙_}
+use mathlib.Core.Path.{_≡_, ap, _∙_}
 use mathlib.Core.Bool.{Bool}
 use mathlib.Core.List.{List}
+use lib.ListN.{length}
+use Rattle.numbers.specs.Limits.{maxZones, tableLength}
 use Rattle.card.specs.declared.Figures.{Figures}
-use Rattle.legality.specs.Legality.{Wide}
 use Rattle.plan.specs.declared.Plan.{Plan}
 use Rattle.plan.specs.Plan.{planFrom}
 use Rattle.plan.specs.Answer.{isPlan}
@@ -12,7 +13,8 @@ use borrow.Author.Needs.{needs}
 use Rattle.plan_check.proofs.is_plan.Statement.{statement}
 use Rattle.plan_check.proofs.is_plan.Tie as tie
 
-wide : (c : tie.Start) → Wide (c .args .t1 .figures)
+wide : (c : tie.Start)
+    → (let f = c .args .t1 .figures in (length (f .positions) ≡ maxZones) × (length (f .times) ≡ maxZones) × (length (f .table) ≡ tableLength))
 wide c = (search needs, search needs, search needs)
 
 -- the check, with what is lent

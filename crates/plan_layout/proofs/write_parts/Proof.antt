@@ -1,8 +1,10 @@
-use native.Mathlib.Omega.{arith}
-use Rattle.plan_layout.specs.RoundTrip.{plan-stored}
 use borrow.Author.Needs.{needs}
+use Rattle.plan_layout.specs.RoundTrip.{plan-stored}
 use Rattle.plan_layout.proofs.write_parts.Statement.{statement}
 use Rattle.plan_layout.proofs.write_parts.Tie as tie
+
+write-figures-requires : tie.Need-write-figures-requires
+write-figures-requires c κs = search needs
 
 slice-aggregate-write-words : tie.Need-slice-aggregate-write-words
 slice-aggregate-write-words c = search needs
@@ -10,61 +12,21 @@ slice-aggregate-write-words c = search needs
 write-words-requires : tie.Need-write-words-requires
 write-words-requires c κs = search needs
 
-write-64-requires : tie.Need-write-64-requires
-write-64-requires c κs = search needs
-
-write-64-requires-2 : tie.Need-write-64-requires-2
-write-64-requires-2 c κs = search needs
-
-slice-aggregate-write-words-2 : tie.Need-slice-aggregate-write-words-2
-slice-aggregate-write-words-2 c = search needs
-
-write-words-requires-2 : tie.Need-write-words-requires-2
-write-words-requires-2 c κs = search needs
-
-write-257-requires : tie.Need-write-257-requires
-write-257-requires c κs = search needs
-
-slice-aggregate-write-words-3 : tie.Need-slice-aggregate-write-words-3
-slice-aggregate-write-words-3 c = search needs
-
-write-words-requires-3 : tie.Need-write-words-requires-3
-write-words-requires-3 c κs = search needs
-
 same-length : tie.Need-same-length
 same-length c = search needs
 
--- one write after the other
 returns : tie.Need-returns
 returns c =
     let planned = c .before .before in
-    let table = planned .before .before .before .before .before in
-    let film = table .before .before .before .before in
-    let times = film .before .before .before .before .before in
-    let positions = times .before .before .before .before in
-    let kind = positions .before .before .before .before in
-    plan-stored _ _ _ (omega arith)
-    (rw (
-      planned .write-words3 .ensures,
-      table .write-257 .ensures .0,
-      film .write-words2 .ensures,
-      times .write-642 .ensures .0,
-      positions .write-64 .ensures .0,
-      kind .write-words .ensures,
-    ))
+    let figures = planned .before .before .before .before .before .write-figures .ensures in
+    plan-stored _ _ _ (figures .1) (rw (planned .write-words .ensures, figures .0))
 
 pub write-parts-spec : {M : Type 1} → statement M
 write-parts-spec =
     tie.close
     (tie.spec
+    write-figures-requires
     slice-aggregate-write-words
     write-words-requires
-    write-64-requires
-    write-64-requires-2
-    slice-aggregate-write-words-2
-    write-words-requires-2
-    write-257-requires
-    slice-aggregate-write-words-3
-    write-words-requires-3
     same-length
     returns)

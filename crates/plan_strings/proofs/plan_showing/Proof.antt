@@ -3,7 +3,7 @@ use mathlib.Core.Path.{_≡_, refl, ap, _∙_}
 use Rattle.words.specs.Words.{Bytes}
 use Rattle.words.specs.Laws.{bytes-fit}
 use Rattle.card.specs.declared.CardRead.{CardRead}
-use Rattle.card.specs.Read.{blankZones, blankTable, readCard}
+use Rattle.card.specs.Read.{blankZones, blankFilms, blankTable, readCard}
 use Rattle.card_reader.specs.Told.{told-refused, told-figures}
 use Rattle.round_trip.specs.RoundTrip.{card-legal}
 use Rattle.placement.specs.Showing.{visitsOf}
@@ -27,7 +27,7 @@ read-as c r e = e ∙ ap (λ (k : ℕ). readCard k (start c .args .card .now)) (
 
 -- where the card was read
 abbrev sized : tie.After-read-into → tie.Else1
-sized c = c .before .before .before .before
+sized c = c .before .before .before .before .before
 
 returns : tie.Need-returns
 returns c = let o = c .before .before in
@@ -37,15 +37,15 @@ returns c = let o = c .before .before in
     (c .unwritten .ensures x ∙ ap (λ (k : ℕ). withoutRoom x (readCard k (a .card .now))) (o .visits-of .ensures))
 
 read-into-requires : tie.Need-read-into-requires
-unfolding blankZones blankTable
-read-into-requires c κs = (refl, refl, refl)
+unfolding blankZones blankFilms blankTable
+read-into-requires c κs = (refl, refl, refl, refl)
 
 plan-into-requires : tie.Need-plan-into-requires
 plan-into-requires c κs =
     let t = c .before .before .before .before .before .before .before in
     let r = t .before .before in
     let z = sized r in
-    (z .if1 .left, card-legal _ _ (bytes z) _ (read-as z _ (told-figures _ _ _ (t .told2 .given .1) ∙ r .read-into .ensures)) refl)
+    (z .if1 .left, card-legal _ _ (bytes z) _ (read-as z _ (told-figures _ _ _ _ (t .told2 .given .1) ∙ r .read-into .ensures)) refl)
 
 returns-2 : tie.Need-returns-2
 returns-2 c =
@@ -53,7 +53,7 @@ returns-2 c =
     let t = w .before .before .before in
     let r = t .before .before in
     let z = sized r in
-    refused-card (start z .args .listed) _ _ _ _ _ (z .if1 .left) (bytes z) _ _ (read-as z _ (told-refused _ _ _ (t .told .given .1) ∙ r .read-into .ensures)) _
+    refused-card (start z .args .listed) _ _ _ _ _ (z .if1 .left) (bytes z) _ _ (read-as z _ (told-refused _ _ _ _ (t .told .given .1) ∙ r .read-into .ensures)) _
     (w .refused .ensures .0) _ (w .refused .ensures .1)
 
 returns-3 : tie.Need-returns-3
@@ -64,7 +64,7 @@ returns-3 c =
     let r = t .before .before in
     let z = sized r in
     let a = start z .args in
-    planned-card (a .listed) _ _ _ _ (a .leads .now) (z .if1 .left) _ (read-as z _ (told-figures _ _ _ (t .told2 .given .1) ∙ r .read-into .ensures)) _ _ _ _
+    planned-card (a .listed) _ _ _ _ (a .leads .now) (z .if1 .left) _ (read-as z _ (told-figures _ _ _ _ (t .told2 .given .1) ∙ r .read-into .ensures)) _ _ _ _
     (p .plan-into .ensures)
 
 pub plan-showing-spec : {M : Type 1} → statement M

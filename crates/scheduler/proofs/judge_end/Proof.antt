@@ -10,7 +10,6 @@ use Rattle.numbers.specs.Slots.{sweeping}
 use Rattle.card.specs.CardLaws.{table-range}
 use Rattle.legality.specs.Legality as legality
 use Rattle.words.specs.Words.{wordsOf}
-use Rattle.plan.specs.Disk.{Zoned}
 use Rattle.plan.specs.Scratch.{leadsBy}
 use Rattle.desk.specs.declared.Desk.{Desk}
 use Rattle.desk.specs.declared.Answer.{Answer}
@@ -25,7 +24,7 @@ use Rattle.soundness.specs.Ready.{sound-ready, sound-plan}
 use Rattle.desk.specs.Shown.{Visits, Gathered}
 use Rattle.fetches.specs.Told.{Timed}
 use Rattle.gather.specs.Gather.{Reached, Collected, gathered}
-use Rattle.sweep.specs.Gathered.{Reading, zoned, reached, gathers, in-range}
+use Rattle.sweep.specs.Gathered.{Reading, reached, gathers, in-range}
 use Rattle.scheduler.specs.Answers.{end-unsound, end-between, end-judged}
 use Rattle.scheduler.proofs.Sweeping.{timed, sweeps}
 use Rattle.scheduler.proofs.judge_end.Statement.{statement}
@@ -120,8 +119,7 @@ read c = seen c .before
 -- of a desk d, whose kinds are as they were read
 abbrev Collects : Desk → ℕ → tie.After-gather → Type 0
 Collects d v c = let k = read c in
-    Collected (d .plan .figures .positions) (d .plan .figures .times) (start (tested (passing (buffered k))) .args .positions .now) v (desk k .kinds) (d .next)
-    (desk k .plan .streams) (value c)
+    Collected d (start (tested (passing (buffered k))) .args .positions .now) v (desk k .kinds) (desk k .plan .streams) (value c)
 
 collected : (c : tie.After-gather) → (let d = desk (read c) in Collects d (visitsIn (d .plan)) c)
 collected c = let k = read c in
@@ -134,8 +132,7 @@ same d i a b = (omega arith, b)
 
 -- what is asked for the gathering
 abbrev Reachable : Desk → ℕ → ℕ → List ℕ → List ℕ → Type 0
-Reachable d n v ks ps =
-    (n ≤ maxStreams) × Zoned (d .plan .figures .positions) × Reached (d .plan .figures .positions) (d .plan .figures .times) ps v ks (d .next) n
+Reachable d n v ks ps = (n ≤ maxStreams) × Reached d ps v ks n
 
 -- ---- the needs
 
@@ -170,17 +167,20 @@ gather-requires c κs =
     let d = desk k in
     let r = subst (λ (n : ℕ). Reachable (given s) (d .plan .streams) n (d .kinds) (s .args .positions .now)) (sym (v .visits-in .ensures))
     (subst (λ (e : Desk). Reachable e (d .plan .streams) (visitsIn (e .plan)) (d .kinds) (s .args .positions .now)) (desk-is k)
-    (streams-are d (j .ready), zoned d (j .wide) (j .ready) _ _ p, reached d (j .wide) (j .ready) _ _ p (d .kinds) (same d)))
+    (streams-are d (j .ready), reached d (j .wide) (j .ready) _ _ p (d .kinds) (same d)))
     in
-    (s .pre, r .0, r .1, r .2, z .before .before .zeros .ensures, z .before .zeros2 .ensures, z .zeros3 .ensures)
+    (s .pre, r .0, r .1, z .before .before .zeros .ensures, z .before .zeros2 .ensures, z .zeros3 .ensures)
 
 sweep-bound-requires : tie.Need-sweep-bound-requires
 sweep-bound-requires c κs =
     let g = c .before .before .before .before in
     let k = read g in
     let j = judged k in
-    let i = in-range (desk k) (j .wide) (j .ready) _ _ (sound-plan _ _ _ (j .sound)) _ (same (desk k)) (value g) (collected g) in
-    (subst (λ (v : ℕ). Visits v (desk k .plan .streams)) (sym (seen g .visits-in .ensures)) (visits-are _ (j .ready)), i .times, λ k h. table-range _ (j .ready .legal) k h .1)
+    let i = in-range (desk k) (j .wide) (j .ready) _ _ (sound-plan _ _ _ (j .sound)) _ (same (desk k)) (value g) (collected g) in (
+      subst (λ (v : ℕ). Visits v (desk k .plan .streams)) (sym (seen g .visits-in .ensures)) (visits-are _ (j .ready)),
+      i .times,
+      λ k h. table-range _ (j .ready .legal) k h .1,
+    )
 
 judge-draws-requires : tie.Need-judge-draws-requires
 judge-draws-requires c κs = let k = read (bounding (c .before .before .before)) in streams-are _ (judged k .ready)
@@ -198,7 +198,8 @@ returns-3 c =
     let p = supplyOf (d .plan) in
     let f = gathers d (j .wide) (j .ready) _ _ (sound-plan _ _ _ (j .sound)) _ (same d) (value g) (collected g) in
     let told = subst
-    (λ (v : ℕ). Timed p (d .plan .streams) (d .plan .buffer - d .plan .figures .bytes) v (d .plan .figures .table) (d .kinds) (d .next) (d .held) (value g .times))
+    (λ (v : ℕ). Timed p (d .plan .streams) (d .plan .buffer - d .plan .figures .bytes) v (d .plan .figures .table) (d .kinds) (d .next) (d .held)
+    (value g .times))
     (sym (seen g .visits-in .ensures)) (timed d (j .wide) (j .ready) (value g) f)
     in
     let t = b .sweep-bound .ensures p (d .next) told in

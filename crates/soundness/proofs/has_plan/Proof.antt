@@ -36,7 +36,7 @@ is-plan-of-requires c κs =
     let o = c .before .before .before in
     let s = start o in
     let w = slim-in (s .args .desk .now) (s .pre .0) in
-    (ap length (s .pre .1 .0) ∙ w .0, ap length (s .pre .1 .1) ∙ w .1, ap length (o .overheads .ensures) ∙ w .2)
+    (ap length (s .pre .1 .0) ∙ w .0, ap length (s .pre .1 .1) ∙ w .1, ap length (o .overheads .ensures) ∙ w .3)
 
 returns : tie.Need-returns
 returns c =

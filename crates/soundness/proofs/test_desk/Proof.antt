@@ -40,7 +40,7 @@ wide : (c : tie.Start) → Wide (given c)
 wide c = let z = sized c in record { kinds = z .kinds; next = z .next; held = z .held; places = z .places }
 
 slim : (c : tie.Start) → legality.Wide (given c .plan .figures)
-slim c = let z = sized c .plan in (z .positions, z .times, z .table)
+slim c = let z = sized c .plan in (z .positions, z .times, z .blocks, z .table)
 
 -- ---- the places, each from a later one
 
@@ -120,7 +120,7 @@ returns-2 c =
 
 test-slots-requires : tie.Need-test-slots-requires
 test-slots-requires c κs = let e = planned c in
-    (omega (arith, few e, c .streams-in .ensures), start e .pre, c .streams-in .ensures)
+    (omega (arith, few e, c .streams-in .ensures), start e .pre, c .streams-in .ensures, legal e)
 
 returns-3 : tie.Need-returns-3
 returns-3 c =

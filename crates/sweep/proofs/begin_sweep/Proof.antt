@@ -17,7 +17,7 @@ use Rattle.desk_layout.specs.Layout.{deskIn}
 use Rattle.soundness.specs.Ready.{plan-source}
 use Rattle.gather.specs.Gather.{Reached, Collected, gathered}
 use Rattle.sweep.specs.Begins.{Served, Begins}
-use Rattle.sweep.specs.Gathered.{zoned, reached, gathers, in-range}
+use Rattle.sweep.specs.Gathered.{reached, gathers, in-range}
 use Rattle.sweep.specs.Steps.{begunDesk, sweptOf}
 use Rattle.sweep.proofs.Beginning.{reading-begun, timed-begun, positioned-begun, begun-is}
 use Rattle.sweep.proofs.begin_sweep.Statement.{statement}
@@ -97,8 +97,7 @@ abbrev Collects : Desk → ℕ → tie.After-gather → Type 0
 Collects d v c =
     let g = served (gathering c) in
     let k = read g in
-    Collected (d .plan .figures .positions) (d .plan .figures .times) (start (sized k) .args .positions .now) v (g .serve .result .kinds) (d .next)
-    (desk k .plan .streams) (value c)
+    Collected d (start (sized k) .args .positions .now) v (g .serve .result .kinds) (desk k .plan .streams) (value c)
 
 collected : (c : tie.After-gather) → (let k = read (served (gathering c)) in Collects (desk k) (visitsIn (desk k .plan)) c)
 collected c =
@@ -145,8 +144,7 @@ serve-requires c κs =
 
 -- what is asked for the gathering, of a desk d
 abbrev Reachable : Desk → ℕ → tie.After-serve → Type 0
-Reachable d v c = Reached (d .plan .figures .positions) (d .plan .figures .times) (start (sized (read c)) .args .positions .now) v (c .serve .result .kinds)
-    (d .next) (desk (read c) .plan .streams)
+Reachable d v c = Reached d (start (sized (read c)) .args .positions .now) v (c .serve .result .kinds) (desk (read c) .plan .streams)
 
 gather-requires : tie.Need-gather-requires
 gather-requires c κs =
@@ -156,11 +154,9 @@ gather-requires c κs =
     let s = start (sized k) in
     let d = desk k in
     let b = told k in
-    let p = s .pre .1 in
     let r = reached d (b .wide) (b .ready) _ _ (b .plan) (g .serve .result .kinds) (reading-begun d (b .wide) (b .ready) _ _ (all g)) in (
       s .pre .0,
       streams-are d (b .ready),
-      zoned (given s) (p .wide) (p .ready) _ _ (p .plan),
       subst (λ (e : Desk). Reachable e (visits k) g) (desk-is k) (subst (λ (v : ℕ). Reachable d v g) (sym (seen k)) r),
       z .before .before .zeros .ensures,
       z .before .zeros2 .ensures,

@@ -14,7 +14,6 @@ use Rattle.desk.specs.Desk.{supplyOf, slotsIn}
 use Rattle.desk.specs.Records.{withRead, read-same}
 use Rattle.desk.specs.Ready.{streams-are, ready-slots}
 use Rattle.desk_layout.specs.Layout.{deskIn}
-use Rattle.soundness.specs.Facts.{ZonesRead}
 use Rattle.grants.specs.Grants.{InLine}
 use Rattle.sweep.specs.Begins.{Serves, Served}
 use Rattle.sweep.proofs.Beginning.{floor-is, floor-most, ready-queued, own-lead, ready-asked, ready-line, slots-started, asks-started, begun-all}
@@ -24,17 +23,14 @@ use Rattle.sweep.proofs.serve.Tie as tie
 -- ---- the places, each from a later one
 
 -- all that is read of the desk is read
-abbrev zoned : tie.After-all-places → tie.After-zone-times
-zoned c = c .before .before .before .before .before
-
 abbrev start : tie.After-all-places → tie.Start
-start c = zoned c .before .before .before .before .before
+start c = c .before .before .before .before .before .before .before .before
 
 abbrev lined : tie.After-line-up → tie.After-all-places
 lined c = c .before .before .before .before
 
 abbrev led : tie.After-eldest-lead → tie.After-line-up
-led c = c .before .before .before .before
+led c = c .before .before
 
 abbrev marked : tie.After-start-playing → tie.After-low-water
 marked c = c .before .before
@@ -42,8 +38,8 @@ marked c = c .before .before
 abbrev played : tie.After-least-level → tie.After-start-playing
 played c = c .before .before
 
-abbrev floored : tie.After-times2 → tie.After-low-water2
-floored c = c .before .before .before .before
+abbrev floored : tie.After-line3 → tie.After-low-water2
+floored c = c .before .before
 
 -- ---- what is known there
 
@@ -74,23 +70,16 @@ Told d s = let a = s .args in Serves d (a .listed) (a .held .now) (a .positions 
 told : (c : tie.After-all-places) → Told (desk c) (start c)
 told c = let s = start c in subst (λ (d : Desk). Told d s) (sym (desk-is c)) (s .pre .1)
 
-zones : (c : tie.After-all-places) → (let z = zoned c in ZonesRead (desk c) (z .before .zone-sizes .result) (z .zone-times .result))
-zones c = let z = zoned c in
-    subst (λ (d : Desk). ZonesRead d (z .before .zone-sizes .result) (z .zone-times .result)) (sym (desk-is c))
-    (z .before .zone-sizes .ensures, z .zone-times .ensures)
-
 -- the leads in the line
 abbrev Leads : Desk → tie.After-line-up → Type 0
 Leads d l =
-    let z = zoned (lined l) in
     let a = start (lined l) .args in
-    InLine (a .listed) d (z .before .zone-sizes .result) (z .zone-times .result) (a .positions .now) (a .leads .now) (l .line-up .last .1 .1 .0)
-    (l .line-up .result)
+    InLine (a .listed) d (a .positions .now) (a .leads .now) (l .line-up .last .1 .1 .0) (l .line-up .result)
 
 in-line : (l : tie.After-line-up) → Leads (given (start (lined l))) l
 in-line l = let k = lined l in
     let b = told k in
-    subst (λ (d : Desk). Leads d l) (desk-is k) (ready-line (desk k) (b .wide) (b .ready) _ _ _ (b .source) _ _ (zones k) _ _ (l .line-up .ensures))
+    subst (λ (d : Desk). Leads d l) (desk-is k) (ready-line (desk k) (b .wide) (b .ready) _ _ _ (b .source) _ _ (l .line-up .ensures))
 
 -- the eldest's lead
 eldest-is : (c : tie.After-eldest-lead) → (let d = desk (lined (led c)) in c .eldest-lead .result ≡ eldestLead (supplyOf (d .plan)) (slotsIn d) (d .places))
@@ -100,7 +89,7 @@ eldest-is c =
     let d = desk k in
     let b = told k in
     c .eldest-lead .ensures .0 (supplyOf (d .plan)) (d .plan .streams) (d .kinds) (d .next) (d .held) (d .places) (ready-slots d (b .wide) (b .ready))
-    (ready-asked d (b .wide) (b .ready) _ _ _ (b .source) _ _ (zones k)) (l .line-up .ensures)
+    (ready-asked d (b .wide) (b .ready) _ _ _ (b .source)) (l .line-up .ensures)
 
 -- what a filling slot must hold
 mark-is : (c : tie.After-low-water) → (let d = desk (lined (led (c .before))) in
@@ -141,7 +130,7 @@ all c =
     begun-all d (b .wide) (b .ready) _ _ (first s) _ (c .grant-asked .result)
     (c .grant-asked .ensures p (d .plan .streams) (d .next) (d .held) (d .places) (slots s)
     (asks-started d (b .wide) (b .ready) _ _ (first s) _ _ _ _ _ (sym (k .before .before .before .rate-in .ensures))
-    (own-lead d (b .wide) (b .ready) _ _ _ (b .source) _ _ (zones k)) (b .leads)
+    (own-lead d (b .wide) (b .ready) _ _ _ (b .source)) (b .leads)
     (f .low-water2 .ensures) (l .least-level .ensures p (d .next) (slots s)))
     (n .line-up .ensures))
     (mark-is m)
@@ -156,7 +145,7 @@ line-up-requires c κs = let e = c .before .before in
     (streams-are d (b .ready), ready-queued d (b .wide) (b .ready), e .empty-line .ensures)
 
 eldest-lead-requires : tie.Need-eldest-lead-requires
-eldest-lead-requires c κs = let l = c .before .before .before in
+eldest-lead-requires c κs = let l = c .before in
     (start (lined l) .pre .0, l .line-up .ensures .few, in-line l)
 
 add-low-water : tie.Need-add-low-water
@@ -211,8 +200,6 @@ pub serve-spec : {M : Type 1} → statement M
 serve-spec =
     tie.close
     (tie.spec
-    (λ c κs. search needs)
-    (λ c κs. search needs)
     (λ c κs. search needs)
     (λ c κs. search needs)
     (λ c κs. search needs)

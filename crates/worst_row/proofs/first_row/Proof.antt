@@ -10,7 +10,8 @@ use Rattle.pacing.specs.Film.{span}
 use Rattle.plan.specs.Plan.{showingOf, walkOf}
 use Rattle.worst_row.specs.Rows.{past, Comes, rowTime}
 use Rattle.worst_row.specs.declared.Step.{Step}
-use Rattle.worst_row.proofs.RowLaws.{past-more, past-below, row-more, row-small, film-quick}
+use Rattle.plan.specs.FilmWalk.{visit-quick}
+use Rattle.worst_row.proofs.RowLaws.{past-more, past-below, row-more, row-small}
 use Rattle.worst_row.proofs.first_row.Statement.{statement}
 use Rattle.worst_row.proofs.first_row.Tie as tie
 
@@ -52,7 +53,7 @@ add-sum c = let l = c .before .before .before .loop in
     let s = c .before .before .before .before .before in
     let a = s .args in
     let x = walkOf (a .showing) in
-    let quick = film-quick (a .sizes .now) (a .times .now) (a .total) (a .blocks) (s .pre .0) x (walked-single (showingOf (a .showing))) in
+    let quick = visit-quick (a .sizes .now) (a .times .now) (a .total) (a .blocks) (s .pre .0) x (walked-single (showingOf (a .showing))) in
     omega (
       arith,
       grown c,

@@ -1,6 +1,6 @@
 //! A call, the strings that it is lent, and what comes of it.
 
-use film_disk_model::{Planner, Showing};
+use film_disk_model::shelf::Rule;
 
 /// The strings of all calls, by name.
 pub type Strings = [Vec<u8>; 8];
@@ -34,9 +34,9 @@ impl Way {
 
 #[derive(Clone, Copy, Debug, PartialEq, Eq)]
 pub enum Call {
-    Plan(Planner),
+    Plan(Rule),
     Open,
-    Join { slot: u32, block: u32 },
+    Join { slot: u32, block: u32, film: u32 },
     Leave { slot: u32 },
     Begin,
     End,
@@ -53,9 +53,9 @@ impl Call {
     /// The place of the call's sort in a tally.
     pub fn sort(&self, way: Way) -> usize {
         let sort = match self {
-            Call::Plan(Planner::Shown(Showing::Once)) => 0,
-            Call::Plan(Planner::Shown(Showing::Loop)) => 1,
-            Call::Plan(Planner::Pairs) => 2,
+            Call::Plan(Rule::Once) => 0,
+            Call::Plan(Rule::Loop) => 1,
+            Call::Plan(Rule::Pairs) => 2,
             Call::Open => 3,
             Call::Join { .. } => 4,
             Call::Leave { .. } => 5,

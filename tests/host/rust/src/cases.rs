@@ -5,24 +5,20 @@ use crate::layout::{
     bytes_of, desk_bytes, plan_bytes, DESK_BYTES, ENTRY_BYTES, FETCH_BYTES, PLAN_BYTES,
     SCRATCH_BYTES,
 };
-use film_disk_model::desk::{
-    floor, sweep_bound, ASKED, BETWEEN, FILLING, FREE, PLAYING, SLOTS, TAIL,
-};
+use film_disk_model::desk::{ASKED, BETWEEN, FILLING, FREE, PLAYING, SLOTS, TAIL};
 use film_disk_model::plan::TWO_MILLION;
-use film_disk_model::rng::borders::{
-    border_card, border_pairs_card, border_pairs_plan, border_plan_for,
+use film_disk_model::rng::desks::{longer_list, spoiled_list};
+use film_disk_model::rng::shelf::cards::{any_shelf_card, edge_shelf_card};
+use film_disk_model::rng::shelf::desks::{
+    alter_film, alter_places, alter_plan, any_step, set_places, some_start, sound_desk,
 };
-use film_disk_model::rng::cards::any_card;
-use film_disk_model::rng::desks::{
-    alter_places, alter_plan, any_step, longer_list, most_fetches, set_places, sound_desk,
-    spoiled_list,
-};
-use film_disk_model::rng::figures::{desk_plan_for, large_desk_plan_for, uneven_plan_for};
-use film_disk_model::rng::pairs::{
-    any_pairs_card, large_pairs_plan, pairs_plan, uneven_pairs_plan,
+use film_disk_model::rng::shelf::{
+    border_shelf_plan, large_shelf_plan, shelf_plan, uneven_shelf_plan,
 };
 use film_disk_model::rng::tables::{alter_overheads, some_entry};
-use film_disk_model::{card_bytes, Desk, Plan, Planned, Planner, Rng, Showing, Step};
+use film_disk_model::shelf::desk::{floor, most_fetches, sweep_bound};
+use film_disk_model::shelf::{self, plan_record, read_card, Desk, Plan, Planned, Rule, Step};
+use film_disk_model::Rng;
 
 /// Bytes of no meaning.
 pub fn noise(rng: &mut Rng, length: usize) -> Vec<u8> {
@@ -96,7 +92,7 @@ pub fn read_list(rng: &mut Rng, words: &[u32], damaged: usize) -> Vec<u8> {
     bytes
 }
 
-/// A list that is written: noise, with N entries or more, or fewer.
+/// A list that is written: noise, with so many entries or more, or fewer.
 fn written_list(rng: &mut Rng, blocks: usize) -> Vec<u8> {
     let entries = match rng.below(12) {
         0 => blocks - 1,
@@ -126,63 +122,34 @@ fn some_scratch(rng: &mut Rng) -> Vec<u8> {
     noise(rng, short)
 }
 
-/// Any card for one showing or as a loop; at times of a film that has its worst pair anywhere.
-fn shown_card(rng: &mut Rng, showing: Showing) -> Vec<u8> {
-    match rng.below(8) {
-        0 | 1 => border_card(rng),
-        2 | 3 => card_bytes(&uneven_plan_for(rng, showing).plan.figures),
-        _ => any_card(rng),
-    }
-}
-
-/// Any card for pairs; at times one that was made for one showing.
-fn pairs_card(rng: &mut Rng) -> Vec<u8> {
-    match rng.below(8) {
-        0 | 1 => border_pairs_card(rng),
-        2 | 3 => any_card(rng),
-        _ => any_pairs_card(rng),
-    }
-}
-
-/// Any card, for one showing, as a loop or as pairs. A card for pairs is at times planned as another film, which it may be.
+/// Any card of a shelf, for one showing, as loops or as pairs. It is at times one that was made for another of these, which it may be.
 pub fn plan_case(rng: &mut Rng) -> (Call, Strings) {
-    let planner = rng.pick(&Planner::ALL);
+    let rule = rng.pick(&Rule::ALL);
+    let made_for = if rng.once_in(12) { rng.pick(&Rule::ALL) } else { rule };
     let mut strings = Strings::default();
-    strings[CARD] = match planner {
-        Planner::Shown(showing) if !rng.once_in(16) => shown_card(rng, showing),
-        _ => pairs_card(rng),
+    strings[CARD] = match rng.below(3) {
+        0 => edge_shelf_card(rng, made_for),
+        _ => any_shelf_card(rng, made_for),
     };
-    let blocks = match planner.read_card(&strings[CARD]) {
-        Ok(figures) => figures.blocks as usize,
+    let blocks = match read_card(&strings[CARD], rule) {
+        Ok(figures) => figures.all_blocks() as usize,
         Err(_) => 1 + rng.below(10),
     };
     strings[PLAN] = written_string(rng, PLAN_BYTES);
-    strings[POSITIONS] = written_list(rng, planner.visits() * blocks);
+    strings[POSITIONS] = written_list(rng, rule.visits() * blocks);
     strings[LEADS] = written_list(rng, blocks);
     strings[SCRATCH] = some_scratch(rng);
-    (Call::Plan(planner), strings)
+    (Call::Plan(rule), strings)
 }
 
-/// A plan for a desk of pairs.
-fn some_pairs_plan(rng: &mut Rng) -> Planned {
-    match rng.below(40) {
-        0 => large_pairs_plan(rng),
-        1..=10 => border_pairs_plan(rng),
-        11..=19 => uneven_pairs_plan(rng),
-        _ => pairs_plan(rng),
-    }
-}
-
-/// A plan for a desk, for one showing, a loop or pairs; rarely a great one, often one whose products are great or carry.
+/// A plan for a desk, of any number of films, for one showing, loops or pairs; rarely a great one, often one whose products are great or carry.
 pub fn some_plan(rng: &mut Rng) -> Planned {
-    let Planner::Shown(showing) = rng.pick(&Planner::ALL) else {
-        return some_pairs_plan(rng);
-    };
+    let rule = rng.pick(&Rule::ALL);
     match rng.below(40) {
-        0 => large_desk_plan_for(rng, showing),
-        1..=10 => border_plan_for(rng, showing),
-        11..=19 => uneven_plan_for(rng, showing),
-        _ => desk_plan_for(rng, showing),
+        0 => large_shelf_plan(rng, rule),
+        1..=10 => border_shelf_plan(rng, rule),
+        11..=19 => uneven_shelf_plan(rng, rule),
+        _ => shelf_plan(rng, rule),
     }
 }
 
@@ -220,14 +187,16 @@ pub fn step_strings(rng: &mut Rng, desk: Vec<u8>, step: &Step, damaged: usize) -
     strings[LEADS] = read_list(rng, &step.leads, damaged);
     strings[SCRATCH] = if damaged == usize::MAX { long_scratch(rng) } else { some_scratch(rng) };
     let call = match &step.call {
-        film_disk_model::Call::Join { slot, block } => Call::Join { slot: *slot, block: *block },
-        film_disk_model::Call::Leave { slot } => Call::Leave { slot: *slot },
-        film_disk_model::Call::Begin { fetch_list } => {
+        shelf::Call::Join { slot, block, film } => {
+            Call::Join { slot: *slot, block: *block, film: *film }
+        }
+        shelf::Call::Leave { slot } => Call::Leave { slot: *slot },
+        shelf::Call::Begin { fetch_list } => {
             strings[FETCHES] = noise(rng, fetch_list * FETCH_BYTES);
             add_spare(rng, &mut strings[FETCHES], FETCH_BYTES);
             Call::Begin
         }
-        film_disk_model::Call::End { draws } => {
+        shelf::Call::End { draws } => {
             strings[DRAWS] = bytes_of(draws);
             add_spare(rng, &mut strings[DRAWS], ENTRY_BYTES);
             Call::End
@@ -268,12 +237,15 @@ pub fn limit_case(rng: &mut Rng) -> (Call, Strings) {
     (Call::DrawLimit { slot, bound }, strings)
 }
 
-/// A used slot becomes a tail, mostly as one showing has it.
+/// A used slot becomes a tail, mostly as one showing has it; at times at the end of another film than its own.
 fn set_tail(rng: &mut Rng, desk: &mut Desk) {
     let slot = rng.below(desk.plan.streams as usize);
-    let blocks = desk.plan.figures.blocks;
+    let films = desk.plan.figures.films;
+    let film = rng.between(0, films - 1);
+    let blocks = desk.plan.figures.blocks[film as usize];
     desk.kinds[slot] = TAIL;
     set_places(rng, desk);
+    desk.films[slot] = if rng.once_in(4) { rng.between(0, films) } else { film };
     desk.next[slot] = rng.pick(&[blocks, blocks, blocks, 0, blocks - 1]);
     desk.held[slot] = rng.between(1, desk.plan.buffer);
 }
@@ -291,12 +263,8 @@ fn opening_or_step(rng: &mut Rng, desk: &Desk, step: &Step) -> (Call, Strings) {
 
 /// The lists of a record's figures for the showing that its word says, if it has any.
 fn lists_of(plan: &Plan) -> Option<(Vec<u32>, Vec<u32>)> {
-    let planner = Planner::of(plan.showing)?;
-    let taken = planner.visits() as u64 * plan.figures.blocks as u64;
-    let planned = match taken <= plan.figures.total_positions() {
-        true => planner.plan_of(&plan.figures)?,
-        false => return None,
-    };
+    let rule = Rule::of(plan.showing)?;
+    let planned = plan_record(&plan.figures, rule, usize::MAX, usize::MAX).ok()?;
     Some((planned.positions, planned.leads))
 }
 
@@ -323,7 +291,7 @@ pub fn showing_case(rng: &mut Rng) -> (Call, Strings) {
 
 /// Another block, one beside the right one, the last, or any word. It may be right after all.
 fn other_worstat(rng: &mut Rng, plan: &Plan) -> u32 {
-    let (right, blocks) = (plan.worstat, plan.figures.blocks);
+    let (right, blocks) = (plan.worstat, plan.figures.all_blocks() as u32);
     let (block, other) = (rng.between(0, blocks - 1), rng.other_than(right));
     rng.pick(&[block, block, right + 1, right.wrapping_sub(1), blocks - 1, blocks, 0, other])
 }
@@ -343,19 +311,96 @@ pub fn overhead_case(rng: &mut Rng) -> (Call, Strings) {
     let planned = some_plan(rng);
     let (_, step) = any_step(rng, &planned);
     let mut desk = sound_desk(rng, &planned);
-    let figures = &mut desk.plan.figures;
+    let mut disk = desk.plan.figures.of_one(0);
     if rng.once_in(2) {
-        figures.kind = rng.pick(&[1, 2, 2, 2, 0, 3]);
+        disk.kind = rng.pick(&[1, 2, 2, 2, 0, 3]);
     }
     if rng.once_in(2) {
         let entry = some_entry(rng);
-        let own = figures.table[entry];
-        figures.table[entry] =
+        let own = disk.table[entry];
+        disk.table[entry] =
             rng.pick(&[own + 1, own + 1, own.wrapping_sub(1), 0, 257_000_000, 257_000_001]);
     } else if rng.once_in(2) {
-        alter_overheads(rng, figures);
+        alter_overheads(rng, &mut disk);
+    }
+    desk.plan.figures = desk.plan.figures.on(&disk);
+    opening_or_step(rng, &desk, &step)
+}
+
+/// The films of a record parted or ordered otherwise, as many blocks in all: an unused entry that is not zero, one film more or less
+/// counted, two that change places, or a block that goes over to another film. All positions in use stay what they were.
+fn alter_shelf(rng: &mut Rng, plan: &mut Plan) {
+    let figures = &mut plan.figures;
+    let films = figures.films as usize;
+    let (one, other) = (rng.below(films), rng.below(films));
+    match rng.below(6) {
+        0 => {
+            let unused = rng.below(16);
+            figures.blocks[unused] = rng.pick(&[0, 1, 2, figures.blocks[unused] + 1]);
+        }
+        1 => figures.films = rng.pick(&[figures.films - 1, figures.films + 1, 0, 16, 17]),
+        2 | 3 => figures.blocks.swap(one, other),
+        4 if films > 1 => {
+            figures.films -= 1;
+            figures.blocks[films - 2] += figures.blocks[films - 1];
+            figures.blocks[films - 1] = 0;
+        }
+        _ => {
+            figures.blocks[one] += 1;
+            figures.blocks[other] -= 1;
+        }
+    }
+}
+
+/// An opening or a call on a desk of other films than the plan was made of, at times with the lists of these.
+pub fn shelf_case(rng: &mut Rng) -> (Call, Strings) {
+    let planned = some_plan(rng);
+    let (_, mut step) = any_step(rng, &planned);
+    let mut desk = sound_desk(rng, &planned);
+    alter_shelf(rng, &mut desk.plan);
+    if rng.once_in(2) {
+        (step.positions, step.leads) = lists_of(&desk.plan).unwrap_or((step.positions, step.leads));
     }
     opening_or_step(rng, &desk, &step)
+}
+
+/// A call on a desk one of whose slots names another film, of the shelf or not, with its next block as it was or at the end of a film;
+/// free slots too. It may be sound.
+pub fn slot_film_case(rng: &mut Rng) -> (Call, Strings) {
+    let planned = some_plan(rng);
+    let (_, step) = any_step(rng, &planned);
+    let mut desk = sound_desk(rng, &planned);
+    for _ in 0..rng.pick(&[1, 1, 2]) {
+        let used = desk.plan.streams as usize;
+        let slot = if rng.once_in(8) { rng.below(SLOTS) } else { rng.below(used) };
+        if rng.once_in(4) {
+            (desk.kinds[slot], desk.next[slot], desk.held[slot]) = (FREE, 0, 0);
+            set_places(rng, &mut desk);
+        } else if rng.once_in(3) {
+            let blocks = rng.pick(planned.plan.figures.lengths());
+            desk.next[slot] = rng.pick(&[0, blocks - 1, blocks, blocks]);
+        }
+        alter_film(rng, &mut desk, slot);
+    }
+    step_strings(rng, desk_bytes(&desk), &step, 100)
+}
+
+/// Joins of a free slot, one after the other: each film of the shelf, the first that it has not, 16, and more, with blocks about the
+/// film's end, at 65,536 and 65,536 more than one that it has.
+pub fn join_case(rng: &mut Rng) -> (Call, Strings) {
+    let planned = some_plan(rng);
+    let mut desk = Desk { phase: BETWEEN, ..sound_desk(rng, &planned) };
+    let slot = rng.below(planned.plan.streams as usize);
+    (desk.kinds[slot], desk.next[slot], desk.held[slot], desk.films[slot]) = (FREE, 0, 0, 0);
+    set_places(rng, &mut desk);
+    let figures = &planned.plan.figures;
+    let (some, any) = (rng.between(0, figures.films - 1), rng.any());
+    let film = rng.pick(&[some, some, some, figures.films, 15, 16, 65_536, any]);
+    let blocks = figures.blocks[some as usize];
+    let block = rng.pick(&[0, blocks - 1, blocks, 65_535, 65_536, 65_536 + blocks - 1, any]);
+    let call = shelf::Call::Join { slot: slot as u32, block, film };
+    let Planned { positions, leads, .. } = planned;
+    step_strings(rng, desk_bytes(&desk), &Step { positions, leads, call }, 100)
 }
 
 /// The floor with the leads of the first few requests by place, in whole bytes, rounded up.
@@ -363,7 +408,10 @@ fn some_level(rng: &mut Rng, planned: &Planned, desk: &Desk) -> u32 {
     let mut asked: Vec<usize> =
         desk.used_slots().filter(|&slot| desk.kinds[slot] == ASKED).collect();
     asked.sort_by_key(|&slot| desk.places[slot]);
-    let leads = asked.iter().map(|&slot| planned.leads[desk.next[slot] as usize] as u128);
+    let listed = |slot: usize| {
+        desk.plan.figures.start(desk.films[slot] as usize) as usize + desk.next[slot] as usize
+    };
+    let leads = asked.iter().map(|&slot| planned.leads[listed(slot)] as u128);
     let (some, all) = (rng.below(asked.len() + 1), asked.len());
     let first = rng.pick(&[0, 0, 1, 1, 2, 3, some, all]);
     let granted: u128 = leads.take(first).sum();
@@ -391,7 +439,7 @@ pub fn edge_case(rng: &mut Rng) -> (Call, Strings) {
     let mut desk = sound_desk(rng, &planned);
     if !rng.once_in(4) {
         desk.phase = BETWEEN;
-        step.call = film_disk_model::Call::Begin { fetch_list: most_fetches(&desk) };
+        step.call = shelf::Call::Begin { fetch_list: most_fetches(&desk) };
     }
     set_to_edge(rng, &planned, &mut desk);
     step_strings(rng, desk_bytes(&desk), &step, 100)
@@ -410,18 +458,17 @@ fn slot_of_kind(rng: &mut Rng, desk: &Desk, kind: u32) -> u32 {
 /// decides.
 fn crowded_desk(rng: &mut Rng, planned: &Planned) -> Desk {
     let mut desk = Desk { phase: BETWEEN, ..sound_desk(rng, planned) };
-    let blocks = planned.plan.figures.blocks;
     let one_in = rng.pick(&[2, 6, 40]);
     for slot in desk.used_slots() {
         if desk.kinds[slot] == TAIL || !rng.once_in(one_in) {
             (desk.kinds[slot], desk.held[slot]) = (ASKED, 0);
-            desk.next[slot] = rng.between(0, blocks - 1);
+            (desk.next[slot], desk.films[slot]) = some_start(rng, &desk);
         }
     }
     if !rng.once_in(4) {
         let slot = rng.below(planned.plan.streams as usize);
-        (desk.kinds[slot], desk.next[slot]) = (PLAYING, rng.between(0, blocks - 1));
-        desk.held[slot] = planned.plan.buffer;
+        (desk.kinds[slot], desk.held[slot]) = (PLAYING, planned.plan.buffer);
+        (desk.next[slot], desk.films[slot]) = some_start(rng, &desk);
     }
     set_places(rng, &mut desk);
     set_to_edge(rng, planned, &mut desk);
@@ -437,9 +484,12 @@ pub fn request_case(rng: &mut Rng) -> (Call, Strings) {
     }
     let desk = crowded_desk(rng, &planned);
     let call = match rng.below(6) {
-        0 => film_disk_model::Call::Join { slot: slot_of_kind(rng, &desk, FREE), block: 0 },
-        1 => film_disk_model::Call::Leave { slot: slot_of_kind(rng, &desk, ASKED) },
-        _ => film_disk_model::Call::Begin { fetch_list: most_fetches(&desk) },
+        0 => {
+            let film = rng.between(0, desk.plan.figures.films - 1);
+            shelf::Call::Join { slot: slot_of_kind(rng, &desk, FREE), block: 0, film }
+        }
+        1 => shelf::Call::Leave { slot: slot_of_kind(rng, &desk, ASKED) },
+        _ => shelf::Call::Begin { fetch_list: most_fetches(&desk) },
     };
     let Planned { positions, leads, .. } = planned;
     step_strings(rng, desk_bytes(&desk), &Step { positions, leads, call }, 100)

@@ -1,5 +1,5 @@
 //! The entry points of include/filmdisk.h: those of the static library, and with the feature `earlier` those of an earlier one, whose
-//! names begin with `earlier_`; with `earlier_scratch` it has the calls by scratch too, with `earlier_pairs` those for pairs.
+//! names begin with `earlier_`.
 
 pub type Read = *const u8;
 pub type Write = *mut u8;
@@ -32,7 +32,7 @@ type Ending =
     unsafe extern "C" fn(Write, usize, Read, usize, Read, usize, Read, usize) -> FilmdiskAnswer;
 /// Those that are lent a desk and its lists, and take a slot.
 type Joining =
-    unsafe extern "C" fn(Write, usize, Read, usize, Read, usize, u32, u32) -> FilmdiskAnswer;
+    unsafe extern "C" fn(Write, usize, Read, usize, Read, usize, u32, u32, u32) -> FilmdiskAnswer;
 type Leaving = unsafe extern "C" fn(Write, usize, Read, usize, Read, usize, u32) -> FilmdiskAnswer;
 type Limiting = unsafe extern "C" fn(Read, usize, u32, u32) -> u64;
 type Windowing = unsafe extern "C" fn(Read, usize, Read, usize, u32) -> FilmdiskWindowAnswer;
@@ -41,8 +41,7 @@ type Windowing = unsafe extern "C" fn(Read, usize, Read, usize, u32) -> Filmdisk
 pub struct Calls {
     pub plan: Planning,
     pub plan_loop: Planning,
-    /// An earlier library may have none.
-    pub plan_pairs: Option<Planning>,
+    pub plan_pairs: Planning,
     pub open: Opening,
     pub join: Joining,
     pub leave: Leaving,
@@ -52,37 +51,26 @@ pub struct Calls {
 
 pub struct Entries {
     pub by_list: Calls,
-    /// An earlier library may have none.
-    pub by_scratch: Option<Calls>,
+    pub by_scratch: Calls,
     pub window: Windowing,
     pub draw_limit: Limiting,
 }
 
-/// The planner call for pairs whose name begins with a prefix and ends with a suffix.
-macro_rules! plan_pairs {
-    ($prefix:literal, $suffix:literal) => {{
-        #[rustfmt::skip]
-        extern "C" {
-            #[link_name = concat!($prefix, "plan_pairs", $suffix)]
-            fn plan_pairs(card: Read, card_len: usize, plan: Write, plan_len: usize, positions: Write, positions_len: usize, lent: Write, lent_len: usize) -> FilmdiskAnswer;
-        }
-        Some(plan_pairs as Planning)
-    }};
-}
-
 /// The calls whose names begin with a prefix and end with a suffix.
 macro_rules! calls {
-    ($prefix:literal, $suffix:literal, $plan_pairs:expr) => {{
+    ($prefix:literal, $suffix:literal) => {{
         #[rustfmt::skip]
         extern "C" {
             #[link_name = concat!($prefix, "plan", $suffix)]
             fn plan(card: Read, card_len: usize, plan: Write, plan_len: usize, positions: Write, positions_len: usize, lent: Write, lent_len: usize) -> FilmdiskAnswer;
             #[link_name = concat!($prefix, "plan_loop", $suffix)]
             fn plan_loop(card: Read, card_len: usize, plan: Write, plan_len: usize, positions: Write, positions_len: usize, lent: Write, lent_len: usize) -> FilmdiskAnswer;
+            #[link_name = concat!($prefix, "plan_pairs", $suffix)]
+            fn plan_pairs(card: Read, card_len: usize, plan: Write, plan_len: usize, positions: Write, positions_len: usize, lent: Write, lent_len: usize) -> FilmdiskAnswer;
             #[link_name = concat!($prefix, "open", $suffix)]
             fn open(plan: Read, plan_len: usize, positions: Read, positions_len: usize, lent: Read, lent_len: usize, desk: Write, desk_len: usize) -> FilmdiskAnswer;
             #[link_name = concat!($prefix, "join", $suffix)]
-            fn join(desk: Write, desk_len: usize, positions: Read, positions_len: usize, lent: Read, lent_len: usize, slot: u32, block: u32) -> FilmdiskAnswer;
+            fn join(desk: Write, desk_len: usize, positions: Read, positions_len: usize, lent: Read, lent_len: usize, slot: u32, block: u32, film: u32) -> FilmdiskAnswer;
             #[link_name = concat!($prefix, "leave", $suffix)]
             fn leave(desk: Write, desk_len: usize, positions: Read, positions_len: usize, lent: Read, lent_len: usize, slot: u32) -> FilmdiskAnswer;
             #[link_name = concat!($prefix, "begin", $suffix)]
@@ -90,13 +78,13 @@ macro_rules! calls {
             #[link_name = concat!($prefix, "end", $suffix)]
             fn end(desk: Write, desk_len: usize, positions: Read, positions_len: usize, lent: Read, lent_len: usize, draws: Read, draws_len: usize) -> FilmdiskAnswer;
         }
-        Calls { plan, plan_loop, plan_pairs: $plan_pairs, open, join, leave, begin, end }
+        Calls { plan, plan_loop, plan_pairs, open, join, leave, begin, end }
     }};
 }
 
 /// The entry points whose names begin with a prefix.
 macro_rules! entries {
-    ($prefix:literal, $plan_pairs:expr, $by_scratch:expr) => {{
+    ($prefix:literal) => {{
         #[rustfmt::skip]
         extern "C" {
             #[link_name = concat!($prefix, "window")]
@@ -104,28 +92,13 @@ macro_rules! entries {
             #[link_name = concat!($prefix, "draw_limit")]
             fn draw_limit(desk: Read, desk_len: usize, slot: u32, bound: u32) -> u64;
         }
-        let by_list = calls!($prefix, "", $plan_pairs);
-        Entries { by_list, by_scratch: $by_scratch, window, draw_limit }
+        let (by_list, by_scratch) = (calls!($prefix, ""), calls!($prefix, "_scratch"));
+        Entries { by_list, by_scratch, window, draw_limit }
     }};
 }
 
-pub const PRESENT: Entries = entries!(
-    "filmdisk_",
-    plan_pairs!("filmdisk_", ""),
-    Some(calls!("filmdisk_", "_scratch", plan_pairs!("filmdisk_", "_scratch")))
-);
-#[cfg(feature = "earlier_pairs")]
-const EARLIER_PAIRS: [Option<Planning>; 2] =
-    [plan_pairs!("earlier_filmdisk_", ""), plan_pairs!("earlier_filmdisk_", "_scratch")];
-#[cfg(all(feature = "earlier", not(feature = "earlier_pairs")))]
-const EARLIER_PAIRS: [Option<Planning>; 2] = [None, None];
-#[cfg(feature = "earlier_scratch")]
-const EARLIER_BY_SCRATCH: Option<Calls> =
-    Some(calls!("earlier_filmdisk_", "_scratch", EARLIER_PAIRS[1]));
-#[cfg(all(feature = "earlier", not(feature = "earlier_scratch")))]
-const EARLIER_BY_SCRATCH: Option<Calls> = None;
+pub const PRESENT: Entries = entries!("filmdisk_");
 #[cfg(feature = "earlier")]
-pub const EARLIER: Option<Entries> =
-    Some(entries!("earlier_filmdisk_", EARLIER_PAIRS[0], EARLIER_BY_SCRATCH));
+pub const EARLIER: Option<Entries> = Some(entries!("earlier_filmdisk_"));
 #[cfg(not(feature = "earlier"))]
 pub const EARLIER: Option<Entries> = None;

@@ -8,13 +8,15 @@ use crate::layout::{
     bytes_of, desk_bytes, fetch_bytes, plan_bytes, read_desk, read_plan, words_of, DESK_BYTES,
     ENTRY_BYTES, FETCH_BYTES, PLAN_BYTES,
 };
-use film_disk_model::desk::{draw_limit, SLOTS};
-use film_disk_model::pairs::PAIRS;
-use film_disk_model::scratch::{full_leads, judge_scratch};
-use film_disk_model::{
-    answer, answer_scratch, cause, fill_lent, open, open_scratch, window, Plan, Planner, Refusal,
-    Window,
+use film_disk_model::desk::SLOTS;
+use film_disk_model::scratch::judge_scratch;
+use film_disk_model::shelf::desk::draw_limit;
+use film_disk_model::shelf::scratch::full_leads;
+use film_disk_model::shelf::{
+    self, answer, answer_scratch, open, open_scratch, plan_card, plan_card_scratch, read_card,
+    window, Plan, Rule,
 };
+use film_disk_model::{cause, fill_lent, Refusal, Window};
 
 /// An accepted call with nothing more to say.
 fn accepted(strings: Strings) -> Outcome {
@@ -35,9 +37,9 @@ fn cleared(strings: &Strings, refusal: Refusal, which: usize, length: usize) -> 
     outcome
 }
 
-fn expected_plan(planner: Planner, way: Way, strings: &Strings) -> Outcome {
+fn expected_plan(rule: Rule, way: Way, strings: &Strings) -> Outcome {
     let too_short = Refusal { number: cause::TOO_SHORT, place: 0 };
-    if let Err(refusal) = planner.read_card(&strings[CARD]) {
+    if let Err(refusal) = read_card(&strings[CARD], rule) {
         return cleared(strings, refusal, PLAN, PLAN_BYTES);
     }
     if strings[PLAN].len() != PLAN_BYTES {
@@ -46,8 +48,8 @@ fn expected_plan(planner: Planner, way: Way, strings: &Strings) -> Outcome {
     let entries = |which: usize| strings[which].len() / ENTRY_BYTES;
     let (card, positions) = (&strings[CARD], entries(POSITIONS));
     let planned = match way {
-        Way::List => planner.plan_card(card, positions, entries(LEADS)),
-        Way::Scratch => planner.plan_card_scratch(card, positions, entries(SCRATCH)),
+        Way::List => plan_card(card, rule, positions, entries(LEADS)),
+        Way::Scratch => plan_card_scratch(card, rule, positions, entries(SCRATCH)),
     };
     match planned {
         Err(refusal) if refusal == too_short => refused(strings, refusal),
@@ -100,14 +102,12 @@ fn expected_open(way: Way, strings: &Strings) -> Outcome {
 }
 
 /// The call as the model knows it: whole entries of the lent lists count.
-pub fn model_call(call: Call, strings: &Strings) -> film_disk_model::Call {
+pub fn model_call(call: Call, strings: &Strings) -> shelf::Call {
     match call {
-        Call::Join { slot, block } => film_disk_model::Call::Join { slot, block },
-        Call::Leave { slot } => film_disk_model::Call::Leave { slot },
-        Call::Begin => {
-            film_disk_model::Call::Begin { fetch_list: strings[FETCHES].len() / FETCH_BYTES }
-        }
-        Call::End => film_disk_model::Call::End { draws: words_of(&strings[DRAWS]) },
+        Call::Join { slot, block, film } => shelf::Call::Join { slot, block, film },
+        Call::Leave { slot } => shelf::Call::Leave { slot },
+        Call::Begin => shelf::Call::Begin { fetch_list: strings[FETCHES].len() / FETCH_BYTES },
+        Call::End => shelf::Call::End { draws: words_of(&strings[DRAWS]) },
         Call::Plan(_) | Call::Open | Call::Window { .. } | Call::DrawLimit { .. } => {
             unreachable!("no call that alters a desk")
         }
@@ -131,7 +131,7 @@ fn expected_desk_call(call: Call, way: Way, strings: &Strings) -> Outcome {
     let mut after = strings.clone();
     fill_lent(&mut after[DESK], &desk_bytes(&answer.desk));
     fill_lent(&mut after[FETCHES], &fetch_bytes(&answer.entries));
-    let film_disk_model::Answer { number, place, count, bound, .. } = answer;
+    let shelf::Answer { number, place, count, bound, .. } = answer;
     Outcome { answer: Answer { number, place, count, bound, ..Answer::default() }, strings: after }
 }
 
@@ -161,7 +161,7 @@ fn expected_limit(strings: &Strings, slot: u32, bound: u32) -> Outcome {
 
 pub fn expected(call: Call, way: Way, strings: &Strings) -> Outcome {
     match call {
-        Call::Plan(planner) => expected_plan(planner, way, strings),
+        Call::Plan(rule) => expected_plan(rule, way, strings),
         Call::Open => expected_open(way, strings),
         Call::Window { blocks } => expected_window(strings, blocks),
         Call::DrawLimit { slot, bound } => expected_limit(strings, slot, bound),
@@ -171,9 +171,9 @@ pub fn expected(call: Call, way: Way, strings: &Strings) -> Outcome {
 
 /// Is the call for pairs: their planner, or one on a record that says so?
 pub fn is_for_pairs(call: Call, strings: &Strings) -> bool {
-    let says = |plan: Plan| plan.showing == PAIRS;
+    let says = |plan: Plan| plan.showing == Rule::Pairs.word();
     match call {
-        Call::Plan(planner) => planner == Planner::Pairs,
+        Call::Plan(rule) => rule == Rule::Pairs,
         Call::Open | Call::Window { .. } => {
             strings[PLAN].len() == PLAN_BYTES && says(read_plan(&strings[PLAN]))
         }
@@ -186,8 +186,8 @@ pub fn is_for_pairs(call: Call, strings: &Strings) -> bool {
 pub fn is_same_by_scratch(call: Call, strings: &Strings) -> bool {
     let begins = |plan| words_of(&strings[LEADS]).starts_with(&full_leads(&plan));
     let is_full = match call {
-        Call::Plan(planner) => match planner.read_card(&strings[CARD]) {
-            Ok(figures) => strings[LEADS].len() / ENTRY_BYTES >= figures.blocks as usize,
+        Call::Plan(rule) => match read_card(&strings[CARD], rule) {
+            Ok(figures) => strings[LEADS].len() / ENTRY_BYTES >= figures.all_blocks() as usize,
             Err(_) => return true,
         },
         Call::Open if strings[PLAN].len() == PLAN_BYTES => begins(read_plan(&strings[PLAN])),

@@ -1,9 +1,10 @@
 //! docs/LAYOUT.md: the model's records as byte strings, and back.
 
-use film_disk_model::{Desk, Entry, Figures, Plan, SLOTS};
+use film_disk_model::shelf::{Desk, Figures, Plan, MAX_FILMS};
+use film_disk_model::{Entry, SLOTS};
 
-pub const PLAN_BYTES: usize = 1584;
-pub const DESK_BYTES: usize = 5684;
+pub const PLAN_BYTES: usize = 1648;
+pub const DESK_BYTES: usize = 5748;
 pub const ENTRY_BYTES: usize = 4;
 pub const FETCH_BYTES: usize = 12;
 pub const SCRATCH_BYTES: usize = 2048;
@@ -23,7 +24,9 @@ fn plan_words(plan: &Plan) -> Vec<u32> {
     let mut words = vec![figures.kind, figures.zones];
     words.extend(figures.positions);
     words.extend(figures.times);
-    words.extend([figures.blocks, figures.block_bytes, figures.rate]);
+    words.push(figures.films);
+    words.extend(figures.blocks);
+    words.extend([figures.block_bytes, figures.rate]);
     words.extend(figures.table);
     words.extend([plan.streams, plan.buffer, plan.worst2, plan.margin, plan.showing, plan.worstat]);
     words
@@ -40,19 +43,20 @@ fn plan_in(words: &[u32]) -> Plan {
         zones: words[1],
         positions: array(words, 2),
         times: array(words, 66),
-        blocks: words[130],
-        block_bytes: words[131],
-        rate: words[132],
-        table: array(words, 133),
+        films: words[130],
+        blocks: array::<MAX_FILMS>(words, 131),
+        block_bytes: words[147],
+        rate: words[148],
+        table: array(words, 149),
     };
     Plan {
         figures,
-        streams: words[390],
-        buffer: words[391],
-        worst2: words[392],
-        margin: words[393],
-        showing: words[394],
-        worstat: words[395],
+        streams: words[406],
+        buffer: words[407],
+        worst2: words[408],
+        margin: words[409],
+        showing: words[410],
+        worstat: words[411],
     }
 }
 
@@ -60,31 +64,37 @@ pub fn plan_bytes(plan: &Plan) -> Vec<u8> {
     bytes_of(&plan_words(plan))
 }
 
-/// The plan in a string of 1,584 bytes.
+/// The plan in a string of 1,648 bytes.
 pub fn read_plan(bytes: &[u8]) -> Plan {
     plan_in(&words_of(bytes))
 }
+
+/// A slot's film and next block are one word, 65,536 × film + block. Those of the model that have no such word get any.
+const FILM: u32 = 65_536;
 
 pub fn desk_bytes(desk: &Desk) -> Vec<u8> {
     let mut words = plan_words(&desk.plan);
     words.push(desk.phase);
     words.extend(desk.kinds);
-    words.extend(desk.next);
+    let names = desk.films.iter().zip(&desk.next);
+    words.extend(names.map(|(film, block)| film.wrapping_mul(FILM).wrapping_add(*block)));
     words.extend(desk.held);
     words.extend(desk.places);
     bytes_of(&words)
 }
 
-/// The desk in a string of 5,684 bytes.
+/// The desk in a string of 5,748 bytes.
 pub fn read_desk(bytes: &[u8]) -> Desk {
     let words = words_of(bytes);
+    let names: [u32; SLOTS] = array(&words, 413 + SLOTS);
     Desk {
         plan: plan_in(&words),
-        phase: words[396],
-        kinds: array(&words, 397),
-        next: array(&words, 397 + SLOTS),
-        held: array(&words, 397 + 2 * SLOTS),
-        places: array(&words, 397 + 3 * SLOTS),
+        phase: words[412],
+        kinds: array(&words, 413),
+        next: names.map(|name| name % FILM),
+        held: array(&words, 413 + 2 * SLOTS),
+        places: array(&words, 413 + 3 * SLOTS),
+        films: names.map(|name| name / FILM),
     }
 }
 

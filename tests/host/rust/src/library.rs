@@ -5,7 +5,7 @@ use crate::call::{
     SCRATCH,
 };
 use crate::entries::{Calls, Entries, FilmdiskAnswer, FilmdiskWindowAnswer};
-use film_disk_model::{Planner, Showing};
+use film_disk_model::shelf::Rule;
 use std::ffi::{c_char, c_int, CString};
 
 /// Room for the longest string of a case.
@@ -115,32 +115,27 @@ impl Library {
         Ok(bytes)
     }
 
-    /// The calls of a way in, if the library has it.
-    fn calls(&self, way: Way) -> Option<&Calls> {
+    /// The calls of a way in.
+    fn calls(&self, way: Way) -> &Calls {
         match way {
-            Way::List => Some(&self.entries.by_list),
-            Way::Scratch => self.entries.by_scratch.as_ref(),
+            Way::List => &self.entries.by_list,
+            Way::Scratch => &self.entries.by_scratch,
         }
-    }
-
-    /// Does the library have this way in, and pairs if they are asked for?
-    pub fn has(&self, way: Way, pairs: bool) -> bool {
-        self.calls(way).is_some_and(|calls| !pairs || calls.plan_pairs.is_some())
     }
 
     /// SAFETY: the strings of the call are lent.
     #[rustfmt::skip]
     unsafe fn make(&self, call: Call, way: Way) -> Answer {
-        let e = self.calls(way).expect("a library with this way in");
+        let e = self.calls(way);
         let p = |which: usize| self.pointers[which];
         let n = |which: usize| self.lent[which].length;
         let lent = way.string();
         match call {
-            Call::Plan(Planner::Shown(Showing::Once)) => (e.plan)(p(CARD), n(CARD), p(PLAN), n(PLAN), p(POSITIONS), n(POSITIONS), p(lent), n(lent)).into(),
-            Call::Plan(Planner::Shown(Showing::Loop)) => (e.plan_loop)(p(CARD), n(CARD), p(PLAN), n(PLAN), p(POSITIONS), n(POSITIONS), p(lent), n(lent)).into(),
-            Call::Plan(Planner::Pairs) => (e.plan_pairs.expect("a library with pairs"))(p(CARD), n(CARD), p(PLAN), n(PLAN), p(POSITIONS), n(POSITIONS), p(lent), n(lent)).into(),
+            Call::Plan(Rule::Once) => (e.plan)(p(CARD), n(CARD), p(PLAN), n(PLAN), p(POSITIONS), n(POSITIONS), p(lent), n(lent)).into(),
+            Call::Plan(Rule::Loop) => (e.plan_loop)(p(CARD), n(CARD), p(PLAN), n(PLAN), p(POSITIONS), n(POSITIONS), p(lent), n(lent)).into(),
+            Call::Plan(Rule::Pairs) => (e.plan_pairs)(p(CARD), n(CARD), p(PLAN), n(PLAN), p(POSITIONS), n(POSITIONS), p(lent), n(lent)).into(),
             Call::Open => (e.open)(p(PLAN), n(PLAN), p(POSITIONS), n(POSITIONS), p(lent), n(lent), p(DESK), n(DESK)).into(),
-            Call::Join { slot, block } => (e.join)(p(DESK), n(DESK), p(POSITIONS), n(POSITIONS), p(lent), n(lent), slot, block).into(),
+            Call::Join { slot, block, film } => (e.join)(p(DESK), n(DESK), p(POSITIONS), n(POSITIONS), p(lent), n(lent), slot, block, film).into(),
             Call::Leave { slot } => (e.leave)(p(DESK), n(DESK), p(POSITIONS), n(POSITIONS), p(lent), n(lent), slot).into(),
             Call::Begin => (e.begin)(p(DESK), n(DESK), p(POSITIONS), n(POSITIONS), p(lent), n(lent), p(FETCHES), n(FETCHES)).into(),
             Call::End => (e.end)(p(DESK), n(DESK), p(POSITIONS), n(POSITIONS), p(lent), n(lent), p(DRAWS), n(DRAWS)).into(),

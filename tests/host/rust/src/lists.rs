@@ -9,10 +9,11 @@ use crate::cases::{long_scratch, noise, some_plan, step_strings};
 use crate::expected::model_call;
 use crate::layout::{bytes_of, read_desk, read_fetches, DESK_BYTES, ENTRY_BYTES, PLAN_BYTES};
 use crate::trial::Trial;
-use film_disk_model::rng::desks::{full_house, next_step, temper, Temper};
-use film_disk_model::{
-    card_bytes, check_claim, Book, Desk, Planned, Planner, Queue, Rng, Showing, Step,
-};
+use film_disk_model::rng::desks::{full_house, temper, Temper};
+use film_disk_model::rng::shelf::desks::next_step;
+use film_disk_model::shelf::book::most_sweeps;
+use film_disk_model::shelf::{card_bytes, Desk, Planned, Rule, Step};
+use film_disk_model::{check_claim, Book, Queue, Rng};
 
 /// The ways in of a list's calls: one, or both at random.
 const WAYS: [&[Way]; 3] = [&[Way::List], &[Way::Scratch], &[Way::List, Way::Scratch]];
@@ -31,9 +32,9 @@ fn open_desk(
     strings[LEADS] = noise(rng, planned.leads.len() * ENTRY_BYTES);
     strings[DESK] = noise(rng, DESK_BYTES);
     strings[SCRATCH] = long_scratch(rng);
-    let planner = Planner::of(planned.plan.showing).expect("the word of a plan");
+    let rule = Rule::of(planned.plan.showing).expect("the word of a plan");
     let way = rng.pick(ways);
-    let mut strings = trial.accepted(rng, Call::Plan(planner), way, &strings)?.strings;
+    let mut strings = trial.accepted(rng, Call::Plan(rule), way, &strings)?.strings;
     strings[CARD].clear();
     // By scratch no call has written them.
     strings[LEADS] = bytes_of(&planned.leads);
@@ -44,7 +45,7 @@ fn open_desk(
 /// Feeds the book what the playout process sees of a call.
 fn feed(book: &mut Book, call: Call, before: &Strings, got: &Outcome) -> Result<(), String> {
     let entries = read_fetches(&got.strings[FETCHES], got.answer.count);
-    book.feed(&model_call(call, before), got.answer.number == 0, &entries)
+    book.feed(&model_call(call, before).without_film(), got.answer.number == 0, &entries)
 }
 
 /// The bound of an accepted begin.
@@ -69,7 +70,8 @@ impl<'a> List<'a> {
         let ways = rng.pick(&WAYS);
         let desk = open_desk(rng, trial, planned, ways)?;
         let book = Book::new(planned.plan.figures.block_bytes);
-        let (rules, queue) = (Desk::all_free(&planned.plan), Queue::new(&planned.plan));
+        let rules = Desk::all_free(&planned.plan);
+        let queue = Queue::with_most(most_sweeps(&planned.plan));
         Ok(List { planned, ways, desk, rules, book, queue, number: 0 })
     }
 
@@ -106,18 +108,22 @@ impl<'a> List<'a> {
         }
         let desk = read_desk(&self.desk);
         check_claim(&self.book, &desk, &self.rules, begun(call, &got))?;
-        self.queue.feed(&model_call(call, &before), got.answer.number == 0, &desk)?;
+        let fed = model_call(call, &before).without_film();
+        self.queue.feed(&fed, got.answer.number == 0, &desk)?;
         trial.note_wait(self.queue.longest);
         Ok(got)
     }
 
-    /// The most times that a slot of a loop has got the whole film; 0 for any other.
+    /// The most times that an occupied slot of a loop has got its whole film; 0 for any other.
     pub fn rounds(&self) -> u128 {
-        let fetched = self.book.rows.iter().map(|row| row.fetched).max().unwrap_or(0);
-        match self.planned.plan.showing == Showing::Loop.word() {
-            true => fetched / self.planned.leads.len() as u128,
-            false => 0,
+        if self.planned.plan.showing != Rule::Loop.word() {
+            return 0;
         }
+        let fetched = |slot: usize| self.book.rows[slot].fetched;
+        let length =
+            |slot: usize| self.planned.plan.figures.blocks[self.rules.films[slot] as usize];
+        let occupied = self.rules.used_slots().filter(|&slot| self.rules.kinds[slot] != 0);
+        occupied.map(|slot| fetched(slot) / length(slot) as u128).max().unwrap_or(0)
     }
 }
 

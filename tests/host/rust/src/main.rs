@@ -20,8 +20,8 @@ mod windows;
 
 use call::Way;
 use cases::{
-    desk_case, edge_case, limit_case, open_case, overhead_case, place_case, plan_case,
-    request_case, showing_case, worst_pair_case,
+    desk_case, edge_case, join_case, limit_case, open_case, overhead_case, place_case, plan_case,
+    request_case, shelf_case, showing_case, slot_film_case, worst_pair_case,
 };
 use film_disk_model::Rng;
 use films::{all_films, film_case};
@@ -31,14 +31,15 @@ use std::process::ExitCode;
 use trial::Trial;
 use windows::window_case;
 
-/// A run of so many cases or more must meet every number of every call, worst pairs everywhere, loops gone round, and requests that wait.
+/// A run of so many cases or more must meet every number of every call, worst pairs everywhere, loops gone round, requests that wait, and
+/// shelves.
 const MANY_CASES: u64 = 5000;
 /// As many failures are shown.
 const SHOWN: u64 = 10;
 
 fn run_case(trial: &mut Trial, seed: u64) -> Result<(), String> {
     let mut rng = Rng::new(seed);
-    let (call, strings) = match rng.below(24) {
+    let (call, strings) = match rng.below(28) {
         0..=2 => plan_case(&mut rng),
         3 => open_case(&mut rng),
         4 | 5 => desk_case(&mut rng),
@@ -51,7 +52,10 @@ fn run_case(trial: &mut Trial, seed: u64) -> Result<(), String> {
         16 | 17 => request_case(&mut rng),
         18 | 19 => place_case(&mut rng),
         20 | 21 => plan_case(&mut rng),
-        22 => return house_case(&mut rng, trial),
+        22 => shelf_case(&mut rng),
+        23 | 24 => slot_film_case(&mut rng),
+        25 => join_case(&mut rng),
+        26 => return house_case(&mut rng, trial),
         _ => return list_case(&mut rng, trial),
     };
     trial.both(&mut rng, call, Way::List, &strings).map(|_| ())
@@ -79,9 +83,9 @@ impl Count {
 }
 
 fn run_films(trial: &mut Trial, count: &mut Count) {
-    for (name, blocks, zones, planner) in all_films() {
+    for (name, shelf) in all_films() {
         set_scene(&name);
-        count.note(&name, film_case(trial, blocks, zones, planner));
+        count.note(&name, film_case(trial, shelf));
     }
 }
 

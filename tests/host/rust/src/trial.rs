@@ -5,18 +5,22 @@ use crate::entries::{EARLIER, PRESENT};
 use crate::expected::{expected, is_for_pairs, is_same_by_scratch};
 use crate::layout::{read_desk, read_plan};
 use crate::library::{Lending, Library};
-use film_disk_model::{Plan, Rng, SLOTS};
+use film_disk_model::desk::TAIL;
+use film_disk_model::shelf::desk::is_fetched;
+use film_disk_model::shelf::plan::film_and_block;
+use film_disk_model::shelf::Plan;
+use film_disk_model::{Rng, SLOTS};
 
-/// Numbers of answers, 0 to 28.
-const NUMBERS: usize = 29;
+/// Numbers of answers, 0 to 31.
+const NUMBERS: usize = 32;
 /// A slot of some loop must go round so many times.
 const MANY_ROUNDS: u128 = 5;
 /// Where the worst pair of a film may be.
-const PLACES: [&str; 3] = ["at block 0", "in mid film", "at the last block"];
+const PLACES: [&str; 3] = ["at a film's block 0", "in mid film", "at its last block"];
 /// Kinds of a card.
 const KINDS: [&str; 2] = ["of kind 1", "of kind 2"];
 /// Where the worst window of a film may be.
-const WINDOWS: [&str; 3] = ["at block 0", "in mid film", "past the last block"];
+const WINDOWS: [&str; 3] = ["at a film's block 0", "in mid film", "past its last block"];
 /// Sizes of a draw limit.
 const LIMITS: [&str; 3] = ["of 0", "of 32 bits", "of more"];
 /// What a begin makes of the requests.
@@ -34,6 +38,22 @@ const PAIRS_MET: [&str; 11] = [
     "a begin with 256 fetches",
     "an end",
     "a window",
+];
+/// What comes of calls on shelves.
+const SHELVES_MET: [&str; 13] = [
+    "a plan of 1 film",
+    "of 2 films",
+    "of 3 films",
+    "of 16 films",
+    "of 16,384 blocks of several films",
+    "with its worst pair in the first of several films",
+    "with its worst pair in a later one",
+    "a join of the first of several films",
+    "a join of a later one",
+    "a begin for slots of several films",
+    "an end after the last block of a later film",
+    "a window in a later film",
+    "a window that one of the films is too short for",
 ];
 /// Calls made in both ways.
 const ALIKE: [&str; 2] = ["with another list or a short scratch", "alike"];
@@ -62,24 +82,28 @@ pub struct Trial {
     wait: u64,
     /// For each of these, how often it came of an accepted call for pairs.
     pairs: [u64; PAIRS_MET.len()],
+    /// For each of these, how often it came of an accepted call.
+    shelves: [u64; SHELVES_MET.len()],
     /// Calls that answered the same by list and by scratch, and those where the list was not the film's or the scratch short.
     alike: [u64; ALIKE.len()],
 }
 
-/// The place of the worst pair.
+/// The place of the worst pair in its film.
 fn worst_place(plan: &Plan) -> usize {
-    match plan.worstat {
+    let (film, block) = film_and_block(&plan.figures, plan.worstat);
+    match block {
         0 => 0,
-        block if block + 1 < plan.figures.blocks => 1,
+        block if block + 1 < plan.figures.blocks[film] => 1,
         _ => 2,
     }
 }
 
-/// The place of a window that has so many blocks.
+/// The place in its film of a window that has so many blocks.
 fn window_place(plan: &Plan, first: u32, blocks: u32) -> usize {
-    match first {
+    let (film, block) = film_and_block(&plan.figures, first);
+    match block {
         0 => 0,
-        _ if first + blocks <= plan.figures.blocks => 1,
+        _ if block + blocks <= plan.figures.blocks[film] => 1,
         _ => 2,
     }
 }
@@ -121,6 +145,51 @@ fn pairs_met(call: Call, wanted: &Outcome) -> Vec<usize> {
     }
 }
 
+/// What came of a plan, as places of `SHELVES_MET`.
+fn plan_met(plan: &Plan) -> Vec<usize> {
+    let films = plan.figures.films;
+    let counted = [1, 2, 3, 16].iter().position(|&count| count == films);
+    let full = (films > 1 && plan.figures.all_blocks() == 16_384).then_some(4);
+    let in_film = film_and_block(&plan.figures, plan.worstat).0;
+    let worst = (films > 1).then_some(5 + (in_film > 0) as usize);
+    [counted, full, worst].into_iter().flatten().collect()
+}
+
+/// What came of an accepted call, as places of `SHELVES_MET`.
+fn shelves_met(call: Call, before: &Strings, wanted: &Outcome) -> Vec<usize> {
+    match call {
+        Call::Plan(_) => plan_met(&read_plan(&wanted.strings[PLAN])),
+        Call::Join { film, .. } => {
+            let several = read_desk(&before[DESK]).plan.figures.films > 1;
+            several.then_some(7 + (film > 0) as usize).into_iter().collect()
+        }
+        Call::Begin => {
+            let desk = read_desk(&wanted.strings[DESK]);
+            let fetched: Vec<usize> =
+                desk.used_slots().filter(|&slot| is_fetched(&desk, slot)).collect();
+            let is_other = |&slot: &usize| desk.films[slot] != desk.films[fetched[0]];
+            fetched.iter().any(is_other).then_some(9).into_iter().collect()
+        }
+        Call::End => {
+            let (from, to) = (read_desk(&before[DESK]), read_desk(&wanted.strings[DESK]));
+            let past = |slot: usize| {
+                from.films[slot] > 0
+                    && is_fetched(&from, slot)
+                    && to.next[slot] != from.next[slot] + 1
+                    || to.films[slot] > 0 && to.kinds[slot] == TAIL && from.kinds[slot] != TAIL
+            };
+            from.used_slots().any(past).then_some(10).into_iter().collect()
+        }
+        Call::Window { blocks } => {
+            let figures = read_plan(&before[PLAN]).figures;
+            let later = film_and_block(&figures, wanted.answer.first).0 > 0;
+            let short = figures.lengths().iter().any(|&length| length < blocks);
+            [later.then_some(11), short.then_some(12)].into_iter().flatten().collect()
+        }
+        Call::Open | Call::Leave { .. } | Call::DrawLimit { .. } => vec![],
+    }
+}
+
 /// The call and the lengths of what it was lent.
 fn describe(call: Call, way: Way, strings: &Strings) -> String {
     let lent = call.lent(way).into_iter();
@@ -150,6 +219,7 @@ impl Trial {
             crowd: 0,
             wait: 0,
             pairs: [0; PAIRS_MET.len()],
+            shelves: [0; SHELVES_MET.len()],
             alike: [0; ALIKE.len()],
         }
     }
@@ -164,10 +234,8 @@ impl Trial {
     ) -> Result<(Outcome, Outcome), String> {
         let lending = Lending { at_start: rng.once_in(2), empty_is_null: rng.once_in(2) };
         let wanted = match &mut self.earlier {
-            Some(earlier) if earlier.has(way, is_for_pairs(call, strings)) => {
-                earlier.call(call, way, strings, lending)?
-            }
-            _ => expected(call, way, strings),
+            Some(earlier) => earlier.call(call, way, strings, lending)?,
+            None => expected(call, way, strings),
         };
         self.note(call, way, strings, &wanted);
         let named = |words| format!("{}: {words}", describe(call, way, strings));
@@ -210,6 +278,7 @@ impl Trial {
         if is_for_pairs(call, before) {
             pairs_met(call, wanted).into_iter().for_each(|met| self.pairs[met] += 1);
         }
+        shelves_met(call, before, wanted).into_iter().for_each(|met| self.shelves[met] += 1);
         match call {
             Call::Plan(_) => {
                 let plan = read_plan(&wanted.strings[PLAN]);
@@ -270,22 +339,23 @@ impl Trial {
         println!("requests at a begin: {}", tallied(&REQUESTS, &self.requests));
         println!("requests: {} at once; the eldest waited {} sweeps", self.crowd, self.wait);
         println!("pairs: {}", tallied(&PAIRS_MET, &self.pairs));
+        println!("shelves: {}", tallied(&SHELVES_MET, &self.shelves));
         println!("by list and by scratch: {}", tallied(&ALIKE, &self.alike));
         println!("loops: a slot went round {} times", self.rounds);
     }
 
     /// The numbers that each sort of call can answer and that no call was answered; places where no
     /// worst pair or window was; a kind of card; a size of a draw limit; requests, of which all slots may be and one has to wait a
-    /// sweep; what was not met of pairs; and loops, if none went round often enough.
+    /// sweep; what was not met of pairs and of shelves; and loops, if none went round often enough.
     pub fn missing(&self) -> Vec<String> {
-        let plan: Vec<usize> = (0..=13).chain([25, 26]).collect();
-        let pairs: Vec<usize> = (0..=8).chain(10..=13).chain([25, 26, 28]).collect();
+        let plan: Vec<usize> = (0..=13).chain([25, 26, 30]).collect();
+        let pairs: Vec<usize> = (0..=8).chain(10..=13).chain([25, 26, 28, 30]).collect();
         let answers: [&[usize]; SORTS.len()] = [
             &plan,
             &plan,
             &pairs,
             &[0, 13, 14],
-            &[0, 14, 15, 16, 17, 18],
+            &[0, 14, 15, 16, 17, 18, 31],
             &[0, 14, 15, 16, 17],
             &[0, 13, 14, 15],
             &[0, 14, 15, 19, 20, 21],
@@ -293,7 +363,7 @@ impl Trial {
             &plan,
             &pairs,
             &[0, 13, 14],
-            &[0, 13, 14, 15, 16, 17, 18],
+            &[0, 13, 14, 15, 16, 17, 18, 31],
             &[0, 13, 14, 15, 16, 17],
             &[0, 13, 14, 15],
             &[0, 13, 14, 15, 19, 20, 21],
@@ -323,6 +393,9 @@ impl Trial {
         }
         for (what, _) in PAIRS_MET.iter().zip(self.pairs).filter(|&(_, count)| count == 0) {
             missing.push(format!("{what} of pairs"));
+        }
+        for (what, _) in SHELVES_MET.iter().zip(self.shelves).filter(|&(_, count)| count == 0) {
+            missing.push(format!("{what} of a shelf"));
         }
         for (what, _) in REQUESTS.iter().zip(self.requests).filter(|&(_, count)| count == 0) {
             missing.push(format!("a begin with requests, {what}"));

@@ -4,17 +4,22 @@ use crate::call::{Call, Strings, Way, PLAN, POSITIONS};
 use crate::cases::{read_string, some_list, some_plan};
 use crate::layout::{bytes_of, plan_bytes};
 use crate::trial::Trial;
-use film_disk_model::rng::desks::alter_plan;
+use film_disk_model::rng::shelf::desks::alter_plan;
+use film_disk_model::shelf::{plan_record, Planned, Rule};
 use film_disk_model::window::MAX_WINDOW;
-use film_disk_model::{Planned, Planner, Rng};
+use film_disk_model::Rng;
 
 /// Up to so many blocks every window is tried.
 const SHORT: u32 = 256;
 
-/// Blocks of a window: a number that it may have, one about the borders, or any.
-fn some_blocks(rng: &mut Rng, film: u32) -> u32 {
-    let (good, any) = (rng.between(1, film.min(MAX_WINDOW)), rng.any());
-    let borders = [0, 1, 2, MAX_WINDOW, MAX_WINDOW + 1, film - 1, film, film + 1, any];
+/// Blocks of a window: a number that it may have, one about the borders of any film, or any.
+fn some_blocks(rng: &mut Rng, planned: &Planned) -> u32 {
+    let figures = &planned.plan.figures;
+    let (longest, film) = (figures.longest(), rng.pick(figures.lengths()));
+    let (good, any) = (rng.between(1, longest.min(MAX_WINDOW)), rng.any());
+    let all = figures.all_blocks() as u32;
+    let about = [film - 1, film, film + 1, longest, longest + 1, all];
+    let borders = [&[0, 1, 2, MAX_WINDOW, MAX_WINDOW + 1, any][..], &about].concat();
     if rng.once_in(2) {
         good
     } else {
@@ -22,15 +27,12 @@ fn some_blocks(rng: &mut Rng, film: u32) -> u32 {
     }
 }
 
-/// The list of the film shown the other way, or of another film.
+/// The list of the films shown another way, or of other films.
 fn foreign_positions(rng: &mut Rng, planned: &Planned) -> Vec<u32> {
     let figures = &planned.plan.figures;
-    let fits = |how: &Planner| {
-        let taken = how.visits() as u64 * figures.blocks as u64;
-        how.word() != planned.plan.showing && taken <= figures.total_positions()
-    };
-    let others = Planner::ALL.into_iter().filter(fits);
-    let turned: Vec<Planned> = others.flat_map(|how| how.plan_of(figures)).collect();
+    let others = Rule::ALL.into_iter().filter(|rule| rule.word() != planned.plan.showing);
+    let turned: Vec<Planned> =
+        others.flat_map(|rule| plan_record(figures, rule, usize::MAX, usize::MAX)).collect();
     match turned.len() {
         count if count > 0 && rng.once_in(2) => turned[rng.below(count)].positions.clone(),
         _ => some_plan(rng).positions,
@@ -40,7 +42,7 @@ fn foreign_positions(rng: &mut Rng, planned: &Planned) -> Vec<u32> {
 /// A window of the plan of its figures, or of another record.
 pub fn window_case(rng: &mut Rng) -> (Call, Strings) {
     let planned = some_plan(rng);
-    let blocks = some_blocks(rng, planned.plan.figures.blocks);
+    let blocks = some_blocks(rng, &planned);
     let mut plan = planned.plan.clone();
     if rng.once_in(6) {
         alter_plan(rng, &mut plan);
@@ -59,15 +61,16 @@ pub fn window_case(rng: &mut Rng) -> (Call, Strings) {
     (Call::Window { blocks }, strings)
 }
 
-/// Every number of blocks of a short film, and those about the borders of a long one.
-fn all_blocks(film: u32) -> Vec<u32> {
-    let middle = if film <= SHORT { 3..=62 } else { 31..=32 };
-    [0, 1, 2].into_iter().chain(middle).chain([63, 64, 65, 66, film, film + 1, u32::MAX]).collect()
+/// Every number of blocks of short films, and those about the borders of long ones, the longest of which has so many.
+fn all_blocks(longest: u32) -> Vec<u32> {
+    let middle = if longest <= SHORT { 3..=62 } else { 31..=32 };
+    let borders = [63, 64, 65, 66, longest, longest + 1, u32::MAX];
+    [0, 1, 2].into_iter().chain(middle).chain(borders).collect()
 }
 
-/// The windows of a film with its own list, each accepted or 27.
+/// The windows of films with their own list, each accepted or 27.
 pub fn film_windows(rng: &mut Rng, trial: &mut Trial, planned: &Planned) -> Result<(), String> {
-    let film = planned.plan.figures.blocks;
+    let film = planned.plan.figures.longest();
     let mut strings = Strings::default();
     strings[PLAN] = plan_bytes(&planned.plan);
     strings[POSITIONS] = bytes_of(&planned.positions);

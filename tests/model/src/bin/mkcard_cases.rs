@@ -3,16 +3,17 @@
 //! Arguments: path of the mkcard program, seed, count of random texts. The fixed texts and some
 //! long ones are always run before the random ones. Exit status 0 only if all passed.
 
-use film_disk_model::bench::bench_film;
-use film_disk_model::card::card_numbers;
+use film_disk_model::bench::{bench_film, bench_shelf};
 use film_disk_model::mkcard;
 use film_disk_model::programs::{is_equal, Comparison, Given, Written};
 use film_disk_model::rng::texts::{any_text, bench_words, long_text};
+use film_disk_model::shelf::card::card_numbers;
+use film_disk_model::shelf::Figures;
 use film_disk_model::Rng;
 use std::process::ExitCode;
 
 /// Short texts at the edges of the form.
-const SHORT_TEXTS: [&str; 30] = [
+const SHORT_TEXTS: [&str; 44] = [
     "",
     "\n",
     "#",
@@ -24,8 +25,22 @@ const SHORT_TEXTS: [&str; 30] = [
     "2",
     "3",
     "3 x",
-    "2 1 2 9 2 1 1 0",
-    "2 1 2 9 2 1 1 5\n4",
+    "2 1 2 9 1 2 1 1 0",
+    "2 1 2 9 1 2 1 1 5\n4",
+    "1 1 8 9 0\nx",
+    "1 1 8 9\n17 x",
+    "1 1 8 9\n16 x",
+    "1 1 8 9 x",
+    "1 1 8 9 2\n4\n5 x",
+    "1 1 8 9 2\n4\n4\nx",
+    "1 1 8 9 2\n4\n1\nx",
+    "1 1 8 9 2\n9\n1\nx",
+    "1 1 8 9 2\n4\n16381\nx",
+    "1 1 8 9 2\n4\n16380\nx",
+    "1 1 8 9 2 4 4 1 1 1 1",
+    "1 1 8 9 2 4 4 1 1 1 1 1",
+    "1 1 8 9 3 4 2 2 1 1 1 1",
+    "1 1 8 9 1 4 4 1 1 1 1",
     "0",
     "x",
     "1 x",
@@ -45,9 +60,20 @@ const SHORT_TEXTS: [&str; 30] = [
     "\u{feff}1 6",
 ];
 
+/// A shelf of three films and one of 16, a number a line.
+fn shelf_texts() -> Vec<String> {
+    let shelves = [bench_shelf(2, &[3, 2, 5]), bench_shelf(3000, &[1024; 16])];
+    let words = |figures: &Figures| card_numbers(figures).iter().map(u32::to_string).collect();
+    shelves
+        .iter()
+        .map(|figures| words(figures))
+        .map(|words: Vec<String>| words.join("\n"))
+        .collect()
+}
+
 /// The bench film of kind 2, whole, with a word too many, and cut off.
 fn measured_texts() -> Vec<String> {
-    let figures = bench_film().with_table(bench_film().table);
+    let figures = Figures::of(&bench_film().with_table(bench_film().table), &[6]);
     let words: Vec<String> = card_numbers(&figures).iter().map(u32::to_string).collect();
     let rows: Vec<String> = words.chunks(10).map(|row| row.join(" ")).collect();
     vec![
@@ -90,6 +116,7 @@ fn texts_of_length(length: usize) -> [String; 5] {
 fn first_texts(rng: &mut Rng) -> Vec<Given> {
     let mut texts = bench_texts();
     texts.extend(measured_texts());
+    texts.extend(shelf_texts());
     texts.extend(SHORT_TEXTS.map(String::from));
     for length in [65_534, 65_535, 65_536, 65_537, 131_072, 1_000_000] {
         texts.extend(texts_of_length(length));

@@ -6,11 +6,12 @@
 //! Arguments: path of the program, seed, count of random runs. All small cards are always run before the
 //! random ones. Exit status 0 only if all passed.
 
-use film_disk_model::card::card_bytes;
 use film_disk_model::programs::{is_equal, Comparison, Given, Written};
-use film_disk_model::rng::cards::any_card;
 use film_disk_model::rng::figures::{small_figures, tight_figures};
-use film_disk_model::try_all::{small_cards, try_card, MOST_BLOCKS};
+use film_disk_model::rng::shelf::cards::any_shelf_card;
+use film_disk_model::rng::shelf::small_shelf_of;
+use film_disk_model::shelf::{card_bytes, one_film_card, try_card, Rule};
+use film_disk_model::try_all::{small_cards, MOST_BLOCKS};
 use film_disk_model::{Refusal, Rng, Showing};
 use std::process::ExitCode;
 
@@ -36,19 +37,23 @@ fn run_of(cases: &[Case]) -> Given {
 
 /// Every small card, once and as a loop.
 fn first_runs(_: &mut Rng) -> Vec<Given> {
-    let cards: Vec<Vec<u8>> = small_cards().iter().map(card_bytes).collect();
+    let cards: Vec<Vec<u8>> = small_cards().iter().map(one_film_card).collect();
     let cases: Vec<Case> =
         cards.iter().flat_map(|card| Showing::ALL.map(|how| (card.clone(), how))).collect();
     cases.chunks(SMALL_CASES).map(run_of).collect()
 }
 
-/// Any card, or one of a film of up to 8 blocks, or of 9.
+/// Any card, or one of a film of up to 8 blocks, or of 9, or of two or three short films.
 fn random_card(rng: &mut Rng, showing: Showing) -> Vec<u8> {
     loop {
-        let card = match rng.below(6) {
-            0 => any_card(rng),
-            1 => card_bytes(&tight_figures(rng, showing, MOST_BLOCKS + 1)),
-            _ => card_bytes(&small_figures(rng, MOST_BLOCKS)),
+        let card = match rng.below(7) {
+            0 => any_shelf_card(rng, Rule::Once),
+            1 => one_film_card(&tight_figures(rng, showing, MOST_BLOCKS + 1)),
+            2 => {
+                let films = rng.pick(&[2, 3]);
+                card_bytes(&small_shelf_of(rng, Rule::Once, films, 2))
+            }
+            _ => one_film_card(&small_figures(rng, MOST_BLOCKS)),
         };
         if card.len() <= MOST_BYTES {
             return card;

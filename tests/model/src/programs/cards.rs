@@ -3,11 +3,10 @@
 //! arguments that the program does not know.
 
 use super::{Given, Written};
-use crate::bench::{bench_film, fixed_cards, fixed_pairs_cards};
-use crate::card::card_bytes;
-use crate::rng::cards::any_card;
-use crate::rng::pairs::any_pairs_card;
+use crate::bench::{bench_film, fixed_cards, fixed_pairs_cards, fixed_shelf_cards};
+use crate::rng::shelf::cards::any_shelf_card;
 use crate::rng::Rng;
+use crate::shelf::{one_film_card, Rule};
 
 /// The arguments of one showing, of a loop and of pairs.
 const SHOWINGS: [&[&str]; 3] = [&[], &["loop"], &["pairs"]];
@@ -21,23 +20,25 @@ const OTHERS: [&str; 13] = [
 /// The fixed cards for all showings; the bench film and an empty card with other arguments.
 pub fn first_runs(_: &mut Rng) -> Vec<Given> {
     let mut runs = Vec::new();
-    for card in fixed_cards().into_iter().chain(fixed_pairs_cards()) {
+    for card in [fixed_cards(), fixed_pairs_cards(), fixed_shelf_cards()].concat() {
         runs.extend(SHOWINGS.map(|words| Given::new(words, card.clone())));
     }
-    for card in [card_bytes(&bench_film()), Vec::new()] {
+    for card in [one_film_card(&bench_film()), Vec::new()] {
         runs.extend(OTHERS.map(|word| Given::new(&[word], card.clone())));
     }
     runs
 }
 
-/// Any card; for pairs often one of no more than half the positions.
+/// Any card of a shelf, at times one made for another showing.
 pub fn random_run(rng: &mut Rng) -> Given {
     let words = rng.pick(&SHOWINGS);
-    let card = match words {
-        ["pairs"] if rng.once_in(2) => any_pairs_card(rng),
-        _ => any_card(rng),
+    let rule = match words {
+        _ if rng.once_in(8) => rng.pick(&Rule::ALL),
+        ["loop"] => Rule::Loop,
+        ["pairs"] => Rule::Pairs,
+        _ => Rule::Once,
     };
-    Given::new(words, card)
+    Given::new(words, any_shelf_card(rng, rule))
 }
 
 fn hex(bytes: &[u8]) -> String {

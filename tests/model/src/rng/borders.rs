@@ -47,7 +47,7 @@ pub fn greatest_table() -> Figures {
 }
 
 /// Figures that reach the greatest values of the formulas.
-fn greatest_figures(rng: &mut Rng) -> Figures {
+pub(super) fn greatest_figures(rng: &mut Rng) -> Figures {
     let all = [
         greatest_load,
         greatest_bound,
@@ -95,7 +95,7 @@ fn greatest_pairs(rng: &mut Rng) -> Figures {
 
 /// Figures of a short film with such times, rates and the like. Half of them keep all times above a
 /// third of the greatest, and so are legal.
-fn border_figures(rng: &mut Rng) -> Figures {
+pub(super) fn border_figures(rng: &mut Rng) -> Figures {
     let limit = rng.pick(&[2, 3, 5, 8, 12, 40]);
     let mut figures = small_figures(rng, limit);
     let zones = figures.zones as usize;
@@ -112,7 +112,7 @@ fn border_figures(rng: &mut Rng) -> Figures {
 }
 
 /// Sets c and B so that c × need is within 2,000,000 × B, c at such a number and B often just enough.
-fn fit(rng: &mut Rng, figures: &mut Figures, need: u64) {
+pub(super) fn fit(rng: &mut Rng, figures: &mut Figures, need: u64) {
     let most = 2_000_000 * MAX_BLOCK_BYTES as u64 / need;
     figures.rate = border(rng, most.min(MAX_RATE as u64) as u32);
     let least = (figures.rate as u64 * need).div_ceil(2_000_000) as u32;

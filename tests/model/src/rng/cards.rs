@@ -5,7 +5,7 @@ use super::figures::{
 };
 use super::tables::{any_table, set_entry_to_limit};
 use super::Rng;
-use crate::card::{card_bytes, card_numbers, number_bytes, MAX_POSITIONS, MAX_ZONES};
+use crate::card::{card_bytes, card_numbers, number_bytes, Figures, MAX_POSITIONS, MAX_ZONES};
 use crate::plan::Showing;
 
 /// The card of a legal record.
@@ -104,34 +104,34 @@ pub(super) fn other_number(rng: &mut Rng, mut numbers: Vec<u32>) -> Vec<u8> {
     pieces(&numbers).concat()
 }
 
-/// The right form with a figure at or past the end of its range.
-fn past_limit(rng: &mut Rng) -> Vec<u8> {
+/// A figure at or past the end of its range.
+fn past_limit(rng: &mut Rng) -> Figures {
     let mut figures = legal_figures(rng);
     set_to_limit(rng, &mut figures);
-    card_bytes(&figures)
+    figures
 }
 
 /// A zone slower than the one before it.
-fn rising_times(rng: &mut Rng) -> Vec<u8> {
+pub(super) fn rising_times(rng: &mut Rng) -> Figures {
     let mut figures = small_figures(rng, 50);
     let zones = figures.zones as usize;
     if zones > 1 {
         let zone = 1 + rng.below(zones - 1);
         figures.times[zone] = figures.times[zone - 1] + rng.pick(&[0, 1, 1, 1000]);
     }
-    card_bytes(&figures)
+    figures
 }
 
 /// A zone about three times as fast as the first.
-fn half_dead_times(rng: &mut Rng) -> Vec<u8> {
+pub(super) fn half_dead_times(rng: &mut Rng) -> Figures {
     let mut figures = small_figures(rng, 50);
     set_to_third(rng, &mut figures);
-    card_bytes(&figures)
+    figures
 }
 
 /// A table with a number at or past its limit, or below the one before; once in two times with a
 /// fault in another number too.
-fn other_table(rng: &mut Rng) -> Vec<u8> {
+pub(super) fn other_table(rng: &mut Rng) -> Figures {
     let mut figures = small_figures(rng, 50);
     figures = figures.with_table(any_table(rng));
     if rng.once_in(4) {
@@ -142,38 +142,39 @@ fn other_table(rng: &mut Rng) -> Vec<u8> {
     if rng.once_in(2) {
         set_to_limit(rng, &mut figures);
     }
-    card_bytes(&figures)
+    figures
 }
 
 /// As many blocks as positions, or one more.
-fn full_film(rng: &mut Rng) -> Vec<u8> {
+fn full_film(rng: &mut Rng) -> Figures {
     let mut figures = small_figures(rng, 50);
     figures.blocks = figures.total_positions() as u32 + rng.pick(&[0, 1, 1, 16_385]);
-    card_bytes(&figures)
+    figures
 }
 
 /// A total of positions at or just past the greatest.
-fn full_disk(rng: &mut Rng) -> Vec<u8> {
+pub(super) fn full_disk(rng: &mut Rng) -> Figures {
     let mut figures = small_figures(rng, 50);
     let last = figures.zones as usize - 1;
     let room = MAX_POSITIONS - (figures.total_positions() as u32 - figures.positions[last]);
     figures.positions[last] = room + rng.pick(&[0, 1, 1, 2, 1_000_000_000]);
-    card_bytes(&figures)
+    figures
 }
 
-/// More zones than there may be, all of them on the card.
-fn many_zones(rng: &mut Rng) -> Vec<u8> {
+/// More zones than there may be, all of them on the card, with these numbers in the place of N.
+pub(super) fn many_zones(rng: &mut Rng, films: &[u32]) -> Vec<u8> {
     let zones = MAX_ZONES + rng.between(0, 2);
     let mut numbers = vec![1, zones];
     for _ in 0..zones {
         numbers.extend([rng.between(1, 3), 7]);
     }
-    numbers.extend([rng.between(2, 60), 262_144, 500_000, 12_670, 15_000]);
+    numbers.extend(films);
+    numbers.extend([262_144, 500_000, 12_670, 15_000]);
     pieces(&numbers).concat()
 }
 
 /// Bytes of no card.
-fn noise(rng: &mut Rng) -> Vec<u8> {
+pub(super) fn noise(rng: &mut Rng) -> Vec<u8> {
     let length = rng.pick(&[0, 1, 2, 5, 40]);
     let mut bytes = vec![rng.pick(&[1, 2]), rng.between(0, 70) as u8];
     for _ in 0..length {
@@ -203,13 +204,16 @@ pub fn damaged_card(rng: &mut Rng) -> Vec<u8> {
         3 | 4 => bad_form(rng, &numbers),
         5 => extra(rng, card),
         6 | 7 => other_number(rng, numbers),
-        8 => past_limit(rng),
-        9 => rising_times(rng),
-        10 => full_film(rng),
-        11 => full_disk(rng),
-        12 => many_zones(rng),
-        13 => half_dead_times(rng),
-        14 | 15 => other_table(rng),
+        8 => card_bytes(&past_limit(rng)),
+        9 => card_bytes(&rising_times(rng)),
+        10 => card_bytes(&full_film(rng)),
+        11 => card_bytes(&full_disk(rng)),
+        12 => {
+            let blocks = rng.between(2, 60);
+            many_zones(rng, &[blocks])
+        }
+        13 => card_bytes(&half_dead_times(rng)),
+        14 | 15 => card_bytes(&other_table(rng)),
         _ => noise(rng),
     }
 }

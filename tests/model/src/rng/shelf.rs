@@ -4,15 +4,16 @@ pub mod batches;
 pub mod cards;
 pub mod desks;
 
+use super::borders::{border_figures, fit, greatest_figures};
 use super::figures::{
     alter_figure, large_figures, random_figures, set_great_return, set_to_limit, set_to_third,
-    small_figures, tighten_to,
+    small_figures, tighten_to, uneven_figures,
 };
 use super::Rng;
 use crate::card::{self, MAX_BLOCKS, MIN_BLOCKS};
 use crate::shelf::card::MAX_SHELF_BLOCKS;
 use crate::shelf::plan::{all_times, most_streams, plan_of, worst2};
-use crate::shelf::{Figures, Planned, Rule, MAX_FILMS};
+use crate::shelf::{plan_record, Figures, Planned, Rule, MAX_FILMS};
 
 // Films of a disk.
 
@@ -153,6 +154,53 @@ pub fn large_shelf_plan(rng: &mut Rng, rule: Rule) -> Planned {
     let n = rng.pick(&[1, 3, 20, most_streams(rule)]);
     tighten(rng, &mut figures, rule, n);
     plan_of(&figures, rule).expect("n streams fit")
+}
+
+/// Films that take all positions of many small zones, but one at most: any pair of any film may be the
+/// worst.
+pub fn uneven_shelf(rng: &mut Rng, rule: Rule) -> Figures {
+    let visits = rule.visits() as u32;
+    let disk = uneven_figures(rng, MIN_BLOCKS * visits);
+    let all = disk.total_positions() as u32 / visits;
+    let most = (all / MIN_BLOCKS).min(MAX_FILMS as u32) as usize;
+    let films = rng.pick(&[1, 2, 3, most]).min(most);
+    let mut figures = Figures::of(&disk, &some_lengths(rng, films, all));
+    let most = most_streams(rule);
+    let n = rng.pick(&[1, 2, 5, 16, most]);
+    tighten(rng, &mut figures, rule, n);
+    figures
+}
+
+/// A plan of such films.
+pub fn uneven_shelf_plan(rng: &mut Rng, rule: Rule) -> Planned {
+    plan_of(&uneven_shelf(rng, rule), rule).expect("n streams fit")
+}
+
+/// Short films whose products are the greatest there are, or carry; one film often. Most feed a stream.
+pub fn border_shelf(rng: &mut Rng, rule: Rule) -> Figures {
+    let films = if rng.once_in(2) { 1 } else { some_count(rng) };
+    let is_greatest = rng.once_in(4);
+    let disk = if is_greatest { greatest_figures(rng) } else { border_figures(rng) };
+    let mut figures = shelf_on(rng, disk, rule, films, 40);
+    if !is_greatest && !rng.once_in(4) {
+        let most = most_streams(rule);
+        let n = rng.pick(&[1, 2, 3, 16, most - 1, most]);
+        let need = sweep_need(&figures, rule, n);
+        let mut disk = figures.of_one(0);
+        fit(rng, &mut disk, need);
+        figures = figures.on(&disk);
+    }
+    figures
+}
+
+/// A plan of such films.
+pub fn border_shelf_plan(rng: &mut Rng, rule: Rule) -> Planned {
+    loop {
+        let figures = border_shelf(rng, rule);
+        if let Ok(planned) = plan_record(&figures, rule, usize::MAX, usize::MAX) {
+            return planned;
+        }
+    }
 }
 
 // Records with a fault.

@@ -1,9 +1,12 @@
 //! Texts of figures: legal ones in every layout, and damaged ones.
 
-use super::figures::{alter_figure, legal_figures, set_to_limit, set_to_third, small_figures};
+use super::figures::set_to_third;
+use super::shelf::{alter_shelf, legal_shelf, set_shelf_to_limit, small_shelf};
 use super::Rng;
 use crate::bench::bench_film;
-use crate::card::{card_numbers, Figures, MAX_ZONES};
+use crate::card::MAX_ZONES;
+use crate::shelf::card::card_numbers;
+use crate::shelf::{Figures, Rule};
 
 fn words_of(figures: &Figures) -> Vec<String> {
     card_numbers(figures).iter().map(u32::to_string).collect()
@@ -93,7 +96,7 @@ fn many_words(rng: &mut Rng) -> Vec<u8> {
     for _ in 0..MAX_ZONES {
         words.extend(["3".to_string(), "700".to_string()]);
     }
-    words.extend(["60", "262144", "500000", "12670", "15000"].map(str::to_string));
+    words.extend(["2", "30", "40", "262144", "500000", "12670", "15000"].map(str::to_string));
     for _ in 0..rng.pick(&[0, 1, 2, 1000]) {
         words.push(if rng.once_in(5) { bad_word(rng) } else { rng.any().to_string() });
     }
@@ -124,20 +127,22 @@ pub fn long_text(rng: &mut Rng, words: &[String]) -> Vec<u8> {
 
 /// The bench film's words.
 pub fn bench_words() -> Vec<String> {
-    words_of(&bench_film())
+    words_of(&Figures::of(&bench_film(), &[6]))
 }
 
 /// Any text: legal or damaged.
 pub fn any_text(rng: &mut Rng) -> Vec<u8> {
-    let mut figures = if rng.once_in(2) { legal_figures(rng) } else { small_figures(rng, 60) };
+    let rule = Rule::Once;
+    let mut figures =
+        if rng.once_in(2) { legal_shelf(rng, rule) } else { small_shelf(rng, rule, 60) };
     match rng.below(11) {
         0 | 1 => laid_out(rng, &words_of(&figures)),
         2 => {
-            set_to_limit(rng, &mut figures);
+            set_shelf_to_limit(rng, &mut figures);
             laid_out(rng, &words_of(&figures))
         }
         3 => {
-            alter_figure(rng, &mut figures);
+            alter_shelf(rng, &mut figures);
             let words = damage(rng, words_of(&figures));
             laid_out(rng, &words)
         }
@@ -147,8 +152,9 @@ pub fn any_text(rng: &mut Rng) -> Vec<u8> {
         }
         8 => many_words(rng),
         9 => {
-            set_to_third(rng, &mut figures);
-            laid_out(rng, &words_of(&figures))
+            let mut disk = figures.of_one(0);
+            set_to_third(rng, &mut disk);
+            laid_out(rng, &words_of(&figures.on(&disk)))
         }
         _ => noise(rng),
     }

@@ -187,6 +187,11 @@ pub fn card_bytes(figures: &Figures) -> Vec<u8> {
     card_numbers(figures).into_iter().flat_map(number_bytes).collect()
 }
 
+/// The card of a record of one film: 1, then its N.
+pub fn one_film_card(figures: &card::Figures) -> Vec<u8> {
+    card_bytes(&Figures::of(figures, &[figures.blocks]))
+}
+
 /// Writes the card of a record and answers its length: 3 to 10, 25, 26 and 30, then 13, each with
 /// place 0. Bytes past the card keep their contents; a refusal writes none.
 pub fn write_card(figures: &Figures, lent: &mut [u8]) -> Result<usize, Refusal> {

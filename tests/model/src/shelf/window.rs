@@ -22,8 +22,17 @@ fn worst_of_films(times: &[Vec<u32>], rule: Rule, k: usize) -> (u32, usize) {
     worst.expect("a film of k blocks or more")
 }
 
+/// The window of k blocks of a plan; k is from 1 to 64 and to the longest film's N. Its place counts
+/// blocks as the lists do.
+pub fn window_of_plan(plan: &Plan, k: u32) -> Window {
+    let rule = Rule::of(plan.showing).expect("the word of a plan");
+    let times = all_times(&plan.figures, rule);
+    let (time, first) = worst_of_films(&times, rule, k as usize);
+    Window { time, first: first as u32, bytes: k * plan.figures.block_bytes }
+}
+
 /// The window of k blocks of a plan with its positions list: 14, then 27 for 0, above 64 or above the
-/// longest film's N, each with place 0. Its place counts blocks as the lists do.
+/// longest film's N, each with place 0.
 pub fn window(plan: &Plan, positions: &[u32], k: u32) -> Result<Window, Refusal> {
     if !is_plan_with_positions(plan, positions) {
         return refuse(cause::NOT_SOUND, 0);
@@ -31,8 +40,5 @@ pub fn window(plan: &Plan, positions: &[u32], k: u32) -> Result<Window, Refusal>
     if k == 0 || k > MAX_WINDOW || k > plan.figures.longest() {
         return refuse(cause::WINDOW, 0);
     }
-    let rule = Rule::of(plan.showing).expect("the word of a plan");
-    let times = all_times(&plan.figures, rule);
-    let (time, first) = worst_of_films(&times, rule, k as usize);
-    Ok(Window { time, first: first as u32, bytes: k * plan.figures.block_bytes })
+    Ok(window_of_plan(plan, k))
 }

@@ -5,34 +5,22 @@ use borrow.Author.Needs.{needs}
 use Rattle.card.proofs.judge.fault_of_film.Statement.{statement}
 use Rattle.card.proofs.judge.fault_of_film.Tie as tie
 
-fault-of-blocks-requires : tie.Need-fault-of-blocks-requires
-fault-of-blocks-requires c κs = search needs
-
 returns : tie.Need-returns
 unfolding filmFault
-returns c = first-stops (c .before .fault-of-blocks .ensures) _ (c .if1 .taken)
-
-fault-requires : tie.Need-fault-requires
-fault-requires c κs = search needs
+returns c = first-stops (c .before .fault-of-shelf .ensures) _ (c .if1 .taken)
 
 returns-2 : tie.Need-returns-2
 unfolding filmFault
 returns-2 c =
     first-stops (c .before .fault .ensures) _ (c .if2 .taken)
-    ∙ first-goes (c .before .before .before .fault-of-blocks .ensures) _ (c .before .before .if1 .left)
-
-fault-requires-2 : tie.Need-fault-requires-2
-fault-requires-2 c κs = search needs
+    ∙ first-goes (c .before .before .before .fault-of-shelf .ensures) _ (c .before .before .if1 .left)
 
 returns-3 : tie.Need-returns-3
 unfolding filmFault
 returns-3 c =
     first-stops (c .before .fault2 .ensures) _ (c .if3 .taken)
     ∙ first-goes (c .before .before .before .fault .ensures) _ (c .before .before .if2 .left)
-    ∙ first-goes (c .before .before .before .before .before .fault-of-blocks .ensures) _ (c .before .before .before .before .if1 .left)
-
-fault-of-table-requires : tie.Need-fault-of-table-requires
-fault-of-table-requires c κs = search needs
+    ∙ first-goes (c .before .before .before .before .before .fault-of-shelf .ensures) _ (c .before .before .before .before .if1 .left)
 
 returns-4 : tie.Need-returns-4
 unfolding filmFault
@@ -40,17 +28,17 @@ returns-4 c =
     c .fault-of-table .ensures
     ∙ first-goes (c .before .before .fault2 .ensures) _ (c .before .if3 .left)
     ∙ first-goes (c .before .before .before .before .fault .ensures) _ (c .before .before .before .if2 .left)
-    ∙ first-goes (c .before .before .before .before .before .before .fault-of-blocks .ensures) _ (c .before .before .before .before .before .if1 .left)
+    ∙ first-goes (c .before .before .before .before .before .before .fault-of-shelf .ensures) _ (c .before .before .before .before .before .if1 .left)
 
 pub fault-of-film-spec : {M : Type 1} → statement M
 fault-of-film-spec =
     tie.close
     (tie.spec
-    fault-of-blocks-requires
+    (λ c κs. search needs)
     returns
-    fault-requires
+    (λ c κs. search needs)
     returns-2
-    fault-requires-2
+    (λ c κs. search needs)
     returns-3
-    fault-of-table-requires
+    (λ c κs. search needs)
     returns-4)

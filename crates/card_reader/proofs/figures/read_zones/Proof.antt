@@ -3,35 +3,35 @@ use mathlib.Core.Path.{_≡_, ap, _∙_}
 use native.Mathlib.Omega.{arith}
 use borrow.Author.Needs.{needs}
 use mathlib.Core.List.{List}
+use Rattle.card.specs.declared.CardRead.{CardRead}
 use Rattle.numbers.specs.Limits.{maxPositions, maxTime}
-use Rattle.card.specs.Read.{zonesFrom, afterZones}
+use Rattle.card.specs.Read.{thenField, zonesFrom}
 use Rattle.card_reader.proofs.ReaderWays.{field-fits, read-done, read-few, read-slow, read-more}
 use Rattle.card_reader.proofs.figures.read_zones.Statement.{statement}
 use Rattle.card_reader.proofs.figures.read_zones.Tie as tie
 
 -- the zones before the i-th are read
-record Read (card : List ℕ) (start visits kind zones : ℕ) (sizes₀ times₀ sizes times : List ℕ) (at total before i : ℕ) : Type 0 where
+record Read (card : List ℕ) (start zones : ℕ) (sizes₀ times₀ sizes times : List ℕ) (at total before i : ℕ) : Type 0 where
   within : i ≤ zones
   few : total ≤ maxPositions
-  same : zonesFrom (zones - i) card at i sizes times total before (afterZones visits card kind zones)
-      ≡ zonesFrom zones card start 0 sizes₀ times₀ 0 maxTime (afterZones visits card kind zones)
+  same : (go : List ℕ → List ℕ → ℕ → ℕ → CardRead)
+      → zonesFrom (zones - i) card at i sizes times total before go ≡ zonesFrom zones card start 0 sizes₀ times₀ 0 maxTime go
 
 abbrev Inv-loop : tie.InvT-loop
-Inv-loop card start visits kind zones sizes₀ times₀ table at₀ total₀ before₀ i₀ sizes times at total before i =
-    Read card start visits kind zones sizes₀ times₀ sizes times at total before i
+Inv-loop card start zones sizes₀ times₀ at₀ total₀ before₀ i₀ sizes times at total before i =
+    Read card start zones sizes₀ times₀ sizes times at total before i
 
 abbrev μ-loop : tie.MeasureT-loop
-μ-loop card start visits kind zones sizes₀ times₀ table at₀ total₀ before₀ i₀ sizes times at total before i = zones - i
+μ-loop card start zones sizes₀ times₀ at₀ total₀ before₀ i₀ sizes times at total before i = zones - i
 
 loop-holds : tie.Need-loop-holds Inv-loop μ-loop
 loop-holds c =
     let a = c .before .args in
-    let rest = afterZones (a .visits) (a .card .now) (a .kind) (a .zones) in
     let e : a .zones - 0 ≡ a .zones = omega arith in
     record {
       within = omega arith;
       few = omega arith;
-      same = ap (λ (n : ℕ). zonesFrom n (a .card .now) (a .start) 0 (a .sizes .now) (a .times .now) 0 maxTime rest) e;
+      same = λ go. ap (λ (n : ℕ). zonesFrom n (a .card .now) (a .start) 0 (a .sizes .now) (a .times .now) 0 maxTime go) e;
     }
 
 read-field-requires : tie.Need-read-field-requires Inv-loop μ-loop
@@ -43,16 +43,12 @@ enum-known-first c = search needs
 enum-told : tie.Need-enum-told Inv-loop μ-loop
 enum-told c = search needs
 
-refused-field-requires : tie.Need-refused-field-requires Inv-loop μ-loop
-refused-field-requires c κs = search needs
-
 returns : tie.Need-returns Inv-loop μ-loop
 returns c =
-    let l = c .before .before .before .before .before .loop in
-    c .refused-field .ensures _ _ _
-    ∙ read-few _ (l .at) (l .i) (l .sizes) (l .times) (l .total) (l .before) _ _ (c .before .before .before .read-field .ensures) (omega arith) _
-    (c .before .enum-told .given .1)
-    ∙ l .inv .same
+    let l = c .before .before .before .before .loop in
+    λ go. read-few _ (l .at) (l .i) (l .sizes) (l .times) (l .total) (l .before) go _ (c .before .before .read-field .ensures) (omega arith) _
+    (c .enum-told .given .1)
+    ∙ l .inv .same go
 
 element-copy-out-innermost : tie.Need-element-copy-out-innermost Inv-loop μ-loop
 element-copy-out-innermost c = search needs
@@ -66,17 +62,13 @@ enum-known-second c = search needs
 enum-told-2 : tie.Need-enum-told-2 Inv-loop μ-loop
 enum-told-2 c = search needs
 
-refused-field-requires-2 : tie.Need-refused-field-requires-2 Inv-loop μ-loop
-refused-field-requires-2 c κs = search needs
-
 returns-2 : tie.Need-returns-2 Inv-loop μ-loop
 returns-2 c =
-    let positions = c .before .before .before .before .before .before in
+    let positions = c .before .before .before .before .before in
     let l = positions .before .before .before .before .loop in
-    c .refused-field2 .ensures _ _ _
-    ∙ read-slow _ (l .at) (l .i) (l .sizes) (l .times) (l .total) (l .before) _ _ (positions .before .before .read-field .ensures) (positions .first .given .1)
-    (c .before .before .before .read-time .ensures) (omega arith) _ (c .before .enum-told2 .given .1)
-    ∙ l .inv .same
+    λ go. read-slow _ (l .at) (l .i) (l .sizes) (l .times) (l .total) (l .before) go _ (positions .before .before .read-field .ensures)
+    (positions .first .given .1) (c .before .before .read-time .ensures) (omega arith) _ (c .enum-told2 .given .1)
+    ∙ l .inv .same go
 
 mul-sizes : tie.Need-mul-sizes Inv-loop μ-loop
 mul-sizes c = search needs
@@ -108,17 +100,15 @@ loop-again c =
     record {
       within = omega arith;
       few = field-fits _ _ _ (positions .before .before .read-field .ensures) (positions .first .given .1);
-      same = read-more _ (l .at) (l .i) (l .sizes) (l .times) (l .total) (l .before) _ _ (positions .before .before .read-field .ensures)
-          (positions .first .given .1) (c .before .before .before .read-time .ensures) _ (omega arith) (c .before .second .given .1) ∙ l .inv .same;
+      same = λ go. read-more _ (l .at) (l .i) (l .sizes) (l .times) (l .total) (l .before) go _ (positions .before .before .read-field .ensures)
+          (positions .first .given .1) (c .before .before .before .read-time .ensures) _ (omega arith) (c .before .second .given .1) ∙ l .inv .same go;
     }
 
-read-film-requires : tie.Need-read-film-requires Inv-loop μ-loop
-read-film-requires c κs = search needs
-
 returns-3 : tie.Need-returns-3 Inv-loop μ-loop
+unfolding thenField
 returns-3 c =
-    let l = c .before .before .before .loop in
-    c .read-film .ensures _ _ ∙ read-done _ _ _ _ _ _ _ _ _ (omega arith) ∙ l .inv .same
+    let l = c .before .loop in
+    λ go. read-done _ (l .at) (l .i) (l .sizes) (l .times) (l .total) (l .before) go _ (omega arith) ∙ l .inv .same go
 
 pub read-zones-spec : {M : Type 1} → statement M
 read-zones-spec =
@@ -130,13 +120,11 @@ read-zones-spec =
     read-field-requires
     enum-known-first
     enum-told
-    refused-field-requires
     returns
     element-copy-out-innermost
     read-time-requires
     enum-known-second
     enum-told-2
-    refused-field-requires-2
     returns-2
     mul-sizes
     element-write-sizes
@@ -146,5 +134,4 @@ read-zones-spec =
     add-i
     loop-less
     loop-again
-    read-film-requires
     returns-3)

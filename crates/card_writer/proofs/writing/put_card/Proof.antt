@@ -9,7 +9,7 @@ use Rattle.card_writer.proofs.writing.put_card.Tie as tie
 -- the card has room in the buffer
 room : (s : tie.Start) → Room (s .args .write) (s .args .out .now) 0 (bytesOf (numbersOf (s .args .figures)))
 unfolding cardOf
-room s = s .pre .1
+room s = s .pre .2
 
 -- where the function begins, from each number put
 abbrev start1 : tie.After-put-number → tie.Start
@@ -41,7 +41,7 @@ put-number-requires-2 : tie.Need-put-number-requires-2
 put-number-requires-2 c κs = let w = c .before .before .before in writes-fits (room (start1 w)) (count-left w)
 
 put-zones-requires : tie.Need-put-zones-requires
-put-zones-requires c κs = let w = c .before .before .before in (start2 w .pre .0, writes-rest (room (start2 w)) (zones-left w))
+put-zones-requires c κs = let w = c .before .before .before in (start2 w .pre .0, start2 w .pre .1, writes-rest (room (start2 w)) (zones-left w))
 
 same-length : tie.Need-same-length
 same-length c = search needs

@@ -22,7 +22,7 @@ Inv-loop out₀ start write figures zones at₀ i₀ out at i = Put write figure
 abbrev μ-loop : tie.MeasureT-loop
 μ-loop out₀ start write figures zones at₀ i₀ out at i = zones - i
 
--- what is left to put where a zone begins, where its time is left, and where the film is
+-- what is left to put where a zone begins, where its time is left, and where the films are
 zone-left : (c : tie.In-loop Inv-loop μ-loop) → (let a = c .before .before .before .args in let l = c .before .loop in
     Writes (a .write) (a .out .now) (a .start) (zoneNumbers (a .t1 .zones) 0 (a .t1)) (l .out) (l .at)
     (getD (a .t1 .positions) (l .i) 0 ∷ getD (a .t1 .times) (l .i) 0 ∷ zoneNumbers (a .t1 .zones - (l .i + 1)) (l .i + 1) (a .t1)))
@@ -35,7 +35,7 @@ time-left : (c : tie.After-put-number Inv-loop μ-loop)
     → (let t = c .before .before .before in let a = t .before .before .before .args in let l = t .before .loop in
     Writes (a .write) (a .out .now) (a .start) (zoneNumbers (a .t1 .zones) 0 (a .t1)) (c .put-number .last .0) (c .put-number .result)
     (getD (a .t1 .times) (l .i) 0 ∷ zoneNumbers (a .t1 .zones - (l .i + 1)) (l .i + 1) (a .t1)))
-time-left c = let t = c .before .before .before in writes-next (t .before .before .before .pre .1) (zone-left t) (c .put-number .ensures)
+time-left c = let t = c .before .before .before in writes-next (t .before .before .before .pre .2) (zone-left t) (c .put-number .ensures)
 
 film-left : (c : tie.After-loop Inv-loop μ-loop) → (let a = c .before .before .before .args in let l = c .before .loop in
     Writes (a .write) (a .out .now) (a .start) (zoneNumbers (a .t1 .zones) 0 (a .t1)) (l .out) (l .at) (filmNumbers (a .t1)))
@@ -66,7 +66,7 @@ element-copy-out-put-number : tie.Need-element-copy-out-put-number Inv-loop μ-l
 element-copy-out-put-number c = search needs
 
 put-number-requires : tie.Need-put-number-requires Inv-loop μ-loop
-put-number-requires c κs = writes-fits (c .before .before .before .before .before .pre .1) (zone-left (c .before .before))
+put-number-requires c κs = writes-fits (c .before .before .before .before .before .pre .2) (zone-left (c .before .before))
 
 mul-put-number-2 : tie.Need-mul-put-number-2 Inv-loop μ-loop
 mul-put-number-2 c = search needs
@@ -75,7 +75,7 @@ element-copy-out-put-number-2 : tie.Need-element-copy-out-put-number-2 Inv-loop 
 element-copy-out-put-number-2 c = search needs
 
 put-number-requires-2 : tie.Need-put-number-requires-2 Inv-loop μ-loop
-put-number-requires-2 c κs = let w = c .before .before .before .before in writes-fits (w .before .before .before .before .before .before .pre .1) (time-left w)
+put-number-requires-2 c κs = let w = c .before .before .before .before in writes-fits (w .before .before .before .before .before .before .pre .2) (time-left w)
 
 add-i : tie.Need-add-i Inv-loop μ-loop
 add-i c = search needs
@@ -87,16 +87,16 @@ loop-again : tie.Need-loop-again Inv-loop μ-loop
 loop-again c =
     let t = c .before .before in
     let w = t .before .before .before .before .before in
-    record { within = omega arith; left = writes-next (w .before .before .before .before .before .before .pre .1) (time-left w) (t .put-number2 .ensures) }
+    record { within = omega arith; left = writes-next (w .before .before .before .before .before .before .pre .2) (time-left w) (t .put-number2 .ensures) }
 
-put-film-requires : tie.Need-put-film-requires Inv-loop μ-loop
-put-film-requires c κs = let p = c .before in writes-rest (p .before .before .before .pre .1) (film-left p)
+put-films-requires : tie.Need-put-films-requires Inv-loop μ-loop
+put-films-requires c κs = let p = c .before in let s = p .before .before .before in (s .pre .1, writes-rest (s .pre .2) (film-left p))
 
 same-length : tie.Need-same-length Inv-loop μ-loop
 same-length c = search needs
 
 returns : tie.Need-returns Inv-loop μ-loop
-returns c = let w = c .before .before in writes-last (film-left (w .before .before)) (w .put-film .ensures)
+returns c = let w = c .before .before in writes-last (film-left (w .before .before)) (w .put-films .ensures)
 
 pub put-zones-spec : {M : Type 1} → statement M
 put-zones-spec =
@@ -115,6 +115,6 @@ put-zones-spec =
     add-i
     loop-less
     loop-again
-    put-film-requires
+    put-films-requires
     same-length
     returns)

@@ -23,7 +23,7 @@ returns-2 c =
     let ps = a .positions .now in
     let ls = leadsOfDesk D in
     let step = m .before .join-of .ensures in
-    let same = join-is (said D) ps ls (a .slot) (a .block) in
+    let same = join-is (said D) ps ls (a .slot) (a .block) (a .film) in
     rw (sym (e .before .is-short .ensures) ∙ e .if1 .left) (
       m .make-move .ensures .0 ∙ ap (moveAnswer D ps ls) step ∙ ap (λ (x : Answer). answerBy D (verdictAnswer (x .verdict))) same,
       m .make-move .ensures .1 ∙ ap (moveString D ps ls) step ∙ ap (λ (x : Answer). stringBy D (x .desk)) same,

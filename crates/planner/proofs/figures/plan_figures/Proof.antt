@@ -42,12 +42,12 @@ returns c =
     (c .refused .ensures ∙ o .0, o .1, o .2)
 
 plan-legal-requires : tie.Need-plan-legal-requires
-plan-legal-requires c κs = let e = c .before .before .before .before .before .before in e .before .before .before .before .before .pre (e .if1 .left)
+plan-legal-requires c κs = let e = c .before .before .before .before .before .before .before .before in e .before .before .before .before .before .pre (e .if1 .left)
 
 returns-2 : tie.Need-returns-2
 returns-2 c =
     let m = c .before .before .before .before .before .before .before in
-    let e = m .before .before .before .before .before .before .before in
+    let e = m .before .before .before .before .before .before .before .before .before in
     let a = e .before .before .before .before .before .args in
     let r = m .plan-legal .ensures in
     let o = by-fault (a .listed) (showingOf (a .showing)) (a .t1) (a .positions .now) (a .leads .now) (e .if1 .left) _ (r .0) _ _ (r .2) (r .3) in
@@ -59,7 +59,7 @@ returns-3 c =
     let p = c .planned-with .ensures in
     let z = c .before .before in
     let m = z .before .before .before .before .before .before in
-    let e = m .before .before .before .before .before .before .before in
+    let e = m .before .before .before .before .before .before .before .before .before in
     let a = e .before .before .before .before .before .args in
     let r = m .plan-legal .ensures in
     by-made (a .listed) (showingOf (a .showing)) (a .t1) (a .positions .now) (a .leads .now) (e .if1 .left) _ (r .0) _ _ (r .2) (r .3)

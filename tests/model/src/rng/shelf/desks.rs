@@ -47,8 +47,8 @@ fn slots_where(desk: &Desk, wanted: impl Fn(u32) -> bool) -> Vec<u32> {
     desk.used_slots().filter(|&slot| wanted(desk.kinds[slot])).map(|slot| slot as u32).collect()
 }
 
-/// A film of the shelf and a block of it, the first and the last ones often.
-fn some_start(rng: &mut Rng, desk: &Desk) -> (u32, u32) {
+/// A block and its film, the film's first and last blocks often.
+pub fn some_start(rng: &mut Rng, desk: &Desk) -> (u32, u32) {
     let film = rng.between(0, desk.plan.figures.films - 1);
     let last = desk.plan.figures.blocks[film as usize] - 1;
     let any = rng.between(0, last);
@@ -197,7 +197,7 @@ pub fn sound_desk(rng: &mut Rng, planned: &Planned) -> Desk {
         let (kind, bytes) = (desk.kinds[slot], plan.figures.block_bytes);
         desk.held[slot] = held_of(rng, kind, plan.buffer, bytes, low);
     }
-    desk.places = some_places(rng, &desk.kinds);
+    set_places(rng, &mut desk);
     desk
 }
 
@@ -216,10 +216,22 @@ pub fn alter_plan(rng: &mut Rng, plan: &mut Plan) {
 }
 
 /// Alters a slot's film: often another of the shelf, or the first one that it has not.
-fn alter_film(rng: &mut Rng, desk: &mut Desk, slot: usize) {
+pub fn alter_film(rng: &mut Rng, desk: &mut Desk, slot: usize) {
     let films = desk.plan.figures.films;
     let any = rng.any();
     desk.films[slot] = rng.pick(&[0, films.wrapping_sub(1), films, films, 15, 16, any]);
+}
+
+/// Gives the asked slots their places, in any order, and all others 0.
+pub fn set_places(rng: &mut Rng, desk: &mut Desk) {
+    desk.places = some_places(rng, &desk.kinds);
+}
+
+/// Alters the places of the slots: two are alike, one is left out, one more is there, one is on
+/// another slot, or two change places, which stays sound.
+pub fn alter_places(rng: &mut Rng, desk: &mut Desk) {
+    let any = some_slot(rng, desk.plan.streams);
+    alter_places_of(rng, &desk.kinds, &mut desk.places, any);
 }
 
 /// Alters one number of the slots. The record may stay sound.
@@ -240,10 +252,7 @@ pub fn alter_desk(rng: &mut Rng, desk: &mut Desk) {
     match rng.below(7) {
         0 => alter_plan(rng, &mut desk.plan),
         1 => desk.phase = rng.other_than(desk.phase),
-        2 => {
-            let any = some_slot(rng, desk.plan.streams);
-            alter_places_of(rng, &desk.kinds, &mut desk.places, any);
-        }
+        2 => alter_places(rng, desk),
         _ => alter_slot(rng, desk),
     }
 }
