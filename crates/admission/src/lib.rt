@@ -53,7 +53,7 @@ pub fn open_scratch(plan: Plan, positions: &[u8], scratch: &[u8]) -> Answer
 }
 
 // A join of a slot at a start block of a film, or a leave of it.
-#[derive(Drop)]
+#[derive(Clone, Copy)]
 pub struct Move {
     pub joins: bool,
     pub slot: u32,

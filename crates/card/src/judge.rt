@@ -84,7 +84,7 @@ fn fault_of_film(visits: u32, total: u32, figures: Scalars, table: &[u32; 257]) 
 }
 
 // P, the positions of all zones, or the refusal's number.
-#[derive(Drop)]
+#[derive(Clone, Copy)]
 pub enum Judged {
     Total(u32),
     Refused(u32),

@@ -5,7 +5,7 @@ ghost use Rattle.std.specs.Prelude.{◌≡◌};
 ghost use Rattle.card.specs.Card.{one_film, judge_record};
 
 // The figures of a card. Entries past the zones, and past the films, are zero.
-#[derive(Drop)]
+#[derive(Clone, Copy)]
 pub struct Figures {
     // 1: overheads by hop and return; 2: measured ones.
     pub kind: u32,
@@ -27,7 +27,7 @@ pub struct Figures {
 }
 
 // The figures that are single numbers, and the films; a caller that lends the other arrays hands them over so.
-#[derive(Drop)]
+#[derive(Clone, Copy)]
 pub struct Scalars {
     pub kind: u32,
     pub zones: u32,
@@ -38,21 +38,21 @@ pub struct Scalars {
 }
 
 // The refusal number of document 01 or 02 and what is returned with it; 0 and 0 where the call is accepted.
-#[derive(Drop)]
+#[derive(Clone, Copy)]
 pub struct Verdict {
     pub number: u32,
     pub place: usize,
 }
 
 // The figures of an accepted card; all zero where it is refused.
-#[derive(Drop)]
+#[derive(Clone, Copy)]
 pub struct CardRead {
     pub verdict: Verdict,
     pub figures: Figures,
 }
 
 // The length of a written card; zero where it is refused.
-#[derive(Drop)]
+#[derive(Clone, Copy)]
 pub struct CardWritten {
     pub verdict: Verdict,
     pub length: usize,

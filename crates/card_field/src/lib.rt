@@ -15,7 +15,7 @@ use numbers::refusals::{
 };
 
 // Which figure is judged, and what its bound is.
-#[derive(Drop)]
+#[derive(Clone, Copy)]
 pub enum Rule {
     // The kind of the card.
     Kind,
@@ -32,7 +32,7 @@ pub enum Rule {
 }
 
 // A figure with the offset after it, or the refusal's number with its offset.
-#[derive(Drop)]
+#[derive(Clone, Copy)]
 pub enum Field {
     Value(u32, usize),
     Refused(u32, usize),

@@ -12,7 +12,7 @@ use card_field::{Field, Rule, read_field};
 use numbers::refusals::ACCEPTED;
 
 // What a card tells beside its arrays: kind, zones, films, B and c, or the refusal's number with its offset.
-#[derive(Drop)]
+#[derive(Clone, Copy)]
 pub enum Told {
     Figures(u32, u32, u32, u32, u32),
     Refused(u32, usize),

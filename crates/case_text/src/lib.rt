@@ -8,7 +8,7 @@ use card::{Figures, Verdict};
 use libc::STDOUT_FILENO;
 
 // A number of a line, and where the next one may begin.
-#[derive(Drop)]
+#[derive(Clone, Copy)]
 pub struct Entry {
     pub value: u32,
     pub next: usize,
@@ -149,7 +149,7 @@ pub fn is_record(letter: u8) -> bool {
 }
 
 // A case: the letter for what is done, 0 where its line has no colon or no end; where what follows the letter begins; and where its line ends.
-#[derive(Drop)]
+#[derive(Clone, Copy)]
 pub struct Case {
     pub letter: u8,
     pub start: usize,

@@ -6,7 +6,7 @@ use leb128::{number_length, write_number};
 use std::num::wrapping_add_u32;
 
 // A run, and where the next one may begin.
-#[derive(Drop)]
+#[derive(Clone, Copy)]
 pub struct Run {
     pub value: u32,
     pub step: u32,

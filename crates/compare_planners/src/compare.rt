@@ -17,7 +17,7 @@ use planner::{plan_card, plan_loop_card};
 use try_all::{try_card, try_loop_card};
 
 // How many cards, and how many unequal worst2 in one showing and in a loop together.
-#[derive(Drop)]
+#[derive(Clone, Copy)]
 pub struct Tally {
     pub cards: u32,
     pub unequal: u32,

@@ -5,14 +5,14 @@ ghost use Rattle.decimal.specs.Decimal.{is_digit, grown, digits_at, number_at, c
 use numbers::limits::NO_NUMBER;
 
 // The value of digits, and the offset after them.
-#[derive(Drop)]
+#[derive(Clone, Copy)]
 pub struct Digits {
     pub value: u64,
     pub next: usize,
 }
 
 // A number without leading zeros and the offset after it, or anything else.
-#[derive(Drop)]
+#[derive(Clone, Copy)]
 pub enum Decimal {
     Number(u64, usize),
     Other,

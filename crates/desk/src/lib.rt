@@ -7,7 +7,7 @@ use card::Verdict;
 use plan::{Plan, blank_plan};
 
 // A desk: a plan record, the phase (0 between sweeps, 1 in one) and 256 slots.
-#[derive(Drop)]
+#[derive(Clone, Copy)]
 pub struct Desk {
     pub plan: Plan,
     pub phase: u32,
@@ -22,14 +22,14 @@ pub struct Desk {
 }
 
 // The answer of an opening, a join, a leave and an end.
-#[derive(Drop)]
+#[derive(Clone, Copy)]
 pub struct Answer {
     pub verdict: Verdict,
     pub desk: Desk,
 }
 
 // The fetches of a sweep in their order: the first `count` places of each array; the others are zero.
-#[derive(Drop)]
+#[derive(Clone, Copy)]
 pub struct Fetches {
     pub count: u32,
     pub positions: [u32; 256],
@@ -38,7 +38,7 @@ pub struct Fetches {
 }
 
 // The answer of a begin; count and bound are zero where it is refused.
-#[derive(Drop)]
+#[derive(Clone, Copy)]
 pub struct Begun {
     pub verdict: Verdict,
     pub desk: Desk,
@@ -47,7 +47,7 @@ pub struct Begun {
 }
 
 // An entry of the fetch list.
-#[derive(Drop)]
+#[derive(Clone, Copy)]
 pub struct Fetch {
     pub position: u32,
     pub slot: u32,

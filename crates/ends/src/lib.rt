@@ -21,7 +21,7 @@ use numbers::slots::{DRAINING, FILLING, FREE, PLAYING};
 use words::word_at;
 
 // A slot of the desk.
-#[derive(Drop)]
+#[derive(Clone, Copy)]
 pub struct Slot {
     pub kind: u32,
     pub next: u32,

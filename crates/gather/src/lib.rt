@@ -14,7 +14,7 @@ use words::word_at;
 use zones::time_at;
 
 // Time and position of a block; of one that takes two visits the time of both, and the position of the other.
-#[derive(Drop)]
+#[derive(Clone, Copy)]
 pub struct Block {
     pub time: u32,
     pub position: u32,

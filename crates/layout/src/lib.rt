@@ -14,7 +14,7 @@ use card::Verdict;
 // The answer of every call from C but that of windows: document 01's refusal number and what is returned with it, and what a begin answers. All zero but
 // for what the call says.
 #[repr(C)]
-#[derive(Drop)]
+#[derive(Clone, Copy)]
 pub struct FilmdiskAnswer {
     pub number: u32,
     pub place: usize,
@@ -26,7 +26,7 @@ pub struct FilmdiskAnswer {
 
 // The answer of the window call: refused, number and place, the rest 0.
 #[repr(C)]
-#[derive(Drop)]
+#[derive(Clone, Copy)]
 pub struct FilmdiskWindowAnswer {
     pub number: u32,
     pub place: usize,

@@ -6,7 +6,7 @@ ghost use Rattle.laws.specs.Overwrite.{overwrite};
 use numbers::limits::NO_NUMBER;
 
 // The number at an offset, or why there is none.
-#[derive(Drop)]
+#[derive(Clone, Copy)]
 pub enum Number {
     // Its value and the offset after it.
     Value(u32, usize),

@@ -13,7 +13,7 @@ use plan::Planned;
 use planner::{plan_card, plan_loop_card, plan_pairs_card};
 
 // A line as far as it is put together. A byte past its room is dropped; no line of the programs has more than 50.
-#[derive(Drop)]
+#[derive(Clone, Copy)]
 pub struct Line {
     pub bytes: [u8; 64],
     pub length: usize,

@@ -16,7 +16,7 @@ use numbers::limits::{MAX_MOVE, STRAIGHT};
 use numbers::units::SECTOR_BYTES;
 
 // Positions and times of the zones; entries past them are zero.
-#[derive(Drop)]
+#[derive(Clone, Copy)]
 pub struct Zones {
     pub positions: [u32; 64],
     pub times: [u32; 64],

@@ -12,7 +12,7 @@ use numbers::limits::MAX_ZONES;
 use numbers::refusals::WRONG_ZONES;
 
 // Line one: turns a minute, track switch time, heads, sectors in a block.
-#[derive(Drop)]
+#[derive(Clone, Copy)]
 pub struct Drive {
     pub turns: u32,
     pub switch: u32,
@@ -21,7 +21,7 @@ pub struct Drive {
 }
 
 // The figures of an accepted text; all zero where it is refused. The place of a refusal is its line, from 1, or 0 for one after the text.
-#[derive(Drop)]
+#[derive(Clone, Copy)]
 pub struct MakerRead {
     pub verdict: Verdict,
     pub figures: Figures,

@@ -8,7 +8,7 @@ use numbers::limits::{MAX_BLOCK, MAX_CYLINDER, MAX_HEADS, MAX_SWITCH, MAX_TRACK,
 use numbers::refusals::{LINE_FORM, WRONG_HEADING, WRONG_ROW};
 
 // Line one, or the refusal's number.
-#[derive(Drop)]
+#[derive(Clone, Copy)]
 pub enum Heading {
     // Turns a minute, track switch time, heads, sectors in a block; the offset after the line.
     Numbers(u32, u32, u32, u32, usize),
@@ -16,7 +16,7 @@ pub enum Heading {
 }
 
 // A row, or the refusal's number.
-#[derive(Drop)]
+#[derive(Clone, Copy)]
 pub enum RowRead {
     // The last cylinder and the sectors a track; the offset after the line.
     Zone(u32, u32, usize),
@@ -24,7 +24,7 @@ pub enum RowRead {
 }
 
 // Three numbers and the offset after their line, or anything else.
-#[derive(Drop)]
+#[derive(Clone, Copy)]
 pub enum Three {
     Numbers(u64, u64, u64, usize),
     Other,

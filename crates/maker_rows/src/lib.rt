@@ -8,7 +8,7 @@ use maker_lines::{RowRead, read_row};
 use numbers::limits::MAX_ZONES;
 
 // The rows that are read, or a refusal.
-#[derive(Drop)]
+#[derive(Clone, Copy)]
 pub struct Rows {
     // The refusal's number and its line; 0 and 0 where there is none.
     pub number: u32,

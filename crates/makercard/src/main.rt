@@ -14,7 +14,7 @@ use numbers::refusals::{
 const MOST: usize = 1048576;
 
 // A number of 32 bits, or none.
-#[derive(Drop)]
+#[derive(Clone, Copy)]
 struct Argument {
     good: bool,
     value: u32,

@@ -11,7 +11,7 @@ use leb128::write_number;
 use numbers::limits::NO_NUMBER;
 
 // The refusal's number and the line of the text, or 0 and the length of the card.
-#[derive(Drop)]
+#[derive(Clone, Copy)]
 pub struct Made {
     pub number: u32,
     pub line: u64,

@@ -12,7 +12,7 @@ pub const WORDS: usize = 407;
 const MAX_LINE: u64 = 18446744073709551615;
 
 // What has been read of a text.
-#[derive(Drop)]
+#[derive(Clone, Copy)]
 pub struct Scan {
     // The line of the next byte, from 1 on.
     pub line: u64,

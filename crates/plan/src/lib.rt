@@ -24,7 +24,7 @@ use numbers::limits::SCRATCH_LENGTH;
 use numbers::showings::PAIRS;
 
 // A plan; all zero where there is none.
-#[derive(Drop)]
+#[derive(Clone, Copy)]
 pub struct Plan {
     pub figures: Figures,
     // n, the most streams that may be fed.
@@ -42,7 +42,7 @@ pub struct Plan {
 }
 
 // The numbers of a plan beside its figures.
-#[derive(Drop)]
+#[derive(Clone, Copy)]
 pub struct Numbers {
     pub streams: u32,
     pub buffer: u32,
@@ -53,7 +53,7 @@ pub struct Numbers {
 }
 
 // The answer of the planner.
-#[derive(Drop)]
+#[derive(Clone, Copy)]
 pub struct Planned {
     pub verdict: Verdict,
     pub plan: Plan,

@@ -30,7 +30,7 @@ fn stream_fault(streams: u32) -> u32
 }
 
 // What the planner makes of legal figures: 13, 12 or 0, and where it is 0 the numbers of their plan.
-#[derive(Drop)]
+#[derive(Clone, Copy)]
 pub struct Made {
     pub number: u32,
     pub plan: Numbers,

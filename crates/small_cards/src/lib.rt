@@ -8,7 +8,7 @@ ghost use Rattle.small_cards.specs.Cards.{Small, small_cards, Earlier};
 ghost use Rattle.small_cards.specs.Next.{figures_of, first_card, after};
 
 // What sets small cards apart: the zones, the positions and the time of each, and N. Entries past the zones are zero.
-#[derive(Drop)]
+#[derive(Clone, Copy)]
 pub struct SmallCard {
     pub zones: u32,
     pub positions: [u32; 3],
@@ -17,7 +17,7 @@ pub struct SmallCard {
 }
 
 // Entries of which one has risen by one; over where none could.
-#[derive(Drop)]
+#[derive(Clone, Copy)]
 pub struct Risen {
     pub entries: [u32; 3],
     pub over: bool,

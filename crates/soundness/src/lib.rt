@@ -46,7 +46,7 @@ fn has_plan<'a>(
 }
 
 // What the test of a desk answers: whether it is sound, and then what the leads of its filling and playing slots add up to.
-#[derive(Drop)]
+#[derive(Clone, Copy)]
 pub struct Test {
     pub sound: bool,
     pub leads: u32,

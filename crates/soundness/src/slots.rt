@@ -19,7 +19,7 @@ use numbers::slots::{DRAINING, FILLING, FREE, PLAYING, WAITING};
 use numbers::units::PARTS;
 
 // What the test of the slots tells: are they tidy, and if so, how many ask?
-#[derive(Drop)]
+#[derive(Clone, Copy)]
 pub struct Tested {
     pub tidy: bool,
     pub asked: u32,

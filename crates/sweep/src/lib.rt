@@ -24,7 +24,7 @@ use numbers::refusals::ACCEPTED;
 use numbers::slots::BETWEEN;
 
 // What a begin answers of itself and changes of the desk; the rest of the desk stays, but for the phase.
-#[derive(Drop)]
+#[derive(Clone, Copy)]
 pub struct Swept {
     pub verdict: Verdict,
     pub kinds: [u32; 256],
@@ -51,7 +51,7 @@ pub fn not_swept(desk: &[u8], number: u32) -> Swept
 }
 
 // The kinds and places that a begin leaves.
-#[derive(Drop)]
+#[derive(Clone, Copy)]
 struct Served {
     kinds: [u32; 256],
     places: [u32; 256],

@@ -22,7 +22,7 @@ use streams::count_streams;
 use try_layings::try_layings;
 
 // The answer; both figures are 0 where it is a refusal.
-#[derive(Drop)]
+#[derive(Clone, Copy)]
 pub struct Tried {
     pub verdict: Verdict,
     // The smallest worst2 of all layings on the film's positions.

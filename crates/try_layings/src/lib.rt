@@ -16,7 +16,7 @@ use crate::worst::worst_of;
 use numbers::limits::MAX_NUMBER;
 
 // A search so far: the smallest worst time, before the first order the greatest number, and how many orders have it.
-#[derive(Drop)]
+#[derive(Clone, Copy)]
 pub struct Search {
     pub least: u32,
     pub count: u32,

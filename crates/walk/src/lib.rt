@@ -15,7 +15,7 @@ use zones::{Zone, innermost, zone_near};
 
 // A walk over the blocks of a film. Those of even and those of odd number lie on two sides: a cursor for each, and the time there, which
 // all blocks of that side have that come before block `until`.
-#[derive(Drop)]
+#[derive(Clone, Copy)]
 pub struct Walk {
     pub low: Zone,
     pub high: Zone,

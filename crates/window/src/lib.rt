@@ -25,7 +25,7 @@ use zones::sum_positions;
 
 // The answer: any k successive blocks are read in at most `time` microseconds, and those from block `first` on take it, the earliest where
 // several do; so `bytes`, k × B, in that time are guaranteed. Refused: the number, and zeros.
-#[derive(Drop)]
+#[derive(Clone, Copy)]
 pub struct Window {
     pub verdict: Verdict,
     pub time: u32,

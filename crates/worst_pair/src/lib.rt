@@ -9,7 +9,7 @@ use numbers::showings::LOOP;
 use walk::{run_from, set_out, walk_on, zone_of};
 
 // Successive blocks, two of them for worst2: the time that they take, and the first of them.
-#[derive(Drop)]
+#[derive(Clone, Copy)]
 pub struct Pair {
     pub time: u32,
     pub first: u32,

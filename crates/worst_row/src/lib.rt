@@ -13,7 +13,7 @@ use walk::{Walk, lesser, set_out, side, walk_on};
 use worst_pair::{Pair, worse};
 
 // A walk that has passed a block: its time, and the block that comes next.
-#[derive(Drop)]
+#[derive(Clone, Copy)]
 pub struct Step {
     pub walk: Walk,
     pub time: u32,
@@ -21,7 +21,7 @@ pub struct Step {
 }
 
 // Blocks in a row: the walk past the last of them, and their time.
-#[derive(Drop)]
+#[derive(Clone, Copy)]
 pub struct Row {
     pub ahead: Step,
     pub time: u32,
@@ -128,7 +128,7 @@ fn first_row<'a>(
 }
 
 // The row that has slid on to a block: its time, and the worst up to it.
-#[derive(Drop)]
+#[derive(Clone, Copy)]
 pub struct Slid {
     pub sum: u32,
     pub worst: Pair,

@@ -6,7 +6,7 @@ ghost use Rattle.plan.specs.Disk.{Zoned};
 ghost use Rattle.zones.specs.Cursor.{ZoneOf, Seeks, Holds};
 
 // A zone by its number, with its first position and the first after it.
-#[derive(Drop)]
+#[derive(Clone, Copy)]
 pub struct Zone {
     pub index: usize,
     pub first: u32,
