@@ -6,12 +6,12 @@ use Rattle.decimal.specs.DecimalLaws.{digit_below}
 use Rattle.decimal.proofs.is_digit.Statement.{statement}
 use Rattle.decimal.proofs.is_digit.Tie as tie
 
-returns : tie.Need-returns
-returns c = sym (digit_below _ c.if1.true)
+returns : tie.Need-returns-then-byte-lt48
+returns c = sym (digit_below _ c.if-byte-lt48.true)
 
-returns-2 : tie.Need-returns-2
+returns-2 : tie.Need-returns
 unfolding is_digit
 returns-2 c = let a = c.before.args in rw (le-leb 48 a.byte (omega arith))
 
-pub is-digit-spec : {M : Type 1} → statement M
-is-digit-spec = tie.close (tie.spec returns returns-2)
+pub is_digit_spec : {M : Type 1} → statement M
+is_digit_spec = tie.close (tie.spec returns returns-2)

@@ -8,30 +8,30 @@ use Rattle.decimal.proofs.DigitWays.{Reading, reading_start, reading_more, readi
 use Rattle.decimal.proofs.read_digits.Statement.{statement}
 use Rattle.decimal.proofs.read_digits.Tie as tie
 
-abbrev invariant-loop : tie.invariant-loop
+abbrev invariant-loop : tie.invariant-loop-at
 invariant-loop text start value₀ at₀ value at = Reading text start value at
 
-abbrev decreases-loop : tie.decreases-loop
+abbrev decreases-loop : tie.decreases-loop-at
 decreases-loop text start value₀ at₀ value at = length text - at
 
-loop-holds : tie.Need-loop-init invariant-loop decreases-loop
+loop-holds : tie.Need-loop-at-init invariant-loop decreases-loop
 loop-holds c = reading_start _ _
 
-loop-again : tie.Need-loop-preserved invariant-loop decreases-loop
+loop-again : tie.Need-loop-at-preserved invariant-loop decreases-loop
 loop-again c =
-    let l = c.before.before.before.before.before.loop in
-    reading_more _ _ _ _ l.invariant (omega arith) (sym c.before.before.is_digit.ensures ∙ not-false _ c.before.if1.false) _ c.grow.ensures
+    let l = c.before.before.before.before.before.loop-at in
+    reading_more _ _ _ _ l.invariant (omega arith) (sym c.before.before.is_digit.ensures ∙ not-false _ c.before.if-not-is_digit.false-raw) _ c.grow-value.ensures
 
-returns : tie.Need-returns invariant-loop decreases-loop
-returns c = reading_end _ _ _ _ c.before.loop.invariant (omega arith)
+returns : tie.Need-returns-after-loop-at invariant-loop decreases-loop
+returns c = reading_end _ _ _ _ c.before.loop-at.invariant (omega arith)
 
-returns-2 : tie.Need-returns-2 invariant-loop decreases-loop
+returns-2 : tie.Need-returns-then-not-is_digit invariant-loop decreases-loop
 returns-2 c =
-    let l = c.before.before.before.before.loop in
-    reading_stop _ _ _ _ l.invariant (omega arith) (sym c.before.is_digit.ensures ∙ not-true _ c.if1.true)
+    let l = c.before.before.before.before.loop-at in
+    reading_stop _ _ _ _ l.invariant (omega arith) (sym c.before.is_digit.ensures ∙ not-true _ c.if-not-is_digit.true-raw)
 
-pub read-digits-spec : {M : Type 1} → statement M
-read-digits-spec =
+pub read_digits_spec : {M : Type 1} → statement M
+read_digits_spec =
     tie.close
     (tie.spec
     invariant-loop

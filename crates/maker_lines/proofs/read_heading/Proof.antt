@@ -4,32 +4,32 @@ use Rattle.maker_lines.proofs.LineWays.{word_stops, word_goes, three_stops, thre
 use Rattle.maker_lines.proofs.read_heading.Statement.{statement}
 use Rattle.maker_lines.proofs.read_heading.Tie as tie
 
-returns : tie.Need-returns
+returns : tie.Need-returns-in_default
 unfolding heading_read
 returns c =
-    word_stops c.before.before.read_word.ensures _ _ c.enum_told.given.1
+    word_stops c.read_word-one.ensures _ _ c.in_default.is
     ∙ heading_read_law _
 
-returns-2 : tie.Need-returns-2
+returns-2 : tie.Need-returns-in_default-three
 unfolding heading_read
 returns-2 c =
-    let one = c.before.before.before.before in
-    three_stops _ _ _ _ c.before.before.read-three.ensures c.enum-told2.given.1
-    ∙ word_goes one.before.before.read_word.ensures _ _ one.one.given.1
+    let one = c in
+    three_stops _ _ _ _ c.read_three-three.ensures c.in_default-three.is
+    ∙ word_goes one.read_word-one.ensures _ _ one.in-Number.is
     ∙ heading_read_law _
 
-returns-3 : tie.Need-returns-3
+returns-3 : tie.Need-returns
 unfolding heading_read
 returns-3 c =
-    let three = c.before.before in
-    let one = three.before.before.before.before in
-    c.judge-heading.ensures
-    ∙ three_goes _ _ _ _ three.before.before.read-three.ensures three.three.given.1
-    ∙ word_goes one.before.before.read_word.ensures _ _ one.one.given.1
+    let three = c in
+    let one = c in
+    c.judge_heading.ensures
+    ∙ three_goes _ _ _ _ three.read_three-three.ensures three.in-Numbers.is
+    ∙ word_goes one.read_word-one.ensures _ _ one.in-Number.is
     ∙ heading_read_law _
 
-pub read-heading-spec : {M : Type 1} → statement M
-read-heading-spec =
+pub read_heading_spec : {M : Type 1} → statement M
+read_heading_spec =
     tie.close
     (tie.spec
     (λ c κs. search rules)

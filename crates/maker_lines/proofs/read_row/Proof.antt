@@ -4,22 +4,22 @@ use Rattle.maker_lines.proofs.LineWays.{three_stops, three_goes, row_read, row_r
 use Rattle.maker_lines.proofs.read_row.Statement.{statement}
 use Rattle.maker_lines.proofs.read_row.Tie as tie
 
-returns : tie.Need-returns
+returns : tie.Need-returns-in_default
 unfolding row_read
 returns c =
-    three_stops _ _ _ _ c.before.before.read-three.ensures c.enum_told.given.1
+    three_stops _ _ _ _ c.read_three-three.ensures c.in_default.is
     ∙ row_read_law _ (search rules) _ _
 
-returns-2 : tie.Need-returns-2
+returns-2 : tie.Need-returns
 unfolding row_read
 returns-2 c =
-    let three = c.before.before in
-    c.judge-row.ensures
-    ∙ three_goes _ _ _ _ three.before.before.read-three.ensures three.three.given.1
+    let three = c in
+    c.judge_row.ensures
+    ∙ three_goes _ _ _ _ three.read_three-three.ensures three.in-Numbers.is
     ∙ row_read_law _ (search rules) _ _
 
-pub read-row-spec : {M : Type 1} → statement M
-read-row-spec =
+pub read_row_spec : {M : Type 1} → statement M
+read_row_spec =
     tie.close
     (tie.spec
     (λ c κs. search rules)

@@ -5,38 +5,38 @@ use Rattle.maker_lines.proofs.LineWays.{word_stops, word_goes}
 use Rattle.maker_lines.proofs.read_three.Statement.{statement}
 use Rattle.maker_lines.proofs.read_three.Tie as tie
 
-returns : tie.Need-returns
+returns : tie.Need-returns-in_default
 unfolding three_read
 returns c =
-    word_stops c.before.before.read_word.ensures _ _ c.enum_told.given.1
+    word_stops c.read_word-one.ensures _ _ c.in_default.is
 
-returns-2 : tie.Need-returns-2
+returns-2 : tie.Need-returns-in_default-two
 unfolding three_read
 returns-2 c =
-    word_stops c.before.before.read-word2.ensures _ _ c.enum-told2.given.1
-    ∙ word_goes c.before.before.before.before.before.before.read_word.ensures _ _ c.before.before.before.before.one.given.1
+    word_stops c.read_word-two.ensures _ _ c.in_default-two.is
+    ∙ word_goes c.read_word-one.ensures _ _ c.in-Number.is
 
-returns-3 : tie.Need-returns-3
+returns-3 : tie.Need-returns-in_default-three
 unfolding three_read
 returns-3 c =
-    let two = c.before.before.before.before in
-    let one = two.before.before.before.before in
-    word_stops c.before.before.read-word3.ensures _ _ c.enum-told3.given.1
-    ∙ word_goes two.before.before.read-word2.ensures _ _ two.two.given.1
-    ∙ word_goes one.before.before.read_word.ensures _ _ one.one.given.1
+    let two = c in
+    let one = c in
+    word_stops c.read_word-three.ensures _ _ c.in_default-three.is
+    ∙ word_goes two.read_word-two.ensures _ _ two.in-Number-two.is
+    ∙ word_goes one.read_word-one.ensures _ _ one.in-Number.is
 
-returns-4 : tie.Need-returns-4
+returns-4 : tie.Need-returns
 unfolding three_read
 returns-4 c =
-    let three = c.before in
-    let two = three.before.before.before.before in
-    let one = two.before.before.before.before in
-    word_goes three.before.before.read-word3.ensures _ _ three.three.given.1
-    ∙ word_goes two.before.before.read-word2.ensures _ _ two.two.given.1
-    ∙ word_goes one.before.before.read_word.ensures _ _ one.one.given.1
+    let three = c in
+    let two = c in
+    let one = c in
+    word_goes three.read_word-three.ensures _ _ three.in-Number-three.is
+    ∙ word_goes two.read_word-two.ensures _ _ two.in-Number-two.is
+    ∙ word_goes one.read_word-one.ensures _ _ one.in-Number.is
 
-pub read-three-spec : {M : Type 1} → statement M
-read-three-spec =
+pub read_three_spec : {M : Type 1} → statement M
+read_three_spec =
     tie.close
     (tie.spec
     (λ c κs. search rules)

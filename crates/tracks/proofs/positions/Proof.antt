@@ -7,13 +7,13 @@ use borrow.Author.Rules.{rules}
 use Rattle.tracks.proofs.positions.Statement.{statement}
 use Rattle.tracks.proofs.positions.Tie as tie
 
-mul-product : tie.Need-overflow-mul-product
+mul-product : tie.Need-overflow_mul-heads
 mul-product c = let a = c.args in omega (arith, tracks_fit a.heads a.cylinders c.requires.0 c.requires.2)
 
 returns : tie.Need-returns
 unfolding positions_in
 returns c = let a = c.before.before.args in c.narrow.ensures ∙ ap (λ (x : ℕ). narrowed (x / a.block)) c.before.product.ensures
 
-pub positions-spec : {M : Type 1} → statement M
-positions-spec =
+pub positions_spec : {M : Type 1} → statement M
+positions_spec =
     tie.close (tie.spec mul-product (λ c κs. search rules) (λ c. search rules) (λ c κs. search rules) returns)

@@ -8,5 +8,5 @@ returns : tie.Need-returns
 unfolding rounded_up
 returns c = refl
 
-pub round-up-spec : {M : Type 1} → statement M
-round-up-spec = tie.close (tie.spec (λ c. search rules) (λ c. search rules) (λ c. search rules) returns)
+pub round_up_spec : {M : Type 1} → statement M
+round_up_spec = tie.close (tie.spec (λ c. search rules) (λ c. search rules) (λ c. search rules) returns)

@@ -7,42 +7,42 @@ use Rattle.words.proofs.Loops.{Writing, write_start, write_room, write_long, cle
 use Rattle.words.proofs.clear_words.Statement.{statement}
 use Rattle.words.proofs.clear_words.Tie as tie
 
-abbrev invariant-loop : tie.invariant-loop
+abbrev invariant-loop : tie.invariant-loop-i
 invariant-loop list₀ start count i₀ list i = Writing list₀ start (zero_words count) list i
 
-abbrev decreases-loop : tie.decreases-loop
+abbrev decreases-loop : tie.decreases-loop-i
 decreases-loop list₀ start count i₀ list i = count - i
 
-loop-holds : tie.Need-loop-init invariant-loop decreases-loop
+loop-holds : tie.Need-loop-i-init invariant-loop decreases-loop
 loop-holds c = write_start _ _ _
 
-add-put-word : tie.Need-overflow-add-put-word invariant-loop decreases-loop
+add-put-word : tie.Need-overflow_add-start invariant-loop decreases-loop
 add-put-word c = omega (arith, words_length c.before.before.before.before.args.list.now)
 
-put-word-requires : tie.Need-put-word-requires invariant-loop decreases-loop
+put-word-requires : tie.Need-put_word-requires invariant-loop decreases-loop
 put-word-requires c κs =
-    let room = write_room _ _ _ _ _ c.before.before.loop.invariant in omega (arith, words_length c.before.before.before.before.args.list.now)
+    let room = write_room _ _ _ _ _ c.before.before.loop-i.invariant in omega (arith, words_length c.before.before.before.before.args.list.now)
 
-add-i : tie.Need-overflow-add-i invariant-loop decreases-loop
+add-i : tie.Need-overflow_add-i invariant-loop decreases-loop
 add-i c = search rules
 
-loop-less : tie.Need-loop-smaller invariant-loop decreases-loop
+loop-less : tie.Need-loop-i-smaller invariant-loop decreases-loop
 loop-less c = search rules
 
-loop-again : tie.Need-loop-preserved invariant-loop decreases-loop
+loop-again : tie.Need-loop-i-preserved invariant-loop decreases-loop
 loop-again c =
-    let l = c.before.before.before.before.before.loop in
+    let l = c.before.before.before.before.before.loop-i in
     clear_more _ _ _ _ _ l.i l.invariant (omega arith) c.before.before.put_word.ensures
 
-same_length : tie.Need-same-length invariant-loop decreases-loop
-same_length c = write_long _ _ _ _ _ c.before.loop.invariant
+same_length : tie.Need-shape_of-list invariant-loop decreases-loop
+same_length c = write_long _ _ _ _ _ c.before.loop-i.invariant
 
 returns : tie.Need-returns invariant-loop decreases-loop
 returns c =
-    let count = c.before.before.before.args.count in write_end _ _ _ _ _ c.before.loop.invariant (omega (arith, zero_words_length count))
+    let count = c.before.before.before.args.count in write_end _ _ _ _ _ c.before.loop-i.invariant (omega (arith, zero_words_length count))
 
-pub clear-words-spec : {M : Type 1} → statement M
-clear-words-spec =
+pub clear_words_spec : {M : Type 1} → statement M
+clear_words_spec =
     tie.close
     (tie.spec
     invariant-loop

@@ -6,5 +6,5 @@ use Rattle.words.proofs.entries.Tie as tie
 returns : tie.Need-returns
 returns c = sym (words_length c.args.list.now)
 
-pub entries-spec : {M : Type 1} → statement M
-entries-spec = tie.close (tie.spec returns)
+pub entries_spec : {M : Type 1} → statement M
+entries_spec = tie.close (tie.spec returns)

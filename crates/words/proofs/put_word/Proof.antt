@@ -12,51 +12,51 @@ use Rattle.words.proofs.put_word.Tie as tie
 inside : (c : tie.Start) → 4 * c.args.i + 3 < length c.args.list.now
 inside c = omega (arith, words_length c.args.list.now)
 
-mul_at : tie.Need-overflow-mul-at
+mul_at : tie.Need-overflow_mul-at
 mul_at c = omega (arith, inside c)
 
-cast-list : tie.Need-overflow-cast-list
+cast-list : tie.Need-overflow_cast-list
 cast-list c = search rules
 
-slice-write-list : tie.Need-slice-write-list
+slice-write-list : tie.Need-bounds-list-at
 slice-write-list c = omega (arith, inside c)
 
-cast-list-2 : tie.Need-overflow-cast-list-2
+cast-list-2 : tie.Need-overflow_cast-list-2
 cast-list-2 c = search rules
 
-add-list : tie.Need-overflow-add-list
+add-list : tie.Need-overflow_add-list
 add-list c = omega (arith, inside c)
 
-slice-write-list-2 : tie.Need-slice-write-list-2
+slice-write-list-2 : tie.Need-bounds-list-at-2
 slice-write-list-2 c = simp length-set (omega (arith, inside c))
 
-cast-list-3 : tie.Need-overflow-cast-list-3
+cast-list-3 : tie.Need-overflow_cast-list-3
 cast-list-3 c = search rules
 
-add-list-2 : tie.Need-overflow-add-list-2
+add-list-2 : tie.Need-overflow_add-list-2
 add-list-2 c = omega (arith, inside c)
 
-slice-write-list-3 : tie.Need-slice-write-list-3
+slice-write-list-3 : tie.Need-bounds-list-at-3
 slice-write-list-3 c = simp length-set (omega (arith, inside c))
 
-cast-list-4 : tie.Need-overflow-cast-list-4
+cast-list-4 : tie.Need-overflow_cast-list-4
 cast-list-4 c = search rules
 
-add-list-3 : tie.Need-overflow-add-list-3
+add-list-3 : tie.Need-overflow_add-list-3
 add-list-3 c = omega (arith, inside c)
 
-slice-write-list-4 : tie.Need-slice-write-list-4
+slice-write-list-4 : tie.Need-bounds-list-at-4
 slice-write-list-4 c = simp length-set (omega (arith, inside c))
 
-same_length : tie.Need-same-length
+same_length : tie.Need-shape_of-list
 same_length c = search rules
 
 returns : tie.Need-returns
 unfolding with_word
 returns c = refl
 
-pub put-word-spec : {M : Type 1} → statement M
-put-word-spec =
+pub put_word_spec : {M : Type 1} → statement M
+put_word_spec =
     tie.close
     (tie.spec
     mul_at

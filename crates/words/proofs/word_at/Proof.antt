@@ -4,10 +4,10 @@ use Rattle.words.specs.Laws.{words_length, word_bytes}
 use Rattle.words.proofs.word_at.Statement.{statement}
 use Rattle.words.proofs.word_at.Tie as tie
 
-mul-number-at : tie.Need-overflow-mul-number-at
+mul-number-at : tie.Need-overflow_mul-i
 mul-number-at c = omega (arith, words_length c.before.args.list.now)
 
-number-at-requires : tie.Need-number-at-requires
+number-at-requires : tie.Need-number_at-requires
 number-at-requires c κs = omega (arith, words_length c.before.args.list.now)
 
 returns : tie.Need-returns
@@ -15,5 +15,5 @@ returns c =
     let a = c.before.before.args in
     c.number_at.ensures ∙ sym (word_bytes a.list.now a.i (omega (arith, words_length a.list.now)))
 
-pub word-at-spec : {M : Type 1} → statement M
-word-at-spec = tie.close (tie.spec mul-number-at number-at-requires returns)
+pub word_at_spec : {M : Type 1} → statement M
+word_at_spec = tie.close (tie.spec mul-number-at number-at-requires returns)

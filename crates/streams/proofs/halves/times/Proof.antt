@@ -4,11 +4,11 @@ use borrow.Author.Rules.{rules}
 use Rattle.streams.proofs.halves.times.Statement.{statement}
 use Rattle.streams.proofs.halves.times.Tie as tie
 
-mul-result : tie.Need-overflow-mul-result
+mul-result : tie.Need-overflow_mul-result
 mul-result c = omega (arith, mul-le-mul c.requires.0 c.requires.1)
 
-cast-result : tie.Need-overflow-cast-result
+cast-result : tie.Need-overflow_cast-result
 cast-result c = omega (arith, mul-le-mul c.requires.0 c.requires.1)
 
-pub times-spec : {M : Type 1} → statement M
-times-spec = tie.close (tie.spec mul-result cast-result (λ c. search rules))
+pub times_spec : {M : Type 1} → statement M
+times_spec = tie.close (tie.spec mul-result cast-result (λ c. search rules))

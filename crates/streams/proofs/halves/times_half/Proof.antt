@@ -8,13 +8,13 @@ returns : tie.Need-returns
 returns c =
     let a = c.before.before.before.before.args in
     let parts = product_parts a.a a.b _ _ _ _ c.before.before.before.upper.ensures.0 c.before.lower.ensures.0
-    c.before.before.times.ensures c.times2.ensures in
+    c.before.before.times.ensures c.times-2.ensures in
     omega (arith, product_fits a.a a.b (omega arith) (omega arith))
 
-add-result : tie.Need-overflow-add-result
+add-result : tie.Need-overflow_add-result
 add-result c = let a = c.before.before.before.before.args in omega (arith, returns c, product_fits a.a a.b (omega arith) (omega arith))
 
-pub times-half-spec : {M : Type 1} → statement M
-times-half-spec =
+pub times_half_spec : {M : Type 1} → statement M
+times_half_spec =
     tie.close
     (tie.spec (λ c κs. search rules) (λ c κs. search rules) (λ c κs. search rules) (λ c κs. search rules) add-result returns)
