@@ -8,5 +8,5 @@ returns : tie.Need-returns
 unfolding one_film
 returns c = refl
 
-pub one-film-spec : {M : Type 1} → statement M
-one-film-spec = tie.close (tie.spec (λ c. search rules) returns)
+pub one_film_spec : {M : Type 1} → statement M
+one_film_spec = tie.close (tie.spec (λ c. search rules) returns)

@@ -10,30 +10,30 @@ use Rattle.card_field.proofs.fault_of_blocks.Statement.{statement}
 use Rattle.card_field.proofs.fault_of_blocks.Tie as tie
 
 -- N is in its range
-ranged : (c : tie.Else1) → (min_blocks ≤ c.before.before.args.v) × (c.before.before.args.v ≤ max_blocks)
-ranged c = outside_range min_blocks max_blocks wrong_blocks c.before.before.args.v (omega arith) (sym c.before.outside.ensures ∙ c.if1.false)
+ranged : (c : tie.Else-range-ne0) → (min_blocks ≤ c.args.v) × (c.args.v ≤ max_blocks)
+ranged c = outside_range min_blocks max_blocks wrong_blocks c.args.v (omega arith) (sym c.outside-range.ensures ∙ c.if-range-ne0.false)
 
-returns : tie.Need-returns
-returns c = blocks_outside _ _ _ _ c.before.outside.ensures c.if1.true
+returns : tie.Need-returns-then-range-ne0
+returns c = blocks_outside _ _ _ _ c.outside-range.ensures c.if-range-ne0.true
 
-returns-2 : tie.Need-returns-2
-returns-2 c = let r = ranged c.before in blocks_over _ _ _ _ c.before.before.outside.ensures c.before.if1.false (omega arith)
+returns-2 : tie.Need-returns-then-v-sofar
+returns-2 c = let r = ranged c.before in blocks_over _ _ _ _ c.outside-range.ensures c.if-range-ne0.false (omega arith)
 
-returns-3 : tie.Need-returns-3
+returns-3 : tie.Need-returns-then-total-sofar
 returns-3 c =
-    let e = c.before.before.before in
-    let r = ranged e in
-    c.room-fault.ensures
-    ∙ blocks_no_room _ _ _ _ e.before.outside.ensures e.if1.false (omega arith) (omega arith) c.before.if3.true
+    let e = c in
+    let r = ranged c.before.before.before in
+    c.room_fault.ensures
+    ∙ blocks_no_room _ _ _ _ e.outside-range.ensures e.if-range-ne0.false (omega arith) (omega arith) c.if-total-sofar.true
 
-returns-4 : tie.Need-returns-4
+returns-4 : tie.Need-returns
 returns-4 c =
-    let e = c.before.before in
-    let r = ranged e in
-    blocks_good _ _ _ _ e.before.outside.ensures e.if1.false (omega arith) (omega arith) c.if3.false
+    let e = c in
+    let r = ranged c.before.before in
+    blocks_good _ _ _ _ e.outside-range.ensures e.if-range-ne0.false (omega arith) (omega arith) c.if-total-sofar.false
 
-pub fault-of-blocks-spec : {M : Type 1} → statement M
-fault-of-blocks-spec =
+pub fault_of_blocks_spec : {M : Type 1} → statement M
+fault_of_blocks_spec =
     tie.close
     (tie.spec
     (λ c κs. search rules)

@@ -8,29 +8,29 @@ use borrow.Author.Rules.{rules}
 use Rattle.card_field.proofs.fault_of_time.Statement.{statement}
 use Rattle.card_field.proofs.fault_of_time.Tie as tie
 
-outside-requires : tie.Need-outside-requires
+outside-requires : tie.Need-outside-slow-requires
 outside-requires c κs = search rules
 
-returns : tie.Need-returns
-returns c = time_outside _ _ _ c.before.outside.ensures c.if1.true
+returns : tie.Need-returns-then-slow-ne0
+returns c = time_outside _ _ _ c.outside-slow.ensures c.if-slow-ne0.true
 
-returns-2 : tie.Need-returns-2
-returns-2 c = time_rises _ _ _ c.before.before.outside.ensures c.before.if1.false c.if2.true
+returns-2 : tie.Need-returns-then-before-v
+returns-2 c = time_rises _ _ _ c.outside-slow.ensures c.if-slow-ne0.false c.if-before-v.true
 
-mul-if3 : tie.Need-overflow-mul-if3
+mul-if3 : tie.Need-overflow_mul-v
 mul-if3 c =
-    let judged = c.before in
+    let judged = c in
     omega (
       arith,
-      thrice_fits judged.before.before.args.v
-          (outside_range 1 max_time wrong_time _ (omega arith) (sym judged.before.outside.ensures ∙ judged.if1.false)).1,
+      thrice_fits judged.args.v
+          (outside_range 1 max_time wrong_time _ (omega arith) (sym judged.outside-slow.ensures ∙ judged.if-slow-ne0.false)).1,
     )
 
-returns-3 : tie.Need-returns-3
-returns-3 c = time_half_dead _ _ _ c.before.before.before.outside.ensures c.before.before.if1.false c.before.if2.false c.if3.true
+returns-3 : tie.Need-returns-then-v-innermost
+returns-3 c = time_half_dead _ _ _ c.outside-slow.ensures c.if-slow-ne0.false c.if-before-v.false c.if-v-innermost.true
 
-returns-4 : tie.Need-returns-4
-returns-4 c = time_good _ _ _ c.before.before.before.outside.ensures c.before.before.if1.false c.before.if2.false c.if3.false
+returns-4 : tie.Need-returns
+returns-4 c = time_good _ _ _ c.outside-slow.ensures c.if-slow-ne0.false c.if-before-v.false c.if-v-innermost.false
 
-pub fault-of-time-spec : {M : Type 1} → statement M
-fault-of-time-spec = tie.close (tie.spec outside-requires returns returns-2 mul-if3 returns-3 returns-4)
+pub fault_of_time_spec : {M : Type 1} → statement M
+fault_of_time_spec = tie.close (tie.spec outside-requires returns returns-2 mul-if3 returns-3 returns-4)

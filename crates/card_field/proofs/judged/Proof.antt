@@ -2,11 +2,11 @@ use Rattle.card_field.proofs.FieldWays.{on_none, on_some}
 use Rattle.card_field.proofs.judged.Statement.{statement}
 use Rattle.card_field.proofs.judged.Tie as tie
 
-returns : tie.Need-returns
-returns c = on_none _ _ _ c.if1.true
+returns : tie.Need-returns-then-number-eq0
+returns c = on_none _ _ _ c.if-number-eq0.true
 
-returns-2 : tie.Need-returns-2
-returns-2 c = on_some _ _ _ _ c.if1.false
+returns-2 : tie.Need-returns-else-number-eq0
+returns-2 c = on_some _ _ _ _ c.if-number-eq0.false
 
-pub judged-spec : {M : Type 1} → statement M
-judged-spec = tie.close (tie.spec returns returns-2)
+pub judged_spec : {M : Type 1} → statement M
+judged_spec = tie.close (tie.spec returns returns-2)

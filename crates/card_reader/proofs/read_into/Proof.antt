@@ -6,54 +6,54 @@ use borrow.Author.Rules.{rules}
 use Rattle.card_reader.proofs.read_into.Statement.{statement}
 use Rattle.card_reader.proofs.read_into.Tie as tie
 
-returns : tie.Need-returns
+returns : tie.Need-returns-in_default
 unfolding read_card
-returns c = c.refused-field.ensures _ _ _ _ ∙ card_stops c.before.before.before.read-field.ensures _ _ c.before.enum_told.given.1
+returns c = c.refused_field.ensures _ _ _ _ ∙ card_stops c.read_field-first.ensures _ _ c.in_default.is
 
-returns-2 : tie.Need-returns-2
+returns-2 : tie.Need-returns-in_default-second
 unfolding read_card
 returns-2 c =
-    let count = c.before.before.before in
-    let kind = count.before.before in
-    c.refused-field2.ensures _ _ _ _
-    ∙ card_stops count.read-field2.ensures _ _ c.before.enum-told2.given.1
-    ∙ card_goes kind.before.before.read-field.ensures _ kind.first.given.1
+    let count = c in
+    let kind = c in
+    c.refused_field-in_default-second.ensures _ _ _ _
+    ∙ card_stops count.read_field-second.ensures _ _ c.in_default-second.is
+    ∙ card_goes kind.read_field-first.ensures _ kind.in-Value.is
 
 -- the number of zones is read
-abbrev counted : tie.After-read-zones-arg2 → tie.After-second
+abbrev counted : tie.After-read_zones-arg-2-1 → tie.In-Value-second-2
 counted c = c.before.before.before
 
-read-zones-requires : tie.Need-read-zones-requires
-read-zones-requires c κs = let n = counted c in zones_bound _ _ _ n.before.before.read-field2.ensures n.second.given.1
+read-zones-requires : tie.Need-read_zones-third-requires
+read-zones-requires c κs = let n = counted c in zones_bound _ _ _ n.read_field-second.ensures n.in-Value-second.is
 
 -- the card is that of its zones, read into lists that are all zero, and of what follows them
-zones-read : (c : tie.After-read-zones)
+zones-read : (c : tie.After-read_zones-third)
     → (let count = counted c.before in
     let kind = count.before.before.before.before in
-    let a = kind.before.before.before.before.args in
-    zones_with c.read-zones.new.1.1.1.0 c.read-zones.new.1.1.1.1.0 c.read-zones.result
-    (after_zones a.visits a.card.now kind.first.given.0.0 count.second.given.0.0)
+    let a = kind.args in
+    zones_with c.read_zones-third.new.1.1.1.0 c.read_zones-third.new.1.1.1.1.0 c.read_zones-third.result
+    (after_zones a.visits a.card.now kind.in-Value.kind count.in-Value-second.zones)
     ≡ read_card a.visits a.card.now)
 unfolding read_card
 zones-read c =
     let count = counted c.before in
     let kind = count.before.before.before.before in
     let start = kind.before.before.before.before in
-    c.read-zones.ensures _
-    ∙ zones_blank _ _ _ _ start.pre.0 start.pre.1
-    ∙ card_goes count.before.before.read-field2.ensures _ count.second.given.1
-    ∙ card_goes kind.before.before.read-field.ensures _ kind.first.given.1
+    c.read_zones-third.ensures _
+    ∙ zones_blank _ _ _ _ start.requires.0 start.requires.1
+    ∙ card_goes count.read_field-second.ensures _ count.in-Value-second.is
+    ∙ card_goes kind.read_field-first.ensures _ kind.in-Value.is
 
-returns-3 : tie.Need-returns-3
-returns-3 c = c.refused-field3.ensures _ _ _ _ ∙ card_stops refl _ _ c.before.enum-told3.given.1 ∙ zones-read c.before.before.before
+returns-3 : tie.Need-returns-in_default-third
+returns-3 c = c.refused_field-in_default-third.ensures _ _ _ _ ∙ card_stops refl _ _ c.in_default-third.is ∙ zones-read c.before.before
 
-returns-4 : tie.Need-returns-4
+returns-4 : tie.Need-returns
 returns-4 c =
-    let third = c.before.before.before.before in
-    c.read-film.ensures _ _ ∙ card_goes refl _ third.third.given.1 ∙ zones-read third.before.before
+    let third = c in
+    c.read_film.ensures _ _ ∙ card_goes refl _ third.in-Value-third.is ∙ zones-read c.before.before.before.before
 
-pub read-into-spec : {M : Type 1} → statement M
-read-into-spec =
+pub read_into_spec : {M : Type 1} → statement M
+read_into_spec =
     tie.close
     (tie.spec
     (λ c κs. search rules)

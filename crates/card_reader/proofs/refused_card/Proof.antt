@@ -7,5 +7,5 @@ returns : tie.Need-returns
 unfolding refused_card blank_figures blank_zones blank_films blank_table
 returns c = refl
 
-pub refused-card-spec : {M : Type 1} → statement M
-refused-card-spec = tie.close (tie.spec returns)
+pub refused_card_spec : {M : Type 1} → statement M
+refused_card_spec = tie.close (tie.spec returns)

@@ -20,56 +20,56 @@ record Compared (table : List ℕ) (hop back number expected k : ℕ) : Type 0 w
   next : expected ≡ hop * k + back
   seen : Seen wrong_measure table_length (On table hop back) number k
 
-abbrev invariant-loop : tie.invariant-loop
+abbrev invariant-loop : tie.invariant-loop-i
 invariant-loop table hop back number₀ expected₀ i₀ number expected i = Compared table hop back number expected i
 
-abbrev decreases-loop : tie.decreases-loop
+abbrev decreases-loop : tie.decreases-loop-i
 decreases-loop table hop back number₀ expected₀ i₀ number expected i = table_length - i
 
-loop-holds : tie.Need-loop-init invariant-loop decreases-loop
+loop-holds : tie.Need-loop-i-init invariant-loop decreases-loop
 loop-holds c = record { few = omega arith; next = omega arith; seen = seen_none _ _ _ }
 
-cast-loop : tie.Need-overflow-cast-loop invariant-loop decreases-loop
+cast-loop : tie.Need-overflow_cast-t-7 invariant-loop decreases-loop
 cast-loop c = search rules
 
-mul-if1 : tie.Need-overflow-mul-if1 invariant-loop decreases-loop
+mul-if1 : tie.Need-offset_bounds-table-i invariant-loop decreases-loop
 mul-if1 c = search rules
 
-element-copy-out-if1 : tie.Need-element-copy-out-if1 invariant-loop decreases-loop
+element-copy-out-if1 : tie.Need-bounds-table-i invariant-loop decreases-loop
 element-copy-out-if1 c = search rules
 
-add-expected : tie.Need-overflow-add-expected invariant-loop decreases-loop
+add-expected : tie.Need-overflow_add-expected invariant-loop decreases-loop
 add-expected c =
-    let t = c.before.before in
-    let a = t.before.before in
-    omega (arith, line_fits a.args.hop a.args.back t.before.loop.i a.requires.0 a.requires.1 t.loop-test.true, t.before.loop.invariant.next)
+    let t = c in
+    let a = c in
+    omega (arith, line_fits a.args.hop a.args.back t.loop-i.i a.requires.0 a.requires.1 t.loop-i-test.true, t.loop-i.invariant.next)
 
-add-i : tie.Need-overflow-add-i invariant-loop decreases-loop
+add-i : tie.Need-overflow_add-i invariant-loop decreases-loop
 add-i c = search rules
 
-loop-less : tie.Need-loop-smaller invariant-loop decreases-loop
+loop-less : tie.Need-loop-i-smaller invariant-loop decreases-loop
 loop-less c = search rules
 
-loop-again : tie.Need-loop-preserved invariant-loop decreases-loop
+loop-again : tie.Need-loop-i-preserved invariant-loop decreases-loop
 loop-again c =
-    let t = c.before.before in
-    let l = t.before.loop in
+    let t = c in
+    let l = t.loop-i in
     record {
       few = omega arith;
       next = omega (arith, l.invariant.next);
       seen = ⊎_elim
-          (λ w. seen_bad wrong_measure table_length _ l.i w.1 (omega arith) t.loop-test.true (λ e. w.0.taken (e ∙ sym l.invariant.next)))
-          (λ w. seen_good wrong_measure table_length _ _ l.i w.1 (w.0.left ∙ l.invariant.next) l.invariant.seen)
-          c.if1.branch;
+          (λ w. seen_bad wrong_measure table_length _ l.i w.number-is (omega arith) t.loop-i-test.true (λ e. w.if-table-i.true (e ∙ sym l.invariant.next)))
+          (λ w. seen_good wrong_measure table_length _ _ l.i w.number-is (w.if-table-i.false ∙ l.invariant.next) l.invariant.seen)
+          c.if-table-i.branch-raw;
     }
 
 returns : tie.Need-returns invariant-loop decreases-loop
 returns c =
-    let l = c.before.loop in
-    line_judged _ _ _ l.number (seen_all _ _ _ l.number l.i c.loop-test.false l.invariant.seen)
+    let l = c.loop-i in
+    line_judged _ _ _ l.number (seen_all _ _ _ l.number l.i c.loop-i-test.false l.invariant.seen)
 
-pub fault-of-line-spec : {M : Type 1} → statement M
-fault-of-line-spec =
+pub fault_of_line_spec : {M : Type 1} → statement M
+fault_of_line_spec =
     tie.close
     (tie.spec
     invariant-loop

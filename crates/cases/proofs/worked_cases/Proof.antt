@@ -5,5 +5,5 @@ use Rattle.cases.proofs.worked_cases.Tie as tie
 returns : tie.Need-returns
 returns c = cases
 
-pub worked-cases-spec : {M : Type 1} → statement M
-worked-cases-spec = tie.close (tie.spec returns)
+pub worked_cases_spec : {M : Type 1} → statement M
+worked_cases_spec = tie.close (tie.spec returns)

@@ -5,5 +5,5 @@ use Rattle.desk.proofs.answer_with.Tie as tie
 returns : tie.Need-returns
 returns c = refl
 
-pub answer-with-spec : {M : Type 1} → statement M
-answer-with-spec = tie.close (tie.spec returns)
+pub answer_with_spec : {M : Type 1} → statement M
+answer_with_spec = tie.close (tie.spec returns)

@@ -18,13 +18,13 @@ zeros-requires-4 c κs = search rules
 returns : tie.Need-returns
 unfolding fresh_desk
 returns c = λ t. record {
-  plan = c.before.before.before.before.args.plan;
+  plan = c.args.plan;
   phase = 0;
-  kinds = c.before.before.before.zeros.ensures t;
-  next = c.before.before.zeros2.ensures t;
-  held = c.before.zeros3.ensures t;
-  places = c.zeros4.ensures t;
+  kinds = c.zeros.ensures t;
+  next = c.zeros-2.ensures t;
+  held = c.zeros-3.ensures t;
+  places = c.zeros-4.ensures t;
 }
 
-pub fresh-desk-spec : {M : Type 1} → statement M
-fresh-desk-spec = tie.close (tie.spec zeros-requires zeros-requires-2 zeros-requires-3 zeros-requires-4 returns)
+pub fresh_desk_spec : {M : Type 1} → statement M
+fresh_desk_spec = tie.close (tie.spec zeros-requires zeros-requires-2 zeros-requires-3 zeros-requires-4 returns)

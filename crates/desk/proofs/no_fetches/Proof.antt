@@ -14,7 +14,7 @@ zeros-requires-3 c κs = search rules
 
 returns : tie.Need-returns
 unfolding fetches_of array zeros
-returns c = λ t. record { count = 0; positions = c.before.before.zeros.ensures t; slots = c.before.zeros2.ensures t; blocks = c.zeros3.ensures t }
+returns c = λ t. record { count = 0; positions = c.zeros.ensures t; slots = c.zeros-2.ensures t; blocks = c.zeros-3.ensures t }
 
-pub no-fetches-spec : {M : Type 1} → statement M
-no-fetches-spec = tie.close (tie.spec zeros-requires zeros-requires-2 zeros-requires-3 returns)
+pub no_fetches_spec : {M : Type 1} → statement M
+no_fetches_spec = tie.close (tie.spec zeros-requires zeros-requires-2 zeros-requires-3 returns)

@@ -9,53 +9,53 @@ use Rattle.draws.proofs.first_excess.Statement.{statement}
 use Rattle.draws.proofs.first_excess.Tie as tie
 
 -- the first i draws are allowed
-abbrev invariant-loop : tie.invariant-loop
+abbrev invariant-loop : tie.invariant-loop-i
 invariant-loop kinds most draws count i₀ i = Within (λ j. kind_limit most (get_or kinds j 0)) (words_of draws) count i
 
-abbrev decreases-loop : tie.decreases-loop
+abbrev decreases-loop : tie.decreases-loop-i
 decreases-loop kinds most draws count i₀ i = count - i
 
-entries-requires : tie.Need-entries-requires invariant-loop decreases-loop
+entries-requires : tie.Need-entries-count-requires invariant-loop decreases-loop
 entries-requires c κs = search rules
 
-loop-holds : tie.Need-loop-init invariant-loop decreases-loop
-loop-holds c = within_none _ _ _ c.entries.ensures
+loop-holds : tie.Need-loop-i-init invariant-loop decreases-loop
+loop-holds c = within_none _ _ _ c.entries-count.ensures
 
-mul-draw-limit : tie.Need-overflow-mul-draw-limit invariant-loop decreases-loop
+mul-draw-limit : tie.Need-offset_bounds-kinds-i invariant-loop decreases-loop
 mul-draw-limit c = omega arith
 
-element-copy-out-draw-limit : tie.Need-element-copy-out-draw-limit invariant-loop decreases-loop
-element-copy-out-draw-limit c = omega (arith, c.before.before.before.before.requires)
+element-copy-out-draw-limit : tie.Need-bounds-kinds-i invariant-loop decreases-loop
+element-copy-out-draw-limit c = omega (arith, c.requires)
 
-draw-limit-requires : tie.Need-draw-limit-requires invariant-loop decreases-loop
+draw-limit-requires : tie.Need-draw_limit-requires invariant-loop decreases-loop
 draw-limit-requires c κs = search rules
 
-word-at-requires : tie.Need-word-at-requires invariant-loop decreases-loop
-word-at-requires c κs = omega (arith, c.before.before.before.loop.invariant.counts, c.before.before.loop-test.true)
+word-at-requires : tie.Need-word_at-requires invariant-loop decreases-loop
+word-at-requires c κs = omega (arith, c.loop-i.invariant.counts, c.loop-i-test.true)
 
-cast-if1 : tie.Need-overflow-cast-if1 invariant-loop decreases-loop
+cast-if1 : tie.Need-overflow_cast-word_at invariant-loop decreases-loop
 cast-if1 c = search rules
 
-returns : tie.Need-returns invariant-loop decreases-loop
-returns c = let t = c.before.before.before.before in
-    first_here _ _ _ t.before.loop.i t.before.loop.invariant (omega (arith, c.before.before.draw-limit.ensures, c.before.word_at.ensures))
+returns : tie.Need-returns-then-draw_limit-word_at invariant-loop decreases-loop
+returns c = let t = c in
+    first_here _ _ _ t.loop-i.i t.loop-i.invariant (omega (arith, c.draw_limit.ensures, c.word_at.ensures))
 
-add-i : tie.Need-overflow-add-i invariant-loop decreases-loop
+add-i : tie.Need-overflow_add-i invariant-loop decreases-loop
 add-i c = omega arith
 
-loop-less : tie.Need-loop-smaller invariant-loop decreases-loop
+loop-less : tie.Need-loop-i-smaller invariant-loop decreases-loop
 loop-less c = omega arith
 
-loop-again : tie.Need-loop-preserved invariant-loop decreases-loop
-loop-again c = let t = c.before.before.before.before in
-    within_next _ _ _ t.before.loop.i t.before.loop.invariant t.loop-test.true
-    (omega (arith, c.before.before.draw-limit.ensures, c.before.word_at.ensures))
+loop-again : tie.Need-loop-i-preserved invariant-loop decreases-loop
+loop-again c = let t = c in
+    within_next _ _ _ t.loop-i.i t.loop-i.invariant t.loop-i-test.true
+    (omega (arith, c.draw_limit.ensures, c.word_at.ensures))
 
-returns-2 : tie.Need-returns-2 invariant-loop decreases-loop
-returns-2 c = let l = c.before.loop in first_none _ _ _ l.i l.invariant c.loop-test.false
+returns-2 : tie.Need-returns invariant-loop decreases-loop
+returns-2 c = let l = c.loop-i in first_none _ _ _ l.i l.invariant c.loop-i-test.false
 
-pub first-excess-spec : {M : Type 1} → statement M
-first-excess-spec =
+pub first_excess_spec : {M : Type 1} → statement M
+first_excess_spec =
     tie.close
     (tie.spec
     invariant-loop

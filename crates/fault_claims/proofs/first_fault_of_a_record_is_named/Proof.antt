@@ -5,5 +5,5 @@ use Rattle.fault_claims.proofs.first_fault_of_a_record_is_named.Tie as tie
 returns : tie.Need-returns
 returns c = record_named
 
-pub first-fault-of-a-record-is-named-spec : {M : Type 1} → statement M
-first-fault-of-a-record-is-named-spec = tie.close (tie.spec returns)
+pub first_fault_of_a_record_is_named_spec : {M : Type 1} → statement M
+first_fault_of_a_record_is_named_spec = tie.close (tie.spec returns)

@@ -7,55 +7,55 @@ use Rattle.maker.proofs.MakerWays.{answer_heading, answer_row, answer_many, driv
 use Rattle.maker.proofs.read_maker.Statement.{statement}
 use Rattle.maker.proofs.read_maker.Tie as tie
 
-returns : tie.Need-returns
+returns : tie.Need-returns-in_default
 returns c =
-    let h = c.before.before.before.before in
-    c.refused-text.ensures ∙ ap (λ (x : ℕ). refused_text x 1) c.before.number_of.ensures
-    ∙ answer_heading _ _ _ _ _ _ h.read-heading.ensures c.before.before.enum_told.given.1
+    let h = c in
+    c.refused_text.ensures ∙ ap (λ (x : ℕ). refused_text x 1) c.number_of.ensures
+    ∙ answer_heading _ _ _ _ _ _ h.read_heading-heading.ensures c.in_default.is
 
-returns-2 : tie.Need-returns-2
+returns-2 : tie.Need-returns-then-rows-ne0
 returns-2 c =
-    let r = c.before.before.before in
-    let h = r.before.before in
-    c.refused-text2.ensures
-    ∙ answer_row _ _ _ _ _ _ h.before.before.read-heading.ensures h.heading.given.1 _ r.read-rows.ensures c.before.if1.true
+    let r = c in
+    let h = c in
+    c.refused_text-then-rows-ne0.ensures
+    ∙ answer_row _ _ _ _ _ _ h.read_heading-heading.ensures h.in-Numbers.is _ r.read_rows-rows.ensures c.if-rows-ne0.true
 
-returns-3 : tie.Need-returns-3
+returns-3 : tie.Need-returns-then-rows-gt-MAX_ZONES
 returns-3 c =
-    let e = c.before.before.before in
-    let r = e.before.before in
-    let h = r.before.before in
-    c.refused-text3.ensures
-    ∙ answer_many _ _ _ _ _ _ h.before.before.read-heading.ensures h.heading.given.1 _ r.read-rows.ensures (omega arith) c.before.if2.true
+    let e = c in
+    let r = c in
+    let h = c in
+    c.refused_text-then-rows-gt-MAX_ZONES.ensures
+    ∙ answer_many _ _ _ _ _ _ h.read_heading-heading.ensures h.in-Numbers.is _ r.read_rows-rows.ensures (omega arith) c.if-rows-gt-MAX_ZONES.true
 
-zones-of-requires : tie.Need-zones-of-requires
+zones-of-requires : tie.Need-zones_of-zones-requires
 zones-of-requires c κs =
-    let e = c.before.before in
-    let r = e.before.before in
-    let h = r.before.before in
-    drive_fits _ 0 0 0 0 _ h.before.before.read-heading.ensures h.heading.given.1 _ r.read-rows.ensures e.if1.false c.if2.false
+    let e = c in
+    let r = c in
+    let h = c in
+    drive_fits _ 0 0 0 0 _ h.read_heading-heading.ensures h.in-Numbers.is _ r.read_rows-rows.ensures e.if-rows-ne0.false c.if-rows-gt-MAX_ZONES.false
 
-figures-of-requires : tie.Need-figures-of-requires
+figures-of-requires : tie.Need-figures_of-requires
 figures-of-requires c κs =
-    let o = c.before in
-    let e = o.before.before in
-    let r = e.before.before in
-    let h = r.before.before in
-    (drive_fits _ 0 0 0 0 _ h.before.before.read-heading.ensures h.heading.given.1 _ r.read-rows.ensures e.if1.false o.if2.false).block.1
+    let o = c in
+    let e = c in
+    let r = c in
+    let h = c in
+    (drive_fits _ 0 0 0 0 _ h.read_heading-heading.ensures h.in-Numbers.is _ r.read_rows-rows.ensures e.if-rows-ne0.false o.if-rows-gt-MAX_ZONES.false).block.1
 
-returns-4 : tie.Need-returns-4
+returns-4 : tie.Need-returns
 returns-4 c =
-    let o = c.before.before.before in
-    let e = o.before.before in
-    let r = e.before.before in
-    let h = r.before.before in
-    let z = c.before.before.zones-of.ensures in
-    c.answer.ensures ∙ ap judged_figures c.before.figures-of.ensures
-    ∙ answer_figures _ _ _ _ _ _ h.before.before.read-heading.ensures h.heading.given.1 _ r.read-rows.ensures e.if1.false o.if2.false _ _
+    let o = c in
+    let e = c in
+    let r = c in
+    let h = c in
+    let z = c.zones_of-zones.ensures in
+    c.answer.ensures ∙ ap judged_figures c.figures_of.ensures
+    ∙ answer_figures _ _ _ _ _ _ h.read_heading-heading.ensures h.in-Numbers.is _ r.read_rows-rows.ensures e.if-rows-ne0.false o.if-rows-gt-MAX_ZONES.false _ _
     z.0 z.1
 
-pub read-maker-spec : {M : Type 1} → statement M
-read-maker-spec =
+pub read_maker_spec : {M : Type 1} → statement M
+read_maker_spec =
     tie.close
     (tie.spec
     (λ c κs. search rules)

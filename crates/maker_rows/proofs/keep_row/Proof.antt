@@ -3,14 +3,14 @@ use borrow.Author.Rules.{rules}
 use Rattle.maker_rows.proofs.keep_row.Statement.{statement}
 use Rattle.maker_rows.proofs.keep_row.Tie as tie
 
-returns : tie.Need-returns
-returns c = kept_full _ _ _ c.if1.true
+returns : tie.Need-returns-then-i-ge-MAX_ZONES
+returns c = kept_full _ _ _ c.if-i-ge-MAX_ZONES.true
 
-returns-2 : tie.Need-returns-2
-returns-2 c = kept_room _ _ _ c.if1.false
+returns-2 : tie.Need-returns
+returns-2 c = kept_room _ _ _ c.if-i-ge-MAX_ZONES.false
 
-pub keep-row-spec : {M : Type 1} → statement M
-keep-row-spec =
+pub keep_row_spec : {M : Type 1} → statement M
+keep_row_spec =
     tie.close
     (tie.spec
     (λ c. search rules)

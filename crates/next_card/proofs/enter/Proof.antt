@@ -9,22 +9,22 @@ use borrow.Author.Rules.{rules}
 use Rattle.next_card.proofs.enter.Statement.{statement}
 use Rattle.next_card.proofs.enter.Tie as tie
 
-array-read-all : tie.Need-array-read-all
+array-read-all : tie.Need-bounds-entries-0
 array-read-all c = search rules
 
-array-write-all : tie.Need-array-write-all
+array-write-all : tie.Need-bounds-all-0
 array-write-all c = search rules
 
-array-read-all-2 : tie.Need-array-read-all-2
+array-read-all-2 : tie.Need-bounds-entries-1
 array-read-all-2 c = search rules
 
-array-write-all-2 : tie.Need-array-write-all-2
+array-write-all-2 : tie.Need-bounds-all-1
 array-write-all-2 c = search rules
 
-array-read-all-3 : tie.Need-array-read-all-3
+array-read-all-3 : tie.Need-bounds-entries-2
 array-read-all-3 c = search rules
 
-array-write-all-3 : tie.Need-array-write-all-3
+array-write-all-3 : tie.Need-bounds-all-2
 array-write-all-3 c = search rules
 
 -- three entries before zeros

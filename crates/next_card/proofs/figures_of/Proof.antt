@@ -5,13 +5,13 @@ use Rattle.numbers.specs.Limits.{straight_kind}
 use Rattle.next_card.proofs.figures_of.Statement.{statement}
 use Rattle.next_card.proofs.figures_of.Tie as tie
 
-enter-requires : tie.Need-enter-requires
+enter-requires : tie.Need-enter-positions-requires
 enter-requires c κs = search rules
 
-enter-requires-2 : tie.Need-enter-requires-2
+enter-requires-2 : tie.Need-enter-times-requires
 enter-requires-2 c κs = search rules
 
-one-film-requires : tie.Need-one-film-requires
+one-film-requires : tie.Need-one_film-requires
 one-film-requires c κs = search rules
 
 overheads-requires : tie.Need-overheads-requires
@@ -20,20 +20,20 @@ overheads-requires c κs = search rules
 returns : tie.Need-returns
 unfolding figures_of small_figures
 returns c =
-    let film = c.before in
-    let times = film.before in
-    let a = times.before.before.before.before.args.card in
+    let film = c in
+    let times = c in
+    let a = times.args.card in
     λ i. record {
       kind = straight_kind;
       zones = a.zones;
-      positions = times.before.enter.ensures i;
-      times = times.enter2.ensures i;
+      positions = times.enter-positions.ensures i;
+      times = times.enter-times.ensures i;
       films = 1;
-      blocks = film.one-film.ensures i;
+      blocks = film.one_film.ensures i;
       bytes = 1000;
       rate = 1000;
       table = c.overheads.ensures i;
     }
 
-pub figures-of-spec : {M : Type 1} → statement M
-figures-of-spec = tie.close (tie.spec enter-requires enter-requires-2 one-film-requires overheads-requires returns)
+pub figures_of_spec : {M : Type 1} → statement M
+figures_of_spec = tie.close (tie.spec enter-requires enter-requires-2 one-film-requires overheads-requires returns)

@@ -7,5 +7,5 @@ returns : tie.Need-returns
 unfolding first_card
 returns c = refl
 
-pub first-card-spec : {M : Type 1} → statement M
-first-card-spec = tie.close (tie.spec returns)
+pub first_card_spec : {M : Type 1} → statement M
+first_card_spec = tie.close (tie.spec returns)

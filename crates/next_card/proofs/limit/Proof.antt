@@ -3,24 +3,24 @@ use borrow.Author.Rules.{rules}
 use Rattle.next_card.proofs.limit.Statement.{statement}
 use Rattle.next_card.proofs.limit.Tie as tie
 
-returns : tie.Need-returns
-returns c = let a = c.before.args in limit_first a.falls a.t1 a.i c.if1.true
+returns : tie.Need-returns-then-i-eq0
+returns c = let a = c.args in limit_first a.falls a.t1 a.i c.if-i-eq0.true
 
-sub-result : tie.Need-overflow-sub-result
+sub-result : tie.Need-overflow_sub-result
 sub-result c = search rules
 
-mul-result : tie.Need-overflow-mul-result
+mul-result : tie.Need-offset_bounds-entries-i
 mul-result c = search rules
 
-array-read-result : tie.Need-array-read-result
+array-read-result : tie.Need-bounds-entries-i
 array-read-result c = search rules
 
-returns-2 : tie.Need-returns-2
-returns-2 c = let a = c.before.before.args in limit_falls a.falls a.t1 a.i c.before.if1.false c.if2.true
+returns-2 : tie.Need-returns-then-falls
+returns-2 c = let a = c.args in limit_falls a.falls a.t1 a.i c.if-i-eq0.false c.if-falls.true
 
-returns-3 : tie.Need-returns-3
-returns-3 c = let a = c.before.before.args in limit_free a.falls a.t1 a.i c.before.if1.false c.if2.false
+returns-3 : tie.Need-returns
+returns-3 c = let a = c.args in limit_free a.falls a.t1 a.i c.if-i-eq0.false c.if-falls.false
 
-pub limit-spec : {M : Type 1} → statement M
-limit-spec =
+pub limit_spec : {M : Type 1} → statement M
+limit_spec =
     tie.close (tie.spec returns sub-result mul-result array-read-result returns-2 returns-3)

@@ -7,34 +7,34 @@ use borrow.Author.Rules.{rules}
 use Rattle.next_card.proofs.most_blocks.Statement.{statement}
 use Rattle.next_card.proofs.most_blocks.Tie as tie
 
-array-read-total : tie.Need-array-read-total
+array-read-total : tie.Need-bounds-positions-0
 array-read-total c = search rules
 
-array-read-total-2 : tie.Need-array-read-total-2
+array-read-total-2 : tie.Need-bounds-positions-1
 array-read-total-2 c = search rules
 
 small : (c : tie.Start) (i : ℕ) → get_or c.args.t1 i 0 ≤ 3
 small c i = each_at (λ (p : ℕ). p ≤ 3) c.args.t1 i 0 c.requires (omega arith)
 
-add_total : tie.Need-overflow-add-total
+add_total : tie.Need-overflow_add-total
 add_total c = omega (arith, small c 0, small c 1)
 
-array-read-total-3 : tie.Need-array-read-total-3
+array-read-total-3 : tie.Need-bounds-positions-2
 array-read-total-3 c = search rules
 
-add-total-2 : tie.Need-overflow-add-total-2
+add-total-2 : tie.Need-overflow_add-total-2
 add-total-2 c = omega (arith, small c 0, small c 1, small c 2)
 
-returns : tie.Need-returns
+returns : tie.Need-returns-then-total-lt-MAX_TRIED
 unfolding most_blocks
 returns c = omega arith
 
-returns-2 : tie.Need-returns-2
+returns-2 : tie.Need-returns
 unfolding most_blocks
 returns-2 c = omega arith
 
-pub most-blocks-spec : {M : Type 1} → statement M
-most-blocks-spec =
+pub most_blocks_spec : {M : Type 1} → statement M
+most_blocks_spec =
     tie.close
     (tie.spec
     array-read-total

@@ -5,21 +5,21 @@ use borrow.Author.Rules.{rules}
 use Rattle.next_card.proofs.next_positions.Statement.{statement}
 use Rattle.next_card.proofs.next_positions.Tie as tie
 
-rise-requires : tie.Need-rise-requires
+rise-requires : tie.Need-rise-next-requires
 rise-requires c κs = search rules
 
-next-zone-requires : tie.Need-next-zone-requires
+next-zone-requires : tie.Need-next_zone-requires
 next-zone-requires c κs = search rules
 
-returns : tie.Need-returns
-returns c = let r = c.before.before.before.rise in
-    let a = c.before.before.before.before.before.args in
-    c.next-zone.ensures ∙ positions_over a.card a.times r.result c.before.if1.true ∙ ap (positions_more a.card a.times) r.ensures
+returns : tie.Need-returns-then-next
+returns c = let r = c.rise-next in
+    let a = c.args in
+    c.next_zone.ensures ∙ positions_over a.card a.times r.result c.if-next.true ∙ ap (positions_more a.card a.times) r.ensures
 
-returns-2 : tie.Need-returns-2
-returns-2 c = let r = c.before.before.rise in
-    let a = c.before.before.before.before.args in
-    positions_risen a.card a.times r.result c.if1.false ∙ ap (positions_more a.card a.times) r.ensures
+returns-2 : tie.Need-returns
+returns-2 c = let r = c.rise-next in
+    let a = c.args in
+    positions_risen a.card a.times r.result c.if-next.false ∙ ap (positions_more a.card a.times) r.ensures
 
-pub next-positions-spec : {M : Type 1} → statement M
-next-positions-spec = tie.close (tie.spec rise-requires next-zone-requires returns returns-2)
+pub next_positions_spec : {M : Type 1} → statement M
+next_positions_spec = tie.close (tie.spec rise-requires next-zone-requires returns returns-2)

@@ -5,21 +5,21 @@ use borrow.Author.Rules.{rules}
 use Rattle.next_card.proofs.next_times.Statement.{statement}
 use Rattle.next_card.proofs.next_times.Tie as tie
 
-rise-requires : tie.Need-rise-requires
+rise-requires : tie.Need-rise-next-requires
 rise-requires c κs = search rules
 
-next-positions-requires : tie.Need-next-positions-requires
+next-positions-requires : tie.Need-next_positions-requires
 next-positions-requires c κs = search rules
 
-returns : tie.Need-returns
-returns c = let r = c.before.before.before.rise in
-    let a = c.before.before.before.before.before.args in
-    c.next-positions.ensures ∙ times_over a.card r.result c.before.if1.true ∙ ap (times_more a.card) r.ensures
+returns : tie.Need-returns-then-next
+returns c = let r = c.rise-next in
+    let a = c.args in
+    c.next_positions.ensures ∙ times_over a.card r.result c.if-next.true ∙ ap (times_more a.card) r.ensures
 
-returns-2 : tie.Need-returns-2
-returns-2 c = let r = c.before.before.before.rise in
-    let a = c.before.before.before.before.before.args in
-    times_risen a.card r.result c.before.if1.false ∙ ap (times_more a.card) r.ensures
+returns-2 : tie.Need-returns
+returns-2 c = let r = c.rise-next in
+    let a = c.args in
+    times_risen a.card r.result c.if-next.false ∙ ap (times_more a.card) r.ensures
 
-pub next-times-spec : {M : Type 1} → statement M
-next-times-spec = tie.close (tie.spec rise-requires next-positions-requires returns returns-2)
+pub next_times_spec : {M : Type 1} → statement M
+next_times_spec = tie.close (tie.spec rise-requires next-positions-requires returns returns-2)

@@ -9,37 +9,37 @@ use Rattle.next_card.proofs.next_zone.Tie as tie
 long : (c : tie.Start) → (length c.args.positions ≡ 3) × (length c.args.times ≡ 3)
 long c = (search rules, search rules)
 
-cast-at : tie.Need-overflow-cast-at
+cast-at : tie.Need-overflow_cast-at
 cast-at c = search rules
 
-add-t8 : tie.Need-overflow-add-t8
+add-t8 : tie.Need-overflow_add-result
 add-t8 c = search rules
 
-returns : tie.Need-returns
-returns c = let s = c.before.before.before in
-    zone_past s.args.card s.args.positions s.args.times (omega (arith, (long s).0, c.before.if1.true))
-    (omega (arith, (long s).1, c.before.if1.true))
+returns : tie.Need-returns-then-at-ge3
+returns c = let s = c in
+    zone_past s.args.card s.args.positions s.args.times (omega (arith, (long c.before.before.before).0, c.if-at-ge3.true))
+    (omega (arith, (long c.before.before.before).1, c.if-at-ge3.true))
 
-mul-sizes : tie.Need-overflow-mul-sizes
+mul-sizes : tie.Need-offset_bounds-sizes-at
 mul-sizes c = search rules
 
-array-write-sizes : tie.Need-array-write-sizes
+array-write-sizes : tie.Need-bounds-sizes-at
 array-write-sizes c = search rules
 
-mul-speeds : tie.Need-overflow-mul-speeds
+mul-speeds : tie.Need-offset_bounds-speeds-at
 mul-speeds c = search rules
 
-array-write-speeds : tie.Need-array-write-speeds
+array-write-speeds : tie.Need-bounds-speeds-at
 array-write-speeds c = search rules
 
-add-t14 : tie.Need-overflow-add-t14
+add-t14 : tie.Need-overflow_add-result-2
 add-t14 c = search rules
 
-returns-2 : tie.Need-returns-2
-returns-2 c = let a = c.before.before.before.args in zone_more_law a.card a.positions a.times
+returns-2 : tie.Need-returns
+returns-2 c = let a = c.args in zone_more_law a.card a.positions a.times
 
-pub next-zone-spec : {M : Type 1} → statement M
-next-zone-spec =
+pub next_zone_spec : {M : Type 1} → statement M
+next_zone_spec =
     tie.close
     (tie.spec
     cast-at

@@ -7,5 +7,5 @@ returns : tie.Need-returns
 unfolding blank_table
 returns c = refl
 
-pub no-table-spec : {M : Type 1} → statement M
-no-table-spec = tie.close (tie.spec returns)
+pub no_table_spec : {M : Type 1} → statement M
+no_table_spec = tie.close (tie.spec returns)

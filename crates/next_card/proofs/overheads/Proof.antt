@@ -12,14 +12,14 @@ blank-long : length blank_table ≡ table_length
 unfolding blank_table
 blank-long = refl
 
-no-table-requires : tie.Need-no-table-requires
+no-table-requires : tie.Need-no_table-table-requires
 no-table-requires c κs = search rules
 
-fill-straight-requires : tie.Need-fill-straight-requires
-fill-straight-requires c κs = (omega arith, omega arith, ap length c.before.no_table.ensures ∙ blank-long)
+fill-straight-requires : tie.Need-fill_straight-requires
+fill-straight-requires c κs = (omega arith, omega arith, ap length c.no_table-table.ensures ∙ blank-long)
 
 returns : tie.Need-returns
-returns c = c.fill-straight.ensures
+returns c = c.fill_straight.ensures
 
-pub overheads-spec : {M : Type 1} → statement M
-overheads-spec = tie.close (tie.spec no-table-requires fill-straight-requires returns)
+pub overheads_spec : {M : Type 1} → statement M
+overheads_spec = tie.close (tie.spec no-table-requires fill-straight-requires returns)

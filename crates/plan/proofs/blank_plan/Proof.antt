@@ -8,5 +8,5 @@ returns : tie.Need-returns
 unfolding blank_zones blank_films blank_table blank_figures blank_plan
 returns c = refl
 
-pub blank-plan-spec : {M : Type 1} → statement M
-blank-plan-spec = tie.close (tie.spec returns)
+pub blank_plan_spec : {M : Type 1} → statement M
+blank_plan_spec = tie.close (tie.spec returns)

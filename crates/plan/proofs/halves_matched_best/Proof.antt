@@ -5,5 +5,5 @@ use Rattle.plan.proofs.halves_matched_best.Tie as tie
 returns : tie.Need-returns
 returns c = (no_matching_better, halves_plan)
 
-pub halves-matched-best-spec : {M : Type 1} → statement M
-halves-matched-best-spec = tie.close (tie.spec returns)
+pub halves_matched_best_spec : {M : Type 1} → statement M
+halves_matched_best_spec = tie.close (tie.spec returns)

@@ -11,5 +11,5 @@ returns : tie.Need-returns
 unfolding scratch_short
 returns c = ap (λ (n : ℕ). ltb n scratch_length) c.entries.ensures
 
-pub is-short-spec : {M : Type 1} → statement M
-is-short-spec = tie.close (tie.spec (λ c κs. search rules) (λ c. search rules) returns)
+pub is_short_spec : {M : Type 1} → statement M
+is_short_spec = tie.close (tie.spec (λ c κs. search rules) (λ c. search rules) returns)

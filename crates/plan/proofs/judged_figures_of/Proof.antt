@@ -5,8 +5,8 @@ use Rattle.plan.proofs.judged_figures_of.Tie as tie
 
 returns : tie.Need-returns
 returns c =
-    let a = c.before.args in
-    judged_is a.visits a.figures c.judge-figures-of.result c.judge-figures-of.ensures
+    let a = c.args in
+    judged_is a.visits a.figures c.judge_figures_of.result c.judge_figures_of.ensures
 
-pub judged-figures-of-spec : {M : Type 1} → statement M
-judged-figures-of-spec = tie.close (tie.spec (λ c κs. search rules) returns)
+pub judged_figures_of_spec : {M : Type 1} → statement M
+judged_figures_of_spec = tie.close (tie.spec (λ c κs. search rules) returns)

@@ -5,5 +5,5 @@ use Rattle.plan.proofs.lead_promise.Tie as tie
 returns : tie.Need-returns
 returns c = (lead_laws, promise)
 
-pub lead-promise-spec : {M : Type 1} → statement M
-lead-promise-spec = tie.close (tie.spec returns)
+pub lead_promise_spec : {M : Type 1} → statement M
+lead_promise_spec = tie.close (tie.spec returns)

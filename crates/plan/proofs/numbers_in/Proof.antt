@@ -5,5 +5,5 @@ use Rattle.plan.proofs.numbers_in.Tie as tie
 returns : tie.Need-returns
 returns c = refl
 
-pub numbers-in-spec : {M : Type 1} → statement M
-numbers-in-spec = tie.close (tie.spec returns)
+pub numbers_in_spec : {M : Type 1} → statement M
+numbers_in_spec = tie.close (tie.spec returns)

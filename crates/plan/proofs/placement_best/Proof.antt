@@ -13,5 +13,5 @@ returns c = (
   ),
 )
 
-pub placement-best-spec : {M : Type 1} → statement M
-placement-best-spec = tie.close (tie.spec returns)
+pub placement_best_spec : {M : Type 1} → statement M
+placement_best_spec = tie.close (tie.spec returns)

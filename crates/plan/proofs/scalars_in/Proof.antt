@@ -5,5 +5,5 @@ use Rattle.plan.proofs.scalars_in.Tie as tie
 returns : tie.Need-returns
 returns c = refl
 
-pub scalars-in-spec : {M : Type 1} → statement M
-scalars-in-spec = tie.close (tie.spec returns)
+pub scalars_in_spec : {M : Type 1} → statement M
+scalars_in_spec = tie.close (tie.spec returns)

@@ -5,5 +5,5 @@ use Rattle.plan.proofs.worst_pair_is_the_earliest.Tie as tie
 returns : tie.Need-returns
 returns c = (pair_earliest, earliest_pair)
 
-pub worst-pair-is-the-earliest-spec : {M : Type 1} → statement M
-worst-pair-is-the-earliest-spec = tie.close (tie.spec returns)
+pub worst_pair_is_the_earliest_spec : {M : Type 1} → statement M
+worst_pair_is_the_earliest_spec = tie.close (tie.spec returns)

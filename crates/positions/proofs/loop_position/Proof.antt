@@ -5,14 +5,14 @@ use borrow.Author.Rules.{rules}
 use Rattle.positions.proofs.loop_position.Statement.{statement}
 use Rattle.positions.proofs.loop_position.Tie as tie
 
-add-result : tie.Need-overflow-add-result
-add-result c = omega (arith, rank_within c.before.args.blocks c.before.args.b c.before.requires.0 c.before.requires.2, c.loop-rank.ensures)
+add-result : tie.Need-overflow_add-result
+add-result c = omega (arith, rank_within c.args.blocks c.args.b c.requires.0 c.requires.2, c.loop_rank.ensures)
 
 returns : tie.Need-returns
 unfolding ring
 returns c =
-    let r = rank_within c.before.args.blocks c.before.args.b c.before.requires.0 c.before.requires.2 in
-    record { is = omega (arith, c.loop-rank.ensures); from = omega arith; to = omega (arith, c.loop-rank.ensures) }
+    let r = rank_within c.args.blocks c.args.b c.requires.0 c.requires.2 in
+    record { is = omega (arith, c.loop_rank.ensures); from = omega arith; to = omega (arith, c.loop_rank.ensures) }
 
-pub loop-position-spec : {M : Type 1} → statement M
-loop-position-spec = tie.close (tie.spec (λ c. search rules) (λ c κs. search rules) add-result returns)
+pub loop_position_spec : {M : Type 1} → statement M
+loop_position_spec = tie.close (tie.spec (λ c. search rules) (λ c κs. search rules) add-result returns)

@@ -4,13 +4,13 @@ use borrow.Author.Rules.{rules}
 use Rattle.positions.proofs.rank_falls.Statement.{statement}
 use Rattle.positions.proofs.rank_falls.Tie as tie
 
-returns : tie.Need-returns
+returns : tie.Need-returns-then-b-blocks
 unfolding falls
-returns c = rw (le-leb _ _ c.if1.true)
+returns c = rw (le-leb _ _ c.if-b-blocks.true)
 
-returns-2 : tie.Need-returns-2
+returns-2 : tie.Need-returns
 unfolding falls
-returns-2 c = rw (lt-leb _ _ c.if1.false)
+returns-2 c = rw (lt-leb _ _ c.if-b-blocks.false)
 
-pub rank-falls-spec : {M : Type 1} → statement M
-rank-falls-spec = tie.close (tie.spec (λ c. search rules) returns (λ c. search rules) returns-2)
+pub rank_falls_spec : {M : Type 1} → statement M
+rank_falls_spec = tie.close (tie.spec (λ c. search rules) returns (λ c. search rules) returns-2)

@@ -5,5 +5,5 @@ use Rattle.round_trip.proofs.accepted_card_is_the_written_one.Tie as tie
 returns : tie.Need-returns
 returns c = λ s y e. ((read_card_law 1 s y e).same, accepted_written s y e)
 
-pub accepted-card-is-the-written-one-spec : {M : Type 1} → statement M
-accepted-card-is-the-written-one-spec = tie.close (tie.spec returns)
+pub accepted_card_is_the_written_one_spec : {M : Type 1} → statement M
+accepted_card_is_the_written_one_spec = tie.close (tie.spec returns)

@@ -6,5 +6,5 @@ use Rattle.round_trip.proofs.halved_card_is_a_card.Tie as tie
 returns : tie.Need-returns
 returns c = λ s y. (reader_legal 2 s y, read_fewer 1 2 s (omega arith) y)
 
-pub halved-card-is-a-card-spec : {M : Type 1} → statement M
-halved-card-is-a-card-spec = tie.close (tie.spec returns)
+pub halved_card_is_a_card_spec : {M : Type 1} → statement M
+halved_card_is_a_card_spec = tie.close (tie.spec returns)

@@ -7,5 +7,5 @@ returns : tie.Need-returns
 returns c = λ f w. let j = judge_legal 2 f w in
     (j.0, j.1, λ e. (judge_legal 1 f w).0.1 (halves_legal f (j.0.0 e)), (λ l. (halves_legal f l, l.room), λ l. legal_halves f l.0 l.1))
 
-pub halved-record-is-a-record-spec : {M : Type 1} → statement M
-halved-record-is-a-record-spec = tie.close (tie.spec returns)
+pub halved_record_is_a_record_spec : {M : Type 1} → statement M
+halved_record_is_a_record_spec = tie.close (tie.spec returns)

@@ -5,5 +5,5 @@ use Rattle.round_trip.proofs.judge_accepts_legal.Tie as tie
 returns : tie.Need-returns
 returns c = judge_legal 1
 
-pub judge-accepts-legal-spec : {M : Type 1} → statement M
-judge-accepts-legal-spec = tie.close (tie.spec returns)
+pub judge_accepts_legal_spec : {M : Type 1} → statement M
+judge_accepts_legal_spec = tie.close (tie.spec returns)

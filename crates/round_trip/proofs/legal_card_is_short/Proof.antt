@@ -5,5 +5,5 @@ use Rattle.round_trip.proofs.legal_card_is_short.Tie as tie
 returns : tie.Need-returns
 returns c = legal_size 1
 
-pub legal-card-is-short-spec : {M : Type 1} → statement M
-legal-card-is-short-spec = tie.close (tie.spec returns)
+pub legal_card_is_short_spec : {M : Type 1} → statement M
+legal_card_is_short_spec = tie.close (tie.spec returns)

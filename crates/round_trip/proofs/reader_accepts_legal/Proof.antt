@@ -5,5 +5,5 @@ use Rattle.round_trip.proofs.reader_accepts_legal.Tie as tie
 returns : tie.Need-returns
 returns c = reader_legal 1
 
-pub reader-accepts-legal-spec : {M : Type 1} → statement M
-reader-accepts-legal-spec = tie.close (tie.spec returns)
+pub reader_accepts_legal_spec : {M : Type 1} → statement M
+reader_accepts_legal_spec = tie.close (tie.spec returns)

@@ -5,5 +5,5 @@ use Rattle.round_trip.proofs.refused_card_has_no_figures.Tie as tie
 returns : tie.Need-returns
 returns c = refused_blank 1
 
-pub refused-card-has-no-figures-spec : {M : Type 1} → statement M
-refused-card-has-no-figures-spec = tie.close (tie.spec returns)
+pub refused_card_has_no_figures_spec : {M : Type 1} → statement M
+refused_card_has_no_figures_spec = tie.close (tie.spec returns)

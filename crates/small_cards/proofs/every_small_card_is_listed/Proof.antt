@@ -10,5 +10,5 @@ use Rattle.small_cards.proofs.every_small_card_is_listed.Tie as tie
 returns : tie.Need-returns
 returns c = (small_listed, (listed_small, order_unique blank_figures small_cards all_in_order))
 
-pub every-small-card-is-listed-spec : {M : Type 1} → statement M
-every-small-card-is-listed-spec = tie.close (tie.spec returns)
+pub every_small_card_is_listed_spec : {M : Type 1} → statement M
+every_small_card_is_listed_spec = tie.close (tie.spec returns)

@@ -8,5 +8,5 @@ use Rattle.small_cards.proofs.small_cards_are_in_order.Tie as tie
 returns : tie.Need-returns
 returns c = order_at blank_figures blank_figures small_cards all_in_order
 
-pub small-cards-are-in-order-spec : {M : Type 1} → statement M
-small-cards-are-in-order-spec = tie.close (tie.spec returns)
+pub small_cards_are_in_order_spec : {M : Type 1} → statement M
+small_cards_are_in_order_spec = tie.close (tie.spec returns)

@@ -5,7 +5,7 @@ use Rattle.zones.proofs.innermost.Statement.{statement}
 use Rattle.zones.proofs.innermost.Tie as tie
 
 returns : tie.Need-returns
-returns c = (innermost_zone c.before.args.sizes.now c.before.requires, refl)
+returns c = (innermost_zone c.args.sizes.now c.requires, refl)
 
-pub innermost-spec : {M : Type 1} → statement M
-innermost-spec = tie.close (tie.spec (λ c. search rules) returns)
+pub innermost_spec : {M : Type 1} → statement M
+innermost_spec = tie.close (tie.spec (λ c. search rules) returns)

@@ -5,33 +5,33 @@ use borrow.Author.Rules.{rules}
 use Rattle.card.proofs.judge.fault_of_film.Statement.{statement}
 use Rattle.card.proofs.judge.fault_of_film.Tie as tie
 
-returns : tie.Need-returns
+returns : tie.Need-returns-then-few-ne0
 unfolding film_fault
-returns c = first_stops c.before.fault-of-shelf.ensures _ c.if1.true
+returns c = first_stops c.fault_of_shelf-few.ensures _ c.if-few-ne0.true
 
-returns-2 : tie.Need-returns-2
+returns-2 : tie.Need-returns-then-small-ne0
 unfolding film_fault
 returns-2 c =
-    first_stops c.before.fault.ensures _ c.if2.true
-    ∙ first_goes c.before.before.before.fault-of-shelf.ensures _ c.before.before.if1.false
+    first_stops c.fault-small.ensures _ c.if-small-ne0.true
+    ∙ first_goes c.fault_of_shelf-few.ensures _ c.if-few-ne0.false
 
-returns-3 : tie.Need-returns-3
+returns-3 : tie.Need-returns-then-slow-ne0
 unfolding film_fault
 returns-3 c =
-    first_stops c.before.fault2.ensures _ c.if3.true
-    ∙ first_goes c.before.before.before.fault.ensures _ c.before.before.if2.false
-    ∙ first_goes c.before.before.before.before.before.fault-of-shelf.ensures _ c.before.before.before.before.if1.false
+    first_stops c.fault-slow.ensures _ c.if-slow-ne0.true
+    ∙ first_goes c.fault-small.ensures _ c.if-small-ne0.false
+    ∙ first_goes c.fault_of_shelf-few.ensures _ c.if-few-ne0.false
 
-returns-4 : tie.Need-returns-4
+returns-4 : tie.Need-returns
 unfolding film_fault
 returns-4 c =
-    c.fault-of-table.ensures
-    ∙ first_goes c.before.before.fault2.ensures _ c.before.if3.false
-    ∙ first_goes c.before.before.before.before.fault.ensures _ c.before.before.before.if2.false
-    ∙ first_goes c.before.before.before.before.before.before.fault-of-shelf.ensures _ c.before.before.before.before.before.if1.false
+    c.fault_of_table.ensures
+    ∙ first_goes c.fault-slow.ensures _ c.if-slow-ne0.false
+    ∙ first_goes c.fault-small.ensures _ c.if-small-ne0.false
+    ∙ first_goes c.fault_of_shelf-few.ensures _ c.if-few-ne0.false
 
-pub fault-of-film-spec : {M : Type 1} → statement M
-fault-of-film-spec =
+pub fault_of_film_spec : {M : Type 1} → statement M
+fault_of_film_spec =
     tie.close
     (tie.spec
     (λ c κs. search rules)

@@ -18,13 +18,13 @@ record Judging (visits total films : ℕ) (blocks : List ℕ) (sofar i : ℕ) : 
   few : sofar ≤ max_blocks
   same : row_fault (blocks_fault visits total) ◌+◌ (films - i) sofar i blocks ≡ row_fault (blocks_fault visits total) ◌+◌ films 0 0 blocks
 
-abbrev invariant-loop : tie.invariant-loop
+abbrev invariant-loop : tie.invariant-loop-i
 invariant-loop visits total films blocks sofar₀ i₀ sofar i = Judging visits total films blocks sofar i
 
-abbrev decreases-loop : tie.decreases-loop
+abbrev decreases-loop : tie.decreases-loop-i
 decreases-loop visits total films blocks sofar₀ i₀ sofar i = films - i
 
-loop-holds : tie.Need-loop-init invariant-loop decreases-loop
+loop-holds : tie.Need-loop-i-init invariant-loop decreases-loop
 loop-holds c =
     let a = c.args in
     let e : a.films - 0 ≡ a.films = omega arith in
@@ -34,30 +34,30 @@ loop-holds c =
       same = ap (λ (n : ℕ). row_fault (blocks_fault a.visits a.total) ◌+◌ n 0 0 a.blocks.now) e;
     }
 
-returns : tie.Need-returns invariant-loop decreases-loop
+returns : tie.Need-returns-then-number-ne0 invariant-loop decreases-loop
 returns c =
-    let l = c.before.before.before.before.loop in
-    row_stops _ _ _ _ _ _ (omega arith) c.before.fault-of-blocks.ensures c.if1.true ∙ l.invariant.same
+    let l = c.loop-i in
+    row_stops _ _ _ _ _ _ (omega arith) c.fault_of_blocks-number.ensures c.if-number-ne0.true ∙ l.invariant.same
 
 -- with this film they are few enough
-few-so-far : (c : tie.Else1 invariant-loop decreases-loop)
-    → (let l = c.before.before.before.before in l.loop.sofar + get_or l.before.args.blocks.now l.loop.i 0 ≤ max_blocks)
-few-so-far c = (blocks_range _ _ _ _ (sym c.before.fault-of-blocks.ensures ∙ c.if1.false)).2
+few-so-far : (c : tie.Else-number-ne0 invariant-loop decreases-loop)
+    → (let l = c.before.before.before.before in l.loop-i.sofar + get_or l.args.blocks.now l.loop-i.i 0 ≤ max_blocks)
+few-so-far c = (blocks_range _ _ _ _ (sym c.fault_of_blocks-number.ensures ∙ c.if-number-ne0.false)).2
 
-loop-again : tie.Need-loop-preserved invariant-loop decreases-loop
+loop-again : tie.Need-loop-i-preserved invariant-loop decreases-loop
 loop-again c =
-    let l = c.before.before.before.before.loop in
+    let l = c.loop-i in
     record {
       within = omega arith;
       few = few-so-far c;
-      same = row_more _ _ _ _ _ _ _ (omega arith) c.before.fault-of-blocks.ensures c.if1.false ∙ l.invariant.same;
+      same = row_more _ _ _ _ _ _ _ (omega arith) c.fault_of_blocks-number.ensures c.if-number-ne0.false ∙ l.invariant.same;
     }
 
-returns-2 : tie.Need-returns-2 invariant-loop decreases-loop
-returns-2 c = let l = c.before.loop in row_done _ _ _ _ _ _ (omega arith) ∙ l.invariant.same
+returns-2 : tie.Need-returns invariant-loop decreases-loop
+returns-2 c = let l = c.loop-i in row_done _ _ _ _ _ _ (omega arith) ∙ l.invariant.same
 
-pub fault-of-lengths-spec : {M : Type 1} → statement M
-fault-of-lengths-spec =
+pub fault_of_lengths_spec : {M : Type 1} → statement M
+fault_of_lengths_spec =
     tie.close
     (tie.spec
     invariant-loop

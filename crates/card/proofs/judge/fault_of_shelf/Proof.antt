@@ -8,33 +8,33 @@ use Rattle.card.proofs.judge.fault_of_shelf.Statement.{statement}
 use Rattle.card.proofs.judge.fault_of_shelf.Tie as tie
 
 -- the films are as many as a shelf has
-few-films : (c : tie.Else1) → c.before.before.args.films ≤ max_films
-few-films c = (films_range 0 _ (sym c.before.fault.ensures ∙ c.if1.false)).1
+few-films : (c : tie.Else-count-ne0) → c.args.films ≤ max_films
+few-films c = (films_range 0 _ (sym c.fault-count.ensures ∙ c.if-count-ne0.false)).1
 
-returns : tie.Need-returns
+returns : tie.Need-returns-then-count-ne0
 unfolding shelf_fault
-returns c = first_stops c.before.fault.ensures _ c.if1.true
+returns c = first_stops c.fault-count.ensures _ c.if-count-ne0.true
 
-returns-2 : tie.Need-returns-2
+returns-2 : tie.Need-returns-then-idle-ne0
 unfolding shelf_fault
 returns-2 c =
-    let n = c.before.before in
-    first_stops c.before.fault-of-idle.ensures _ c.if2.true ∙ first_goes n.before.fault.ensures _ n.if1.false
+    let n = c in
+    first_stops c.fault_of_idle-idle.ensures _ c.if-idle-ne0.true ∙ first_goes n.fault-count.ensures _ n.if-count-ne0.false
 
-returns-3 : tie.Need-returns-3
+returns-3 : tie.Need-returns
 unfolding shelf_fault
 returns-3 c =
-    let i = c.before in
-    let n = i.before.before in
-    c.fault-of-lengths.ensures ∙ first_goes i.before.fault-of-idle.ensures _ i.if2.false ∙ first_goes n.before.fault.ensures _ n.if1.false
+    let i = c in
+    let n = c in
+    c.fault_of_lengths.ensures ∙ first_goes i.fault_of_idle-idle.ensures _ i.if-idle-ne0.false ∙ first_goes n.fault-count.ensures _ n.if-count-ne0.false
 
-pub fault-of-shelf-spec : {M : Type 1} → statement M
-fault-of-shelf-spec =
+pub fault_of_shelf_spec : {M : Type 1} → statement M
+fault_of_shelf_spec =
     tie.close
     (tie.spec
     (λ c κs. search rules)
     returns
-    (λ c κs. (few-films c, c.before.before.requires))
+    (λ c κs. (few-films c, c.requires))
     returns-2
     (λ c κs. few-films c.before.before)
     returns-3)

@@ -19,18 +19,18 @@ record Judging (zones : ℕ) (positions times : List ℕ) (total before i : ℕ)
   same : (k : ℕ) (x : Scalars) (os : List ℕ)
       → zone_faults k (zones - i) i (figures_from x positions times os) total before ≡ zone_faults k zones 0 (figures_from x positions times os) 0 max_time
 
-abbrev invariant-loop : tie.invariant-loop
+abbrev invariant-loop : tie.invariant-loop-i
 invariant-loop zones positions times innermost total₀ before₀ i₀ total before i = Judging zones positions times total before i
 
-abbrev decreases-loop : tie.decreases-loop
+abbrev decreases-loop : tie.decreases-loop-i
 decreases-loop zones positions times innermost total₀ before₀ i₀ total before i = zones - i
 
-element-copy-out-innermost : tie.Need-element-copy-out-innermost invariant-loop decreases-loop
+element-copy-out-innermost : tie.Need-bounds-times-0 invariant-loop decreases-loop
 element-copy-out-innermost c = search rules
 
-loop-holds : tie.Need-loop-init invariant-loop decreases-loop
+loop-holds : tie.Need-loop-i-init invariant-loop decreases-loop
 loop-holds c =
-    let a = c.before.args in
+    let a = c.args in
     let e : a.zones - 0 ≡ a.zones = omega arith in
     record {
       within = omega arith;
@@ -38,63 +38,63 @@ loop-holds c =
       same = λ k x os. ap (λ (n : ℕ). zone_faults k n 0 (figures_from x a.positions.now a.times.now os) 0 max_time) e;
     }
 
-mul-count : tie.Need-overflow-mul-count invariant-loop decreases-loop
+mul-count : tie.Need-offset_bounds-positions-i invariant-loop decreases-loop
 mul-count c = search rules
 
-element-copy-out-count : tie.Need-element-copy-out-count invariant-loop decreases-loop
+element-copy-out-count : tie.Need-bounds-positions-i invariant-loop decreases-loop
 element-copy-out-count c = search rules
 
-mul-time : tie.Need-overflow-mul-time invariant-loop decreases-loop
+mul-time : tie.Need-offset_bounds-times-i invariant-loop decreases-loop
 mul-time c = search rules
 
-element-copy-out-time : tie.Need-element-copy-out-time invariant-loop decreases-loop
+element-copy-out-time : tie.Need-bounds-times-i invariant-loop decreases-loop
 element-copy-out-time c = search rules
 
-fault-requires : tie.Need-fault-requires invariant-loop decreases-loop
+fault-requires : tie.Need-fault-few-requires invariant-loop decreases-loop
 fault-requires c κs = search rules
 
-returns : tie.Need-returns invariant-loop decreases-loop
+returns : tie.Need-returns-then-few-ne0 invariant-loop decreases-loop
 unfolding fault_with
 returns c =
-    let l = c.before.before.before.before.before.loop in
-    λ k x os. zones_few k _ _ _ _ _ (omega arith) c.before.fault.ensures c.if1.true ∙ l.invariant.same k x os
+    let l = c.loop-i in
+    λ k x os. zones_few k _ _ _ _ _ (omega arith) c.fault-few.ensures c.if-few-ne0.true ∙ l.invariant.same k x os
 
-fault-of-time-requires : tie.Need-fault-of-time-requires invariant-loop decreases-loop
+fault-of-time-requires : tie.Need-fault_of_time-slow-requires invariant-loop decreases-loop
 fault-of-time-requires c κs = search rules
 
-returns-2 : tie.Need-returns-2 invariant-loop decreases-loop
+returns-2 : tie.Need-returns-then-slow-ne0 invariant-loop decreases-loop
 unfolding fault_with
 returns-2 c =
-    let l = c.before.before.before.before.before.before.before.loop in
-    λ k x os. zones_slow k _ _ _ _ _ (omega arith) c.before.before.before.fault.ensures c.before.before.if1.false
-    c.before.fault-of-time.ensures c.if2.true
+    let l = c.loop-i in
+    λ k x os. zones_slow k _ _ _ _ _ (omega arith) c.fault-few.ensures c.if-few-ne0.false
+    c.fault_of_time-slow.ensures c.if-slow-ne0.true
     ∙ l.invariant.same k x os
 
-add_total : tie.Need-overflow-add-total invariant-loop decreases-loop
-add_total c = let h = positions_range _ _ (sym c.before.before.before.fault.ensures ∙ c.before.before.if1.false) in omega arith
+add_total : tie.Need-overflow_add-total invariant-loop decreases-loop
+add_total c = let h = positions_range _ _ (sym c.fault-few.ensures ∙ c.if-few-ne0.false) in omega arith
 
-add-i : tie.Need-overflow-add-i invariant-loop decreases-loop
+add-i : tie.Need-overflow_add-i invariant-loop decreases-loop
 add-i c = search rules
 
-loop-less : tie.Need-loop-smaller invariant-loop decreases-loop
+loop-less : tie.Need-loop-i-smaller invariant-loop decreases-loop
 loop-less c = search rules
 
-loop-again : tie.Need-loop-preserved invariant-loop decreases-loop
+loop-again : tie.Need-loop-i-preserved invariant-loop decreases-loop
 loop-again c =
-    let l = c.before.before.before.before.before.before.before.loop in
+    let l = c.loop-i in
     record {
       within = omega arith;
-      few = (positions_range _ _ (sym c.before.before.before.fault.ensures ∙ c.before.before.if1.false)).1;
-      same = λ k x os. zones_more k _ _ _ _ _ _ (omega arith) c.before.before.before.fault.ensures c.before.before.if1.false
-          c.before.fault-of-time.ensures c.if2.false ∙ l.invariant.same k x os;
+      few = (positions_range _ _ (sym c.fault-few.ensures ∙ c.if-few-ne0.false)).1;
+      same = λ k x os. zones_more k _ _ _ _ _ _ (omega arith) c.fault-few.ensures c.if-few-ne0.false
+          c.fault_of_time-slow.ensures c.if-slow-ne0.false ∙ l.invariant.same k x os;
     }
 
-returns-3 : tie.Need-returns-3 invariant-loop decreases-loop
+returns-3 : tie.Need-returns invariant-loop decreases-loop
 unfolding fault_with
-returns-3 c = let l = c.before.loop in λ k x os. zones_done k _ _ _ _ _ (omega arith) ∙ l.invariant.same k x os
+returns-3 c = let l = c.loop-i in λ k x os. zones_done k _ _ _ _ _ (omega arith) ∙ l.invariant.same k x os
 
-pub fault-of-zones-spec : {M : Type 1} → statement M
-fault-of-zones-spec =
+pub fault_of_zones_spec : {M : Type 1} → statement M
+fault_of_zones_spec =
     tie.close
     (tie.spec
     invariant-loop

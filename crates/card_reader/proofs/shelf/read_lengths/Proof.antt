@@ -18,15 +18,15 @@ record Read (card : List ℕ) (start visits total films : ℕ) (blocks₀ blocks
   same : (go : List ℕ → ℕ → CardRead)
       → row_from (blocks_fault visits total) ◌+◌ (films - i) card at sofar i blocks go ≡ row_from (blocks_fault visits total) ◌+◌ films card start 0 0 blocks₀ go
 
-abbrev invariant-loop : tie.invariant-loop
+abbrev invariant-loop : tie.invariant-loop-i
 invariant-loop card start visits total films blocks₀ at₀ sofar₀ i₀ blocks at sofar i = Read card start visits total films blocks₀ blocks at sofar i
 
-abbrev decreases-loop : tie.decreases-loop
+abbrev decreases-loop : tie.decreases-loop-i
 decreases-loop card start visits total films blocks₀ at₀ sofar₀ i₀ blocks at sofar i = films - i
 
-loop-holds : tie.Need-loop-init invariant-loop decreases-loop
+loop-holds : tie.Need-loop-i-init invariant-loop decreases-loop
 loop-holds c =
-    let a = c.before.args in
+    let a = c.args in
     let e : a.films - 0 ≡ a.films = omega arith in
     record {
       within = omega arith;
@@ -34,34 +34,34 @@ loop-holds c =
       same = λ go. ap (λ (n : ℕ). row_from (blocks_fault a.visits a.total) ◌+◌ n a.card.now a.start 0 0 a.blocks.now go) e;
     }
 
-returns : tie.Need-returns invariant-loop decreases-loop
+returns : tie.Need-returns-in_default invariant-loop decreases-loop
 returns c =
-    let l = c.before.before.before.before.loop in
-    λ go. row_stop (blocks_fault _ _) ◌+◌ _ l.at l.sofar l.i l.blocks go _ c.before.before.read-blocks.ensures (omega arith) _
-    c.enum_told.given.1
+    let l = c.loop-i in
+    λ go. row_stop (blocks_fault _ _) ◌+◌ _ l.at l.sofar l.i l.blocks go _ c.read_blocks-film.ensures (omega arith) _
+    c.in_default.is
     ∙ l.invariant.same go
 
-add-sofar : tie.Need-overflow-add-sofar invariant-loop decreases-loop
-add-sofar c = omega (arith, film_fits _ _ _ _ _ c.before.before.before.read-blocks.ensures c.before.film.given.1)
+add-sofar : tie.Need-overflow_add-sofar invariant-loop decreases-loop
+add-sofar c = omega (arith, film_fits _ _ _ _ _ c.read_blocks-film.ensures c.in-Value.is)
 
-loop-again : tie.Need-loop-preserved invariant-loop decreases-loop
+loop-again : tie.Need-loop-i-preserved invariant-loop decreases-loop
 loop-again c =
-    let l = c.before.before.before.before.before.loop in
+    let l = c.loop-i in
     record {
       within = omega arith;
-      few = film_fits _ _ _ _ _ c.before.before.before.read-blocks.ensures c.before.film.given.1;
-      same = λ go. row_more (blocks_fault _ _) ◌+◌ _ l.at l.sofar l.i l.blocks go _ c.before.before.before.read-blocks.ensures _
-          (omega arith) c.before.film.given.1 ∙ l.invariant.same go;
+      few = film_fits _ _ _ _ _ c.read_blocks-film.ensures c.in-Value.is;
+      same = λ go. row_more (blocks_fault _ _) ◌+◌ _ l.at l.sofar l.i l.blocks go _ c.read_blocks-film.ensures _
+          (omega arith) c.in-Value.is ∙ l.invariant.same go;
     }
 
-returns-2 : tie.Need-returns-2 invariant-loop decreases-loop
+returns-2 : tie.Need-returns invariant-loop decreases-loop
 unfolding then_field
 returns-2 c =
-    let l = c.before.loop in
+    let l = c.loop-i in
     λ go. row_done (blocks_fault _ _) ◌+◌ _ l.at l.sofar l.i l.blocks go _ (omega arith) ∙ l.invariant.same go
 
-pub read-lengths-spec : {M : Type 1} → statement M
-read-lengths-spec =
+pub read_lengths_spec : {M : Type 1} → statement M
+read_lengths_spec =
     tie.close
     (tie.spec
     invariant-loop

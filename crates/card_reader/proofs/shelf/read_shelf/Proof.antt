@@ -10,42 +10,42 @@ use Rattle.card_reader.proofs.ReaderWays.{card_stops, card_goes, films_bound}
 use Rattle.card_reader.proofs.shelf.read_shelf.Statement.{statement}
 use Rattle.card_reader.proofs.shelf.read_shelf.Tie as tie
 
-returns : tie.Need-returns
+returns : tie.Need-returns-in_default
 unfolding shelf_from
-returns c = λ go. card_stops c.before.before.read-field.ensures _ _ c.enum_told.given.1
+returns c = λ go. card_stops c.read_field-first.ensures _ _ c.in_default.is
 
 -- the films' number is read
-abbrev counted : tie.After-read-lengths-arg → tie.After-first
+abbrev counted : tie.After-read_lengths-arg-1 → tie.In-Value-2
 counted c = c.before.before
 
-read-lengths-requires : tie.Need-read-lengths-requires
-read-lengths-requires c κs = let n = counted c in films_bound _ _ n.before.before.read-field.ensures n.first.given.1
+read-lengths-requires : tie.Need-read_lengths-last-requires
+read-lengths-requires c κs = let n = counted c in films_bound _ _ n.read_field-first.ensures n.in-Value.is
 
 -- what is read into the list that is all zero is the shelf
-lengths_read : (c : tie.After-read-lengths) (go : ℕ → List ℕ → ℕ → CardRead)
+lengths_read : (c : tie.After-read_lengths-last) (go : ℕ → List ℕ → ℕ → CardRead)
     → (let n = counted c.before in
-    let a = n.before.before.before.before.args in
-    row_with c.read-lengths.new.1.1.1.1.1.0 c.read-lengths.result (go n.first.given.0.0)
+    let a = n.args in
+    row_with c.read_lengths-last.new.1.1.1.1.1.0 c.read_lengths-last.result (go n.in-Value.films)
     ≡ shelf_from a.visits a.card.now a.at a.total go)
 unfolding shelf_from
 lengths_read c go =
     let n = counted c.before in
     let start = n.before.before.before.before in
     let a = start.args in
-    let films = n.first.given.0.0 in
-    c.read-lengths.ensures (go films)
-    ∙ ap (λ (vs : List ℕ). row_from (blocks_fault a.visits a.total) ◌+◌ films a.card.now n.first.given.0.1.0 0 0 vs (go films)) start.pre
-    ∙ card_goes n.before.before.read-field.ensures _ n.first.given.1
+    let films = n.in-Value.films in
+    c.read_lengths-last.ensures (go films)
+    ∙ ap (λ (vs : List ℕ). row_from (blocks_fault a.visits a.total) ◌+◌ films a.card.now n.in-Value.next 0 0 vs (go films)) start.requires
+    ∙ card_goes n.read_field-first.ensures _ n.in-Value.is
 
-returns-2 : tie.Need-returns-2
-returns-2 c = λ go. card_stops refl _ _ c.enum-told2.given.1 ∙ lengths_read c.before.before go
+returns-2 : tie.Need-returns-in_default-last
+returns-2 c = λ go. card_stops refl _ _ c.in_default-last.is ∙ lengths_read c.before.before go
 
-returns-3 : tie.Need-returns-3
+returns-3 : tie.Need-returns
 unfolding then_field
-returns-3 c = λ go. card_goes refl _ c.before.last.given.1 ∙ lengths_read c.before.before.before go
+returns-3 c = λ go. card_goes refl _ c.in-Value-last.is ∙ lengths_read c.before.before.before go
 
-pub read-shelf-spec : {M : Type 1} → statement M
-read-shelf-spec =
+pub read_shelf_spec : {M : Type 1} → statement M
+read_shelf_spec =
     tie.close
     (tie.spec
     (λ c κs. search rules)

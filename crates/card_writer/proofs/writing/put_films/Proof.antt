@@ -22,87 +22,87 @@ record Put (write : Bool) (f : Figures) (films : ℕ) (out₀ : List ℕ) (start
   within : i ≤ films
   left : Writes write out₀ start (filmsFrom f films 0) out at (filmsFrom f (films - i) i)
 
-abbrev invariant-loop : tie.invariant-loop
+abbrev invariant-loop : tie.invariant-loop-i
 invariant-loop out₀ start write figures films at₀ i₀ out at i = Put write figures films out₀ at₀ out at i
 
-abbrev decreases-loop : tie.decreases-loop
+abbrev decreases-loop : tie.decreases-loop-i
 decreases-loop out₀ start write figures films at₀ i₀ out at i = films - i
 
 -- where the function begins, and where the number of films is put
-abbrev start : tie.After-put-number invariant-loop decreases-loop → tie.Start invariant-loop decreases-loop
+abbrev start : tie.After-put_number-at invariant-loop decreases-loop → tie.Start invariant-loop decreases-loop
 start c = c.before.before.before
 
-abbrev counted : tie.At-loop invariant-loop decreases-loop → tie.After-put-number invariant-loop decreases-loop
+abbrev counted : tie.At-loop-i invariant-loop decreases-loop → tie.After-put_number-at invariant-loop decreases-loop
 counted c = c.before.before.before
 
 -- what is left to put: all, and the films
 all_left : (s : tie.Start invariant-loop decreases-loop) → (let a = s.args in
-    Writes a.write a.out.now a.start (film_numbers a.t1) a.out.now a.start (a.t1.films ∷ filmsFrom a.t1 a.t1.films 0))
+    Writes a.write a.out-1.now a.start (film_numbers a.t1) a.out-1.now a.start (a.t1.films ∷ filmsFrom a.t1 a.t1.films 0))
 unfolding film_numbers
 all_left s = writes_start _ _ _ _
 
-films-left : (c : tie.After-put-number invariant-loop decreases-loop) → (let a = (start c).args in
-    Writes a.write a.out.now a.start (film_numbers a.t1) c.put-number.new.0 c.put-number.result (filmsFrom a.t1 a.t1.films 0))
-films-left c = let s = start c in writes_next s.pre.1 (all_left s) c.put-number.ensures
+films-left : (c : tie.After-put_number-at invariant-loop decreases-loop) → (let a = (start c).args in
+    Writes a.write a.out-1.now a.start (film_numbers a.t1) c.put_number-at.new.0 c.put_number-at.result (filmsFrom a.t1 a.t1.films 0))
+films-left c = let s = start c in writes_next s.requires.1 (all_left s) c.put_number-at.ensures
 
 -- there is room for the films
-room : (c : tie.After-put-number invariant-loop decreases-loop) → (let a = (start c).args in
-    Room a.write c.put-number.new.0 c.put-number.result (bytes_of (filmsFrom a.t1 a.t1.films 0)))
+room : (c : tie.After-put_number-at invariant-loop decreases-loop) → (let a = (start c).args in
+    Room a.write c.put_number-at.new.0 c.put_number-at.result (bytes_of (filmsFrom a.t1 a.t1.films 0)))
 room c = writes_rest (start c).requires.1 (films-left c)
 
 -- where a film begins, and where what follows them does
-film-left : (c : tie.In-loop invariant-loop decreases-loop)
-    → (let n = counted c.before in let a = (start n).args in let f = a.t1 in let l = c.before.loop in
-    Writes a.write n.put-number.last.0 n.put-number.result (filmsFrom f f.films 0) l.out l.at
+film-left : (c : tie.In-loop-i invariant-loop decreases-loop)
+    → (let n = counted c.before in let a = (start n).args in let f = a.t1 in let l = c.loop-i in
+    Writes a.write n.put_number-at.last.0 n.put_number-at.result (filmsFrom f f.films 0) l.out-1 l.at
     (get_or f.blocks l.i 0 ∷ filmsFrom f (f.films - (l.i + 1)) (l.i + 1)))
 film-left c =
     let f = (start (counted c.before)).args.t1 in
-    let l = c.before.loop in
+    let l = c.loop-i in
     rw (row_more f.blocks (measure_numbers f) l.i (f.films - l.i) (f.films - (l.i + 1)) (omega arith)) at l.invariant.left
 
-measures-left : (c : tie.After-loop invariant-loop decreases-loop)
-    → (let n = counted c.before in let a = (start n).args in let l = c.before.loop in
-    Writes a.write n.put-number.last.0 n.put-number.result (filmsFrom a.t1 a.t1.films 0) l.out l.at (measure_numbers a.t1))
+measures-left : (c : tie.After-loop-i invariant-loop decreases-loop)
+    → (let n = counted c.before in let a = (start n).args in let l = c.loop-i in
+    Writes a.write n.put_number-at.last.0 n.put_number-at.result (filmsFrom a.t1 a.t1.films 0) l.out-1 l.at (measure_numbers a.t1))
 measures-left c =
     let f = (start (counted c.before)).args.t1 in
-    let l = c.before.loop in
+    let l = c.loop-i in
     rw (row_done f.blocks (measure_numbers f) l.i (f.films - l.i) (omega arith)) at l.invariant.left
 
-put-number-requires : tie.Need-put-number-requires invariant-loop decreases-loop
-put-number-requires c κs = let s = c.before.before in writes_fits s.requires.1 (all_left s)
+put-number-requires : tie.Need-put_number-at-requires invariant-loop decreases-loop
+put-number-requires c κs = let s = c in writes_fits s.requires.1 (all_left c.before.before)
 
-loop-holds : tie.Need-loop-init invariant-loop decreases-loop
+loop-holds : tie.Need-loop-i-init invariant-loop decreases-loop
 loop-holds c =
-    let n = c.before.before in
-    let a = (start n).args in
+    let n = c in
+    let a = (start c.before.before).args in
     let f = a.t1 in
     let e : f.films ≡ f.films - 0 = omega arith in
     record {
       within = omega arith;
-      left = subst (λ (k : ℕ). Writes a.write n.put-number.new.0 n.put-number.result (filmsFrom f f.films 0) n.put-number.new.0
-          n.put-number.result (filmsFrom f k 0)) e (writes_start _ _ _ _);
+      left = subst (λ (k : ℕ). Writes a.write n.put_number-at.new.0 n.put_number-at.result (filmsFrom f f.films 0) n.put_number-at.new.0
+          n.put_number-at.result (filmsFrom f k 0)) e (writes_start _ _ _ _);
     }
 
-put-number-requires-2 : tie.Need-put-number-requires-2 invariant-loop decreases-loop
-put-number-requires-2 c κs = let t = c.before.before in writes_fits (room (counted t.before)) (film-left t)
+put-number-requires-2 : tie.Need-put_number-at-requires-in-loop-i invariant-loop decreases-loop
+put-number-requires-2 c κs = let t = c in writes_fits (room (counted c.before.before.before)) (film-left c.before.before)
 
-loop-again : tie.Need-loop-preserved invariant-loop decreases-loop
+loop-again : tie.Need-loop-i-preserved invariant-loop decreases-loop
 loop-again c =
-    let w = c.before.before in
-    let t = w.before.before.before in
-    record { within = omega arith; left = writes_next (room (counted t.before)) (film-left t) w.put-number2.ensures }
+    let w = c in
+    let t = c in
+    record { within = omega arith; left = writes_next (room (counted c.before.before.before.before.before.before)) (film-left c.before.before.before.before.before) w.put_number-at-in-loop-i.ensures }
 
-put-measures-requires : tie.Need-put-measures-requires invariant-loop decreases-loop
-put-measures-requires c κs = let p = c.before in writes_rest (room (counted p.before)) (measures-left p)
+put-measures-requires : tie.Need-put_measures-requires invariant-loop decreases-loop
+put-measures-requires c κs = let p = c in writes_rest (room (counted c.before.before)) (measures-left c.before)
 
 returns : tie.Need-returns invariant-loop decreases-loop
 returns c =
-    let w = c.before.before in
-    let p = w.before.before in
-    writes_last (films-left (counted p.before)) (writes_last (measures-left p) w.put-measures.ensures)
+    let w = c in
+    let p = c in
+    writes_last (films-left (counted c.before.before.before.before.before)) (writes_last (measures-left c.before.before.before.before) w.put_measures.ensures)
 
-pub put-films-spec : {M : Type 1} → statement M
-put-films-spec =
+pub put_films_spec : {M : Type 1} → statement M
+put_films_spec =
     tie.close
     (tie.spec
     invariant-loop

@@ -16,90 +16,90 @@ record Put (write : Bool) (figures : Figures) (zones : ℕ) (out₀ : List ℕ) 
   within : i ≤ zones
   left : Writes write out₀ start (zone_numbers zones 0 figures) out at (zone_numbers (zones - i) i figures)
 
-abbrev invariant-loop : tie.invariant-loop
+abbrev invariant-loop : tie.invariant-loop-i
 invariant-loop out₀ start write figures zones at₀ i₀ out at i = Put write figures zones out₀ start out at i
 
-abbrev decreases-loop : tie.decreases-loop
+abbrev decreases-loop : tie.decreases-loop-i
 decreases-loop out₀ start write figures zones at₀ i₀ out at i = zones - i
 
 -- what is left to put where a zone begins, where its time is left, and where the films are
-zone-left : (c : tie.In-loop invariant-loop decreases-loop) → (let a = c.before.before.before.args in let l = c.before.loop in
-    Writes a.write a.out.now a.start (zone_numbers a.t1.zones 0 a.t1) l.out l.at
+zone-left : (c : tie.In-loop-i invariant-loop decreases-loop) → (let a = c.args in let l = c.loop-i in
+    Writes a.write a.out-1.now a.start (zone_numbers a.t1.zones 0 a.t1) l.out-1 l.at
     (get_or a.t1.positions l.i 0 ∷ get_or a.t1.times l.i 0 ∷ zone_numbers (a.t1.zones - (l.i + 1)) (l.i + 1) a.t1))
 zone-left c =
-    let f = c.before.before.before.args.t1 in
-    let l = c.before.loop in
+    let f = c.args.t1 in
+    let l = c.loop-i in
     rw (numbers_more f l.i (f.zones - l.i) (f.zones - (l.i + 1)) (omega arith)) at l.invariant.left
 
-time-left : (c : tie.After-put-number invariant-loop decreases-loop)
-    → (let t = c.before.before.before in let a = t.before.before.before.args in let l = t.before.loop in
-    Writes a.write a.out.now a.start (zone_numbers a.t1.zones 0 a.t1) c.put-number.new.0 c.put-number.result
+time-left : (c : tie.After-put_number-at invariant-loop decreases-loop)
+    → (let t = c.before.before.before in let a = t.args in let l = t.loop-i in
+    Writes a.write a.out-1.now a.start (zone_numbers a.t1.zones 0 a.t1) c.put_number-at.new.0 c.put_number-at.result
     (get_or a.t1.times l.i 0 ∷ zone_numbers (a.t1.zones - (l.i + 1)) (l.i + 1) a.t1))
-time-left c = let t = c.before.before.before in writes_next t.before.before.before.requires.2 (zone-left t) c.put-number.ensures
+time-left c = let t = c in writes_next t.requires.2 (zone-left c.before.before.before) c.put_number-at.ensures
 
-film-left : (c : tie.After-loop invariant-loop decreases-loop) → (let a = c.before.before.before.args in let l = c.before.loop in
-    Writes a.write a.out.now a.start (zone_numbers a.t1.zones 0 a.t1) l.out l.at (film_numbers a.t1))
+film-left : (c : tie.After-loop-i invariant-loop decreases-loop) → (let a = c.args in let l = c.loop-i in
+    Writes a.write a.out-1.now a.start (zone_numbers a.t1.zones 0 a.t1) l.out-1 l.at (film_numbers a.t1))
 film-left c =
-    let f = c.before.before.before.args.t1 in
-    let l = c.before.loop in
+    let f = c.args.t1 in
+    let l = c.loop-i in
     rw (numbers_done f l.i (f.zones - l.i) (omega arith)) at l.invariant.left
 
-cast-zones : tie.Need-overflow-cast-zones invariant-loop decreases-loop
+cast-zones : tie.Need-overflow_cast-zones invariant-loop decreases-loop
 cast-zones c = search rules
 
-loop-holds : tie.Need-loop-init invariant-loop decreases-loop
+loop-holds : tie.Need-loop-i-init invariant-loop decreases-loop
 loop-holds c =
-    let a = c.before.args in
+    let a = c.args in
     let all = zone_numbers a.t1.zones 0 a.t1 in
     let e : a.t1.zones ≡ a.t1.zones - 0 = omega arith in
     record {
       within = omega arith;
       left =
-          subst (λ (n : ℕ). Writes a.write a.out.now a.start all a.out.now a.start (zone_numbers n 0 a.t1)) e
+          subst (λ (n : ℕ). Writes a.write a.out-1.now a.start all a.out-1.now a.start (zone_numbers n 0 a.t1)) e
           (writes_start _ _ _ _);
     }
 
-mul-put-number : tie.Need-overflow-mul-put-number invariant-loop decreases-loop
+mul-put-number : tie.Need-offset_bounds-figures-i invariant-loop decreases-loop
 mul-put-number c = search rules
 
-element-copy-out-put-number : tie.Need-element-copy-out-put-number invariant-loop decreases-loop
+element-copy-out-put-number : tie.Need-bounds-figures-i invariant-loop decreases-loop
 element-copy-out-put-number c = search rules
 
-put-number-requires : tie.Need-put-number-requires invariant-loop decreases-loop
-put-number-requires c κs = writes_fits c.before.before.before.before.before.requires.2 (zone-left c.before.before)
+put-number-requires : tie.Need-put_number-at-requires invariant-loop decreases-loop
+put-number-requires c κs = writes_fits c.requires.2 (zone-left c.before.before)
 
-mul-put-number-2 : tie.Need-overflow-mul-put-number-2 invariant-loop decreases-loop
+mul-put-number-2 : tie.Need-offset_bounds-figures-i-in-loop-i invariant-loop decreases-loop
 mul-put-number-2 c = search rules
 
-element-copy-out-put-number-2 : tie.Need-element-copy-out-put-number-2 invariant-loop decreases-loop
+element-copy-out-put-number-2 : tie.Need-bounds-figures-i-in-loop-i invariant-loop decreases-loop
 element-copy-out-put-number-2 c = search rules
 
-put-number-requires-2 : tie.Need-put-number-requires-2 invariant-loop decreases-loop
-put-number-requires-2 c κs = let w = c.before.before.before.before in writes_fits w.before.before.before.before.before.before.requires.2 (time-left w)
+put-number-requires-2 : tie.Need-put_number-at-requires-in-loop-i invariant-loop decreases-loop
+put-number-requires-2 c κs = let w = c in writes_fits w.requires.2 (time-left c.before.before.before.before)
 
-add-i : tie.Need-overflow-add-i invariant-loop decreases-loop
+add-i : tie.Need-overflow_add-i invariant-loop decreases-loop
 add-i c = search rules
 
-loop-less : tie.Need-loop-smaller invariant-loop decreases-loop
+loop-less : tie.Need-loop-i-smaller invariant-loop decreases-loop
 loop-less c = search rules
 
-loop-again : tie.Need-loop-preserved invariant-loop decreases-loop
+loop-again : tie.Need-loop-i-preserved invariant-loop decreases-loop
 loop-again c =
-    let t = c.before.before in
-    let w = t.before.before.before.before.before in
-    record { within = omega arith; left = writes_next w.before.before.before.before.before.before.requires.2 (time-left w) t.put-number2.ensures }
+    let t = c in
+    let w = c in
+    record { within = omega arith; left = writes_next w.requires.2 (time-left c.before.before.before.before.before.before.before) t.put_number-at-in-loop-i.ensures }
 
-put-films-requires : tie.Need-put-films-requires invariant-loop decreases-loop
-put-films-requires c κs = let p = c.before in let s = p.before.before.before in (s.requires.1, writes_rest s.requires.2 (film-left p))
+put-films-requires : tie.Need-put_films-requires invariant-loop decreases-loop
+put-films-requires c κs = let p = c in let s = c in (s.requires.1, writes_rest s.requires.2 (film-left c.before))
 
-same_length : tie.Need-same-length invariant-loop decreases-loop
+same_length : tie.Need-shape_of-out invariant-loop decreases-loop
 same_length c = search rules
 
 returns : tie.Need-returns invariant-loop decreases-loop
-returns c = let w = c.before.before in writes_last (film-left w.before.before) w.put-films.ensures
+returns c = let w = c in writes_last (film-left c.before.before.before.before) w.put_films.ensures
 
-pub put-zones-spec : {M : Type 1} → statement M
-put-zones-spec =
+pub put_zones_spec : {M : Type 1} → statement M
+put_zones_spec =
     tie.close
     (tie.spec
     invariant-loop

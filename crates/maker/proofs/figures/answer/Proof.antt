@@ -5,11 +5,11 @@ use borrow.Author.Rules.{rules}
 use Rattle.maker.proofs.figures.answer.Statement.{statement}
 use Rattle.maker.proofs.figures.answer.Tie as tie
 
-returns : tie.Need-returns
-returns c = let j = c.before.before.before in c.refused-text.ensures ∙ figures_refused _ _ j.judge-figures.ensures (λ e. omega arith)
+returns : tie.Need-returns-then-verdict-ne0
+returns c = let j = c in c.refused_text.ensures ∙ figures_refused _ _ j.judge_figures-verdict.ensures (λ e. omega arith)
 
-returns-2 : tie.Need-returns-2
-returns-2 c = let j = c.before.before in figures_accepted _ _ j.judge-figures.ensures (omega arith)
+returns-2 : tie.Need-returns
+returns-2 c = let j = c in figures_accepted _ _ j.judge_figures-verdict.ensures (omega arith)
 
-pub answer-spec : {M : Type 1} → statement M
-answer-spec = tie.close (tie.spec (λ c κs. search rules) (λ c κs. search rules) returns returns-2)
+pub answer_spec : {M : Type 1} → statement M
+answer_spec = tie.close (tie.spec (λ c κs. search rules) (λ c κs. search rules) returns returns-2)

@@ -9,19 +9,19 @@ use Rattle.maker.proofs.figures.figures_of.Tie as tie
 returns : tie.Need-returns
 unfolding filled
 returns c =
-    let film = c.before in
-    let a = film.before.before.before.args in
+    let film = c in
+    let a = film.args in
     λ t. record {
       kind = straight_kind;
       zones = a.count;
-      positions = a.zones.positions;
-      times = a.zones.times;
+      positions = a.zones.positions-1;
+      times = a.zones.times-1;
       films = 1;
-      blocks = film.one-film.ensures t;
+      blocks = film.one_film.ensures t;
       bytes = sector_bytes * a.block;
       rate = a.rate;
       table = c.table_of.ensures t;
     }
 
-pub figures-of-spec : {M : Type 1} → statement M
-figures-of-spec = tie.close (tie.spec (λ c κs. search rules) (λ c. search rules) (λ c κs. search rules) returns)
+pub figures_of_spec : {M : Type 1} → statement M
+figures_of_spec = tie.close (tie.spec (λ c κs. search rules) (λ c. search rules) (λ c κs. search rules) returns)

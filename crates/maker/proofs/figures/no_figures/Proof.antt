@@ -6,19 +6,19 @@ use Rattle.maker.proofs.figures.no_figures.Tie as tie
 returns : tie.Need-returns
 unfolding blank_figures
 returns c =
-    let films = c.before in
-    let times = films.before in
+    let films = c in
+    let times = c in
     λ t. record {
       kind = 0;
       zones = 0;
-      positions = times.before.no-zones.ensures t;
-      times = times.no-zones2.ensures t;
+      positions = times.no_zones.ensures t;
+      times = times.no_zones-2.ensures t;
       films = 0;
-      blocks = films.no-films.ensures t;
+      blocks = films.no_films.ensures t;
       bytes = 0;
       rate = 0;
       table = c.no_table.ensures t;
     }
 
-pub no-figures-spec : {M : Type 1} → statement M
-no-figures-spec = tie.close (tie.spec (λ c κs. search rules) (λ c κs. search rules) (λ c κs. search rules) (λ c κs. search rules) returns)
+pub no_figures_spec : {M : Type 1} → statement M
+no_figures_spec = tie.close (tie.spec (λ c κs. search rules) (λ c κs. search rules) (λ c κs. search rules) (λ c κs. search rules) returns)

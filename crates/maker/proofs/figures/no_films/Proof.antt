@@ -7,5 +7,5 @@ returns : tie.Need-returns
 unfolding blank_films
 returns c = refl
 
-pub no-films-spec : {M : Type 1} → statement M
-no-films-spec = tie.close (tie.spec returns)
+pub no_films_spec : {M : Type 1} → statement M
+no_films_spec = tie.close (tie.spec returns)

@@ -7,5 +7,5 @@ returns : tie.Need-returns
 unfolding blank_zones
 returns c = refl
 
-pub no-zones-spec : {M : Type 1} → statement M
-no-zones-spec = tie.close (tie.spec returns)
+pub no_zones_spec : {M : Type 1} → statement M
+no_zones_spec = tie.close (tie.spec returns)

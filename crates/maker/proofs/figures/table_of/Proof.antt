@@ -7,21 +7,21 @@ use borrow.Author.Rules.{rules}
 use Rattle.maker.proofs.figures.table_of.Statement.{statement}
 use Rattle.maker.proofs.figures.table_of.Tie as tie
 
-fill-straight-requires : tie.Need-fill-straight-requires
+fill-straight-requires : tie.Need-fill_straight-requires
 fill-straight-requires c κs =
-    let hop = c.before in
-    let none = hop.before.before in
-    let a = none.before.args in (
-      omega (arith, hop.Move-in.ensures, move_small a.hop),
-      omega (arith, c.move-in2.ensures, move_small a.back),
-      ap length none.no_table.ensures
+    let hop = c in
+    let none = c in
+    let a = none.args in (
+      omega (arith, hop.move_in.ensures, move_small a.hop),
+      omega (arith, c.move_in-2.ensures, move_small a.back),
+      ap length none.no_table-table.ensures
           ∙ blank_long,
     )
 
 returns : tie.Need-returns
-returns c = let both = c.before in c.fill-straight.ensures ∙ ap₂ straight both.before.Move-in.ensures both.move-in2.ensures
+returns c = let both = c in c.fill_straight.ensures ∙ ap₂ straight both.move_in.ensures both.move_in-2.ensures
 
-pub table-of-spec : {M : Type 1} → statement M
-table-of-spec =
+pub table_of_spec : {M : Type 1} → statement M
+table_of_spec =
     tie.close
     (tie.spec (λ c κs. search rules) (λ c κs. search rules) (λ c κs. search rules) fill-straight-requires returns)
