@@ -21,57 +21,57 @@ record LeadsCompared (ps ts : List ℕ) (l : ℕ → ℕ) (N w : ℕ) (ls : List
   cursors : Cursors ps walk
   leads : Compares (words_of ls) (lead_at ps ts l w) 0 N x b
 
-abbrev invariant-loop : tie.invariant-loop
+abbrev invariant-loop : tie.invariant-loop-b
 invariant-loop sizes times showing total blocks worst2 leads walk₀ same₀ b₀ walk same b =
     LeadsCompared sizes times (laying (walk_of showing) total blocks) blocks worst2 leads walk same b
 
-abbrev decreases-loop : tie.decreases-loop
+abbrev decreases-loop : tie.decreases-loop-b
 decreases-loop sizes times showing total blocks worst2 leads walk₀ same₀ b₀ walk same b = blocks - b
 
-returns : tie.Need-returns invariant-loop decreases-loop
-returns c = let a = c.before.before.before.args in
+returns : tie.Need-returns-then-entries-blocks invariant-loop decreases-loop
+returns c = let a = c.args in
     sym (begins_short (lead_at a.sizes.now a.times.now (laying (walk_of a.showing) a.total a.blocks) a.worst2) 0 a.blocks
     (words_of a.leads.now) (omega arith))
 
-loop-holds : tie.Need-loop-init invariant-loop decreases-loop
-loop-holds c = let a = c.before.before.before.before.args in
+loop-holds : tie.Need-loop-b-init invariant-loop decreases-loop
+loop-holds c = let a = c.args in
     record {
-      cursors = c.set_out.ensures;
+      cursors = c.set_out-walk.ensures;
       leads =
           compares_start (words_of a.leads.now) (lead_at a.sizes.now a.times.now (laying (walk_of a.showing) a.total a.blocks) a.worst2)
           0 a.blocks (omega arith);
     }
 
-zone-of-requires : tie.Need-zone-of-requires invariant-loop decreases-loop
-zone-of-requires c κs = let l = c.before in meets l.before.before.before.before.before.requires l.loop.invariant.cursors.low (omega arith)
+zone-of-requires : tie.Need-zone_of-low-requires invariant-loop decreases-loop
+zone-of-requires c κs = let l = c in meets l.requires l.loop-b.invariant.cursors.low (omega arith)
 
-zone-of-requires-2 : tie.Need-zone-of-requires-2 invariant-loop decreases-loop
-zone-of-requires-2 c κs = let l = c.before.before in meets l.before.before.before.before.before.requires l.loop.invariant.cursors.high (omega arith)
+zone-of-requires-2 : tie.Need-zone_of-high-requires invariant-loop decreases-loop
+zone-of-requires-2 c κs = let l = c in meets l.requires l.loop-b.invariant.cursors.high (omega arith)
 
-run-from-requires : tie.Need-run-from-requires invariant-loop decreases-loop
-run-from-requires c κs = let l = c.before.before.before in
-    (l.before.before.before.before.before.requires, omega arith, c.before.zone-of.ensures, c.zone-of2.ensures)
+run-from-requires : tie.Need-run_from-walk-requires invariant-loop decreases-loop
+run-from-requires c κs = let l = c in
+    (l.requires, omega arith, c.zone_of-low.ensures, c.zone_of-high.ensures)
 
-loop-again : tie.Need-loop-preserved invariant-loop decreases-loop
-loop-again c = let run = c.before in
-    let w = run.before.before.before in
-    let l = w.before.before.before.before in
-    let r = w.run-from.ensures in
+loop-again : tie.Need-loop-b-preserved invariant-loop decreases-loop
+loop-again c = let run = c in
+    let w = c in
+    let l = c in
+    let r = w.run_from-walk.ensures in
     record {
       cursors = r.cursors;
-      leads = compares_run l.loop.invariant.leads (omega arith) r.within c.both.ensures run.same-run.ensures
-          (run_leads r l.before.before.before.before.before.args.worst2 run.before.before.lead.ensures run.before.lead2.ensures);
+      leads = compares_run l.loop-b.invariant.leads (omega arith) r.within c.both-same.ensures run.same_run-run.ensures
+          (run_leads r l.args.worst2 run.lead.ensures run.lead-in-loop-b.ensures);
     }
 
-returns-2 : tie.Need-returns-2 invariant-loop decreases-loop
-returns-2 c = let l = c.before in
-    let a = l.before.before.before.before.before.args in
-    compares_end l.loop.invariant.leads (omega arith)
+returns-2 : tie.Need-returns invariant-loop decreases-loop
+returns-2 c = let l = c in
+    let a = l.args in
+    compares_end l.loop-b.invariant.leads (omega arith)
     ∙ has_all (lead_at a.sizes.now a.times.now (laying (walk_of a.showing) a.total a.blocks) a.worst2) (words_of a.leads.now)
     a.blocks
 
-pub same-leads-spec : {M : Type 1} → statement M
-same-leads-spec =
+pub same_leads_spec : {M : Type 1} → statement M
+same_leads_spec =
     tie.close
     (tie.spec
     invariant-loop

@@ -11,38 +11,38 @@ use borrow.Author.Rules.{rules}
 use Rattle.block_lists.proofs.same_positions.Statement.{statement}
 use Rattle.block_lists.proofs.same_positions.Tie as tie
 
-abbrev invariant-loop : tie.invariant-loop
+abbrev invariant-loop : tie.invariant-loop-b
 invariant-loop showing total blocks positions same₀ b₀ same b = Compares (words_of positions) (laying (walk_of showing) total blocks) 0 blocks same b
 
-abbrev decreases-loop : tie.decreases-loop
+abbrev decreases-loop : tie.decreases-loop-b
 decreases-loop showing total blocks positions same₀ b₀ same b = blocks - b
 
-returns : tie.Need-returns invariant-loop decreases-loop
-returns c = let a = c.before.before.before.args in
+returns : tie.Need-returns-then-entries-blocks invariant-loop decreases-loop
+returns c = let a = c.args in
     sym (begins_short (laying (walk_of a.showing) a.total a.blocks) 0 a.blocks (words_of a.positions.now) (omega arith))
 
-same-ring-requires : tie.Need-same-ring-requires invariant-loop decreases-loop
-same-ring-requires c κs = let p = c.before.before.before.before.requires in (p.0, p.1, p.2, omega arith)
+same-ring-requires : tie.Need-same_ring-requires invariant-loop decreases-loop
+same-ring-requires c κs = let p = c.requires in (p.0, p.1, p.2, omega arith)
 
-returns-2 : tie.Need-returns-2 invariant-loop decreases-loop
-returns-2 c = rw (walks_loop _ c.before.if2.true) c.same-ring.ensures
+returns-2 : tie.Need-returns-then-showing-eq-LOOP invariant-loop decreases-loop
+returns-2 c = rw (walks_loop _ c.if-showing-eq-LOOP.true) c.same_ring.ensures
 
-loop-holds : tie.Need-loop-init invariant-loop decreases-loop
-loop-holds c = let a = c.before.before.before.before.args in
+loop-holds : tie.Need-loop-b-init invariant-loop decreases-loop
+loop-holds c = let a = c.args in
     compares_start (words_of a.positions.now) (laying (walk_of a.showing) a.total a.blocks) 0 a.blocks (omega arith)
 
-loop-again : tie.Need-loop-preserved invariant-loop decreases-loop
-loop-again c = let l = c.before.before.before.before in
-    compares_one l.loop.invariant (omega arith) (omega arith) c.both.ensures c.before.before.word_at.ensures c.before.position-of.ensures.is
+loop-again : tie.Need-loop-b-preserved invariant-loop decreases-loop
+loop-again c = let l = c in
+    compares_one l.loop-b.invariant (omega arith) (omega arith) c.both-same.ensures c.word_at-have.ensures c.position_of.ensures.is
 
-returns-3 : tie.Need-returns-3 invariant-loop decreases-loop
-returns-3 c = let l = c.before in
-    let a = l.before.before.before.before.before.args in
-    compares_end l.loop.invariant (omega arith)
+returns-3 : tie.Need-returns invariant-loop decreases-loop
+returns-3 c = let l = c in
+    let a = l.args in
+    compares_end l.loop-b.invariant (omega arith)
     ∙ has_all (laying (walk_of a.showing) a.total a.blocks) (words_of a.positions.now) a.blocks
 
-pub same-positions-spec : {M : Type 1} → statement M
-same-positions-spec =
+pub same_positions_spec : {M : Type 1} → statement M
+same_positions_spec =
     tie.close
     (tie.spec
     invariant-loop

@@ -9,29 +9,29 @@ use borrow.Author.Rules.{rules}
 use Rattle.block_lists.proofs.same_ring.Statement.{statement}
 use Rattle.block_lists.proofs.same_ring.Tie as tie
 
-same-turns-requires : tie.Need-same-turns-requires
-same-turns-requires c κs = let p = c.before.before.before.requires in
+same-turns-requires : tie.Need-same_turns-requires
+same-turns-requires c κs = let p = c.requires in
     (record { order = omega arith; long = omega arith }, record { some = omega arith; within = omega arith; room = p.1; small = p.2; parity = omega arith })
 
-same-turns-requires-2 : tie.Need-same-turns-requires-2
-same-turns-requires-2 c κs = let p = c.before.before.before.before.before.requires in
+same-turns-requires-2 : tie.Need-same_turns-late-requires
+same-turns-requires-2 c κs = let p = c.requires in
     (record { order = omega arith; long = omega arith }, record { some = omega arith; within = omega arith; room = p.1; small = p.2; parity = omega arith })
 
 returns : tie.Need-returns
-returns c = let late = c.before in
-    let early = late.before in
-    let first = early.before.before in
-    let s = first.before.before.before in
+returns c = let late = c in
+    let early = c in
+    let first = c in
+    let s = c in
     let a = s.args in
     let p = s.requires in
     let n = compares_start (words_of a.list.now) (ring a.total a.blocks) 0 a.blocks (omega arith) in
-    let w = compares_one n p.0 p.3 first.both.ensures first.before.word_at.ensures (sym (ring_first a.total a.blocks)) in
-    let e = compares_run w (omega arith) (omega arith) early.both2.ensures early.before.same-turns.ensures (early_turns p.0 p.1) in
-    let l = compares_run e (omega arith) (omega arith) c.both3.ensures late.same-turns2.ensures (late_turns p.0 p.1) in
+    let w = compares_one n p.0 p.3 first.both-first.ensures first.word_at.ensures (sym (ring_first a.total a.blocks)) in
+    let e = compares_run w (omega arith) (omega arith) early.both-early.ensures early.same_turns.ensures (early_turns p.0 p.1) in
+    let l = compares_run e (omega arith) (omega arith) c.both.ensures late.same_turns-late.ensures (late_turns p.0 p.1) in
     compares_end l (omega arith) ∙ has_all (ring a.total a.blocks) (words_of a.list.now) a.blocks
 
-pub same-ring-spec : {M : Type 1} → statement M
-same-ring-spec =
+pub same_ring_spec : {M : Type 1} → statement M
+same_ring_spec =
     tie.close
     (tie.spec
     (λ c. omega arith)

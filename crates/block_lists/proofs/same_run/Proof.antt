@@ -7,28 +7,28 @@ use borrow.Author.Rules.{rules}
 use Rattle.block_lists.proofs.same_run.Statement.{statement}
 use Rattle.block_lists.proofs.same_run.Tie as tie
 
-abbrev invariant-loop : tie.invariant-loop
+abbrev invariant-loop : tie.invariant-loop-b
 invariant-loop list from to even odd same₀ b₀ same b = Compares (words_of list) (side_of even odd) from to same b
 
-abbrev decreases-loop : tie.decreases-loop
+abbrev decreases-loop : tie.decreases-loop-b
 decreases-loop list from to even odd same₀ b₀ same b = to - b
 
-loop-holds : tie.Need-loop-init invariant-loop decreases-loop
-loop-holds c = let a = c.before.args in compares_start (words_of a.list.now) (side_of a.even a.odd) a.from a.to c.before.requires.order
+loop-holds : tie.Need-loop-b-init invariant-loop decreases-loop
+loop-holds c = let a = c.args in compares_start (words_of a.list.now) (side_of a.even a.odd) a.from a.to c.requires.order
 
-loop-again : tie.Need-loop-preserved invariant-loop decreases-loop
-loop-again c = let l = c.before.before.before.before in
-    let s = l.before.before in
+loop-again : tie.Need-loop-b-preserved invariant-loop decreases-loop
+loop-again c = let l = c in
+    let s = c in
     let a = s.args in
-    compares_one l.loop.invariant (omega arith) s.requires.long c.both.ensures c.before.before.word_at.ensures c.before.side.ensures
+    compares_one l.loop-b.invariant (omega arith) s.requires.long c.both-same.ensures c.word_at-have.ensures c.side.ensures
 
 returns : tie.Need-returns invariant-loop decreases-loop
-returns c = let l = c.before in
-    let a = l.before.before.args in
-    compares_end l.loop.invariant (omega arith)
+returns c = let l = c in
+    let a = l.args in
+    compares_end l.loop-b.invariant (omega arith)
 
-pub same-run-spec : {M : Type 1} → statement M
-same-run-spec =
+pub same_run_spec : {M : Type 1} → statement M
+same_run_spec =
     tie.close
     (tie.spec
     invariant-loop

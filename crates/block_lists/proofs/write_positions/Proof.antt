@@ -9,40 +9,40 @@ use borrow.Author.Rules.{rules}
 use Rattle.block_lists.proofs.write_positions.Statement.{statement}
 use Rattle.block_lists.proofs.write_positions.Tie as tie
 
-abbrev invariant-loop : tie.invariant-loop
+abbrev invariant-loop : tie.invariant-loop-b
 invariant-loop showing total blocks positions₀ b₀ positions b = Writes positions₀ (laying (walk_of showing) total blocks) 0 blocks positions b
 
-abbrev decreases-loop : tie.decreases-loop
+abbrev decreases-loop : tie.decreases-loop-b
 decreases-loop showing total blocks positions₀ b₀ positions b = blocks - b
 
-loop-holds : tie.Need-loop-init invariant-loop decreases-loop
-loop-holds c = let a = c.before.before.args in
+loop-holds : tie.Need-loop-b-init invariant-loop decreases-loop
+loop-holds c = let a = c.args in
     writes_start a.positions.now (laying (walk_of a.showing) a.total a.blocks) 0 a.blocks (omega arith)
 
-put-word-requires : tie.Need-put-word-requires invariant-loop decreases-loop
-put-word-requires c κs = let w = c.before.before.before.loop.invariant in omega arith
+put-word-requires : tie.Need-put_word-requires invariant-loop decreases-loop
+put-word-requires c κs = let w = c.loop-b.invariant in omega arith
 
-loop-again : tie.Need-loop-preserved invariant-loop decreases-loop
-loop-again c = let l = c.before.before.before.before.before.before in
-    writes_one l.loop.invariant (omega arith) c.before.before.put_word.ensures c.before.before.before.position-of.ensures.is
+loop-again : tie.Need-loop-b-preserved invariant-loop decreases-loop
+loop-again c = let l = c in
+    writes_one l.loop-b.invariant (omega arith) c.put_word.ensures c.position_of.ensures.is
 
-put-ring-requires : tie.Need-put-ring-requires invariant-loop decreases-loop
-put-ring-requires c κs = c.before.before.before.requires
+put-ring-requires : tie.Need-put_ring-requires invariant-loop decreases-loop
+put-ring-requires c κs = c.requires
 
-returns : tie.Need-returns invariant-loop decreases-loop
-returns c = rw (walks_loop _ c.before.before.before.before.if1.true) c.before.before.put-ring.ensures
+returns : tie.Need-returns-then-showing-eq-LOOP invariant-loop decreases-loop
+returns c = rw (walks_loop _ c.if-showing-eq-LOOP.true) c.put_ring.ensures
 
-same-length-2 : tie.Need-same-length-2 invariant-loop decreases-loop
-same-length-2 c = c.before.loop.invariant.kept
+same-length-2 : tie.Need-shape_of-positions invariant-loop decreases-loop
+same-length-2 c = c.loop-b.invariant.kept
 
-returns-2 : tie.Need-returns-2 invariant-loop decreases-loop
-returns-2 c = let l = c.before in
-    let a = l.before.before.before.args in
-    writes_end l.loop.invariant (omega arith)
+returns-2 : tie.Need-returns invariant-loop decreases-loop
+returns-2 c = let l = c in
+    let a = l.args in
+    writes_end l.loop-b.invariant (omega arith)
     ∙ written_all a.positions.now (laying (walk_of a.showing) a.total a.blocks) a.blocks
 
-pub write-positions-spec : {M : Type 1} → statement M
-write-positions-spec =
+pub write_positions_spec : {M : Type 1} → statement M
+write_positions_spec =
     tie.close
     (tie.spec
     invariant-loop

@@ -52,7 +52,7 @@ same_length c = search rules
 
 -- the length is the card's, and the buffer is as it was
 counted : (c : tie.After-put_card-length)
-    → (let a = (start c.before.before).args in Puts false a.out-1.now 0 (card_of a.figures) c.put_card-length.result c.put_card-length.new.1.0)
+    → (let a = (start c.before.before).args in Puts false a.out.now 0 (card_of a.figures) c.put_card-length.result c.put_card-length.new.1.0)
 counted c = c.put_card-length.ensures
 
 returns-2 : tie.Need-returns-then-out-length
@@ -60,7 +60,7 @@ returns-2 c =
     let p = c in
     let e = c in
     let a = (start c.before.before.before.before.before.before).args in
-    let w = write_short a.figures a.out-1.now (legal c.before.before.before.before.before.before) (omega (arith, (counted c.before.before.before.before).end, c.if-out-length.true)) in
+    let w = write_short a.figures a.out.now (legal c.before.before.before.before.before.before) (omega (arith, (counted c.before.before.before.before).end, c.if-out-length.true)) in
     (c.not_written-then-out-length.ensures ∙ w.0, (counted c.before.before.before.before).string ∙ w.1)
 
 put-card-requires-2 : tie.Need-put_card-requires

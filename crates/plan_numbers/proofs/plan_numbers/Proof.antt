@@ -51,21 +51,21 @@ given c = let a = c.args in figures_from a.figures a.sizes.now a.times.now a.tab
 abbrev shown : tie.Start → Showing
 shown c = showing_of c.args.showing
 
-total : (c : tie.After-sum-positions) → c.sum-positions.result ≡ total_positions (given c.before.before)
-total c = c.sum-positions.ensures ∙ total_zones (given c.before.before) c.before.before.requires
+total : (c : tie.After-sum_positions-total) → c.sum_positions-total.result ≡ total_positions (given c.before.before)
+total c = c.sum_positions-total.ensures ∙ total_zones (given c.before.before) c.requires
 
-abbrev told : (c : tie.After-blocks-before) → tie.After-visits-of
+abbrev told : (c : tie.After-blocks_before) → tie.After-visits_of-visits
 told c = c.before.before.before.before
 
-abbrev summed : (c : tie.After-blocks-before) → tie.After-sum-positions
+abbrev summed : (c : tie.After-blocks_before) → tie.After-sum_positions-total
 summed c = (told c).before
 
-abbrev start : (c : tie.After-blocks-before) → tie.Start
+abbrev start : (c : tie.After-blocks_before) → tie.Start
 start c = (summed c).before.before
 
 -- the entries of all films
-all-is : (c : tie.After-blocks-before) → (told c).visits-of.result * c.blocks-before.result ≡ entries_of (shown (start c)) (given (start c))
-all-is c = ap₂ ◌*◌ (told c).visits-of.ensures c.blocks-before.ensures
+all-is : (c : tie.After-blocks_before) → (told c).visits_of-visits.result * c.blocks_before.result ≡ entries_of (shown (start c)) (given (start c))
+all-is c = ap₂ ◌*◌ (told c).visits_of-visits.ensures c.blocks_before.ensures
 
 -- worst2 and where it is, and the margin
 record Measured (x : Showing) (f : Figures) (v w b s : ℕ) : Type 0 where
@@ -75,101 +75,101 @@ record Measured (x : Showing) (f : Figures) (v w b s : ℕ) : Type 0 where
   time : s ≤ max_time
   margin : 2 * s - w ≡ margin_of x f
 
-measured : (c : tie.After-time-at)
-    → (let b = c.before in let w = b.before.before.worst-of-films.result in
-    Measured (shown (start b)) (given (start b)) (told b).visits-of.result w.time w.first c.time-at.result)
+measured : (c : tie.After-time_at-slowest)
+    → (let b = c.before in let w = b.worst_of_films-worst.result in
+    Measured (shown (start b)) (given (start b)) (told b).visits_of-visits.result w.time w.first c.time_at-slowest.result)
 measured c =
-    let b = c.before in
-    let x = shown (start b) in
-    let f = given (start b) in
-    let ok = (start b).requires in
-    let w = b.before.before.worst-of-films in
-    let pair = shelf_worst x f ok _ (total (summed b)) w.result.time w.result.first w.ensures in
-    let s = time-is x f ok _ _ c.time-at.result (total (summed b)) (all-is b) c.time-at.ensures in
-    record { visits = (told b).visits-of.ensures; pair = pair.0; first = pair.1; time = s.0; margin = omega (arith, pair.0, s.1) }
+    let b = c in
+    let x = shown (start c.before) in
+    let f = given (start c.before) in
+    let ok = (start c.before).requires in
+    let w = b.worst_of_films-worst in
+    let pair = shelf_worst x f ok _ (total (summed c.before)) w.result.time w.result.first w.ensures in
+    let s = time-is x f ok _ _ c.time_at-slowest.result (total (summed c.before)) (all-is c.before) c.time_at-slowest.ensures in
+    record { visits = (told c.before).visits_of-visits.ensures; pair = pair.0; first = pair.1; time = s.0; margin = omega (arith, pair.0, s.1) }
 
-sum-positions-requires : tie.Need-sum-positions-requires
-sum-positions-requires c κs = let s = c.before in (legal_zoned (given s) s.requires, s.requires.zones.1)
+sum-positions-requires : tie.Need-sum_positions-total-requires
+sum-positions-requires c κs = let s = c in (legal_zoned (given c.before) s.requires, s.requires.zones.1)
 
-worst-of-films-requires : tie.Need-worst-of-films-requires
-worst-of-films-requires c κs = let t = c.before.before in let s = t.before.before in on_shelf (shown s) (given s) s.requires _ (total t)
+worst-of-films-requires : tie.Need-worst_of_films-worst-requires
+worst-of-films-requires c κs = let t = c in let s = c in on_shelf (shown c.before.before.before.before) (given c.before.before.before.before) s.requires _ (total c.before.before)
 
-blocks-before-requires : tie.Need-blocks-before-requires
-blocks-before-requires c κs = let s = c.before.before.before.before.before.before in (s.requires.films.1, omega (arith, s.requires.all))
+blocks-before-requires : tie.Need-blocks_before-requires
+blocks-before-requires c κs = let s = c in (s.requires.films.1, omega (arith, s.requires.all))
 
-mul-all : tie.Need-overflow-mul-all
-mul-all c = let s = start c in omega (arith, all-is c, entries_few (shown s) (given s) s.pre)
+mul-all : tie.Need-overflow_mul-all
+mul-all c = let s = start c in omega (arith, all-is c, entries_few (shown s) (given s) s.requires)
 
-sub-time-at : tie.Need-overflow-sub-time-at
-sub-time-at c = let s = start c in omega (arith, all-is c, total (summed c), s.pre.room)
+sub-time-at : tie.Need-overflow_sub-total
+sub-time-at c = let s = start c in omega (arith, all-is c, total (summed c), s.requires.room)
 
-time-at-requires : tie.Need-time-at-requires
+time-at-requires : tie.Need-time_at-slowest-requires
 time-at-requires c κs =
     let s = start c in
     let f = given s in
-    let e = entries_some (shown s) f s.pre in
-    (legal_zoned f s.pre, omega (arith, total_is f s.pre, all-is c, total (summed c), s.pre.room))
+    let e = entries_some (shown s) f s.requires in
+    (legal_zoned f s.requires, omega (arith, total_is f s.requires, all-is c, total (summed c), s.requires.room))
 
-lead-requires : tie.Need-lead-requires
+lead-requires : tie.Need-lead-margin-requires
 lead-requires c κs = omega (arith, (measured c).time)
 
-count-streams-requires : tie.Need-count-streams-requires
+count-streams-requires : tie.Need-count_streams-streams-requires
 count-streams-requires c κs =
-    let t = c.before in
-    let s = start t.before in
-    let m = measured t in (
-      record { pair = omega (arith, m.pair, m.visits, worst2_small (shown s) (given s) s.pre); moves = λ k h. (table_range (given s) s.pre k h).1 },
-      s.pre.rate.0,
+    let t = c in
+    let s = start c.before.before in
+    let m = measured c.before in (
+      record { pair = omega (arith, m.pair, m.visits, worst2_small (shown s) (given s) s.requires); moves = λ k h. (table_range (given s) s.requires k h).1 },
+      s.requires.rate.0,
       omega (arith, m.visits, (visits_few (shown s)).0),
     )
 
-abbrev timed : tie.After-count-streams → tie.After-time-at
+abbrev timed : tie.After-count_streams-streams → tie.After-time_at-slowest
 timed c = c.before.before
 
-abbrev begun : tie.After-count-streams → tie.Start
+abbrev begun : tie.After-count_streams-streams → tie.Start
 begun c = start (timed c).before
 
 -- the streams, as they are counted
-counted : (c : tie.After-count-streams) → c.count-streams.result ≡ streams_of (shown (begun c)) (given (begun c))
+counted : (c : tie.After-count_streams-streams) → c.count_streams-streams.result ≡ streams_of (shown (begun c)) (given (begun c))
 counted c =
     let s = begun c in
     let m = measured (timed c) in
-    c.count-streams.ensures ∙ streams-is (shown s) (given s) s.pre _ m.visits _ m.pair
+    c.count_streams-streams.ensures ∙ streams-is (shown s) (given s) s.requires _ m.visits _ m.pair
 
-buffer-size-requires : tie.Need-buffer-size-requires
+buffer-size-requires : tie.Need-buffer_size-buffer-requires
 buffer-size-requires c κs =
     let s = begun c in
     let x = shown s in
     let f = given s in
     let m = measured (timed c) in
     let n = counted c in
-    let g = c.before.lead.ensures ∙ m.margin in (
-      omega (arith, n, (cap_visits x (streams_of x f) (streams_few x f s.pre)).1),
-      omega (arith, c.before.lead.ensures, m.time),
-      omega (arith, ap₂ (λ (n m : ℕ). buffer_of f.rate n m f.bytes) n g, buffer-are x f, buffer_small x f s.pre, s.pre.bytes.1),
+    let g = c.lead-margin.ensures ∙ m.margin in (
+      omega (arith, n, (cap_visits x (streams_of x f) (streams_few x f s.requires)).1),
+      omega (arith, c.lead-margin.ensures, m.time),
+      omega (arith, ap₂ (λ (n m : ℕ). buffer_of f.rate n m f.bytes) n g, buffer-are x f, buffer_small x f s.requires, s.requires.bytes.1),
     )
 
 returns : tie.Need-returns
 unfolding plan_of
 returns c =
-    let n = c.before.before in
-    let f = given (begun n) in
-    let x = shown (begun n) in
-    let m = measured (timed n) in
-    let g = n.before.lead.ensures ∙ m.margin in
-    let b = c.before.buffer-size.ensures ∙ ap₂ (λ (n m : ℕ). buffer_of f.rate n m f.bytes) (counted n) g ∙ buffer-are x f in
+    let n = c in
+    let f = given (begun c.before.before) in
+    let x = shown (begun c.before.before) in
+    let m = measured (timed c.before.before) in
+    let g = n.lead-margin.ensures ∙ m.margin in
+    let b = c.buffer_size-buffer.ensures ∙ ap₂ (λ (n m : ℕ). buffer_of f.rate n m f.bytes) (counted c.before.before) g ∙ buffer-are x f in
     λ i. record {
       figures = f;
-      streams = counted n i;
+      streams = counted c.before.before i;
       buffer = b i;
       worst2 = m.pair i;
       margin = g i;
-      showing = c.known-word.ensures i;
+      showing = c.known_word.ensures i;
       worstat = m.first i;
     }
 
-pub plan-numbers-spec : {M : Type 1} → statement M
-plan-numbers-spec =
+pub plan_numbers_spec : {M : Type 1} → statement M
+plan_numbers_spec =
     tie.close
     (tie.spec
     sum-positions-requires

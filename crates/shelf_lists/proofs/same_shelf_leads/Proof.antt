@@ -16,27 +16,27 @@ use Rattle.shelf_lists.proofs.Laws.{byte_first, byte_next, rows_end, part_start,
 use Rattle.shelf_lists.proofs.same_shelf_leads.Statement.{statement}
 use Rattle.shelf_lists.proofs.same_shelf_leads.Tie as tie
 
-abbrev invariant-loop : tie.invariant-loop
+abbrev invariant-loop : tie.invariant-loop-i
 invariant-loop sizes times showing total blocks films worst2 leads visits count same₀ free₀ at₀ i₀ same free at i =
     AtFilm (showing_of showing) total blocks films count visits free i × (at ≡ 4 * start_of (length_at blocks) i)
     × (same ≡ begins (shelf_leads sizes times (showing_of showing) total blocks worst2 i) (words_of leads))
 
-abbrev decreases-loop : tie.decreases-loop
+abbrev decreases-loop : tie.decreases-loop-i
 decreases-loop sizes times showing total blocks films worst2 leads visits count same₀ free₀ at₀ i₀ same free at i = films - i
 
-returns : tie.Need-returns invariant-loop decreases-loop
+returns : tie.Need-returns-then-entries-blocks_before invariant-loop decreases-loop
 returns c =
-    let b = c.before in
-    let a = b.before.before.before.args in
+    let b = c in
+    let a = b.args in
     rows_short (walked_leads a.sizes.now a.times.now (showing_of a.showing) a.total a.blocks.now a.worst2) (length_at a.blocks.now)
-    a.films (words_of a.leads.now) (omega (arith, b.blocks-before.ensures, b.before.entries.ensures, c.if1.true))
+    a.films (words_of a.leads.now) (omega (arith, b.blocks_before.ensures, b.entries.ensures, c.if-entries-blocks_before.true))
 
 -- ---- in a turn
 
 abbrev Turn : Type 0
-Turn = tie.In-loop invariant-loop decreases-loop
+Turn = tie.In-loop-i invariant-loop decreases-loop
 
-abbrev past : Turn → tie.Else1 invariant-loop decreases-loop
+abbrev past : Turn → tie.Else-entries-blocks_before invariant-loop decreases-loop
 past t = t.before.before.before
 
 abbrev start : Turn → tie.Start invariant-loop decreases-loop
@@ -48,88 +48,88 @@ shown t = showing_of (start t).args.showing
 abbrev counts : Turn → ℕ → ℕ
 counts t = length_at (start t).args.blocks.now
 
-here : (t : Turn) → (let a = (start t).args in let l = t.before.loop in
-    AtFilm (shown t) a.total a.blocks.now a.films a.films t.before.before.visits-of.result l.free l.i)
-here t = t.before.loop.inv.0
+here : (t : Turn) → (let a = (start t).args in let l = t.loop-i in
+    AtFilm (shown t) a.total a.blocks.now a.films a.films t.visits_of-visits.result l.free l.i)
+here t = t.loop-i.invariant.0
 
-byte : (t : Turn) → t.before.loop.at ≡ 4 * start_of (counts t) t.before.loop.i
-byte t = t.before.loop.inv.1
+byte : (t : Turn) → t.loop-i.at ≡ 4 * start_of (counts t) t.loop-i.i
+byte t = t.loop-i.invariant.1
 
-below : (t : Turn) → t.before.loop.i < (start t).args.films
-below t = t.loop-test.taken
+below : (t : Turn) → t.loop-i.i < (start t).args.films
+below t = t.loop-i-test.true
 
 -- the list has room for all
 roomy : (t : Turn) → start_of (counts t) (start t).args.films ≤ length (words_of (start t).args.leads.now)
-roomy t = let b = (past t).before in omega (arith, b.blocks-before.ensures, b.before.entries.ensures, (past t).if1.left)
+roomy t = let b = (past t).before in omega (arith, b.blocks_before.ensures, b.entries.ensures, (past t).if-entries-blocks_before.false)
 
-loop-holds : tie.Need-loop-init invariant-loop decreases-loop
+loop-holds : tie.Need-loop-i-init invariant-loop decreases-loop
 unfolding rows_of begins
 loop-holds c =
-    let a = c.before.before.before.before.before.args in
-    (film_first _ a.total a.blocks.now a.films _ c.visits-of.ensures, byte_first _, refl)
+    let a = c.args in
+    (film_first _ a.total a.blocks.now a.films _ c.visits_of-visits.ensures, byte_first _, refl)
 
-length-small : (t : Turn) → counts t t.before.loop.i ≤ max_blocks
-length-small t = shelved_length (start t).pre.films t.before.loop.i (below t)
+length-small : (t : Turn) → counts t t.loop-i.i ≤ max_blocks
+length-small t = shelved_length (start t).requires.films t.loop-i.i (below t)
 
-sub-same-leads : tie.Need-overflow-sub-same-leads invariant-loop decreases-loop
-sub-same-leads c = let t = c.before in part_start (counts t) (start t).args.films _ _ (below t) (byte t) _ (roomy t)
+sub-same-leads : tie.Need-slice_bounds-same_leads-count invariant-loop decreases-loop
+sub-same-leads c = let t = c in part_start (counts c.before.before) (start c.before.before).args.films _ _ (below c.before.before) (byte c.before.before) _ (roomy c.before.before)
 
-same-leads-requires : tie.Need-same-leads-requires invariant-loop decreases-loop
+same-leads-requires : tie.Need-same_leads-led-requires invariant-loop decreases-loop
 same-leads-requires c κs =
-    let t = c.before.before in
-    let a = (start t).args in
-    film_blocks (here t) (below t) (start t).requires
+    let t = c in
+    let a = (start c.before.before.before).args in
+    film_blocks (here c.before.before.before) (below c.before.before.before) (start c.before.before.before).requires
 
-abbrev turn : tie.After-both invariant-loop decreases-loop → Turn
-turn c = c.before.before.before.before
+abbrev turn : tie.After-both-same invariant-loop decreases-loop → Turn
+turn c = c.before.before.before.before.before
 
-mul-free : tie.Need-overflow-mul-free invariant-loop decreases-loop
-mul-free c = let t = turn c in omega (arith, film_few (here t) (below t) (start t).pre.films)
+mul-free : tie.Need-overflow_mul-free invariant-loop decreases-loop
+mul-free c = let t = turn c in omega (arith, film_few (here t) (below t) (start t).requires.films)
 
-sub-free : tie.Need-overflow-sub-free invariant-loop decreases-loop
-sub-free c = let t = turn c in film_fits (here t) (below t) (start t).pre.films
+sub-free : tie.Need-overflow_sub-free invariant-loop decreases-loop
+sub-free c = let t = turn c in film_fits (here t) (below t) (start t).requires.films
 
-add_at : tie.Need-overflow-add-at invariant-loop decreases-loop
+add_at : tie.Need-overflow_add-at invariant-loop decreases-loop
 add_at c =
     let t = turn c in
-    omega (arith, byte t, rows_end (counts t) (start t).args.films _ _ (below t) (byte t), (start t).pre.films.all)
+    omega (arith, byte t, rows_end (counts t) (start t).args.films _ _ (below t) (byte t), (start t).requires.films.all)
 
-loop-again : tie.Need-loop-preserved invariant-loop decreases-loop
+loop-again : tie.Need-loop-i-preserved invariant-loop decreases-loop
 loop-again c =
     let t = turn c in
     let a = (start t).args in
     let g = walked_leads a.sizes.now a.times.now (shown t) a.total a.blocks.now a.worst2 in (
-      film_next (here t) (below t) (start t).pre.films,
+      film_next (here t) (below t) (start t).requires.films,
       byte_next (counts t) _ _ _ (byte t) (omega arith),
-      c.both.ensures
-          ∙ part_same (counts t) a.films _ _ (below t) (byte t) g a.leads.now _ _ _ t.before.loop.inv.2
-          c.before.same-leads.ensures
-          (leads_row a.sizes.now a.times.now (shown t) a.total a.blocks.now a.worst2 t.before.loop.i _ (here t).left),
+      c.both-same.ensures
+          ∙ part_same (counts t) a.films _ _ (below t) (byte t) g a.leads.now _ _ _ t.loop-i.invariant.2
+          c.same_leads-led.ensures
+          (leads_row a.sizes.now a.times.now (shown t) a.total a.blocks.now a.worst2 t.loop-i.i _ (here t).left),
     )
 
-returns-2 : tie.Need-returns-2 invariant-loop decreases-loop
+returns-2 : tie.Need-returns invariant-loop decreases-loop
 returns-2 c =
-    let l = c.before.loop in
-    let a = c.before.before.before.before.before.before.before.args in
-    let e : l.i ≡ a.films = film_last l.invariant.0 c.loop-test.false in
+    let l = c.loop-i in
+    let a = c.args in
+    let e : l.i ≡ a.films = film_last l.invariant.0 c.loop-i-test.false in
     l.invariant.2
     ∙ ap (λ (j : ℕ). begins (shelf_leads a.sizes.now a.times.now (showing_of a.showing) a.total a.blocks.now a.worst2 j)
     (words_of a.leads.now)) e
 
-pub same-shelf-leads-spec : {M : Type 1} → statement M
-same-shelf-leads-spec =
+pub same_shelf_leads_spec : {M : Type 1} → statement M
+same_shelf_leads_spec =
     tie.close
     (tie.spec
     invariant-loop
     decreases-loop
     (λ c κs. search rules)
-    (λ c κs. let s = c.before.before in (s.requires.films.few, omega (arith, s.requires.films.all)))
-    (λ c. let s = c.before.before.before in omega (arith, c.blocks-before.ensures, s.requires.films.all))
+    (λ c κs. let s = c in (s.requires.films.few, omega (arith, s.requires.films.all)))
+    (λ c. let s = c in omega (arith, c.blocks_before.ensures, s.requires.films.all))
     returns
     (λ c κs. search rules)
     loop-holds
     (λ c. omega (arith, below c, (start c).requires.films.few))
-    (λ c. omega (arith, below c, (start c).requires.films.few))
+    (λ c. omega (arith, below c.before, (start c.before).requires.films.few))
     sub-same-leads
     sub-same-leads
     (λ c. omega arith)
@@ -140,7 +140,7 @@ same-shelf-leads-spec =
     (λ c. omega (arith, length-small (turn c)))
     (λ c. omega (arith, length-small (turn c)))
     add_at
-    (λ c. let t = turn c in omega (arith, below t, (start t).pre.films.few))
+    (λ c. let t = turn c in omega (arith, below t, (start t).requires.films.few))
     (λ c. let t = turn c in omega (arith, below t))
     loop-again
     returns-2)

@@ -17,18 +17,18 @@ use Rattle.shelf_lists.proofs.Laws.{byte_first, byte_next, rows_end, part_start,
 use Rattle.shelf_lists.proofs.write_shelf_positions.Statement.{statement}
 use Rattle.shelf_lists.proofs.write_shelf_positions.Tie as tie
 
-abbrev invariant-loop : tie.invariant-loop
+abbrev invariant-loop : tie.invariant-loop-i
 invariant-loop showing total blocks films positions₀ visits count free₀ at₀ i₀ positions free at i =
     AtFilm (showing_of showing) total blocks films count visits free i × (at ≡ 4 * start_of (visits_at (showing_of showing) blocks) i)
     × (positions ≡ with_words positions₀ 0 (shelf_positions (showing_of showing) total blocks i))
 
-abbrev decreases-loop : tie.decreases-loop
+abbrev decreases-loop : tie.decreases-loop-i
 decreases-loop showing total blocks films positions₀ visits count free₀ at₀ i₀ positions free at i = films - i
 
 -- ---- in a turn
 
 abbrev Turn : Type 0
-Turn = tie.In-loop invariant-loop decreases-loop
+Turn = tie.In-loop-i invariant-loop decreases-loop
 
 abbrev start : Turn → tie.Start invariant-loop decreases-loop
 start t = t.before.before.before.before
@@ -39,63 +39,63 @@ shown t = showing_of (start t).args.showing
 abbrev counts : Turn → ℕ → ℕ
 counts t = visits_at (shown t) (start t).args.blocks.now
 
-here : (t : Turn) → (let a = (start t).args in let l = t.before.loop in
-    AtFilm (shown t) a.total a.blocks.now a.films a.films t.before.before.visits-of.result l.free l.i)
-here t = t.before.loop.inv.0
+here : (t : Turn) → (let a = (start t).args in let l = t.loop-i in
+    AtFilm (shown t) a.total a.blocks.now a.films a.films t.visits_of-visits.result l.free l.i)
+here t = t.loop-i.invariant.0
 
-byte : (t : Turn) → t.before.loop.at ≡ 4 * start_of (counts t) t.before.loop.i
-byte t = t.before.loop.inv.1
+byte : (t : Turn) → t.loop-i.at ≡ 4 * start_of (counts t) t.loop-i.i
+byte t = t.loop-i.invariant.1
 
-below : (t : Turn) → t.before.loop.i < (start t).args.films
-below t = t.loop-test.taken
+below : (t : Turn) → t.loop-i.i < (start t).args.films
+below t = t.loop-i-test.taken
 
 -- the list has room for all
 room : (t : Turn) → start_of (counts t) (start t).args.films ≤ length (words_of (start t).args.positions.now)
-room t = let a = (start t).args in omega (arith, visits_start (shown t) a.blocks.now a.films, (start t).pre.1)
+room t = let a = (start t).args in omega (arith, visits_start (shown t) a.blocks.now a.films, (start t).requires.1)
 
-roomy : (t : Turn) → start_of (counts t) (start t).args.films ≤ length (words_of t.before.loop.positions)
+roomy : (t : Turn) → start_of (counts t) (start t).args.films ≤ length (words_of t.loop-i.positions)
 roomy t =
-    let e = ap (λ (s : List ℕ). length (words_of s)) t.before.loop.inv.2 ∙ with_words_entries (start t).args.positions.now 0 _ in
+    let e = ap (λ (s : List ℕ). length (words_of s)) t.loop-i.invariant.2 ∙ with_words_entries (start t).args.positions.now 0 _ in
     omega (arith, room t)
 
-loop-holds : tie.Need-loop-init invariant-loop decreases-loop
+loop-holds : tie.Need-loop-i-init invariant-loop decreases-loop
 unfolding rows_of
 loop-holds c =
-    let a = c.before.before.args in
-    (film_first _ a.total a.blocks.now a.films _ c.visits-of.ensures, byte_first _, sym (with_words_none a.positions.now 0))
+    let a = c.args in
+    (film_first _ a.total a.blocks.now a.films _ c.visits_of-visits.ensures, byte_first _, sym (with_words_none a.positions.now 0))
 
-film-size : (t : Turn) → t.before.before.visits-of.result * length_at (start t).args.blocks.now t.before.loop.i ≤ 2 * max_blocks
-film-size t = film_few (here t) (below t) (start t).pre.0
+film-size : (t : Turn) → t.visits_of-visits.result * length_at (start t).args.blocks.now t.loop-i.i ≤ 2 * max_blocks
+film-size t = film_few (here t) (below t) (start t).requires.0
 
-mul-taken-2 : tie.Need-overflow-mul-taken-2 invariant-loop decreases-loop
-mul-taken-2 c = omega (arith, film-size c.before)
+mul-taken-2 : tie.Need-overflow_mul-taken invariant-loop decreases-loop
+mul-taken-2 c = omega (arith, film-size c.before.before)
 
-sub-write-positions : tie.Need-overflow-sub-write-positions invariant-loop decreases-loop
-sub-write-positions c = let t = c.before in
-    part_start (counts t) (start t).args.films _ _ (below t) (byte t) _ (roomy t)
+sub-write-positions : tie.Need-slice_bounds-write_positions-count invariant-loop decreases-loop
+sub-write-positions c = let t = c in
+    part_start (counts c.before.before) (start c.before.before).args.films _ _ (below c.before.before) (byte c.before.before) _ (roomy c.before.before)
 
-write-positions-requires : tie.Need-write-positions-requires invariant-loop decreases-loop
+write-positions-requires : tie.Need-write_positions-requires invariant-loop decreases-loop
 write-positions-requires c κs =
-    let t = c.before.before in
-    let ok = (start t).requires.0 in
-    let e = film_takes (here t) (below t) ok in (
-      omega (arith, e, shelved_some ok t.before.loop.i (below t)),
-      film_fits (here t) (below t) ok,
-      free_small (here t) (below t) ok,
-      omega (arith, e, part_room (counts t) (start t).args.films _ _ (below t) (byte t) _ (roomy t)),
+    let t = c in
+    let ok = (start c.before.before.before).requires.0 in
+    let e = film_takes (here c.before.before.before) (below c.before.before.before) ok in (
+      omega (arith, e, shelved_some ok t.loop-i.i (below c.before.before.before)),
+      film_fits (here c.before.before.before) (below c.before.before.before) ok,
+      free_small (here c.before.before.before) (below c.before.before.before) ok,
+      omega (arith, e, part_room (counts c.before.before.before) (start c.before.before.before).args.films _ _ (below c.before.before.before) (byte c.before.before.before) _ (roomy c.before.before.before)),
     )
 
-abbrev turn : tie.After-slice-known2 invariant-loop decreases-loop → Turn
-turn c = c.before.before.before.before.before
+abbrev turn : tie.After-slice_known-in-loop-i-1 invariant-loop decreases-loop → Turn
+turn c = c.before.before.before.before.before.before
 
-sub-free : tie.Need-overflow-sub-free invariant-loop decreases-loop
-sub-free c = let t = turn c in film_fits (here t) (below t) (start t).pre.0
+sub-free : tie.Need-overflow_sub-free invariant-loop decreases-loop
+sub-free c = let t = turn c in film_fits (here t) (below t) (start t).requires.0
 
-add_at : tie.Need-overflow-add-at invariant-loop decreases-loop
+add_at : tie.Need-overflow_add-at invariant-loop decreases-loop
 add_at c =
     let t = turn c in
     let a = (start t).args in
-    let ok = (start t).pre.0 in
+    let ok = (start t).requires.0 in
     omega (
       arith,
       byte t,
@@ -104,31 +104,31 @@ add_at c =
       visits_all (shown t) a.blocks.now a.total a.films ok,
     )
 
-loop-again : tie.Need-loop-preserved invariant-loop decreases-loop
+loop-again : tie.Need-loop-i-preserved invariant-loop decreases-loop
 loop-again c =
     let t = turn c in
     let a = (start t).args in
-    let ok = (start t).pre.0 in
+    let ok = (start t).requires.0 in
     let e = film_takes (here t) (below t) ok in (
       film_next (here t) (below t) ok,
       byte_next (counts t) _ _ _ (byte t) e,
       part_written (counts t) a.films _ _ (below t) (byte t) (laying_in (shown t) a.total (length_at a.blocks.now)) a.positions.now _ _ _
-          (room t) t.before.loop.inv.2 c.before.before.write-positions.ensures
-          (visits_row (shown t) a.blocks.now a.total t.before.loop.i _ _ e (here t).left),
+          (room t) t.loop-i.invariant.2 c.write_positions.ensures
+          (visits_row (shown t) a.blocks.now a.total t.loop-i.i _ _ e (here t).left),
     )
 
 returns : tie.Need-returns invariant-loop decreases-loop
 returns c =
-    let l = c.before.loop in
-    let a = c.before.before.before.before.args in
-    let e : l.i ≡ a.films = film_last l.invariant.0 c.loop-test.false in
+    let l = c.loop-i in
+    let a = c.args in
+    let e : l.i ≡ a.films = film_last l.invariant.0 c.loop-i-test.false in
     l.invariant.2 ∙ ap (λ (j : ℕ). with_words a.positions.now 0 (shelf_positions (showing_of a.showing) a.total a.blocks.now j)) e
 
-same_length : tie.Need-same-length invariant-loop decreases-loop
-same_length c = ap length c.before.loop.invariant.2 ∙ with_words_length _ 0 _
+same_length : tie.Need-shape_of-positions invariant-loop decreases-loop
+same_length c = ap length c.loop-i.invariant.2 ∙ with_words_length _ 0 _
 
-pub write-shelf-positions-spec : {M : Type 1} → statement M
-write-shelf-positions-spec =
+pub write_shelf_positions_spec : {M : Type 1} → statement M
+write_shelf_positions_spec =
     tie.close
     (tie.spec
     invariant-loop
@@ -136,7 +136,7 @@ write-shelf-positions-spec =
     (λ c κs. search rules)
     loop-holds
     (λ c. omega (arith, below c, (start c).requires.0.few))
-    (λ c. omega (arith, below c, (start c).requires.0.few))
+    (λ c. omega (arith, below c.before, (start c.before).requires.0.few))
     mul-taken-2
     sub-write-positions
     sub-write-positions
@@ -146,7 +146,7 @@ write-shelf-positions-spec =
     (λ c. omega (arith, film-size (turn c)))
     (λ c. omega (arith, film-size (turn c)))
     add_at
-    (λ c. let t = turn c in omega (arith, below t, (start t).pre.0.few))
+    (λ c. let t = turn c in omega (arith, below t, (start t).requires.0.few))
     (λ c. let t = turn c in omega (arith, below t))
     loop-again
     same_length

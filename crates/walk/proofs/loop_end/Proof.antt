@@ -3,36 +3,36 @@ use borrow.Author.Rules.{rules}
 use Rattle.walk.proofs.loop_end.Statement.{statement}
 use Rattle.walk.proofs.loop_end.Tie as tie
 
-sub-first-past : tie.Need-overflow-sub-first-past
-sub-first-past c = low_room c.before.before.requires
+sub-first-past : tie.Need-overflow_sub-low
+sub-first-past c = low_room c.requires
 
-returns : tie.Need-returns
-returns c = let f = c.before in
-    let t = f.before.before.before in
-    rw (c.lesser.ensures, f.first_past.ensures) (odd_run t.before.requires t.if1.true)
+returns : tie.Need-returns-then-blocks-eq1
+returns c = let f = c in
+    let t = c in
+    rw (c.lesser.ensures, f.first_past.ensures) (odd_run t.requires t.if-blocks-eq1.true)
 
-sub-first-past-3 : tie.Need-overflow-sub-first-past-3
-sub-first-past-3 c = low_room c.before.before.before.requires
+sub-first-past-3 : tie.Need-overflow_sub-low-then-b-half
+sub-first-past-3 c = low_room c.requires
 
-returns-2 : tie.Need-returns-2
-returns-2 c = let f = c.before in
-    let t = f.before.before.before in
-    rw (c.lesser2.ensures, f.first-past2.ensures) (early_run t.before.before.requires t.before.if1.false t.if2.true)
+returns-2 : tie.Need-returns-then-b-half
+returns-2 c = let f = c in
+    let t = c in
+    rw (c.lesser-then-b-half.ensures, f.first_past-then-b-half.ensures) (early_run t.requires t.if-blocks-eq1.false t.if-b-half.true)
 
-returns-3 : tie.Need-returns-3
-returns-3 c = rw c.lesser3.ensures (turn_run c.before.before.before.before.requires)
+returns-3 : tie.Need-returns-then-b-half-2
+returns-3 c = rw c.lesser-then-b-half-2.ensures (turn_run c.requires)
 
-sub-first-past-6 : tie.Need-overflow-sub-first-past-6
-sub-first-past-6 c = high_room c.before.before.before.before.before.requires
+sub-first-past-6 : tie.Need-overflow_sub-high
+sub-first-past-6 c = high_room c.requires
 
-returns-4 : tie.Need-returns-4
-returns-4 c = let f = c.before in
-    let t = f.before.before.before in
-    rw (c.lesser4.ensures, f.first-past3.ensures)
-    (late_run t.before.before.before.requires t.before.before.if1.false t.before.if2.false t.if3.false)
+returns-4 : tie.Need-returns
+returns-4 c = let f = c in
+    let t = c in
+    rw (c.lesser-2.ensures, f.first_past-2.ensures)
+    (late_run t.requires t.if-blocks-eq1.false t.if-b-half.false t.if-b-half-2.false)
 
-pub loop-end-spec : {M : Type 1} → statement M
-loop-end-spec =
+pub loop_end_spec : {M : Type 1} → statement M
+loop_end_spec =
     tie.close
     (tie.spec
     (λ c. search rules)

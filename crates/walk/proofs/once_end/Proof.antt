@@ -3,14 +3,14 @@ use borrow.Author.Rules.{rules}
 use Rattle.walk.proofs.once_end.Statement.{statement}
 use Rattle.walk.proofs.once_end.Tie as tie
 
-sub-even-2 : tie.Need-overflow-sub-even-2
-sub-even-2 c = once_low c.before.requires
+sub-even-2 : tie.Need-overflow_sub-even-2
+sub-even-2 c = once_low c.requires
 
 returns : tie.Need-returns
-returns c = rw (c.lesser2.ensures, c.before.lesser.ensures) (once_run c.before.before.before.before.requires)
+returns c = rw (c.lesser-2.ensures, c.lesser.ensures) (once_run c.requires)
 
-pub once-end-spec : {M : Type 1} → statement M
-once-end-spec =
+pub once_end_spec : {M : Type 1} → statement M
+once_end_spec =
     tie.close
     (tie.spec
     (λ c. search rules)

@@ -8,12 +8,12 @@ use borrow.Author.Rules.{rules}
 use Rattle.walk.proofs.run_from.Statement.{statement}
 use Rattle.walk.proofs.run_from.Tie as tie
 
-run-end-requires : tie.Need-run-end-requires
-run-end-requires c κs = let p = c.before.before.requires in
+run-end-requires : tie.Need-run_end-requires
+run-end-requires c κs = let p = c.requires in
     let film = p.0 in
     let low = p.2 in
     let high = p.3 in
-    let a = c.before.before.args in
+    let a = c.args in
     let below : (k : ℕ) → k ≤ a.blocks → laying (walk_of a.showing) a.total a.blocks k < a.total =
     λ k u. laying_past (showing_of a.showing) a.total a.blocks k film.some film.room u in
     record {
@@ -31,14 +31,14 @@ run-end-requires c κs = let p = c.before.before.requires in
     }
 
 returns : tie.Need-returns
-returns c = let s = c.before.before.before in
+returns c = let s = c in
     let a = s.args in
     let p = s.requires in
     run_is a.sizes.now a.times.now a.total a.blocks (laying (walk_of a.showing) a.total a.blocks) a.b p.0 a.low a.high _
-    p.2 p.3 c.run-end.ensures
+    p.2 p.3 c.run_end.ensures
 
-pub run-from-spec : {M : Type 1} → statement M
-run-from-spec =
+pub run_from_spec : {M : Type 1} → statement M
+run_from_spec =
     tie.close
     (tie.spec
     (λ c. search rules)

@@ -23,11 +23,11 @@ record PairsBefore (ps ts : List ℕ) (l : ℕ → ℕ) (N : ℕ) (walk : Walk) 
   within : b < N
   worst : Peak (pair_of ps ts l) b w.first w.time
 
-abbrev invariant-loop : tie.invariant-loop
+abbrev invariant-loop : tie.invariant-loop-b
 invariant-loop sizes times showing total blocks last walk₀ worst₀ b₀ walk worst b =
     PairsBefore sizes times (laying (walk_of showing) total blocks) blocks walk worst b
 
-abbrev decreases-loop : tie.decreases-loop
+abbrev decreases-loop : tie.decreases-loop-b
 decreases-loop sizes times showing total blocks last walk₀ worst₀ b₀ walk worst b = blocks - b
 
 -- what a showing's pairs have in the end
@@ -36,65 +36,65 @@ measured : (x : Showing) (τ l : ℕ → ℕ) (N : ℕ) (w : Pair) → Peak (pai
 unfolding worst_at
 measured x τ l N w p = (p.value ∙ sym (worst_pair x τ l N), peak_earliest (pair_time x τ l N) (pairs_of x N) w.first w.time p)
 
-loop-holds : tie.Need-loop-init invariant-loop decreases-loop
-loop-holds c = record { cursors = c.set_out.ensures; within = c.before.requires.some; worst = peak_start _ }
+loop-holds : tie.Need-loop-b-init invariant-loop decreases-loop
+loop-holds c = record { cursors = c.set_out-walk.ensures; within = c.requires.some; worst = peak_start _ }
 
-zone-of-requires : tie.Need-zone-of-requires invariant-loop decreases-loop
-zone-of-requires c κs = meets c.before.before.before.requires c.before.loop.invariant.cursors.low (omega arith)
+zone-of-requires : tie.Need-zone_of-low-requires invariant-loop decreases-loop
+zone-of-requires c κs = meets c.requires c.loop-b.invariant.cursors.low (omega arith)
 
-zone-of-requires-2 : tie.Need-zone-of-requires-2 invariant-loop decreases-loop
-zone-of-requires-2 c κs = let l = c.before.before in meets l.before.before.requires l.loop.invariant.cursors.high (omega arith)
+zone-of-requires-2 : tie.Need-zone_of-high-requires invariant-loop decreases-loop
+zone-of-requires-2 c κs = let l = c in meets l.requires l.loop-b.invariant.cursors.high (omega arith)
 
-run-from-requires : tie.Need-run-from-requires invariant-loop decreases-loop
-run-from-requires c κs = let l = c.before.before.before in (l.before.before.requires, l.loop.invariant.within, c.before.zone-of.ensures, c.zone-of2.ensures)
+run-from-requires : tie.Need-run_from-walk-requires invariant-loop decreases-loop
+run-from-requires c κs = let l = c in (l.requires, l.loop-b.invariant.within, c.zone_of-low.ensures, c.zone_of-high.ensures)
 
-loop-again : tie.Need-loop-preserved invariant-loop decreases-loop
-loop-again c = let w = c.before.before.before in
-    let l = w.before.before.before.before in
-    let r = w.run-from.ensures in
-    let s = c.before.worse in
+loop-again : tie.Need-loop-b-preserved invariant-loop decreases-loop
+loop-again c = let w = c in
+    let l = c in
+    let r = w.run_from-walk.ensures in
+    let s = c.worse-worst in
     record {
       cursors = r.cursors;
       within = omega arith;
-      worst = peak_on _ l.loop.b (w.run-from.result.until - 1) _ l.loop.worst.first l.loop.worst.time s.result (omega arith) (worst_run r)
-          l.loop.invariant.worst s.ensures.0 s.ensures.1;
+      worst = peak_on _ l.loop-b.b (w.run_from-walk.result.until - 1) _ l.loop-b.worst.first l.loop-b.worst.time s.result (omega arith) (worst_run r)
+          l.loop-b.invariant.worst s.ensures.0 s.ensures.1;
     }
 
 -- all pairs but a loop's closing one
-all : (c : tie.After-loop invariant-loop decreases-loop) → (let a = c.before.before.before.args in let w = c.before.loop.worst in
+all : (c : tie.After-loop-b invariant-loop decreases-loop) → (let a = c.args in let w = c.loop-b.worst in
     Peak (pair_of a.sizes.now a.times.now (laying (walk_of a.showing) a.total a.blocks)) (a.blocks - 1) w.first w.time)
 all c =
-    let l = c.before in
-    let e : l.loop.b ≡ l.before.before.args.blocks - 1 = omega arith in
-    rw e at l.loop.invariant.worst
+    let l = c in
+    let e : l.loop-b.b ≡ l.args.blocks - 1 = omega arith in
+    rw e at l.loop-b.invariant.worst
 
-returns : tie.Need-returns invariant-loop decreases-loop
-returns c = let q = walks_once _ c.if1.true in
-    let a = c.before.before.before.before.args in
-    let w = c.before.before.loop.worst in
+returns : tie.Need-returns-then-showing-ne-LOOP invariant-loop decreases-loop
+returns c = let q = walks_once _ c.if-showing-ne-LOOP.true in
+    let a = c.args in
+    let w = c.loop-b.worst in
     rw q (measured one (time_at a.sizes.now a.times.now) (laying one a.total a.blocks) a.blocks w (rw q at (all c.before)))
 
-returns-2 : tie.Need-returns-2 invariant-loop decreases-loop
+returns-2 : tie.Need-returns invariant-loop decreases-loop
 returns-2 c =
-    let w = c.before.before in
-    let x = w.before in
-    let a = x.before.before.before.before.args in
-    let f = x.before.before.loop.worst in
-    let q = walks_loop _ x.if1.false in
+    let w = c in
+    let x = c in
+    let a = x.args in
+    let f = x.loop-b.worst in
+    let q = walks_loop _ x.if-showing-ne-LOOP.false in
     let τ = time_at a.sizes.now a.times.now in
-    let some : 0 < a.blocks = x.before.before.before.before.requires.some in
-    let r : Runs a.sizes.now a.times.now (ring a.total a.blocks) a.blocks (a.blocks - 1) w.walk-on.result =
-    rw q at w.walk-on.ensures in
+    let some : 0 < a.blocks = x.requires.some in
+    let r : Runs a.sizes.now a.times.now (ring a.total a.blocks) a.blocks (a.blocks - 1) w.walk_on-closing.result =
+    rw q at w.walk_on-closing.ensures in
     let g = pair_time loop τ (ring a.total a.blocks) a.blocks in
     let p = peak_same _ g (a.blocks - 1) f.first f.time (before_last a.sizes.now a.times.now a.total a.blocks some)
-    (rw q at (all x.before)) in
+    (rw q at (all c.before.before.before.before)) in
     rw q
-    (measured loop τ (ring a.total a.blocks) a.blocks c.worse2.result
-    (peak_on g (a.blocks - 1) a.blocks _ f.first f.time c.worse2.result (omega arith)
-    (λ k l u. last_pair a.sizes.now a.times.now a.total a.blocks some k l u ∙ r.pair) p c.worse2.ensures.0 c.worse2.ensures.1))
+    (measured loop τ (ring a.total a.blocks) a.blocks c.worse.result
+    (peak_on g (a.blocks - 1) a.blocks _ f.first f.time c.worse.result (omega arith)
+    (λ k l u. last_pair a.sizes.now a.times.now a.total a.blocks some k l u ∙ r.pair) p c.worse.ensures.0 c.worse.ensures.1))
 
-pub worst-pair-spec : {M : Type 1} → statement M
-worst-pair-spec =
+pub worst_pair_spec : {M : Type 1} → statement M
+worst_pair_spec =
     tie.close
     (tie.spec
     invariant-loop

@@ -22,35 +22,35 @@ record Grown (ps ts : List ℕ) (l : ℕ → ℕ) (N count : ℕ) (ahead : Step)
   time : sum ≡ row_time ps ts l N i 0
   within : i ≤ count
 
-abbrev invariant-loop : tie.invariant-loop
+abbrev invariant-loop : tie.invariant-loop-i
 invariant-loop sizes times showing total blocks count ahead₀ sum₀ i₀ ahead sum i =
     Grown sizes times (laying (walk_of showing) total blocks) blocks count ahead sum i
 
-abbrev decreases-loop : tie.decreases-loop
+abbrev decreases-loop : tie.decreases-loop-i
 decreases-loop sizes times showing total blocks count ahead₀ sum₀ i₀ ahead sum i = count - i
 
-loop-holds : tie.Need-loop-init invariant-loop decreases-loop
+loop-holds : tie.Need-loop-i-init invariant-loop decreases-loop
 unfolding past span
-loop-holds c = record { comes = c.start.ensures.1 _ _ _; next = c.start.ensures.0; time = refl; within = omega arith }
+loop-holds c = record { comes = c.start-ahead.ensures.1 _ _ _; next = c.start-ahead.ensures.0; time = refl; within = omega arith }
 
-step-on-requires : tie.Need-step-on-requires invariant-loop decreases-loop
-step-on-requires c κs = let s = c.before.before.before in
-    let l = c.before.loop in
+step-on-requires : tie.Need-step_on-ahead-requires invariant-loop decreases-loop
+step-on-requires c κs = let s = c in
+    let l = c.loop-i in
     (s.requires.0, l.invariant.comes, omega (arith, l.invariant.next, past_below s.args.blocks l.i 0 s.requires.0.some))
 
 -- the time of one block more
-grown : (c : tie.After-struct-known invariant-loop decreases-loop) → (let l = c.before.before.before.loop in let a = c.before.before.before.before.before.args in
-    l.sum + c.before.step-on.result.time ≡ row_time a.sizes.now a.times.now (laying (walk_of a.showing) a.total a.blocks) a.blocks
+grown : (c : tie.After-struct_known-1 invariant-loop decreases-loop) → (let l = c.loop-i in let a = c.args in
+    l.sum + c.step_on-ahead.result.time ≡ row_time a.sizes.now a.times.now (laying (walk_of a.showing) a.total a.blocks) a.blocks
     (suc l.i) 0)
-grown c = let l = c.before.before.before.loop in
-    let a = c.before.before.before.before.before.args in
+grown c = let l = c.loop-i in
+    let a = c.args in
     let L = laying (walk_of a.showing) a.total a.blocks in
-    let e = c.before.step-on.ensures.1.0 ∙ ap (λ (b : ℕ). time_at a.sizes.now a.times.now (L b)) l.invariant.next in
+    let e = c.step_on-ahead.ensures.1.0 ∙ ap (λ (b : ℕ). time_at a.sizes.now a.times.now (L b)) l.invariant.next in
     omega (arith, l.invariant.time, e, row_more a.sizes.now a.times.now L a.blocks l.i 0)
 
-add-sum : tie.Need-overflow-add-sum invariant-loop decreases-loop
-add-sum c = let l = c.before.before.before.loop in
-    let s = c.before.before.before.before.before in
+add-sum : tie.Need-overflow_add-sum invariant-loop decreases-loop
+add-sum c = let l = c.loop-i in
+    let s = c in
     let a = s.args in
     let x = walk_of a.showing in
     let quick = visit_quick a.sizes.now a.times.now a.total a.blocks s.requires.0 x (walked_single (showing_of a.showing)) in
@@ -61,10 +61,10 @@ add-sum c = let l = c.before.before.before.loop in
       row_small a.sizes.now a.times.now (laying x a.total a.blocks) a.blocks quick (suc l.i) 0 s.requires.0.some,
     )
 
-loop-again : tie.Need-loop-preserved invariant-loop decreases-loop
-loop-again c = let l = c.before.before.before.loop in
-    let a = c.before.before.before.before.before.args in
-    let t = c.before.step-on.ensures in
+loop-again : tie.Need-loop-i-preserved invariant-loop decreases-loop
+loop-again c = let l = c.loop-i in
+    let a = c.args in
+    let t = c.step_on-ahead.ensures in
     let e : l.i + 1 ≡ suc l.i = omega arith in
     record {
       comes = t.0;
@@ -74,12 +74,12 @@ loop-again c = let l = c.before.before.before.loop in
     }
 
 returns : tie.Need-returns invariant-loop decreases-loop
-returns c = let l = c.before.loop in
-    let e : l.i ≡ c.before.before.before.args.count = omega arith in
+returns c = let l = c.loop-i in
+    let e : l.i ≡ c.args.count = omega arith in
     (l.invariant.comes, (rw e at l.invariant.next, rw e at l.invariant.time))
 
-pub first-row-spec : {M : Type 1} → statement M
-first-row-spec =
+pub first_row_spec : {M : Type 1} → statement M
+first_row_spec =
     tie.close
     (tie.spec
     invariant-loop

@@ -6,7 +6,7 @@ use Rattle.zones.proofs.time_at.Tie as tie
 returns : tie.Need-returns
 returns c = let z = c.zone_above-zone in
     let a = c.args in
-    time_held a.sizes.now a.times.now z.result-1 a.q z.ensures
+    time_held a.sizes.now a.times.now z.result a.q z.ensures
 
 pub time_at_spec : {M : Type 1} → statement M
 time_at_spec =

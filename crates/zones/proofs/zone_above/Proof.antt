@@ -21,7 +21,7 @@ decreases-loop sizes q zone₀ zone = 64 - zone.index
 
 -- the zone of a turn
 next : (c : tie.After-struct_known-in-loop-zone-1 invariant-loop decreases-loop) → (let l = c.before.before.before in let ps = l.args.sizes.now in let z = l.loop-zone.zone in
-    ZoneOf ps (record { index = z.index + 1; first = z.end-1; end = z.end-1 + get_or ps (z.index + 1) 0 }))
+    ZoneOf ps (record { index = z.index + 1; first = z.end; end = z.end + get_or ps (z.index + 1) 0 }))
 next c =
     let l = c in
     let s = c in

@@ -21,8 +21,8 @@ decreases-loop sizes q zone₀ zone = zone.index
 
 -- the zone of a turn
 next : (c : tie.After-struct_known-in-loop-zone-1 invariant-loop decreases-loop) → (let l = c.before.before.before in let ps = l.args.sizes.now in let z = l.loop-zone.zone in
-    (0 < z.index) × (get_or ps (z.index - 1) 0 ≤ z.first-1)
-    × ZoneOf ps (record { index = z.index - 1; first = z.first-1 - get_or ps (z.index - 1) 0; end = z.first-1 }))
+    (0 < z.index) × (get_or ps (z.index - 1) 0 ≤ z.first)
+    × ZoneOf ps (record { index = z.index - 1; first = z.first - get_or ps (z.index - 1) 0; end = z.first }))
 next c =
     let l = c in
     let s = c in

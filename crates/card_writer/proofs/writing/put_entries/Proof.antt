@@ -22,7 +22,7 @@ decreases-loop table out₀ start write at₀ k₀ out at k = table_length - k
 
 -- what is left to put where an entry begins
 entry-left : (c : tie.In-loop-k invariant-loop decreases-loop) → (let a = c.args in let l = c.loop-k in
-    Writes a.write a.out-1.now a.start a.table.now l.out-1 l.at (get_or a.table.now l.k 0 ∷ drop (l.k + 1) a.table.now))
+    Writes a.write a.out.now a.start a.table.now l.out l.at (get_or a.table.now l.k 0 ∷ drop (l.k + 1) a.table.now))
 entry-left c =
     let s = c in
     rw (drop_here s.args.table.now c.loop-k.k (omega (arith, s.requires.0))) at c.loop-k.invariant.left

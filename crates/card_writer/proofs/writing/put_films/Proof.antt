@@ -37,12 +37,12 @@ counted c = c.before.before.before
 
 -- what is left to put: all, and the films
 all_left : (s : tie.Start invariant-loop decreases-loop) → (let a = s.args in
-    Writes a.write a.out-1.now a.start (film_numbers a.t1) a.out-1.now a.start (a.t1.films ∷ filmsFrom a.t1 a.t1.films 0))
+    Writes a.write a.out.now a.start (film_numbers a.t1) a.out.now a.start (a.t1.films ∷ filmsFrom a.t1 a.t1.films 0))
 unfolding film_numbers
 all_left s = writes_start _ _ _ _
 
 films-left : (c : tie.After-put_number-at invariant-loop decreases-loop) → (let a = (start c).args in
-    Writes a.write a.out-1.now a.start (film_numbers a.t1) c.put_number-at.new.0 c.put_number-at.result (filmsFrom a.t1 a.t1.films 0))
+    Writes a.write a.out.now a.start (film_numbers a.t1) c.put_number-at.new.0 c.put_number-at.result (filmsFrom a.t1 a.t1.films 0))
 films-left c = let s = start c in writes_next s.requires.1 (all_left s) c.put_number-at.ensures
 
 -- there is room for the films
@@ -53,7 +53,7 @@ room c = writes_rest (start c).requires.1 (films-left c)
 -- where a film begins, and where what follows them does
 film-left : (c : tie.In-loop-i invariant-loop decreases-loop)
     → (let n = counted c.before in let a = (start n).args in let f = a.t1 in let l = c.loop-i in
-    Writes a.write n.put_number-at.last.0 n.put_number-at.result (filmsFrom f f.films 0) l.out-1 l.at
+    Writes a.write n.put_number-at.last.0 n.put_number-at.result (filmsFrom f f.films 0) l.out l.at
     (get_or f.blocks l.i 0 ∷ filmsFrom f (f.films - (l.i + 1)) (l.i + 1)))
 film-left c =
     let f = (start (counted c.before)).args.t1 in
@@ -62,7 +62,7 @@ film-left c =
 
 measures-left : (c : tie.After-loop-i invariant-loop decreases-loop)
     → (let n = counted c.before in let a = (start n).args in let l = c.loop-i in
-    Writes a.write n.put_number-at.last.0 n.put_number-at.result (filmsFrom a.t1 a.t1.films 0) l.out-1 l.at (measure_numbers a.t1))
+    Writes a.write n.put_number-at.last.0 n.put_number-at.result (filmsFrom a.t1 a.t1.films 0) l.out l.at (measure_numbers a.t1))
 measures-left c =
     let f = (start (counted c.before)).args.t1 in
     let l = c.loop-i in

@@ -24,7 +24,7 @@ decreases-loop out₀ start write figures zones at₀ i₀ out at i = zones - i
 
 -- what is left to put where a zone begins, where its time is left, and where the films are
 zone-left : (c : tie.In-loop-i invariant-loop decreases-loop) → (let a = c.args in let l = c.loop-i in
-    Writes a.write a.out-1.now a.start (zone_numbers a.t1.zones 0 a.t1) l.out-1 l.at
+    Writes a.write a.out.now a.start (zone_numbers a.t1.zones 0 a.t1) l.out l.at
     (get_or a.t1.positions l.i 0 ∷ get_or a.t1.times l.i 0 ∷ zone_numbers (a.t1.zones - (l.i + 1)) (l.i + 1) a.t1))
 zone-left c =
     let f = c.args.t1 in
@@ -33,12 +33,12 @@ zone-left c =
 
 time-left : (c : tie.After-put_number-at invariant-loop decreases-loop)
     → (let t = c.before.before.before in let a = t.args in let l = t.loop-i in
-    Writes a.write a.out-1.now a.start (zone_numbers a.t1.zones 0 a.t1) c.put_number-at.new.0 c.put_number-at.result
+    Writes a.write a.out.now a.start (zone_numbers a.t1.zones 0 a.t1) c.put_number-at.new.0 c.put_number-at.result
     (get_or a.t1.times l.i 0 ∷ zone_numbers (a.t1.zones - (l.i + 1)) (l.i + 1) a.t1))
 time-left c = let t = c in writes_next t.requires.2 (zone-left c.before.before.before) c.put_number-at.ensures
 
 film-left : (c : tie.After-loop-i invariant-loop decreases-loop) → (let a = c.args in let l = c.loop-i in
-    Writes a.write a.out-1.now a.start (zone_numbers a.t1.zones 0 a.t1) l.out-1 l.at (film_numbers a.t1))
+    Writes a.write a.out.now a.start (zone_numbers a.t1.zones 0 a.t1) l.out l.at (film_numbers a.t1))
 film-left c =
     let f = c.args.t1 in
     let l = c.loop-i in
@@ -55,7 +55,7 @@ loop-holds c =
     record {
       within = omega arith;
       left =
-          subst (λ (n : ℕ). Writes a.write a.out-1.now a.start all a.out-1.now a.start (zone_numbers n 0 a.t1)) e
+          subst (λ (n : ℕ). Writes a.write a.out.now a.start all a.out.now a.start (zone_numbers n 0 a.t1)) e
           (writes_start _ _ _ _);
     }
 

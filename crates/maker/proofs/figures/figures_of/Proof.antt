@@ -14,8 +14,8 @@ returns c =
     λ t. record {
       kind = straight_kind;
       zones = a.count;
-      positions = a.zones.positions-1;
-      times = a.zones.times-1;
+      positions = a.zones.positions;
+      times = a.zones.times;
       films = 1;
       blocks = film.one_film.ensures t;
       bytes = sector_bytes * a.block;

@@ -11,7 +11,7 @@ use Rattle.maker.proofs.figures.zones_of.Statement.{statement}
 use Rattle.maker.proofs.figures.zones_of.Tie as tie
 
 abbrev positionsAt : Drive → Rows → ℕ → ℕ
-positionsAt d r k = narrowed (positions_in d.heads d.block (get_or r.cylinders-1 k 0) (get_or r.tracks k 0))
+positionsAt d r k = narrowed (positions_in d.heads d.block (get_or r.cylinders k 0) (get_or r.tracks k 0))
 
 abbrev timeAt : Drive → Rows → ℕ → ℕ
 timeAt d r k = narrowed (time_in d.turns d.switch d.block (get_or r.tracks k 0))
