@@ -20,8 +20,8 @@ returns-2 c =
     ∙ card_goes kind.read_field-first.ensures _ kind.in-Value.is
 
 -- the number of zones is read
-abbrev counted : tie.After-read_zones-arg-2-1 → tie.In-Value-second-2
-counted c = c.before.before.before
+abbrev counted : tie.After-read_zones-arg-2-1 → tie.In-Value-second
+counted c = c.before.before
 
 read-zones-requires : tie.Need-read_zones-third-requires
 read-zones-requires c κs = let n = counted c in zones_bound _ _ _ n.read_field-second.ensures n.in-Value-second.is
@@ -31,8 +31,8 @@ zones-read : (c : tie.After-read_zones-third)
     → (let count = counted c.before in
     let kind = count.before.before.before.before in
     let a = kind.args in
-    zones_with c.read_zones-third.new.1.1.1.0 c.read_zones-third.new.1.1.1.1.0 c.read_zones-third.result
-    (after_zones a.visits a.card.now kind.in-Value.kind count.in-Value-second.zones)
+    zones_with c.read_zones-third.new.sizes c.read_zones-third.new.times c.read_zones-third.result
+    (after_zones a.visits a.card.now kind.match.kind count.in-Value-second.zones)
     ≡ read_card a.visits a.card.now)
 unfolding read_card
 zones-read c =

@@ -52,7 +52,7 @@ same_length c = search rules
 
 -- the length is the card's, and the buffer is as it was
 counted : (c : tie.After-put_card-length)
-    → (let a = (start c.before.before).args in Puts false a.out.now 0 (card_of a.figures) c.put_card-length.result c.put_card-length.new.1.0)
+    → (let a = (start c.before.before).args in Puts false a.out.now 0 (card_of a.figures) c.put_card-length.result c.put_card-length.new.out)
 counted c = c.put_card-length.ensures
 
 returns-2 : tie.Need-returns-then-out-length
@@ -89,7 +89,7 @@ returns-3 c =
     let e = c in
     let a = (start c.before.before.before.before.before.before.before.before.before).args in
     let n : p.put_card-length.result ≡ length (card_of a.figures) = omega (arith, (counted c.before.before.before.before.before.before.before).end) in
-    let w = write_fits a.figures a.out-1.now (legal c.before.before.before.before.before.before.before.before.before) (omega (arith, n, sized.if-out-length.false)) in (
+    let w = write_fits a.figures a.out.now (legal c.before.before.before.before.before.before.before.before.before) (omega (arith, n, sized.if-out-length.false)) in (
       (λ t. record { verdict = record { number = 0; place = 0 }; length = n t }) ∙ w.0,
       q.put_card.ensures.string ∙ ap (λ (x : List ℕ). overwrite x 0 (card_of a.figures)) (counted c.before.before.before.before.before.before.before).string ∙ w.1,
     )

@@ -37,7 +37,7 @@ three (x ∷ y ∷ z ∷ w ∷ ws) l = absurd (omega arith)
 
 returns : tie.Need-returns
 unfolding entered blank_zones
-returns c = three c.args.t1 (search rules)
+returns c = three c.args.entries (search rules)
 
 pub enter_spec : {M : Type 1} → statement M
 enter_spec =

@@ -13,8 +13,8 @@ array-read-total c = search rules
 array-read-total-2 : tie.Need-bounds-positions-1
 array-read-total-2 c = search rules
 
-small : (c : tie.Start) (i : ℕ) → get_or c.args.t1 i 0 ≤ 3
-small c i = each_at (λ (p : ℕ). p ≤ 3) c.args.t1 i 0 c.requires (omega arith)
+small : (c : tie.Start) (i : ℕ) → get_or c.args.positions i 0 ≤ 3
+small c i = each_at (λ (p : ℕ). p ≤ 3) c.args.positions i 0 c.requires (omega arith)
 
 add_total : tie.Need-overflow_add-total
 add_total c = omega (arith, small c 0, small c 1)

@@ -47,7 +47,7 @@ byte : (t : Turn) → t.loop-i.at ≡ 4 * start_of (counts t) t.loop-i.i
 byte t = t.loop-i.invariant.1
 
 below : (t : Turn) → t.loop-i.i < (start t).args.films
-below t = t.loop-i-test.taken
+below t = t.loop-i-test.true
 
 -- the list has room for all
 room : (t : Turn) → start_of (counts t) (start t).args.films ≤ length (words_of (start t).args.positions.now)

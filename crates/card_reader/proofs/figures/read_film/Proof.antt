@@ -21,7 +21,7 @@ bytes_left : (c : tie.In-Value) (go : ℕ → List ℕ → ℕ → CardRead)
     → (let first = c.before in
     let shelf = first.before.before in
     let a = shelf.args in
-    go first.match.films shelf.read_shelf-first.new.1.1.1.1.0 first.in-Value.at1
+    go first.match.films shelf.read_shelf-first.new.blocks first.in-Value.at1
     ≡ shelf_from a.visits a.card.now a.at a.total go)
 bytes_left c go = card_goes refl _ c.in-Value.is ∙ c.read_shelf-first.ensures go
 
@@ -50,7 +50,7 @@ overheads-left : (c : tie.In-Value-third) (go : ℕ → List ℕ → ℕ → ℕ
     let first = second.before.before.before.before in
     let shelf = first.before.before in
     let a = shelf.args in
-    go first.in-Value.films shelf.read_shelf-first.new.1.1.1.1.0 second.in-Value-second.bytes third.in-Value-third.rate third.in-Value-third.at3
+    go first.in-Value.films shelf.read_shelf-first.new.blocks second.in-Value-second.bytes third.in-Value-third.rate third.in-Value-third.at3
     ≡ film_from a.visits a.card.now a.at a.total go)
 unfolding film_from
 overheads-left c go =

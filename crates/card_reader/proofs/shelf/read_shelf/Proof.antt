@@ -15,8 +15,8 @@ unfolding shelf_from
 returns c = λ go. card_stops c.read_field-first.ensures _ _ c.in_default.is
 
 -- the films' number is read
-abbrev counted : tie.After-read_lengths-arg-1 → tie.In-Value-2
-counted c = c.before.before
+abbrev counted : tie.After-read_lengths-arg-1 → tie.In-Value
+counted c = c.before
 
 read-lengths-requires : tie.Need-read_lengths-last-requires
 read-lengths-requires c κs = let n = counted c in films_bound _ _ n.read_field-first.ensures n.in-Value.is
@@ -25,7 +25,7 @@ read-lengths-requires c κs = let n = counted c in films_bound _ _ n.read_field-
 lengths_read : (c : tie.After-read_lengths-last) (go : ℕ → List ℕ → ℕ → CardRead)
     → (let n = counted c.before in
     let a = n.args in
-    row_with c.read_lengths-last.new.1.1.1.1.1.0 c.read_lengths-last.result (go n.in-Value.films)
+    row_with c.read_lengths-last.new.blocks c.read_lengths-last.result (go n.in-Value.films)
     ≡ shelf_from a.visits a.card.now a.at a.total go)
 unfolding shelf_from
 lengths_read c go =

@@ -25,12 +25,12 @@ unfolding numbers_of
 all_left s = writes_start _ _ _ _
 
 count_left : (c : tie.After-put_number-first) → (let a = (start1 c).args in
-    Writes a.write a.out.now 0 (numbers_of a.figures) c.put_number-first.new.0 c.put_number-first.result
+    Writes a.write a.out.now 0 (numbers_of a.figures) c.put_number-first.new.out c.put_number-first.result
     (a.figures.zones ∷ zone_numbers a.figures.zones 0 a.figures))
 count_left c = let s = start1 c in writes_next (room s) (all_left s) c.put_number-first.ensures
 
 zones-left : (c : tie.After-put_number-second) → (let a = (start2 c).args in
-    Writes a.write a.out.now 0 (numbers_of a.figures) c.put_number-second.new.0 c.put_number-second.result
+    Writes a.write a.out.now 0 (numbers_of a.figures) c.put_number-second.new.out c.put_number-second.result
     (zone_numbers a.figures.zones 0 a.figures))
 zones-left c = writes_next (room (start2 c)) (count_left c.before.before.before.before) c.put_number-second.ensures
 

@@ -37,26 +37,26 @@ counted c = c.before.before.before
 
 -- what is left to put: all, and the films
 all_left : (s : tie.Start invariant-loop decreases-loop) → (let a = s.args in
-    Writes a.write a.out.now a.start (film_numbers a.t1) a.out.now a.start (a.t1.films ∷ filmsFrom a.t1 a.t1.films 0))
+    Writes a.write a.out.now a.start (film_numbers a.figures) a.out.now a.start (a.figures.films ∷ filmsFrom a.figures a.figures.films 0))
 unfolding film_numbers
 all_left s = writes_start _ _ _ _
 
 films-left : (c : tie.After-put_number-at invariant-loop decreases-loop) → (let a = (start c).args in
-    Writes a.write a.out.now a.start (film_numbers a.t1) c.put_number-at.new.0 c.put_number-at.result (filmsFrom a.t1 a.t1.films 0))
+    Writes a.write a.out.now a.start (film_numbers a.figures) c.put_number-at.new.out c.put_number-at.result (filmsFrom a.figures a.figures.films 0))
 films-left c = let s = start c in writes_next s.requires.1 (all_left s) c.put_number-at.ensures
 
 -- there is room for the films
 room : (c : tie.After-put_number-at invariant-loop decreases-loop) → (let a = (start c).args in
-    Room a.write c.put_number-at.new.0 c.put_number-at.result (bytes_of (filmsFrom a.t1 a.t1.films 0)))
+    Room a.write c.put_number-at.new.out c.put_number-at.result (bytes_of (filmsFrom a.figures a.figures.films 0)))
 room c = writes_rest (start c).requires.1 (films-left c)
 
 -- where a film begins, and where what follows them does
 film-left : (c : tie.In-loop-i invariant-loop decreases-loop)
-    → (let n = counted c.before in let a = (start n).args in let f = a.t1 in let l = c.loop-i in
+    → (let n = counted c.before in let a = (start n).args in let f = a.figures in let l = c.loop-i in
     Writes a.write n.put_number-at.last.0 n.put_number-at.result (filmsFrom f f.films 0) l.out l.at
     (get_or f.blocks l.i 0 ∷ filmsFrom f (f.films - (l.i + 1)) (l.i + 1)))
 film-left c =
-    let f = (start (counted c.before)).args.t1 in
+    let f = (start (counted c.before)).args.figures in
     let l = c.loop-i in
     rw (row_more f.blocks (measure_numbers f) l.i (f.films - l.i) (f.films - (l.i + 1)) (omega arith)) at l.invariant.left
 
@@ -64,7 +64,7 @@ measures-left : (c : tie.After-loop-i invariant-loop decreases-loop)
     → (let n = counted c.before in let a = (start n).args in let l = c.loop-i in
     Writes a.write n.put_number-at.last.0 n.put_number-at.result (filmsFrom a.t1 a.t1.films 0) l.out l.at (measure_numbers a.t1))
 measures-left c =
-    let f = (start (counted c.before)).args.t1 in
+    let f = (start (counted c.before)).args.figures in
     let l = c.loop-i in
     rw (row_done f.blocks (measure_numbers f) l.i (f.films - l.i) (omega arith)) at l.invariant.left
 
@@ -75,11 +75,11 @@ loop-holds : tie.Need-loop-i-init invariant-loop decreases-loop
 loop-holds c =
     let n = c in
     let a = (start c.before.before).args in
-    let f = a.t1 in
+    let f = a.figures in
     let e : f.films ≡ f.films - 0 = omega arith in
     record {
       within = omega arith;
-      left = subst (λ (k : ℕ). Writes a.write n.put_number-at.new.0 n.put_number-at.result (filmsFrom f f.films 0) n.put_number-at.new.0
+      left = subst (λ (k : ℕ). Writes a.write n.put_number-at.new.out n.put_number-at.result (filmsFrom f f.films 0) n.put_number-at.new.out
           n.put_number-at.result (filmsFrom f k 0)) e (writes_start _ _ _ _);
     }
 

@@ -14,13 +14,13 @@ abbrev start2 : tie.After-put_number-at-2 → tie.Start
 start2 c = start1 c.before.before.before.before
 
 rate-left : (c : tie.After-put_number-at) → (let a = (start1 c).args in
-    Writes a.write a.out.now a.start (measure_numbers a.t1) c.put_number-at.new.0 c.put_number-at.result
-    (a.t1.rate ∷ table_numbers a.t1.kind a.t1.table))
+    Writes a.write a.out.now a.start (measure_numbers a.figures) c.put_number-at.new.out c.put_number-at.result
+    (a.figures.rate ∷ table_numbers a.figures.kind a.figures.table))
 rate-left c = writes_next (start1 c).requires (writes_start _ _ _ _) c.put_number-at.ensures
 
 table-left : (c : tie.After-put_number-at-2) → (let a = (start2 c).args in
-    Writes a.write a.out.now a.start (measure_numbers a.t1) c.put_number-at-2.new.0 c.put_number-at-2.result
-    (table_numbers a.t1.kind a.t1.table))
+    Writes a.write a.out.now a.start (measure_numbers a.figures) c.put_number-at-2.new.out c.put_number-at-2.result
+    (table_numbers a.figures.kind a.figures.table))
 table-left c = writes_next (start2 c).requires (rate-left c.before.before.before.before) c.put_number-at-2.ensures
 
 put-number-requires : tie.Need-put_number-at-requires

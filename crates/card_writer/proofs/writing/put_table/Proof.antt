@@ -25,7 +25,7 @@ room c = room_same (moves c) c.requires.1
 
 -- after hop, return is left to put
 back-left : (c : tie.After-put_number-at) → (let h = c.before in let a = h.args in
-    Writes a.write a.out.now a.start (h.hop_in.result ∷ get_or a.table.now 0 0 ∷ []) c.put_number-at.new.0 c.put_number-at.result
+    Writes a.write a.out.now a.start (h.hop_in.result ∷ get_or a.table.now 0 0 ∷ []) c.put_number-at.new.out c.put_number-at.result
     (get_or a.table.now 0 0 ∷ []))
 back-left c = writes_next (room c.before) (writes_start _ _ _ _) c.put_number-at.ensures
 

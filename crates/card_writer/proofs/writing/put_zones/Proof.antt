@@ -24,23 +24,23 @@ decreases-loop out₀ start write figures zones at₀ i₀ out at i = zones - i
 
 -- what is left to put where a zone begins, where its time is left, and where the films are
 zone-left : (c : tie.In-loop-i invariant-loop decreases-loop) → (let a = c.args in let l = c.loop-i in
-    Writes a.write a.out.now a.start (zone_numbers a.t1.zones 0 a.t1) l.out l.at
-    (get_or a.t1.positions l.i 0 ∷ get_or a.t1.times l.i 0 ∷ zone_numbers (a.t1.zones - (l.i + 1)) (l.i + 1) a.t1))
+    Writes a.write a.out.now a.start (zone_numbers a.figures.zones 0 a.figures) l.out l.at
+    (get_or a.figures.positions l.i 0 ∷ get_or a.figures.times l.i 0 ∷ zone_numbers (a.figures.zones - (l.i + 1)) (l.i + 1) a.figures))
 zone-left c =
-    let f = c.args.t1 in
+    let f = c.args.figures in
     let l = c.loop-i in
     rw (numbers_more f l.i (f.zones - l.i) (f.zones - (l.i + 1)) (omega arith)) at l.invariant.left
 
 time-left : (c : tie.After-put_number-at invariant-loop decreases-loop)
     → (let t = c.before.before.before in let a = t.args in let l = t.loop-i in
-    Writes a.write a.out.now a.start (zone_numbers a.t1.zones 0 a.t1) c.put_number-at.new.0 c.put_number-at.result
-    (get_or a.t1.times l.i 0 ∷ zone_numbers (a.t1.zones - (l.i + 1)) (l.i + 1) a.t1))
+    Writes a.write a.out.now a.start (zone_numbers a.figures.zones 0 a.figures) c.put_number-at.new.out c.put_number-at.result
+    (get_or a.figures.times l.i 0 ∷ zone_numbers (a.figures.zones - (l.i + 1)) (l.i + 1) a.figures))
 time-left c = let t = c in writes_next t.requires.2 (zone-left c.before.before.before) c.put_number-at.ensures
 
 film-left : (c : tie.After-loop-i invariant-loop decreases-loop) → (let a = c.args in let l = c.loop-i in
-    Writes a.write a.out.now a.start (zone_numbers a.t1.zones 0 a.t1) l.out l.at (film_numbers a.t1))
+    Writes a.write a.out.now a.start (zone_numbers a.figures.zones 0 a.figures) l.out l.at (film_numbers a.figures))
 film-left c =
-    let f = c.args.t1 in
+    let f = c.args.figures in
     let l = c.loop-i in
     rw (numbers_done f l.i (f.zones - l.i) (omega arith)) at l.invariant.left
 
@@ -50,12 +50,12 @@ cast-zones c = search rules
 loop-holds : tie.Need-loop-i-init invariant-loop decreases-loop
 loop-holds c =
     let a = c.args in
-    let all = zone_numbers a.t1.zones 0 a.t1 in
-    let e : a.t1.zones ≡ a.t1.zones - 0 = omega arith in
+    let all = zone_numbers a.figures.zones 0 a.figures in
+    let e : a.figures.zones ≡ a.figures.zones - 0 = omega arith in
     record {
       within = omega arith;
       left =
-          subst (λ (n : ℕ). Writes a.write a.out.now a.start all a.out.now a.start (zone_numbers n 0 a.t1)) e
+          subst (λ (n : ℕ). Writes a.write a.out.now a.start all a.out.now a.start (zone_numbers n 0 a.figures)) e
           (writes_start _ _ _ _);
     }
 

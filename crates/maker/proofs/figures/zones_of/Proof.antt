@@ -30,8 +30,8 @@ decreases-loop drive rows zones₀ left₀ i₀ zones left i = left
 loop-holds : tie.Need-loop-left-init invariant-loop decreases-loop
 loop-holds c = let a = c.args in
     record {
-      places = build_start _ (positionsAt a.drive a.t2) _ c.no_zones.ensures;
-      speeds = build_start _ (timeAt a.drive a.t2) _ c.no_zones-2.ensures;
+      places = build_start _ (positionsAt a.drive a.rows) _ c.no_zones.ensures;
+      speeds = build_start _ (timeAt a.drive a.rows) _ c.no_zones-2.ensures;
     }
 
 positions-requires : tie.Need-positions-requires invariant-loop decreases-loop
@@ -55,8 +55,8 @@ loop-again c =
     let s = c in
     let a = s.args in
     record {
-      places = build_more _ (positionsAt a.drive a.t2) _ _ _ l.invariant.places (omega arith) s.requires.few _ c.positions.ensures;
-      speeds = build_more _ (timeAt a.drive a.t2) _ _ _ l.invariant.speeds (omega arith) s.requires.few _ c.time.ensures;
+      places = build_more _ (positionsAt a.drive a.rows) _ _ _ l.invariant.places (omega arith) s.requires.few _ c.positions.ensures;
+      speeds = build_more _ (timeAt a.drive a.rows) _ _ _ l.invariant.speeds (omega arith) s.requires.few _ c.time.ensures;
     }
 
 returns : tie.Need-returns invariant-loop decreases-loop
