@@ -109,7 +109,7 @@ returns-3 : tie.Need-returns
 returns-3 c =
     let r = c in
     let t = summed c.before in
-    let d = t.before.before.before in
+    let d = t.before.before in
     let a = (start (shelf d)).args in
     let w = inside d in
     answered a.t1 a.positions.now a.count (is-laid (shelf d)) (sym (outside d.before) ∙ d.if-is_outside.false) _ _ _
