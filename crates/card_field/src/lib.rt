@@ -1,4 +1,6 @@
 // One figure of a card: its form, then its range.
+#![tactic(auto)]
+
 ghost use Rattle.std.specs.Prelude.{◌≡◌, ℕ};
 ghost use Rattle.card_field.specs.Ranges.{outside, then_above, then_below, fault_of, time_fault, room_fault, blocks_fault};
 ghost use Rattle.card_field.specs.Figure.{value_in, field_at, on_number, on_fault};
@@ -89,7 +91,7 @@ pub fn fault_of_time(innermost: u32, before: u32, v: u32) -> u32
     if before < v {
         return RISING_TIME;
     }
-    // A time in its range, times three, is a u32: law `thrice-fits`.
+    // A time in its range, times three, is a u32: law `thrice_fits`.
     if TIMES_AS_FAST * v < innermost {
         return HALF_DEAD_TIME;
     }
