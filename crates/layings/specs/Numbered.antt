@@ -3,7 +3,7 @@
 use Prim.Native.Nat.{ℕ, zero, suc, ◌+◌, ◌*◌, ◌-◌, ◌/◌, ◌%◌, ◌≤◌, ◌<◌}
 use Rattle.std.specs.Prelude.{◌≡◌, length, get_or, set, take}
 use Rattle.std.proofs.Math.Path.{refl, sym}
-use Rattle.std.proofs.Common.{ap, ap₂, ◌∙◌, arith, add-one, mul-pos, mul-le-mul_right, mod-lt, div-lt_iff_lt-mul, length-set, get_or-take}
+use Rattle.std.proofs.Common.{ap, ◌∙◌, arith, add-one, mul-pos, mul-le-mul_right, mod-lt, div-lt_iff_lt-mul, length-set, get_or-take}
 use Rattle.std.proofs.Math.Logic.{by_cases}
 use mathlib.Core.List.{List, [], ◌∷◌, map}
 use Rattle.std.proofs.Math.Decide.{dec_le}
@@ -11,7 +11,7 @@ use Rattle.std.proofs.Math.Nat.{mul-div_cancel_left}
 use Rattle.std.proofs.lemmas.List.{length-map}
 use Rattle.std.proofs.Math.Seq.{take-nil, take-set-lt}
 use Rattle.numbers.specs.Limits.{max_tried}
-use Rattle.laws.specs.Members.{upto, each, map_at, each_length, each_at}
+use Rattle.laws.specs.Members.{map_at, each_length, each_at}
 use Rattle.layings.specs.Layings.{others, arrangements}
 
 unfoldable pub factorial : ℕ → ℕ

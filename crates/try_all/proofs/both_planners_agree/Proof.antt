@@ -13,5 +13,5 @@ returns c = (
   λ x v f w. same_answer x v (judged 1 f) (judged_legal 1 f w (judged 1 f) refl),
 )
 
-pub both-planners-agree-spec : {M : Type 1} → statement M
-both-planners-agree-spec = tie.close (tie.spec returns)
+pub both_planners_agree_spec : {M : Type 1} → statement M
+both_planners_agree_spec = tie.close (tie.spec returns)

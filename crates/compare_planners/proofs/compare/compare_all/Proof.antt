@@ -26,10 +26,10 @@ record Comparing (tally : Tally) (card : SmallCard) : Type 0 where
   next : card ≡ after tally.cards first_card
   none : tally.unequal ≡ 0
 
-abbrev invariant-loop : tie.invariant-loop
+abbrev invariant-loop : tie.invariant-loop-card
 invariant-loop tally₀ card₀ tally card = Comparing tally card
 
-abbrev decreases-loop : tie.decreases-loop
+abbrev decreases-loop : tie.decreases-loop-card
 decreases-loop tally₀ card₀ tally card = length small_cards - tally.cards
 
 -- a card of at most 3 zones is in the list, and the one after the last is not
@@ -51,60 +51,60 @@ module _ (tally : Tally) (card : SmallCard) (g : Comparing tally card) where
       (λ u. absurd (h (rw g.next (step_ranged tally.cards u).zones)))
       (λ u. omega (arith, g.few))
 
-loop-holds : tie.Need-loop-init invariant-loop decreases-loop
+loop-holds : tie.Need-loop-card-init invariant-loop decreases-loop
 unfolding after
-loop-holds c = record { few = omega arith; next = c.first-card.ensures; none = refl }
+loop-holds c = record { few = omega arith; next = c.first_card-card.ensures; none = refl }
 
-compare-card-requires : tie.Need-compare-card-requires invariant-loop decreases-loop
-compare-card-requires c κs = let l = c.before.before.before.loop in rw c.figures-of.ensures (small l.tally l.card l.invariant (omega arith))
+compare-card-requires : tie.Need-compare_card-found-requires invariant-loop decreases-loop
+compare-card-requires c κs = let l = c.loop-card in rw c.figures_of.ensures (small l.tally l.card l.invariant (omega arith))
 
 -- both planners agree on the card
-found_none : (c : tie.After-compare-card invariant-loop decreases-loop) → c.compare-card.result ≡ 0
+found_none : (c : tie.After-compare_card-found invariant-loop decreases-loop) → c.compare_card-found.result ≡ 0
 found_none c =
-    let f = c.before.figures-of in
-    let l = c.before.before.before.before.loop in
+    let f = c.figures_of in
+    let l = c.loop-card in
     let s : Small f.result = rw f.ensures (small l.tally l.card l.invariant (omega arith)) in
-    omega (arith, c.compare-card.ensures, agree one refl f.result s, agree loop refl f.result s)
+    omega (arith, c.compare_card-found.ensures, agree one refl f.result s, agree loop refl f.result s)
 
-counted-requires : tie.Need-counted-requires invariant-loop decreases-loop
-counted-requires c κs = let l = c.before.before.before.before.loop in
+counted-requires : tie.Need-counted-tally-requires invariant-loop decreases-loop
+counted-requires c κs = let l = c.loop-card in
     let r = found_none c in
     (omega (arith, l.invariant.few, how_many_law), omega (arith, l.invariant.none))
 
-next-card-requires : tie.Need-next-card-requires invariant-loop decreases-loop
-next-card-requires c κs = let l = c.before.before.before.before.before.loop in stepped l.tally l.card l.invariant (omega arith)
+next-card-requires : tie.Need-next_card-card-requires invariant-loop decreases-loop
+next-card-requires c κs = let l = c.loop-card in stepped l.tally l.card l.invariant (omega arith)
 
-module _ (c : tie.After-next-card invariant-loop decreases-loop) where
+module _ (c : tie.After-next_card-card invariant-loop decreases-loop) where
   abbrev before : Tally
-  before = c.before.before.before.before.before.before.loop.tally
+  before = c.loop-card.tally
 
-  cards-more : c.before.counted.result.cards ≡ before.cards + 1
-  cards-more = unfold counted_with in ap (λ (t : Tally). t.cards) c.before.counted.ensures
+  cards-more : c.counted-tally.result.cards ≡ before.cards + 1
+  cards-more = unfold counted_with in ap (λ (t : Tally). t.cards) c.counted-tally.ensures
 
-  unequal-more : c.before.counted.result.unequal ≡ before.unequal + c.before.before.compare-card.result
-  unequal-more = unfold counted_with in ap (λ (t : Tally). t.unequal) c.before.counted.ensures
+  unequal-more : c.counted-tally.result.unequal ≡ before.unequal + c.compare_card-found.result
+  unequal-more = unfold counted_with in ap (λ (t : Tally). t.unequal) c.counted-tally.ensures
 
-loop-less : tie.Need-loop-smaller invariant-loop decreases-loop
-loop-less c = let l = c.before.before.before.before.before.before.loop in
+loop-less : tie.Need-loop-card-smaller invariant-loop decreases-loop
+loop-less c = let l = c.loop-card in
     omega (arith, cards-more c, inside l.tally l.card l.invariant (omega arith))
 
-loop-again : tie.Need-loop-preserved invariant-loop decreases-loop
+loop-again : tie.Need-loop-card-preserved invariant-loop decreases-loop
 loop-again c =
-    let l = c.before.before.before.before.before.before.loop in
-    let n = c.before.counted.result.cards in
+    let l = c.loop-card in
+    let n = c.counted-tally.result.cards in
     record {
       few = omega (arith, cards-more c, inside l.tally l.card l.invariant (omega arith));
       next =
-          c.next-card.ensures ∙ ap next_card l.invariant.next ∙ sym (after_next l.tally.cards first_card)
+          c.next_card-card.ensures ∙ ap next_card l.invariant.next ∙ sym (after_next l.tally.cards first_card)
           ∙ ap (λ (i : ℕ). after i first_card) (sym (cards-more c));
       none = omega (arith, unequal-more c, found_none c.before.before, l.invariant.none);
     }
 
 returns : tie.Need-returns invariant-loop decreases-loop
-returns c = let l = c.before.before.loop in (outside l.tally l.card l.invariant (λ h. omega arith), l.invariant.none)
+returns c = let l = c.loop-card in (outside l.tally l.card l.invariant (λ h. omega arith), l.invariant.none)
 
-pub compare-all-spec : {M : Type 1} → statement M
-compare-all-spec =
+pub compare_all_spec : {M : Type 1} → statement M
+compare_all_spec =
     tie.close
     (tie.spec
     invariant-loop

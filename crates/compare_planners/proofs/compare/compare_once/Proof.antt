@@ -8,14 +8,14 @@ use Rattle.compare_planners.proofs.compare.compare_once.Tie as tie
 
 returns : tie.Need-returns
 unfolding eight unequal_on
-returns c = let t = c.before.try-card in
-    let p = c.before.before.before.before.plan-card in (
+returns c = let t = c.try_card-tried in
+    let p = c.plan_card-planned in (
       c.unequal.ensures.0 ∙ ap₂ unequal_of (ap (λ (a : Planned). a.plan.worst2) p.ensures.0) (ap (λ (b : Tried). b.worst2) t.ensures),
       c.unequal.ensures.1,
     )
 
-pub compare-once-spec : {M : Type 1} → statement M
-compare-once-spec =
+pub compare_once_spec : {M : Type 1} → statement M
+compare_once_spec =
     tie.close
     (tie.spec
     (λ c. search rules)
