@@ -44,22 +44,22 @@ slim c = let z = (sized c).plan in (z.positions, z.times, z.blocks, z.table)
 
 -- ---- the places, each from a later one
 
-abbrev read : tie.After-times → tie.After-zone-times
+abbrev read : tie.After-times-1 → tie.After-zone_times-times
 read c = c.before.before
 
-abbrev first : tie.After-times → tie.Start
+abbrev first : tie.After-times-1 → tie.Start
 first c = (read c).before.before.before.before.before
 
-abbrev start : tie.Else1 → tie.Start
+abbrev start : tie.Else-not-has_plan → tie.Start
 start c = first c.before.before
 
-abbrev tidied : tie.Else4 → tie.Else3
+abbrev tidied : tie.Else-not-all_placed → tie.Else-not-slots
 tidied c = c.before.before
 
-abbrev counted : tie.Else3 → tie.After-streams-in
+abbrev counted : tie.Else-not-slots → tie.After-streams_in-streams
 counted c = c.before.before.before
 
-abbrev planned : tie.After-streams-in → tie.Else1
+abbrev planned : tie.After-streams_in-streams → tie.Else-not-has_plan
 planned c = c.before.before.before
 
 -- ---- what is known there
@@ -69,38 +69,38 @@ abbrev leads : tie.Start → List ℕ
 leads c = leads_by c.args.listed (given c).plan c.args.leads.now
 
 -- the zones
-zones : (c : tie.After-times) → ZonesRead (given (first c)) (read c).before.zone-sizes.result (read c).zone-times.result
-zones c = ((read c).before.zone-sizes.ensures, (read c).zone-times.ensures)
+zones : (c : tie.After-times-1) → ZonesRead (given (first c)) (read c).zone_sizes-sizes.result (read c).zone_times-times.result
+zones c = ((read c).zone_sizes-sizes.ensures, (read c).zone_times-times.ensures)
 
 -- past the check of the plan
-passed : (c : tie.Else1) → (let s = start c in is_plan (given s).plan s.args.positions.now (leads s) ≡ true)
-passed c = sym c.before.has-plan.ensures ∙ not-false _ c.if1.false
+passed : (c : tie.Else-not-has_plan) → (let s = start c in is_plan (given s).plan s.args.positions.now (leads s) ≡ true)
+passed c = sym c.has_plan.ensures ∙ not-false _ c.if-not-has_plan.false-raw
 
-legal : (c : tie.Else1) → Legal (visits_in (given (start c)).plan) (given (start c)).plan.figures
+legal : (c : tie.Else-not-has_plan) → Legal (visits_in (given (start c)).plan) (given (start c)).plan.figures
 legal c = checked_legal _ _ _ (slim (start c)) (passed c)
 
-few : (c : tie.Else1) → (given (start c)).plan.streams ≤ 256
+few : (c : tie.Else-not-has_plan) → (given (start c)).plan.streams ≤ 256
 few c = plan_streams _ _ _ (slim (start c)) (passed c)
 
 -- past the test of the slots
-slots : (c : tie.Else3) → (let d = given (start (planned (counted c))) in
-    AllTidy d × OthersIdle (counted c).streams-in.result d.kinds d.places)
-slots c = c.before.before.test-slots.ensures.slots.yes (not-false _ c.if3.false)
+slots : (c : tie.Else-not-slots) → (let d = given (start (planned (counted c))) in
+    AllTidy d × OthersIdle (counted c).streams_in-streams.result d.kinds d.places)
+slots c = c.test_slots-slots.ensures.slots.yes (not-false _ c.if-not-slots.false)
 
-tidy : (c : tie.Else3) → AllTidy (given (start (planned (counted c))))
+tidy : (c : tie.Else-not-slots) → AllTidy (given (start (planned (counted c))))
 tidy c = (slots c).0
 
 -- the test of the places
-told : (c : tie.After-all-placed) → (let s = start (planned (counted c.before)) in Tells c.all_Placed.result (AllPlaced (given s) (wide s)))
+told : (c : tie.After-all_placed) → (let s = start (planned (counted c.before)) in Tells c.all_placed.result (AllPlaced (given s) (wide s)))
 told c =
     let k = counted c.before in
     let d = given (start (planned k)) in
-    let a = (c.before.before.before.test-slots.ensures.count (not-false _ c.before.if3.false)).0 in
-    subst (λ (n : ℕ). Tells c.all_Placed.result (Placed (asked_count (take n d.kinds)) n d.kinds d.places)) k.streams-in.ensures
-    (rw a at c.all_Placed.ensures)
+    let a = (c.test_slots-slots.ensures.count (not-false _ c.if-not-slots.false)).0 in
+    subst (λ (n : ℕ). Tells c.all_placed.result (Placed (asked_count (take n d.kinds)) n d.kinds d.places)) k.streams_in-streams.ensures
+    (rw a at c.all_placed.ensures)
 
-placed : (c : tie.Else4) → (let s = start (planned (counted (tidied c))) in AllPlaced (given s) (wide s))
-placed c = (told c.before).yes (not-false _ c.if4.false)
+placed : (c : tie.Else-not-all_placed) → (let s = start (planned (counted (tidied c))) in AllPlaced (given s) (wide s))
+placed c = (told c.before).yes (not-false _ c.if-not-all_placed.false-raw)
 
 -- ---- the needs
 
@@ -108,79 +108,79 @@ placed c = (told c.before).yes (not-false _ c.if4.false)
 refuses : {d : Desk} {ps ls : List ℕ} {r : Test} → r.sound ≡ false → false ≡ sound_desk d ps ls → TestIs d ps ls r
 refuses e q = record { sound = e ∙ q; leads = λ t. clash t e }
 
-returns : tie.Need-returns
-returns c = let t = c.before in refuses c.unsound.ensures (fails_first _ _ (sym t.before.has-plan.ensures ∙ not-true _ t.if1.true))
+returns : tie.Need-returns-then-not-has_plan
+returns c = let t = c in refuses c.unsound.ensures (fails_first _ _ (sym t.has_plan.ensures ∙ not-true _ t.if-not-has_plan.true-raw))
 
-returns-2 : tie.Need-returns-2
+returns-2 : tie.Need-returns-then-phase_in-gt-SWEEPING
 returns-2 c =
-    let t = c.before in
-    let e = t.before.before in
-    refuses c.unsound2.ensures
-    (then_second _ _ _ (passed e) (unsound_phase (given (start e)) (wide (start e)) (omega (arith, t.if2.true, t.before.phase-in.ensures))))
+    let t = c in
+    let e = c in
+    refuses c.unsound-then-phase_in-gt-SWEEPING.ensures
+    (then_second _ _ _ (passed c.before.before.before) (unsound_phase (given (start c.before.before.before)) (wide (start c.before.before.before)) (omega (arith, t.if-phase_in-gt-SWEEPING.true, t.phase_in.ensures))))
 
-test-slots-requires : tie.Need-test-slots-requires
+test-slots-requires : tie.Need-test_slots-slots-requires
 test-slots-requires c κs = let e = planned c in
-    (omega (arith, few e, c.streams-in.ensures), (start e).pre, c.streams-in.ensures, legal e)
+    (omega (arith, few e, c.streams_in-streams.ensures), (start e).requires, c.streams_in-streams.ensures, legal e)
 
-returns-3 : tie.Need-returns-3
+returns-3 : tie.Need-returns-then-not-slots
 returns-3 c =
-    let u = c.before in
-    let e = planned u.before.before.before in
+    let u = c in
+    let e = planned c.before.before.before.before in
     let s = start e in
-    refuses c.unsound3.ensures
-    (then_second _ _ _ (passed e) (unsound_slots (given s) (wide s) (λ t. u.before.before.test-slots.ensures.slots.no (not-true _ u.if3.true)
-    (t.0, rw u.before.before.before.streams-in.ensures t.1))))
+    refuses c.unsound-then-not-slots.ensures
+    (then_second _ _ _ (passed e) (unsound_slots (given s) (wide s) (λ t. u.test_slots-slots.ensures.slots.no (not-true _ u.if-not-slots.true)
+    (t.0, rw u.streams_in-streams.ensures t.1))))
 
-all-placed-requires : tie.Need-all-placed-requires
+all-placed-requires : tie.Need-all_placed-requires
 all-placed-requires c κs = let k = counted c in
-    let a = c.before.before.test-slots.ensures.count (not-false _ c.if3.false) in
-    (omega (arith, few (planned k), k.streams-in.ensures), (start (planned k)).requires, a.0, a.1, (slots c).1)
+    let a = c.test_slots-slots.ensures.count (not-false _ c.if-not-slots.false) in
+    (omega (arith, few (planned k), k.streams_in-streams.ensures), (start (planned k)).requires, a.0, a.1, (slots c).1)
 
-returns-4 : tie.Need-returns-4
+returns-4 : tie.Need-returns-then-not-all_placed
 returns-4 c =
-    let u = c.before in
-    let e = planned (counted u.before.before) in
+    let u = c in
+    let e = planned (counted c.before.before.before) in
     let s = start e in
-    refuses c.unsound4.ensures
-    (then_second _ _ _ (passed e) (unsound_places (given s) (wide s) ((told u.before).no (not-true _ u.if4.true))))
+    refuses c.unsound-then-not-all_placed.ensures
+    (then_second _ _ _ (passed e) (unsound_places (given s) (wide s) ((told c.before.before).no (not-true _ u.if-not-all_placed.true-raw))))
 
-has-plan-requires : tie.Need-has-plan-requires
+has-plan-requires : tie.Need-has_plan-requires
 has-plan-requires c κs = ((first c).requires, zones c)
 
-sum-next-requires : tie.Need-sum-next-requires
+sum-next-requires : tie.Need-sum_next-sum-requires
 sum-next-requires c κs = let t = tidied c.before.before in
     let k = counted t in
     let e = planned k in
-    ((start e).pre, record { streams = k.streams-in.ensures; zones = zones e.before.before; plan = passed e; tidy = tidy t })
+    ((start e).requires, record { streams = k.streams_in-streams.ensures; zones = zones e.before.before; plan = passed e; tidy = tidy t })
 
-low-water-requires : tie.Need-low-water-requires
+low-water-requires : tie.Need-low_water-mark-requires
 low-water-requires c κs = let h = legal (planned (counted (tidied c.before.before.before.before.before))) in
-    rw (c.before.bytes-in.ensures, c.rate-in.ensures) (h.bytes.1, h.rate.1)
+    rw (c.bytes_in.ensures, c.rate_in.ensures) (h.bytes.1, h.rate.1)
 
-players-hold-requires : tie.Need-players-hold-requires
+players-hold-requires : tie.Need-players_hold-requires
 players-hold-requires c κs = let k = counted (tidied c.before.before.before.before.before.before) in
-    (omega (arith, few (planned k), k.streams-in.ensures), (start (planned k)).requires)
+    (omega (arith, few (planned k), k.streams_in-streams.ensures), (start (planned k)).requires)
 
-returns-5 : tie.Need-returns-5
+returns-5 : tie.Need-returns
 returns-5 c =
-    let m = c.before in
-    let b = m.before.before in
-    let l = b.before in
-    let q = l.before.before.before in
-    let t = tidied q in
+    let m = c in
+    let b = c in
+    let l = c in
+    let q = c in
+    let t = tidied c.before.before.before.before.before.before.before in
     let k = counted t in
     let e = planned k in
     let s = start e in
     record {
       sound = then_second _ _ _ (passed e)
-          (sound_told (given s) (wide s) _ _ _ l.sum-next.ensures.sums (m.low-water.ensures ∙ rw (b.bytes-in.ensures, m.before.rate-in.ensures))
-          (omega (arith, k.before.if2.left, k.before.before.phase-in.ensures)) (tidy t) (placed q)
-          (rw k.streams-in.ensures at c.players-hold.ensures));
-      leads = λ _. l.sum-next.ensures;
+          (sound_told (given s) (wide s) _ _ _ l.sum_next-sum.ensures.sums (m.low_water-mark.ensures ∙ rw (b.bytes_in.ensures, m.rate_in.ensures))
+          (omega (arith, k.if-phase_in-gt-SWEEPING.false, k.phase_in.ensures)) (tidy t) (placed c.before.before.before.before.before.before.before)
+          (rw k.streams_in-streams.ensures at c.players_hold.ensures));
+      leads = λ _. l.sum_next-sum.ensures;
     }
 
-pub test-desk-spec : {M : Type 1} → statement M
-test-desk-spec =
+pub test_desk_spec : {M : Type 1} → statement M
+test_desk_spec =
     tie.close
     (tie.spec
     (λ c κs. search rules)

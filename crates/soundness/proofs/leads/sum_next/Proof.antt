@@ -23,7 +23,7 @@ use Rattle.soundness.specs.Ready.{plan_source, plan_streams}
 use Rattle.soundness.proofs.leads.sum_next.Statement.{statement}
 use Rattle.soundness.proofs.leads.sum_next.Tie as tie
 
-abbrev start : tie.Joined1 → tie.Start
+abbrev start : tie.Joined-not-listed → tie.Start
 start c = c.before.before.before.before
 
 abbrev given : tie.Start → Desk
@@ -44,52 +44,52 @@ legal : (c : tie.Start) → Legal (visits_in (given c).plan) (given c).plan.figu
 legal c = checked_legal _ _ _ (slim_in _ c.requires.0) c.requires.1.plan
 
 -- where no list is lent
-abbrev unlent : tie.Then1 → tie.Start
+abbrev unlent : tie.Then-not-listed → tie.Start
 unlent c = c.before.before.before.before
 
 -- the films as they were read: so many, and all their blocks
-films-are : (c : tie.After-films-in) → (let z = c.before.before in
-    let f = (given (unlent z.before)).plan.figures in
-    (c.films-in.result ≡ f.films) × (start_of (length_at z.all-lengths.result) c.films-in.result ≡ blocks_of f))
-films-are c = let z = c.before.before in
-    (c.films-in.ensures, ap₂ (λ (bs : List ℕ) (n : ℕ). start_of (length_at bs) n) z.all-lengths.ensures c.films-in.ensures)
+films-are : (c : tie.After-films_in) → (let z = c in
+    let f = (given (unlent c.before.before.before)).plan.figures in
+    (c.films_in.result ≡ f.films) × (start_of (length_at z.all_lengths-lengths.result) c.films_in.result ≡ blocks_of f))
+films-are c = let z = c in
+    (c.films_in.ensures, ap₂ (λ (bs : List ℕ) (n : ℕ). start_of (length_at bs) n) z.all_lengths-lengths.ensures c.films_in.ensures)
 
-blocks-before-requires : tie.Need-blocks-before-requires
+blocks-before-requires : tie.Need-blocks_before-requires
 blocks-before-requires c κs =
     let ok = legal (unlent c.before.before.before) in
     let e = films-are c in
     (omega (arith, e.0, ok.films.1), omega (arith, e.1, ok.all))
 
-sum-short-requires : tie.Need-sum-short-requires
+sum-short-requires : tie.Need-sum_short-requires
 sum-short-requires c κs =
-    let b = c.before in
-    let f = b.before in
-    let t = f.before.before.before in
-    let s = unlent t in
-    (s.pre.0, omega (arith, c.if2.true, b.blocks-before.ensures, (films-are f).1), unlisted _ (not-true _ t.if1.true) _ _ _ _ _ _ _ s.pre.1)
+    let b = c in
+    let f = c in
+    let t = c in
+    let s = unlent c.before.before.before.before.before in
+    (s.requires.0, omega (arith, c.if-blocks_before-le-SHORT.true, b.blocks_before.ensures, (films-are c.before.before).1), unlisted _ (not-true _ t.if-not-listed.true-raw) _ _ _ _ _ _ _ s.requires.1)
 
-returns : tie.Need-returns
-returns c = c.sum-short.ensures
+returns : tie.Need-returns-then-blocks_before-le-SHORT
+returns c = c.sum_short.ensures
 
-sum-leads-requires : tie.Need-sum-leads-requires
+sum-leads-requires : tie.Need-sum_leads-requires
 sum-leads-requires c κs =
     let s = start c in
-    let p = s.pre.1 in (
+    let p = s.requires.1 in (
       omega (arith, few s, p.streams),
-      s.pre.0,
-      tidy_found (given s) (wide_in _ s.pre.0) p.tidy (few s) (legal_small _ (legal s)) (legal s).films.0 _ _ _
+      s.requires.0,
+      tidy_found (given s) (wide_in _ s.requires.0) p.tidy (few s) (legal_small _ (legal s)) (legal s).films.0 _ _ _
           (source s) _ _ p.zones _ p.streams,
     )
 
-returns-2 : tie.Need-returns-2
+returns-2 : tie.Need-returns
 returns-2 c =
     let s = start c.before in
-    let p = s.pre.1 in
-    tidy_sum (given s) (wide_in _ s.pre.0) p.tidy (few s) (legal_small _ (legal s)) (legal s).films.0 _ _ _
-    (source s) _ _ p.zones _ p.streams _ c.sum-leads.ensures
+    let p = s.requires.1 in
+    tidy_sum (given s) (wide_in _ s.requires.0) p.tidy (few s) (legal_small _ (legal s)) (legal s).films.0 _ _ _
+    (source s) _ _ p.zones _ p.streams _ c.sum_leads.ensures
 
-pub sum-next-spec : {M : Type 1} → statement M
-sum-next-spec =
+pub sum_next_spec : {M : Type 1} → statement M
+sum_next_spec =
     tie.close
     (tie.spec
     (λ c κs. search rules)

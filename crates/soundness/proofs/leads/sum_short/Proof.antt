@@ -29,16 +29,16 @@ use Rattle.soundness.proofs.leads.sum_short.Tie as tie
 
 -- ---- the places, each from a later one
 
-abbrev start : tie.After-zones-in → tie.Start
+abbrev start : tie.After-zones_in → tie.Start
 start c = c.before.before.before.before
 
-abbrev zoned : tie.After-showing-in → tie.After-zones-in
+abbrev zoned : tie.After-showing_in → tie.After-zones_in
 zoned c = c.before.before.before.before.before
 
-abbrev read : tie.After-write-shelf-leads → tie.After-showing-in
+abbrev read : tie.After-write_shelf_leads → tie.After-showing_in
 read c = c.before.before.before
 
-abbrev written : tie.After-leads3 → tie.After-write-shelf-leads
+abbrev written : tie.After-leads-3-1 → tie.After-write_shelf_leads
 written c = c.before.before
 
 abbrev given : tie.Start → Desk
@@ -53,24 +53,24 @@ few : (c : tie.Start) → (given c).plan.streams ≤ max_streams
 few c = plan_streams _ _ _ (slim_in _ c.requires.0) c.requires.2.plan
 
 -- P
-whole : (c : tie.After-sum-positions) → c.sum-positions.result ≡ total_positions (given (start c.before)).plan.figures
+whole : (c : tie.After-sum_positions-total) → c.sum_positions-total.result ≡ total_positions (given (start c.before)).plan.figures
 whole c =
     let s = start c.before in
-    c.sum-positions.ensures
-    ∙ (λ i. total (take (c.before.zones-in.ensures i) (s.pre.2.zones.0 i)))
+    c.sum_positions-total.ensures
+    ∙ (λ i. total (take (c.zones_in.ensures i) (s.requires.2.zones.0 i)))
     ∙ total_zones _ (legal s)
 
 -- the list has room
-roomy : (c : tie.After-zones-in) → blocks_of (given (start c)).plan.figures ≤ length (words_of c.before.room.result)
-roomy c = omega (arith, (start c).requires.1, words_length c.before.room.result, c.before.room.ensures)
+roomy : (c : tie.After-zones_in) → blocks_of (given (start c)).plan.figures ≤ length (words_of c.room-leads.result)
+roomy c = omega (arith, (start c).requires.1, words_length c.room-leads.result, c.room-leads.ensures)
 
 -- the list that was written
-abbrev list : tie.After-write-shelf-leads → List ℕ
-list c = c.write-shelf-leads.new.1.1.1.1.1.1.1.0
+abbrev list : tie.After-write_shelf_leads → List ℕ
+list c = c.write_shelf_leads.new.leads
 
-listed : (c : tie.After-write-shelf-leads) → (let z = zoned (read c) in
+listed : (c : tie.After-write_shelf_leads) → (let z = zoned (read c) in
     let p = (given (start z)).plan in
-    list c ≡ with_words z.before.room.result 0 (leads_of (showing_in p) p.figures))
+    list c ≡ with_words z.room-leads.result 0 (leads_of (showing_in p) p.figures))
 listed c =
     let n = read c in
     let w = n.before in
@@ -79,54 +79,54 @@ listed c =
     let z = zoned n in
     let s = start z in
     let p = (given s).plan in
-    c.write-shelf-leads.ensures
-    ∙ ap (with_words z.before.room.result 0)
-    (written_rows p (slim_in _ s.pre.0) (legal s) (checked _ _ _ s.pre.2.plan).plan s.pre.2.zones.0 s.pre.2.zones.1
-    b.all-lengths.ensures n.showing-in.ensures (whole b.before) f.films-in.ensures w.worst2-in.ensures)
+    c.write_shelf_leads.ensures
+    ∙ ap (with_words z.room-leads.result 0)
+    (written_rows p (slim_in _ s.requires.0) (legal s) (checked _ _ _ s.requires.2.plan).plan s.requires.2.zones.0 s.requires.2.zones.1
+    b.all_lengths-lengths.ensures n.showing_in.ensures (whole b.before) f.films_in-films.ensures w.worst2_in-worst2.ensures)
 
-source : (c : tie.After-write-shelf-leads) → (let s = start (zoned (read c)) in LeadSource true (given s).plan s.args.positions.now (list c))
+source : (c : tie.After-write_shelf_leads) → (let s = start (zoned (read c)) in LeadSource true (given s).plan s.args.positions.now (list c))
 source c =
     let z = zoned (read c) in
     let s = start z in
-    plan_source true _ _ _ (slim_in _ s.pre.0)
+    plan_source true _ _ _ (slim_in _ s.requires.0)
     (subst (λ (ls : List ℕ). is_plan (given s).plan s.args.positions.now ls ≡ true) (sym (listed c))
-    (written_leads (given s).plan (slim_in _ s.pre.0) _ z.before.room.result (roomy z) s.pre.2.plan))
+    (written_leads (given s).plan (slim_in _ s.requires.0) _ z.room-leads.result (roomy z) s.requires.2.plan))
 
 -- ---- the needs
 
-sum-positions-requires : tie.Need-sum-positions-requires
+sum-positions-requires : tie.Need-sum_positions-total-requires
 sum-positions-requires c κs =
     let s = start c in (
-      subst Zoned (sym s.pre.2.zones.0) (legal_zoned _ (legal s)),
-      omega (arith, (legal s).zones.1, c.zones-in.ensures),
+      subst Zoned (sym s.requires.2.zones.0) (legal_zoned _ (legal s)),
+      omega (arith, (legal s).zones.1, c.zones_in.ensures),
     )
 
 -- the films on the disk, by the showing as it was read
 shown-on : {sizes times blocks : List ℕ} {t n v w : ℕ} → v ≡ w → OnShelf sizes times (showing_of w) t blocks n → OnShelf sizes times (showing_of v) t blocks n
 shown-on e h = rw e h
 
-write-shelf-leads-requires : tie.Need-write-shelf-leads-requires
+write-shelf-leads-requires : tie.Need-write_shelf_leads-requires
 write-shelf-leads-requires c κs =
-    let n = c.before.before in
-    let f = n.before.before in
-    let b = f.before in
-    let z = zoned n in
+    let n = c in
+    let f = c in
+    let b = c in
+    let z = zoned c.before.before in
     let s = start z in
     let d = given s in (
-      shown-on n.showing-in.ensures
-          (read_on (showing_in d.plan) d.plan.figures (legal s) s.pre.2.zones.0 s.pre.2.zones.1 b.all-lengths.ensures (whole b.before)
-          f.films-in.ensures),
-      rw (b.all-lengths.ensures, f.films-in.ensures) (roomy z),
+      shown-on n.showing_in.ensures
+          (read_on (showing_in d.plan) d.plan.figures (legal s) s.requires.2.zones.0 s.requires.2.zones.1 b.all_lengths-lengths.ensures (whole c.before.before.before.before.before.before)
+          f.films_in-films.ensures),
+      rw (b.all_lengths-lengths.ensures, f.films_in-films.ensures) (roomy z),
     )
 
-sum-leads-requires : tie.Need-sum-leads-requires
+sum-leads-requires : tie.Need-sum_leads-requires
 sum-leads-requires c κs =
     let w = written c in
     let s = start (zoned (read w)) in
-    let p = s.pre.2 in (
+    let p = s.requires.2 in (
       omega (arith, few s, p.streams),
-      s.pre.0,
-      tidy_found (given s) (wide_in _ s.pre.0) p.tidy (few s) (legal_small _ (legal s)) (legal s).films.0 _ _ _
+      s.requires.0,
+      tidy_found (given s) (wide_in _ s.requires.0) p.tidy (few s) (legal_small _ (legal s)) (legal s).films.0 _ _ _
           (source w) _ _ p.zones _ p.streams,
     )
 
@@ -134,12 +134,12 @@ returns : tie.Need-returns
 returns c =
     let w = written c.before in
     let s = start (zoned (read w)) in
-    let p = s.pre.2 in
-    tidy_sum (given s) (wide_in _ s.pre.0) p.tidy (few s) (legal_small _ (legal s)) (legal s).films.0 _ _ _
-    (source w) _ _ p.zones _ p.streams _ c.sum-leads.ensures
+    let p = s.requires.2 in
+    tidy_sum (given s) (wide_in _ s.requires.0) p.tidy (few s) (legal_small _ (legal s)) (legal s).films.0 _ _ _
+    (source w) _ _ p.zones _ p.streams _ c.sum_leads.ensures
 
-pub sum-short-spec : {M : Type 1} → statement M
-sum-short-spec =
+pub sum_short_spec : {M : Type 1} → statement M
+sum_short_spec =
     tie.close
     (tie.spec
     (λ c κs. search rules)

@@ -10,19 +10,19 @@ use Rattle.soundness.proofs.Tells.{tells_yes}
 use Rattle.soundness.proofs.places.all_placed.Statement.{statement}
 use Rattle.soundness.proofs.places.all_placed.Tie as tie
 
-returns : tie.Need-returns
+returns : tie.Need-returns-then-asked-eq0
 returns c =
-    let s = c.before.before in
+    let s = c in
     let p = s.requires in
     let d = desk_in (words_of s.args.desk.now) in
     tells_yes (subst (λ (n : ℕ). Placed n s.args.streams d.kinds d.places) (sym p.2)
-    (none_placed _ _ _ (omega (arith, p.0, (wide_in s.args.desk.now p.1).kinds)) (sym p.2 ∙ c.if1.true) p.4))
+    (none_placed _ _ _ (omega (arith, p.0, (wide_in s.args.desk.now p.1).kinds)) (sym p.2 ∙ c.if-asked-eq0.true) p.4))
 
-each-once-requires : tie.Need-each-once-requires
-each-once-requires c κs = let p = c.before.before.requires in (p.0, p.1, p.3, p.4)
+each-once-requires : tie.Need-each_once-requires
+each-once-requires c κs = let p = c.requires in (p.0, p.1, p.3, p.4)
 
-returns-2 : tie.Need-returns-2
-returns-2 c = c.each-once.ensures
+returns-2 : tie.Need-returns
+returns-2 c = c.each_once.ensures
 
-pub all-placed-spec : {M : Type 1} → statement M
-all-placed-spec = tie.close (tie.spec returns each-once-requires returns-2)
+pub all_placed_spec : {M : Type 1} → statement M
+all_placed_spec = tie.close (tie.spec returns each-once-requires returns-2)

@@ -6,5 +6,5 @@ use Rattle.soundness.proofs.places.unseen.Tie as tie
 returns : tie.Need-returns
 returns c = (refl, zero_at 257)
 
-pub unseen-spec : {M : Type 1} → statement M
-unseen-spec = tie.close (tie.spec returns)
+pub unseen_spec : {M : Type 1} → statement M
+unseen_spec = tie.close (tie.spec returns)

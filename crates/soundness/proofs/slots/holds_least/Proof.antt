@@ -2,11 +2,11 @@ use Rattle.soundness.proofs.Tells.{tells_yes, tells_within}
 use Rattle.soundness.proofs.slots.holds_least.Statement.{statement}
 use Rattle.soundness.proofs.slots.holds_least.Tie as tie
 
-returns : tie.Need-returns
-returns c = tells_within c.before.args.least c.before.args.held (λ l _. l) (λ f. f c.match.keys1)
+returns : tie.Need-returns-in-3
+returns c = tells_within c.args.least c.args.held (λ l _. l) (λ f. f c.in-3.is)
 
-returns-2 : tie.Need-returns-2
-returns-2 c = tells_yes (λ k. absurd (c.match.rest.1 k))
+returns-2 : tie.Need-returns-in_default
+returns-2 c = tells_yes (λ k. absurd (c.in_default.in_default-own.rest.1 k))
 
-pub holds-least-spec : {M : Type 1} → statement M
-holds-least-spec = tie.close (tie.spec returns returns-2)
+pub holds_least_spec : {M : Type 1} → statement M
+holds_least_spec = tie.close (tie.spec returns returns-2)

@@ -6,11 +6,11 @@ use Rattle.soundness.proofs.slots.misnamed.Tie as tie
 
 returns : tie.Need-returns
 returns c =
-    let film = c.before.one-if.ensures in (
+    let film = c.one_if.ensures in (
       λ z. let b = both_unset z in
-          record { film = leb-false _ _ (film.0 b.0); free = λ e. kept_zero c.bits-if.ensures b.1 (eq-eqb _ _ e) },
-      λ n. none_set (film.1 (lt-leb _ _ n.film)) (zero_kept _ c.bits-if.ensures (λ e. n.free (eqb-true _ _ e))),
+          record { film = leb-false _ _ (film.0 b.0); free = λ e. kept_zero c.bits_if.ensures b.1 (eq-eqb _ _ e) },
+      λ n. none_set (film.1 (lt-leb _ _ n.film)) (zero_kept _ c.bits_if.ensures (λ e. n.free (eqb-true _ _ e))),
     )
 
-pub misnamed-spec : {M : Type 1} → statement M
-misnamed-spec = tie.close (tie.spec (λ c κs. search rules) (λ c κs. search rules) returns)
+pub misnamed_spec : {M : Type 1} → statement M
+misnamed_spec = tie.close (tie.spec (λ c κs. search rules) (λ c κs. search rules) returns)

@@ -18,23 +18,23 @@ record Unset (d : Desk) (streams bits i : ℕ) : Type 0 where
   zero : bits ≡ 0 → RestZero d streams i
   unset : RestZero d streams i → bits ≡ 0
 
-abbrev invariant-loop : tie.invariant-loop
+abbrev invariant-loop : tie.invariant-loop-i
 invariant-loop desk streams bits₀ i₀ bits i = Unset (desk_in (words_of desk)) streams bits i
 
-abbrev decreases-loop : tie.decreases-loop
+abbrev decreases-loop : tie.decreases-loop-i
 decreases-loop desk streams bits₀ i₀ bits i = 256 - i
 
-loop-holds : tie.Need-loop-init invariant-loop decreases-loop
+loop-holds : tie.Need-loop-i-init invariant-loop decreases-loop
 loop-holds c = record { past = omega arith; few = omega arith; zero = λ _ j h u. absurd (omega arith); unset = λ _. refl }
 
-loop-again : tie.Need-loop-preserved invariant-loop decreases-loop
+loop-again : tie.Need-loop-i-preserved invariant-loop decreases-loop
 loop-again c =
-    let h = c.before in
-    let n = h.before in
-    let k = n.before in
-    let l = k.before.before.loop in
-    let kind = k.kind-in.ensures in
-    let next = n.next-in.ensures in
+    let h = c in
+    let n = c in
+    let k = c in
+    let l = k.loop-i in
+    let kind = k.kind_in.ensures in
+    let next = n.next_in.ensures in
     let held = h.held_in.ensures in
     let place = c.place_in.ensures in
     record {
@@ -51,11 +51,11 @@ loop-again c =
 
 returns : tie.Need-returns invariant-loop decreases-loop
 returns c =
-    let l = c.before.loop in
+    let l = c.loop-i in
     tells_equal l.bits 0 (λ e j h. l.invariant.zero e j (omega arith)) (λ r. l.invariant.unset (λ j h. r j (omega arith)))
 
-pub rest-zero-spec : {M : Type 1} → statement M
-rest-zero-spec =
+pub rest_zero_spec : {M : Type 1} → statement M
+rest_zero_spec =
     tie.close
     (tie.spec
     invariant-loop

@@ -17,92 +17,92 @@ use Rattle.soundness.proofs.Unset.{Unset, unset_none, unset_next, unset_end}
 use Rattle.soundness.proofs.slots.test_shelf.Statement.{statement}
 use Rattle.soundness.proofs.slots.test_shelf.Tie as tie
 
-abbrev invariant-loop : tie.invariant-loop
+abbrev invariant-loop : tie.invariant-loop-i
 invariant-loop desk streams top films buffer bits₀ asked₀ i₀ bits asked i = Unset (desk_in (words_of desk)) streams bits asked i
 
-abbrev decreases-loop : tie.decreases-loop
+abbrev decreases-loop : tie.decreases-loop-i
 decreases-loop desk streams top films buffer bits₀ asked₀ i₀ bits asked i = streams - i
 
 -- ---- the places, each from a later one
 
-abbrev start : tie.At-loop invariant-loop decreases-loop → tie.Start invariant-loop decreases-loop
+abbrev start : tie.At-loop-i invariant-loop decreases-loop → tie.Start invariant-loop decreases-loop
 start l = l.before.before.before.before.before.before
 
-abbrev given : tie.At-loop invariant-loop decreases-loop → Desk
+abbrev given : tie.At-loop-i invariant-loop decreases-loop → Desk
 given l = desk_in (words_of (start l).args.desk.now)
 
 -- where the loop stands
-abbrev turn : tie.After-misnamed invariant-loop decreases-loop → tie.At-loop invariant-loop decreases-loop
+abbrev turn : tie.After-misnamed invariant-loop decreases-loop → tie.At-loop-i invariant-loop decreases-loop
 turn c = c.before.before.before.before.before.before.before
 
 -- ---- what is known there
 
-long : (l : tie.At-loop invariant-loop decreases-loop) → (start l).args.streams ≤ length (given l).kinds
-long l = let s = start l in omega (arith, s.pre.0, (wide_in s.args.desk.now s.pre.1).kinds)
+long : (l : tie.At-loop-i invariant-loop decreases-loop) → (start l).args.streams ≤ length (given l).kinds
+long l = let s = start l in omega (arith, s.requires.0, (wide_in s.args.desk.now s.requires.1).kinds)
 
 -- what the bits of slot i tell
 abbrev bits : tie.After-misnamed invariant-loop decreases-loop → ℕ
-bits c = bit_or c.before.untidy.result c.misnamed.result
+bits c = bit_or c.untidy.result c.misnamed.result
 
 tells : (c : tie.After-misnamed invariant-loop decreases-loop) → (let l = turn c in
-    (bits c ≡ 0 → TidyAt (given l) l.loop.i) × (TidyAt (given l) l.loop.i → bits c ≡ 0))
+    (bits c ≡ 0 → TidyAt (given l) l.loop-i.i) × (TidyAt (given l) l.loop-i.i → bits c ≡ 0))
 tells c =
-    let u = c.before in
-    let h = u.before in
-    let f = h.before in
-    let x = f.before in
+    let u = c in
+    let h = c in
+    let f = c in
+    let x = c in
     let l = turn c in
     let b = l.before in
     let z = b.before in
     let d = given l in
-    let i = l.loop.i in
+    let i = l.loop-i.i in
     let k = get_or d.kinds i 0 in
     let a = get_or d.next i 0 in
     let T : Type 0 = TidyWithin d.plan.showing (length_in d.plan.figures (film_in a)) d.plan.buffer k (block_in a) (get_or d.held i 0) in
     let slot : (u.untidy.result ≡ 0 → T) × (T → u.untidy.result ≡ 0) = rw (
-      sym z.before.before.showing-in.ensures,
-      sym b.buffer-in.ensures,
-      sym x.before.kind-in.ensures,
-      sym x.next-in.ensures,
-      sym f.film-length.ensures,
+      sym z.showing_in.ensures,
+      sym b.buffer_in-buffer.ensures,
+      sym x.kind_in-kind.ensures,
+      sym x.next_in-name.ensures,
+      sym f.film_length-blocks.ensures,
       sym h.held_in.ensures,
-    ) (u.untidy.ensures _ z.before.last-kind.ensures) in
+    ) (u.untidy.ensures _ z.last_kind-top.ensures) in
     let W : Type 0 = WellNamed d.plan.figures.films k a in
     let name : (c.misnamed.result ≡ 0 → W) × (W → c.misnamed.result ≡ 0) = rw (
-      sym z.films-in.ensures,
-      sym x.before.kind-in.ensures,
-      sym x.next-in.ensures,
+      sym z.films_in-films.ensures,
+      sym x.kind_in-kind.ensures,
+      sym x.next_in-name.ensures,
     ) c.misnamed.ensures in
-    let some = (start l).pre.2 in (
+    let some = (start l).requires.2 in (
       λ e. let y = both_unset {a = u.untidy.result} {b = c.misnamed.result} e in shelf_is_tidy d.plan.figures (slot.0 y.0) (name.0 y.1),
       λ t. let y = tidy_is_shelf d.plan.figures some t in none_set (slot.1 y.0) (name.1 y.1),
     )
 
 -- ---- the needs
 
-loop-holds : tie.Need-loop-init invariant-loop decreases-loop
+loop-holds : tie.Need-loop-i-init invariant-loop decreases-loop
 loop-holds c = unset_none _ _
 
-add-asked : tie.Need-overflow-add-asked invariant-loop decreases-loop
-add-asked c = let l = (turn c.before.before.before).loop in omega (arith, c.asking.ensures.1, l.inv.low, l.inv.few)
+add-asked : tie.Need-overflow_add-asked invariant-loop decreases-loop
+add-asked c = let l = (turn c.before.before.before).loop-i in omega (arith, c.asking-asked.ensures.1, l.invariant.low, l.invariant.few)
 
-loop-again : tie.Need-loop-preserved invariant-loop decreases-loop
+loop-again : tie.Need-loop-i-preserved invariant-loop decreases-loop
 loop-again c =
-    let i = c.before in
-    let p = i.before in
-    let u = p.before in
-    let k = u.before.before.before.before.before in
-    let t = turn u in
-    let l = t.loop in
-    unset_next _ _ l.bits l.asked l.i l.inv k.before.loop-test.true (long t) _ _ _ _ _ k.kind-in.ensures
-    p.place_in.ensures (tells u) i.idle-place.ensures c.asking.ensures
+    let i = c in
+    let p = c in
+    let u = c in
+    let k = c in
+    let t = turn c.before.before.before in
+    let l = t.loop-i in
+    unset_next _ _ l.bits l.asked l.i l.invariant k.loop-i-test.true (long t) _ _ _ _ _ k.kind_in-kind.ensures
+    p.place_in.ensures (tells c.before.before.before) i.idle_place.ensures c.asking-asked.ensures
 
 returns : tie.Need-returns invariant-loop decreases-loop
-returns c = let l = c.before.loop in
-    unset_end _ _ l.bits l.asked l.i l.invariant (omega (arith, c.loop-test.false, l.invariant.few))
+returns c = let l = c.loop-i in
+    unset_end _ _ l.bits l.asked l.i l.invariant (omega (arith, c.loop-i-test.false, l.invariant.few))
 
-pub test-shelf-spec : {M : Type 1} → statement M
-test-shelf-spec =
+pub test_shelf_spec : {M : Type 1} → statement M
+test_shelf_spec =
     tie.close
     (tie.spec
     invariant-loop

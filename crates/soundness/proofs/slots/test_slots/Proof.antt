@@ -16,7 +16,7 @@ use Rattle.soundness.proofs.Tells.{tells_no, zero_tidy}
 use Rattle.soundness.proofs.slots.test_slots.Statement.{statement}
 use Rattle.soundness.proofs.slots.test_slots.Tie as tie
 
-abbrev start : tie.After-films-in → tie.Start
+abbrev start : tie.After-films_in → tie.Start
 start c = c.before.before.before.before
 
 abbrev given : tie.Start → Desk
@@ -40,11 +40,11 @@ told d n tidy asked few e z h = record {
   count = λ _. h.count;
 }
 
-returns : tie.Need-returns
-returns c = let r = c.before in
-    let s = r.before.before in
+returns : tie.Need-returns-then-not-rest_zero
+returns c = let r = c in
+    let s = c in
     record {
-      slots = tells_no (λ t. r.rest-zero.ensures.no (not-true _ c.if1.true)
+      slots = tells_no (λ t. r.rest_zero.ensures.no (not-true _ c.if-not-rest_zero.true-raw)
           (λ i l u. let k = t.0.unused i l (omega (arith, s.requires.2)) in
           let z = (t.0.slots i l).zeros k in
           (k, z.0, z.1, t.0.idle i l (omega (arith, s.requires.2)))));
@@ -52,30 +52,30 @@ returns c = let r = c.before in
     }
 
 -- past the slots from n on
-rest : (c : tie.After-films-in) → RestZero (given (start c)) (start c).args.streams max_streams
-rest c = let e = c.before in e.before.rest-zero.ensures.yes (not-false _ e.if1.false)
+rest : (c : tie.After-films_in) → RestZero (given (start c)) (start c).args.streams max_streams
+rest c = let e = c in e.rest_zero.ensures.yes (not-false _ e.if-not-rest_zero.false-raw)
 
-test-film-requires : tie.Need-test-film-requires
+test-film-requires : tie.Need-test_film-requires
 test-film-requires c κs =
-    let f = c.before in
-    let s = start f in
-    let one : (given s).plan.figures.films ≡ 1 = omega (arith, f.films-in.ensures, c.if2.true) in
-    (s.pre.0, s.pre.1, record { one = one; few = (s.pre.3.blocks 0 (omega arith)).1 })
+    let f = c in
+    let s = start c.before in
+    let one : (given s).plan.figures.films ≡ 1 = omega (arith, f.films_in.ensures, c.if-films_in-eq1.true) in
+    (s.requires.0, s.requires.1, record { one = one; few = (s.requires.3.blocks 0 (omega arith)).1 })
 
-returns-2 : tie.Need-returns-2
-returns-2 c = let f = c.before.before in
-    let s = start f in
-    told _ _ _ _ s.pre.0 s.pre.2 (rest f) c.test-film.ensures
+returns-2 : tie.Need-returns-then-films_in-eq1
+returns-2 c = let f = c in
+    let s = start c.before.before in
+    told _ _ _ _ s.requires.0 s.requires.2 (rest c.before.before) c.test_film.ensures
 
-test-shelf-requires : tie.Need-test-shelf-requires
-test-shelf-requires c κs = let s = start c.before in (s.pre.0, s.pre.1, s.pre.3.films.0)
+test-shelf-requires : tie.Need-test_shelf-requires
+test-shelf-requires c κs = let s = start c.before in (s.requires.0, s.requires.1, s.requires.3.films.0)
 
-returns-3 : tie.Need-returns-3
-returns-3 c = let f = c.before.before in
-    let s = start f in
-    told _ _ _ _ s.pre.0 s.pre.2 (rest f) c.test-shelf.ensures
+returns-3 : tie.Need-returns
+returns-3 c = let f = c in
+    let s = start c.before.before in
+    told _ _ _ _ s.requires.0 s.requires.2 (rest c.before.before) c.test_shelf.ensures
 
-pub test-slots-spec : {M : Type 1} → statement M
-test-slots-spec =
+pub test_slots_spec : {M : Type 1} → statement M
+test_slots_spec =
     tie.close
     (tie.spec (λ c κs. search rules) returns (λ c κs. search rules) test-film-requires returns-2 test-shelf-requires returns-3)
