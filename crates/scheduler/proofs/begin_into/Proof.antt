@@ -17,32 +17,32 @@ wide c = record { kinds = search rules; next = search rules; held = search rules
 slim : (c : tie.Start) → legality.Wide c.args.desk.plan.figures
 slim c = (search rules, search rules, search rules, search rules)
 
-abbrev start : tie.After-begin → tie.Start
-start c = c.before.before.before.before.before.before
+abbrev start : tie.After-begin-begun → tie.Start
+start c = c.before.before.before.before.before
 
 -- the answer, with the room that the string has
-begun : (c : tie.After-begin) → (let a = (start c).args in
-    c.begin.result ≡ begin_desk a.desk a.positions.now a.leads.now (length (words_of a.fetches.now) / 3))
+begun : (c : tie.After-begin-begun) → (let a = (start c).args in
+    c.begin-begun.result ≡ begin_desk a.desk a.positions.now a.leads.now (length (words_of a.fetches.now) / 3))
 begun c = let a = (start c).args in
-    c.begin.ensures
-    ∙ ap (λ (k : ℕ). begin_desk a.desk a.positions.now a.leads.now (k / 3)) c.before.entries.ensures
+    c.begin-begun.ensures
+    ∙ ap (λ (k : ℕ). begin_desk a.desk a.positions.now a.leads.now (k / 3)) c.entries-room.ensures
 
-put-fetches-requires : tie.Need-put-fetches-requires
+put-fetches-requires : tie.Need-put_fetches-requires
 put-fetches-requires c κs =
-    let b = c.before in
-    let s = start b in
-    subst (λ (x : Begun). Fit x s.args.fetches.now) (sym (begun b)) (begun_fits s.args.desk (wide s) (slim s) _ _ _)
+    let b = c in
+    let s = start c.before.before in
+    subst (λ (x : Begun). Fit x s.args.fetches.now) (sym (begun c.before.before)) (begun_fits s.args.desk (wide s) (slim s) _ _ _)
 
 returns : tie.Need-returns
 returns c =
-    let p = c.before.before in
-    let b = p.before.before in
-    let s = start b in
+    let p = c in
+    let b = c in
+    let s = start c.before.before.before.before.before in
     let F = s.args.fetches.now in
-    (begun b, p.put-fetches.ensures ∙ ap (λ (x : Begun). fetched x F) (begun b) ∙ begun_list s.args.desk (wide s) (slim s) _ _ _)
+    (begun c.before.before.before.before.before, p.put_fetches.ensures ∙ ap (λ (x : Begun). fetched x F) (begun c.before.before.before.before.before) ∙ begun_list s.args.desk (wide s) (slim s) _ _ _)
 
-pub begin-into-spec : {M : Type 1} → statement M
-begin-into-spec =
+pub begin_into_spec : {M : Type 1} → statement M
+begin_into_spec =
     tie.close
     (tie.spec
     (λ c κs. search rules)

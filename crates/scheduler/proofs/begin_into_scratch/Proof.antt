@@ -17,32 +17,32 @@ wide c = record { kinds = search rules; next = search rules; held = search rules
 slim : (c : tie.Start) → legality.Wide c.args.desk.plan.figures
 slim c = (search rules, search rules, search rules, search rules)
 
-abbrev start : tie.After-begin-scratch → tie.Start
-start c = c.before.before.before.before.before.before
+abbrev start : tie.After-begin_scratch-begun → tie.Start
+start c = c.before.before.before.before.before
 
 -- the answer, with the room that the string has
-begun : (c : tie.After-begin-scratch) → (let a = (start c).args in
-    c.begin-scratch.result ≡ begin_scratch a.desk a.positions.now a.scratch.now (length (words_of a.fetches.now) / 3))
+begun : (c : tie.After-begin_scratch-begun) → (let a = (start c).args in
+    c.begin_scratch-begun.result ≡ begin_scratch a.desk a.positions.now a.scratch.now (length (words_of a.fetches.now) / 3))
 begun c = let a = (start c).args in
-    c.begin-scratch.ensures
-    ∙ ap (λ (k : ℕ). begin_scratch a.desk a.positions.now a.scratch.now (k / 3)) c.before.entries.ensures
+    c.begin_scratch-begun.ensures
+    ∙ ap (λ (k : ℕ). begin_scratch a.desk a.positions.now a.scratch.now (k / 3)) c.entries-room.ensures
 
-put-fetches-requires : tie.Need-put-fetches-requires
+put-fetches-requires : tie.Need-put_fetches-requires
 put-fetches-requires c κs =
-    let b = c.before in
-    let s = start b in
-    subst (λ (x : Begun). Fit x s.args.fetches.now) (sym (begun b)) (scratch_fits s.args.desk (wide s) (slim s) _ _ _)
+    let b = c in
+    let s = start c.before.before in
+    subst (λ (x : Begun). Fit x s.args.fetches.now) (sym (begun c.before.before)) (scratch_fits s.args.desk (wide s) (slim s) _ _ _)
 
 returns : tie.Need-returns
 returns c =
-    let p = c.before.before in
-    let b = p.before.before in
-    let s = start b in
+    let p = c in
+    let b = c in
+    let s = start c.before.before.before.before.before in
     let F = s.args.fetches.now in
-    (begun b, p.put-fetches.ensures ∙ ap (λ (x : Begun). fetched x F) (begun b) ∙ scratch_list s.args.desk (wide s) (slim s) _ _ _)
+    (begun c.before.before.before.before.before, p.put_fetches.ensures ∙ ap (λ (x : Begun). fetched x F) (begun c.before.before.before.before.before) ∙ scratch_list s.args.desk (wide s) (slim s) _ _ _)
 
-pub begin-into-scratch-spec : {M : Type 1} → statement M
-begin-into-scratch-spec =
+pub begin_into_scratch_spec : {M : Type 1} → statement M
+begin_into_scratch_spec =
     tie.close
     (tie.spec
     (λ c κs. search rules)

@@ -4,13 +4,13 @@ use Rattle.desk.specs.Scratch.{begin_scratch}
 use Rattle.scheduler.proofs.begin_scratch.Statement.{statement}
 use Rattle.scheduler.proofs.begin_scratch.Tie as tie
 
-returns : tie.Need-returns
+returns : tie.Need-returns-then-is_short
 unfolding begin_scratch
-returns c = let e = c.before in rw (sym e.before.is-short.ensures ∙ e.if1.true) c.not-begun.ensures
+returns c = let e = c in rw (sym e.is_short.ensures ∙ e.if-is_short.true) c.not_begun.ensures
 
-returns-2 : tie.Need-returns-2
+returns-2 : tie.Need-returns
 unfolding begin_scratch
-returns-2 c = let e = c.before in rw (sym e.before.is-short.ensures ∙ e.if1.false) c.begun.ensures
+returns-2 c = let e = c in rw (sym e.is_short.ensures ∙ e.if-is_short.false) c.begun.ensures
 
-pub begin-scratch-spec : {M : Type 1} → statement M
-begin-scratch-spec = tie.close (tie.spec (λ c κs. search rules) (λ c κs. search rules) returns (λ c κs. search rules) returns-2)
+pub begin_scratch_spec : {M : Type 1} → statement M
+begin_scratch_spec = tie.close (tie.spec (λ c κs. search rules) (λ c κs. search rules) returns (λ c κs. search rules) returns-2)

@@ -5,5 +5,5 @@ use Rattle.scheduler.proofs.end.Tie as tie
 returns : tie.Need-returns
 returns c = c.ended.ensures
 
-pub end-spec : {M : Type 1} → statement M
-end-spec = tie.close (tie.spec (λ c κs. search rules) returns)
+pub end_spec : {M : Type 1} → statement M
+end_spec = tie.close (tie.spec (λ c κs. search rules) returns)

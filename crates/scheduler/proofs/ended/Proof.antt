@@ -17,39 +17,39 @@ wide c = record { kinds = search rules; next = search rules; held = search rules
 slim : (c : tie.Start) → legality.Wide c.args.desk.plan.figures
 slim c = (search rules, search rules, search rules, search rules)
 
-abbrev start : tie.After-judge-end → tie.Start
+abbrev start : tie.After-judge_end-verdict → tie.Start
 start c = c.before.before.before.before.before.before
 
 -- what is judged of the string is the desk's
-judged : (c : tie.After-judge-end) → (let a = (start c).args in
-    c.judge-end.result ≡ (end_desk a.desk a.positions.now (leads_by a.listed a.desk.plan a.leads.now) a.draws.now).verdict)
+judged : (c : tie.After-judge_end-verdict) → (let a = (start c).args in
+    c.judge_end-verdict.result ≡ (end_desk a.desk a.positions.now (leads_by a.listed a.desk.plan a.leads.now) a.draws.now).verdict)
 judged c = let a = (start c).args in
-    c.judge-end.ensures ∙
+    c.judge_end-verdict.ensures ∙
     ap (λ (d : Desk). (end_desk d a.positions.now (leads_by a.listed d.plan a.leads.now) a.draws.now).verdict)
-    c.before.before.string-of.ensures.0
+    c.string_of-string.ensures.0
 
 -- past the judge
-ended : (c : tie.Else1) → (let s = start c.before.before in HasEnded s.args.desk (wide s) (slim s) s.args.positions.now
+ended : (c : tie.Else-verdict-ne-ACCEPTED) → (let s = start c.before.before in HasEnded s.args.desk (wide s) (slim s) s.args.positions.now
     (leads_by s.args.listed s.args.desk.plan s.args.leads.now) s.args.draws.now)
-ended c = let j = c.before.before in
-    let s = start j in
-    end_accepted s.args.desk (wide s) (slim s) _ _ _ (ap (λ (v : Verdict). v.number) (sym (judged j)) ∙ c.if1.false)
+ended c = let j = c in
+    let s = start c.before.before in
+    end_accepted s.args.desk (wide s) (slim s) _ _ _ (ap (λ (v : Verdict). v.number) (sym (judged c.before.before)) ∙ c.if-verdict-ne-ACCEPTED.false)
 
-returns : tie.Need-returns
+returns : tie.Need-returns-then-verdict-ne-ACCEPTED
 returns c =
-    let k = c.before.before in
-    let s = start k in
-    let j = judged k in
+    let k = c in
+    let s = start c.before.before in
+    let j = judged c.before.before in
     (λ t. record { verdict = j t; desk = s.args.desk })
-    ∙ end_turned_down s.args.desk (wide s) (slim s) _ _ _ (λ z. c.if1.true (ap (λ (v : Verdict). v.number) j ∙ z))
+    ∙ end_turned_down s.args.desk (wide s) (slim s) _ _ _ (λ z. c.if-verdict-ne-ACCEPTED.true (ap (λ (v : Verdict). v.number) j ∙ z))
 
-end-sweep-requires : tie.Need-end-sweep-requires
+end-sweep-requires : tie.Need-end_sweep-requires
 end-sweep-requires c κs = ((ended c).ready, (ended c).drawn)
 
-returns-2 : tie.Need-returns-2
-returns-2 c = c.answer-with.ensures ∙ ap (λ (d : Desk). answers d 0 0) c.before.end-sweep.ensures ∙ (ended c.before.before).answer
+returns-2 : tie.Need-returns
+returns-2 c = c.answer_with.ensures ∙ ap (λ (d : Desk). answers d 0 0) c.end_sweep.ensures ∙ (ended c.before.before).answer
 
-pub ended-spec : {M : Type 1} → statement M
-ended-spec =
+pub ended_spec : {M : Type 1} → statement M
+ended_spec =
     tie.close
     (tie.spec (λ c κs. search rules) (λ c. search rules) (λ c κs. search rules) returns end-sweep-requires (λ c κs. search rules) returns-2)

@@ -39,93 +39,93 @@ leads c = leads_by c.args.listed (given c).plan c.args.leads.now
 
 -- ---- the places, each from a later one
 
-abbrev start : tie.After-test-desk → tie.Start
+abbrev start : tie.After-test_desk-test → tie.Start
 start c = c.before.before.before.before
 
-abbrev tested : tie.Else1 → tie.After-test-desk
+abbrev tested : tie.After-if-not → tie.After-test_desk-test
 tested c = c.before.before
 
-abbrev between : tie.After-streams-in → tie.Else2
+abbrev between : tie.After-streams_in → tie.Else-phase_in-ne-BETWEEN
 between c = c.before.before
 
 -- the place past the test of soundness
-abbrev first : tie.After-streams-in → tie.Else1
+abbrev first : tie.After-streams_in → tie.After-if-not
 first c = (between c).before.before
 
 -- ---- what is known there
 
-passed : (c : tie.Else1) → (let s = start (tested c) in sound_desk (given s) s.args.positions.now (leads s) ≡ true)
-passed c = sym (tested c).test-desk.ensures.sound ∙ not-false _ c.if1.false
+passed : (c : tie.After-if-not) → (let s = start (tested c) in sound_desk (given s) s.args.positions.now (leads s) ≡ true)
+passed c = sym (tested c).test_desk-test.ensures.sound ∙ not-false _ c.if-not-test.false
 
-ready : (c : tie.Else1) → Ready (given (start (tested c)))
+ready : (c : tie.After-if-not) → Ready (given (start (tested c)))
 ready c = sound_ready _ _ _ (slim (start (tested c))) (passed c)
 
 -- the entries that n blocks may give
-entries : (c : tie.After-streams-in) → (let p = (given (start (tested (first c)))).plan in
-    c.before.visits-in.result * c.streams-in.result ≡ visits_in p * p.streams)
-entries c = ap₂ (λ (v n : ℕ). v * n) c.before.visits-in.ensures c.streams-in.ensures
+entries : (c : tie.After-streams_in) → (let p = (given (start (tested (first c)))).plan in
+    c.visits_in.result * c.streams_in.result ≡ visits_in p * p.streams)
+entries c = ap₂ (λ (v n : ℕ). v * n) c.visits_in.ensures c.streams_in.ensures
 
 -- ---- the needs
 
-returns : tie.Need-returns
+returns : tie.Need-returns-then-not-test
 returns c =
-    let t = c.before.before.before in
-    let s = start t in
-    c.not-swept.ensures ∙ not_swept_law (given s) not_sound
-    ∙ ap swept_of (begin_unsound (given s) (wide s) _ _ _ (sym t.test-desk.ensures.sound ∙ not-true _ c.before.if1.true))
+    let t = c in
+    let s = start c.before.before.before in
+    c.not_swept.ensures ∙ not_swept_law (given s) not_sound
+    ∙ ap swept_of (begin_unsound (given s) (wide s) _ _ _ (sym t.test_desk-test.ensures.sound ∙ not-true _ c.if-not-test.true))
 
-returns-2 : tie.Need-returns-2
+returns-2 : tie.Need-returns-then-phase_in-ne-BETWEEN
 returns-2 c =
-    let p = c.before.before in
-    let e = p.before in
-    let s = start (tested e) in
-    c.not-swept2.ensures ∙ not_swept_law (given s) wrong_phase
-    ∙ ap swept_of (begin_in_sweep (given s) (wide s) _ _ _ (passed e) (λ z. c.before.if2.true (p.phase-in.ensures ∙ z)))
+    let p = c in
+    let e = c in
+    let s = start (tested c.before.before.before) in
+    c.not_swept-then-phase_in-ne-BETWEEN.ensures ∙ not_swept_law (given s) wrong_phase
+    ∙ ap swept_of (begin_in_sweep (given s) (wide s) _ _ _ (passed c.before.before.before) (λ z. c.if-phase_in-ne-BETWEEN.true (p.phase_in.ensures ∙ z)))
 
-mul-room : tie.Need-overflow-mul-if3
+mul-room : tie.Need-overflow_mul-visits_in
 mul-room c = omega (arith, entries c, (visits_are _ (ready (first c))).few)
 
-cast-room : tie.Need-overflow-cast-if3
+cast-room : tie.Need-overflow_cast-visits_in
 cast-room c = omega (arith, entries c, (visits_are _ (ready (first c))).few)
 
-returns-3 : tie.Need-returns-3
+returns-3 : tie.Need-returns-then-room-visits_in
 returns-3 c =
-    let n = c.before.before in
-    let p = between n in
-    let e = first n in
+    let n = c in
+    let p = between c.before.before in
+    let e = first c.before.before in
     let s = start (tested e) in
-    c.not-swept3.ensures ∙ not_swept_law (given s) too_short
-    ∙ ap swept_of (begin_no_room (given s) (wide s) _ _ _ (passed e) (sym p.before.phase-in.ensures ∙ p.if2.left)
-    (omega (arith, c.before.if3.true, entries n)))
+    c.not_swept-then-room-visits_in.ensures ∙ not_swept_law (given s) too_short
+    ∙ ap swept_of (begin_no_room (given s) (wide s) _ _ _ (passed e) (sym p.phase_in.ensures ∙ p.if-phase_in-ne-BETWEEN.false)
+    (omega (arith, c.if-room-visits_in.true, entries c.before.before)))
 
-begin-sweep-requires : tie.Need-begin-sweep-requires
+begin-sweep-requires : tie.Need-begin_sweep-requires
 begin-sweep-requires c κs =
     let e = first c.before in
     let t = tested e in
     let s = start t in (
-      s.pre,
+      s.requires,
       record {
         wide = wide s;
         slim = slim s;
         ready = ready e;
         plan = sound_plan _ _ _ (passed e);
-        leads = t.test-desk.ensures.leads (not-false _ e.if1.left);
+        leads = t.test_desk-test.ensures.leads (not-false _ e.if-not-test.false);
       },
     )
 
-returns-4 : tie.Need-returns-4
+returns-4 : tie.Need-returns
 returns-4 c =
-    let o = c.before in
-    let n = o.before in
-    let p = between n in
-    let e = first n in
+    let o = c in
+    let n = c in
+    let p = between c.before.before in
+    let e = first c.before.before in
     let s = start (tested e) in
-    c.begin-sweep.ensures
-    ∙ ap swept_of (begin_begun (given s) (wide s) _ _ _ (passed e) (sym p.before.phase-in.ensures ∙ p.if2.left)
-    (omega (arith, o.if3.false, entries n)))
+    c.begin_sweep.ensures
+    ∙ ap swept_of (begin_begun (given s) (wide s) _ _ _ (passed e) (sym p.phase_in.ensures ∙ p.if-phase_in-ne-BETWEEN.false)
+    (omega (arith, o.if-room-visits_in.false, entries c.before.before)))
 
-pub judge-begin-spec : {M : Type 1} → statement M
-judge-begin-spec =
+pub judge_begin_spec : {M : Type 1} → statement M
+judge_begin_spec =
     tie.close
     (tie.spec
     (λ c κs. search rules)

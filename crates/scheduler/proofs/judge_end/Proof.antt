@@ -44,45 +44,45 @@ told e = ap (λ (a : Answer). a.verdict) e
 
 -- ---- the places, each from a later one
 
-abbrev start : tie.After-is-sound → tie.Start
+abbrev start : tie.After-is_sound → tie.Start
 start c = c.before.before.before.before.before
 
-abbrev tested : tie.Else1 → tie.After-is-sound
+abbrev tested : tie.Else-not-is_sound → tie.After-is_sound
 tested c = c.before
 
-abbrev buffered : tie.After-all-kinds → tie.After-buffer-in
+abbrev buffered : tie.After-all_kinds-kinds → tie.After-buffer_in
 buffered c = c.before.before.before
 
-abbrev between : tie.After-buffer-in → tie.Else2
+abbrev between : tie.After-buffer_in → tie.Else-phase_in-ne-SWEEPING
 between c = c.before.before.before.before
 
-abbrev passing : tie.After-buffer-in → tie.Else1
+abbrev passing : tie.After-buffer_in → tie.Else-not-is_sound
 passing c = (between c).before.before
 
-abbrev bounding : tie.After-sweep-bound → tie.After-gather
+abbrev bounding : tie.After-sweep_bound-bound → tie.After-gather
 bounding c = c.before.before.before.before.before
 
 -- ---- what is known there
 
 -- past the test of soundness
-passed : (c : tie.Else1) → (let s = start (tested c) in sound_desk (given s) s.args.positions.now (leads s) ≡ true)
-passed c = sym (tested c).is-sound.ensures ∙ not-false _ c.if1.false
+passed : (c : tie.Else-not-is_sound) → (let s = start (tested c) in sound_desk (given s) s.args.positions.now (leads s) ≡ true)
+passed c = sym (tested c).is_sound.ensures ∙ not-false _ c.if-not-is_sound.false-raw
 
 -- what was read of the desk, and that it is the desk
-abbrev desk : tie.After-all-kinds → Desk
+abbrev desk : tie.After-all_kinds-kinds → Desk
 desk c =
     let b = buffered c in
     let r = b.before.before in
     let d = given (start (tested (passing b))) in
-    with_read d r.before.bytes-in.result r.rate-in.result b.before.streams-in.result b.buffer-in.result
-    c.before.before.overheads.result c.all_kinds.result d.next c.before.all_held.result d.places
+    with_read d r.bytes_in-bytes.result r.rate_in-rate.result b.streams_in-streams.result b.buffer_in.result
+    c.overheads-table.result c.all_kinds-kinds.result d.next c.all_held-held.result d.places
 
-desk-is : (c : tie.After-all-kinds) → desk c ≡ given (start (tested (passing (buffered c))))
+desk-is : (c : tie.After-all_kinds-kinds) → desk c ≡ given (start (tested (passing (buffered c))))
 desk-is c =
     let b = buffered c in
     let r = b.before.before in
-    read_same (given (start (tested (passing b)))) r.before.bytes-in.ensures r.rate-in.ensures b.before.streams-in.ensures b.buffer-in.ensures
-    c.before.before.overheads.ensures c.all_kinds.ensures refl c.before.all_held.ensures refl
+    read_same (given (start (tested (passing b)))) r.bytes_in-bytes.ensures r.rate_in-rate.ensures b.streams_in-streams.ensures b.buffer_in.ensures
+    c.overheads-table.ensures c.all_kinds-kinds.ensures refl c.all_held-held.ensures refl
 
 -- what is known of the desk
 record Judged (d : Desk) (ps ls : List ℕ) : Type 0 where
@@ -91,7 +91,7 @@ record Judged (d : Desk) (ps ls : List ℕ) : Type 0 where
   ready : Ready d
   phase : d.phase ≡ sweeping
 
-judged : (c : tie.After-all-kinds) → (let s = start (tested (passing (buffered c))) in Judged (desk c) s.args.positions.now (leads s))
+judged : (c : tie.After-all_kinds-kinds) → (let s = start (tested (passing (buffered c))) in Judged (desk c) s.args.positions.now (leads s))
 judged c =
     let b = buffered c in
     let e = passing b in
@@ -99,21 +99,21 @@ judged c =
     let p = between b in
     subst (λ (d : Desk). Judged d s.args.positions.now (leads s)) (sym (desk-is c))
     (record {
-      wide = wide_in s.args.desk.now s.pre;
+      wide = wide_in s.args.desk.now s.requires;
       sound = passed e;
-      ready = sound_ready _ _ _ (slim_in s.args.desk.now s.pre) (passed e);
-      phase = sym p.before.phase-in.ensures ∙ p.if2.left;
+      ready = sound_ready _ _ _ (slim_in s.args.desk.now s.requires) (passed e);
+      phase = sym p.phase_in.ensures ∙ p.if-phase_in-ne-SWEEPING.false;
     })
 
 -- what was gathered
 abbrev value : tie.After-gather → Gathered
-value c = gathered c.gather.new.1.1.1.1.1.0 c.gather.new.1.1.1.1.1.1.0 c.gather.new.1.1.1.1.1.1.1.0
+value c = gathered c.gather.new.found c.gather.new.spots c.gather.new.others
 
 -- where all that is read of the desk is read
-abbrev seen : tie.After-gather → tie.After-visits-in
+abbrev seen : tie.After-gather → tie.After-visits_in-visits
 seen c = c.before.before.before.before.before.before.before.before
 
-abbrev read : tie.After-gather → tie.After-all-kinds
+abbrev read : tie.After-gather → tie.After-all_kinds-kinds
 read c = (seen c).before
 
 -- of a desk d, whose kinds are as they were read
@@ -123,8 +123,8 @@ Collects d v c = let k = read c in
 
 collected : (c : tie.After-gather) → (let d = desk (read c) in Collects d (visits_in d.plan) c)
 collected c = let k = read c in
-    subst (λ (v : ℕ). Collects (desk k) v c) (seen c).visits-in.ensures
-    (subst (λ (d : Desk). Collects d (seen c).visits-in.result c) (sym (desk-is k)) c.gather.ensures)
+    subst (λ (v : ℕ). Collects (desk k) v c) (seen c).visits_in-visits.ensures
+    (subst (λ (d : Desk). Collects d (seen c).visits_in-visits.result c) (sym (desk-is k)) c.gather.ensures)
 
 -- they are its own
 same : (d : Desk) → Reading d d.kinds
@@ -136,60 +136,60 @@ Reachable d n v ks ps = (n ≤ max_streams) × Reached d ps v ks n
 
 -- ---- the needs
 
-returns : tie.Need-returns
+returns : tie.Need-returns-then-not-is_sound
 returns c =
-    let t = c.before.before in
-    let s = start t in
-    c.verdict.ensures ∙ told (end_unsound (given s) (wide_in _ s.pre) _ _ _ (sym t.is-sound.ensures ∙ not-true _ c.before.if1.true))
+    let t = c in
+    let s = start c.before.before in
+    c.verdict.ensures ∙ told (end_unsound (given s) (wide_in _ s.requires) _ _ _ (sym t.is_sound.ensures ∙ not-true _ c.if-not-is_sound.true-raw))
 
-returns-2 : tie.Need-returns-2
+returns-2 : tie.Need-returns-then-phase_in-ne-SWEEPING
 returns-2 c =
-    let p = c.before.before in
-    let e = p.before in
-    let s = start (tested e) in
-    c.verdict2.ensures ∙ told (end_between (given s) (wide_in _ s.pre) _ _ _ (passed e) (λ z. c.before.if2.true (p.phase-in.ensures ∙ z)))
+    let p = c in
+    let e = c in
+    let s = start (tested c.before.before.before) in
+    c.verdict-then-phase_in-ne-SWEEPING.ensures ∙ told (end_between (given s) (wide_in _ s.requires) _ _ _ (passed c.before.before.before) (λ z. c.if-phase_in-ne-SWEEPING.true (p.phase_in.ensures ∙ z)))
 
-sub-room : tie.Need-overflow-sub-room
+sub-room : tie.Need-overflow_sub-room
 sub-room c =
     let e = passing c in
     let s = start (tested e) in
-    let r = sound_ready _ _ _ (slim_in _ s.pre) (passed e) in
-    omega (arith, buffer_has (given s).plan r.planned, c.buffer-in.ensures, c.before.before.before.bytes-in.ensures)
+    let r = sound_ready _ _ _ (slim_in _ s.requires) (passed e) in
+    omega (arith, buffer_has (given s).plan r.planned, c.buffer_in.ensures, c.bytes_in-bytes.ensures)
 
 gather-requires : tie.Need-gather-requires
 gather-requires c κs =
-    let z = c.before.before.before.before in
-    let v = z.before.before.before in
-    let k = v.before in
-    let s = start (tested (passing (buffered k))) in
-    let j = judged k in
+    let z = c in
+    let v = c in
+    let k = c in
+    let s = start (tested (passing (buffered c.before.before.before.before.before.before.before.before))) in
+    let j = judged c.before.before.before.before.before.before.before.before in
     let p = sound_plan _ _ _ j.sound in
-    let d = desk k in
-    let r = subst (λ (n : ℕ). Reachable (given s) d.plan.streams n d.kinds s.args.positions.now) (sym v.visits-in.ensures)
-    (subst (λ (e : Desk). Reachable e d.plan.streams (visits_in e.plan) d.kinds s.args.positions.now) (desk-is k)
+    let d = desk c.before.before.before.before.before.before.before.before in
+    let r = subst (λ (n : ℕ). Reachable (given s) d.plan.streams n d.kinds s.args.positions.now) (sym v.visits_in-visits.ensures)
+    (subst (λ (e : Desk). Reachable e d.plan.streams (visits_in e.plan) d.kinds s.args.positions.now) (desk-is c.before.before.before.before.before.before.before.before)
     (streams_are d j.ready, reached d j.wide j.ready _ _ p d.kinds (same d)))
     in
-    (s.pre, r.0, r.1, z.before.before.zeros.ensures, z.before.zeros2.ensures, z.zeros3.ensures)
+    (s.requires, r.0, r.1, z.zeros-times.ensures, z.zeros-spots.ensures, z.zeros-others.ensures)
 
-sweep-bound-requires : tie.Need-sweep-bound-requires
+sweep-bound-requires : tie.Need-sweep_bound-bound-requires
 sweep-bound-requires c κs =
-    let g = c.before.before.before.before in
-    let k = read g in
+    let g = c in
+    let k = read c.before.before.before.before in
     let j = judged k in
-    let i = in_range (desk k) j.wide j.ready _ _ (sound_plan _ _ _ j.sound) _ (same (desk k)) (value g) (collected g) in (
-      subst (λ (v : ℕ). Visits v (desk k).plan.streams) (sym (seen g).visits-in.ensures) (visits_are _ j.ready),
+    let i = in_range (desk k) j.wide j.ready _ _ (sound_plan _ _ _ j.sound) _ (same (desk k)) (value c.before.before.before.before) (collected c.before.before.before.before) in (
+      subst (λ (v : ℕ). Visits v (desk k).plan.streams) (sym (seen c.before.before.before.before).visits_in-visits.ensures) (visits_are _ j.ready),
       i.times,
       λ k h. (table_range _ j.ready.legal k h).1,
     )
 
-judge-draws-requires : tie.Need-judge-draws-requires
+judge-draws-requires : tie.Need-judge_draws-requires
 judge-draws-requires c κs = let k = read (bounding c.before.before.before) in streams_are _ (judged k).ready
 
-returns-3 : tie.Need-returns-3
+returns-3 : tie.Need-returns
 returns-3 c =
-    let m = c.before in
-    let b = m.before.before.before in
-    let g = bounding b in
+    let m = c in
+    let b = c in
+    let g = bounding c.before.before.before.before in
     let k = read g in
     let s = start (tested (passing (buffered k))) in
     let a = s.args in
@@ -200,15 +200,15 @@ returns-3 c =
     let told = subst
     (λ (v : ℕ). Timed p d.plan.streams (d.plan.buffer - d.plan.figures.bytes) v d.plan.figures.table d.kinds d.next d.held
     (value g).times)
-    (sym (seen g).visits-in.ensures) (timed d j.wide j.ready (value g) f)
+    (sym (seen g).visits_in-visits.ensures) (timed d j.wide j.ready (value g) f)
     in
-    let t = b.sweep-bound.ensures p d.next told in
-    c.judge-draws.ensures p (view_of d) d.next (sweeps d j.wide j.ready j.phase _ _ t m.most-drawn.ensures)
+    let t = b.sweep_bound-bound.ensures p d.next told in
+    c.judge_draws.ensures p (view_of d) d.next (sweeps d j.wide j.ready j.phase _ _ t m.most_drawn.ensures)
     ∙ end_judged d j.wide _ _ _ j.sound
     ∙ ap (λ (e : Desk). (end_desk e a.positions.now (leads s) a.draws.now).verdict) (desk-is k)
 
-pub judge-end-spec : {M : Type 1} → statement M
-judge-end-spec =
+pub judge_end_spec : {M : Type 1} → statement M
+judge_end_spec =
     tie.close
     (tie.spec
     (λ c κs. search rules)

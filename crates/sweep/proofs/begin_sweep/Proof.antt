@@ -25,30 +25,30 @@ use Rattle.sweep.proofs.begin_sweep.Tie as tie
 
 -- ---- the places, each from a later one
 
-abbrev sized : tie.After-all-held → tie.After-bytes-in
+abbrev sized : tie.After-all_held-held → tie.After-bytes_in
 sized c = c.before.before.before
 
-abbrev start : tie.After-bytes-in → tie.Start
+abbrev start : tie.After-bytes_in → tie.Start
 start c = c.before.before.before.before.before.before.before
 
 -- all that is read of the desk is read
-abbrev read : tie.After-serve → tie.After-all-held
+abbrev read : tie.After-serve-served → tie.After-all_held-held
 read c = c.before.before
 
-abbrev served : tie.After-zeros3 → tie.After-serve
+abbrev served : tie.After-zeros-others → tie.After-serve-served
 served c = c.before.before.before.before.before
 
-abbrev gathering : tie.After-gather → tie.After-zeros3
+abbrev gathering : tie.After-gather → tie.After-zeros-others
 gathering c = c.before.before.before.before.before
 
-abbrev bounding : tie.After-sweep-bound → tie.After-gather
+abbrev bounding : tie.After-sweep_bound-bound → tie.After-gather
 bounding c = c.before.before.before.before.before
 
-abbrev listing : tie.After-list-fetches → tie.After-sweep-bound
+abbrev listing : tie.After-list_fetches-fetches → tie.After-sweep_bound-bound
 listing c = c.before.before.before.before.before.before
 
-abbrev visits : tie.After-all-held → ℕ
-visits c = (sized c).before.before.before.visits-in.result
+abbrev visits : tie.After-all_held-held → ℕ
+visits c = (sized c).visits_in-visits.result
 
 -- ---- what is known there
 
@@ -56,48 +56,48 @@ visits c = (sized c).before.before.before.visits-in.result
 abbrev given : tie.Start → Desk
 given s = desk_in (words_of s.args.desk.now)
 
-abbrev desk : tie.After-all-held → Desk
+abbrev desk : tie.After-all_held-held → Desk
 desk c =
-    let x = c.before in
+    let x = c in
     let b = sized c in
     let d = given (start b) in
-    with_read d b.bytes-in.result d.plan.figures.rate b.before.before.streams-in.result b.before.buffer-in.result
-    x.before.overheads.result d.kinds x.all-next.result c.all_held.result d.places
+    with_read d b.bytes_in.result d.plan.figures.rate b.streams_in-streams.result b.buffer_in.result
+    x.overheads-table.result d.kinds x.all_next-next.result c.all_held-held.result d.places
 
-desk-is : (c : tie.After-all-held) → desk c ≡ given (start (sized c))
+desk-is : (c : tie.After-all_held-held) → desk c ≡ given (start (sized c))
 desk-is c =
-    let x = c.before in
+    let x = c in
     let b = sized c in
-    read_same (given (start b)) b.bytes-in.ensures refl b.before.before.streams-in.ensures b.before.buffer-in.ensures
-    x.before.overheads.ensures refl x.all-next.ensures c.all_held.ensures refl
+    read_same (given (start b)) b.bytes_in.ensures refl b.streams_in-streams.ensures b.buffer_in.ensures
+    x.overheads-table.ensures refl x.all_next-next.ensures c.all_held-held.ensures refl
 
 abbrev Told : Desk → tie.Start → Type 0
 Told d s = let a = s.args in Begins d a.listed a.positions.now a.leads.now a.sum
 
-told : (c : tie.After-all-held) → Told (desk c) (start (sized c))
-told c = let s = start (sized c) in subst (λ (d : Desk). Told d s) (sym (desk-is c)) s.pre.1
+told : (c : tie.After-all_held-held) → Told (desk c) (start (sized c))
+told c = let s = start (sized c) in subst (λ (d : Desk). Told d s) (sym (desk-is c)) s.requires.1
 
 -- the kinds and places that a begin leaves
-all : (c : tie.After-serve) → Served (desk (read c)) c.serve.result.kinds c.serve.result.places
-all c = subst (λ (d : Desk). Served d c.serve.result.kinds c.serve.result.places) (sym (desk-is (read c))) c.serve.ensures
+all : (c : tie.After-serve-served) → Served (desk (read c)) c.serve-served.result.kinds c.serve-served.result.places
+all c = subst (λ (d : Desk). Served d c.serve-served.result.kinds c.serve-served.result.places) (sym (desk-is (read c))) c.serve-served.ensures
 
 -- the visits of a block, as they were read
-seen : (c : tie.After-all-held) → visits c ≡ visits_in (desk c).plan
-seen c = (sized c).before.before.before.visits-in.ensures
+seen : (c : tie.After-all_held-held) → visits c ≡ visits_in (desk c).plan
+seen c = (sized c).visits_in-visits.ensures
 
-visited : (c : tie.After-all-held) → Visits (visits c) (desk c).plan.streams
+visited : (c : tie.After-all_held-held) → Visits (visits c) (desk c).plan.streams
 visited c = subst (λ (v : ℕ). Visits v (desk c).plan.streams) (sym (seen c)) (visits_are (desk c) (told c).ready)
 
 -- what was gathered
 abbrev value : tie.After-gather → Gathered
-value c = gathered c.gather.new.1.1.1.1.1.0 c.gather.new.1.1.1.1.1.1.0 c.gather.new.1.1.1.1.1.1.1.0
+value c = gathered c.gather.new.found c.gather.new.spots c.gather.new.others
 
 -- for the slots that read, of a desk d
 abbrev Collects : Desk → ℕ → tie.After-gather → Type 0
 Collects d v c =
     let g = served (gathering c) in
     let k = read g in
-    Collected d (start (sized k)).args.positions.now v g.serve.result.kinds (desk k).plan.streams (value c)
+    Collected d (start (sized k)).args.positions.now v g.serve-served.result.kinds (desk k).plan.streams (value c)
 
 collected : (c : tie.After-gather) → (let k = read (served (gathering c)) in Collects (desk k) (visits_in (desk k).plan) c)
 collected c =
@@ -107,7 +107,7 @@ collected c =
 -- it is what the plan says
 gathered-is : (c : tie.After-gather) → (let g = served (gathering c) in
     let d = desk (read g) in
-    Gathers (supply_of d.plan) (visits_in d.plan) g.serve.result.kinds d.next (value c))
+    Gathers (supply_of d.plan) (visits_in d.plan) g.serve-served.result.kinds d.next (value c))
 gathered-is c =
     let g = served (gathering c) in
     let k = read g in
@@ -123,18 +123,18 @@ ranged c =
 
 -- ---- the needs
 
-sub-room : tie.Need-overflow-sub-room
+sub-room : tie.Need-overflow_sub-room
 sub-room c = let s = start c in
-    omega (arith, buffer_has (given s).plan s.pre.1.ready.planned, c.before.buffer-in.ensures, c.bytes-in.ensures)
+    omega (arith, buffer_has (given s).plan s.requires.1.ready.planned, c.buffer_in.ensures, c.bytes_in.ensures)
 
-serve-requires : tie.Need-serve-requires
+serve-requires : tie.Need-serve-served-requires
 serve-requires c κs =
-    let h = c.before in
-    let s = start (sized h) in
-    let b = s.pre.1 in (
-      s.pre.0,
+    let h = c in
+    let s = start (sized c.before) in
+    let b = s.requires.1 in (
+      s.requires.0,
       record {
-        held = h.all_held.ensures;
+        held = h.all_held-held.ensures;
         wide = b.wide;
         ready = b.ready;
         source = plan_source _ _ _ _ b.slim b.plan;
@@ -143,39 +143,39 @@ serve-requires c κs =
     )
 
 -- what is asked for the gathering, of a desk d
-abbrev Reachable : Desk → ℕ → tie.After-serve → Type 0
-Reachable d v c = Reached d (start (sized (read c))).args.positions.now v c.serve.result.kinds (desk (read c)).plan.streams
+abbrev Reachable : Desk → ℕ → tie.After-serve-served → Type 0
+Reachable d v c = Reached d (start (sized (read c))).args.positions.now v c.serve-served.result.kinds (desk (read c)).plan.streams
 
 gather-requires : tie.Need-gather-requires
 gather-requires c κs =
-    let z = c.before.before.before.before in
-    let g = served z in
+    let z = c in
+    let g = served c.before.before.before.before in
     let k = read g in
     let s = start (sized k) in
     let d = desk k in
     let b = told k in
-    let r = reached d b.wide b.ready _ _ b.plan g.serve.result.kinds (reading_begun d b.wide b.ready _ _ (all g)) in (
-      s.pre.0,
+    let r = reached d b.wide b.ready _ _ b.plan g.serve-served.result.kinds (reading_begun d b.wide b.ready _ _ (all g)) in (
+      s.requires.0,
       streams_are d b.ready,
       subst (λ (e : Desk). Reachable e (visits k) g) (desk-is k) (subst (λ (v : ℕ). Reachable d v g) (sym (seen k)) r),
-      z.before.before.zeros.ensures,
-      z.before.zeros2.ensures,
-      z.zeros3.ensures,
+      z.zeros-times.ensures,
+      z.zeros-spots.ensures,
+      z.zeros-others.ensures,
     )
 
-sweep-bound-requires : tie.Need-sweep-bound-requires
-sweep-bound-requires c κs = let g = c.before.before.before.before in
-    let k = read (served (gathering g)) in
-    (visited k, (ranged g).times, λ i h. (table_range _ (told k).ready.legal i h).1)
+sweep-bound-requires : tie.Need-sweep_bound-bound-requires
+sweep-bound-requires c κs = let g = c in
+    let k = read (served (gathering c.before.before.before.before)) in
+    (visited k, (ranged c.before.before.before.before).times, λ i h. (table_range _ (told k).ready.legal i h).1)
 
-list-fetches-requires : tie.Need-list-fetches-requires
+list-fetches-requires : tie.Need-list_fetches-fetches-requires
 list-fetches-requires c κs = let g = bounding c.before.before.before.before.before in
     (visited (read (served (gathering g))), (ranged g).positions, (ranged g).others)
 
 returns : tie.Need-returns
 returns c =
-    let l = c.before in
-    let f = listing l in
+    let l = c in
+    let f = listing c.before in
     let h = bounding f in
     let g = served (gathering h) in
     let k = read g in
@@ -184,18 +184,18 @@ returns c =
     let v = value h in
     (λ t. record {
       verdict = c.verdict.ensures t;
-      kinds = g.serve.result.kinds;
-      places = g.serve.result.places;
-      bound = f.sweep-bound.result;
-      fetches = l.list-fetches.result;
+      kinds = g.serve-served.result.kinds;
+      places = g.serve-served.result.places;
+      bound = f.sweep_bound-bound.result;
+      fetches = l.list_fetches-fetches.result;
     })
-    ∙ begun_is d b.wide b.ready _ _ (all g) f.sweep-bound.result l.list-fetches.result
-    (f.sweep-bound.ensures (supply_of d.plan) d.next (timed_begun d b.wide b.ready _ _ (all g) v (gathered-is h) (visits k) (seen k)))
-    (l.list-fetches.ensures (supply_of d.plan) (positioned_begun d b.wide b.ready _ _ (all g) v (gathered-is h) (visits k) (seen k)))
+    ∙ begun_is d b.wide b.ready _ _ (all g) f.sweep_bound-bound.result l.list_fetches-fetches.result
+    (f.sweep_bound-bound.ensures (supply_of d.plan) d.next (timed_begun d b.wide b.ready _ _ (all g) v (gathered-is h) (visits k) (seen k)))
+    (l.list_fetches-fetches.ensures (supply_of d.plan) (positioned_begun d b.wide b.ready _ _ (all g) v (gathered-is h) (visits k) (seen k)))
     ∙ ap (λ (e : Desk). swept_of (begun_desk e)) (desk-is k)
 
-pub begin-sweep-spec : {M : Type 1} → statement M
-begin-sweep-spec =
+pub begin_sweep_spec : {M : Type 1} → statement M
+begin_sweep_spec =
     tie.close
     (tie.spec
     (λ c κs. search rules)

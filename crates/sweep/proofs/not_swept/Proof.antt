@@ -6,15 +6,15 @@ use Rattle.sweep.proofs.not_swept.Tie as tie
 returns : tie.Need-returns
 unfolding not_swept
 returns c =
-    let q = c.before in
-    let k = q.before in
+    let q = c in
+    let k = c in
     λ t. record {
-      verdict = record { number = k.before.before.args.number; place = 0 };
+      verdict = record { number = k.args.number; place = 0 };
       kinds = k.all_kinds.ensures t;
-      places = q.all-places.ensures t;
+      places = q.all_places.ensures t;
       bound = 0;
-      fetches = c.no-fetches.ensures t;
+      fetches = c.no_fetches.ensures t;
     }
 
-pub not-swept-spec : {M : Type 1} → statement M
-not-swept-spec = tie.close (tie.spec (λ c κs. search rules) (λ c κs. search rules) (λ c κs. search rules) returns)
+pub not_swept_spec : {M : Type 1} → statement M
+not_swept_spec = tie.close (tie.spec (λ c κs. search rules) (λ c κs. search rules) (λ c κs. search rules) returns)

@@ -23,22 +23,22 @@ use Rattle.sweep.proofs.serve.Tie as tie
 -- ---- the places, each from a later one
 
 -- all that is read of the desk is read
-abbrev start : tie.After-all-places → tie.Start
+abbrev start : tie.After-all_places-places → tie.Start
 start c = c.before.before.before.before.before.before.before.before
 
-abbrev lined : tie.After-line-up → tie.After-all-places
+abbrev lined : tie.After-line_up-count → tie.After-all_places-places
 lined c = c.before.before.before.before
 
-abbrev led : tie.After-eldest-lead → tie.After-line-up
+abbrev led : tie.After-eldest_lead-eldest → tie.After-line_up-count
 led c = c.before.before
 
-abbrev marked : tie.After-start-playing → tie.After-low-water
+abbrev marked : tie.After-start_playing → tie.After-low_water-mark
 marked c = c.before.before
 
-abbrev played : tie.After-least-level → tie.After-start-playing
+abbrev played : tie.After-least_level-level → tie.After-start_playing
 played c = c.before.before
 
-abbrev floored : tie.After-line3 → tie.After-low-water2
+abbrev floored : tie.After-line-3-1 → tie.After-low_water-floor
 floored c = c.before.before
 
 -- ---- what is known there
@@ -47,76 +47,76 @@ floored c = c.before.before
 abbrev given : tie.Start → Desk
 given s = desk_in (words_of s.args.desk.now)
 
-abbrev desk : tie.After-all-places → Desk
+abbrev desk : tie.After-all_places-places → Desk
 desk c =
     let s = start c in
     let d = given s in
-    let k = c.before in
-    let n = k.before in
-    with_read d n.before.before.bytes-in.result n.before.rate-in.result n.streams-in.result d.plan.buffer d.plan.figures.table
-    k.all_kinds.result d.next s.args.held.now c.all-places.result
+    let k = c in
+    let n = c in
+    with_read d n.bytes_in-bytes.result n.rate_in-rate.result n.streams_in-streams.result d.plan.buffer d.plan.figures.table
+    k.all_kinds-kinds.result d.next s.args.held.now c.all_places-places.result
 
-desk-is : (c : tie.After-all-places) → desk c ≡ given (start c)
+desk-is : (c : tie.After-all_places-places) → desk c ≡ given (start c)
 desk-is c =
     let s = start c in
-    let k = c.before in
-    let n = k.before in
-    read_same (given s) n.before.before.bytes-in.ensures n.before.rate-in.ensures n.streams-in.ensures refl refl k.all_kinds.ensures refl
-    s.pre.1.held c.all-places.ensures
+    let k = c in
+    let n = c in
+    read_same (given s) n.bytes_in-bytes.ensures n.rate_in-rate.ensures n.streams_in-streams.ensures refl refl k.all_kinds-kinds.ensures refl
+    s.requires.1.held c.all_places-places.ensures
 
 abbrev Told : Desk → tie.Start → Type 0
 Told d s = let a = s.args in Serves d a.listed a.held.now a.positions.now a.leads.now a.sum
 
-told : (c : tie.After-all-places) → Told (desk c) (start c)
-told c = let s = start c in subst (λ (d : Desk). Told d s) (sym (desk-is c)) s.pre.1
+told : (c : tie.After-all_places-places) → Told (desk c) (start c)
+told c = let s = start c in subst (λ (d : Desk). Told d s) (sym (desk-is c)) s.requires.1
 
 -- the leads in the line
-abbrev Leads : Desk → tie.After-line-up → Type 0
+abbrev Leads : Desk → tie.After-line_up-count → Type 0
 Leads d l =
     let a = (start (lined l)).args in
-    InLine a.listed d a.positions.now a.leads.now l.line-up.last.1.1.0 l.line-up.result
+    InLine a.listed d a.positions.now a.leads.now l.line_up-count.new.line l.line_up-count.result
 
-in-line : (l : tie.After-line-up) → Leads (given (start (lined l))) l
+in-line : (l : tie.After-line_up-count) → Leads (given (start (lined l))) l
 in-line l = let k = lined l in
     let b = told k in
-    subst (λ (d : Desk). Leads d l) (desk-is k) (ready_line (desk k) b.wide b.ready _ _ _ b.source _ _ l.line-up.ensures)
+    subst (λ (d : Desk). Leads d l) (desk-is k) (ready_line (desk k) b.wide b.ready _ _ _ b.source _ _ l.line_up-count.ensures)
 
 -- the eldest's lead
-eldest-is : (c : tie.After-eldest-lead) → (let d = desk (lined (led c)) in c.eldest-lead.result ≡ eldest_lead (supply_of d.plan) (slots_in d) d.places)
+eldest-is : (c : tie.After-eldest_lead-eldest) → (let d = desk (lined (led c)) in c.eldest_lead-eldest.result ≡ eldest_lead (supply_of d.plan) (slots_in d) d.places)
 eldest-is c =
     let l = led c in
     let k = lined l in
     let d = desk k in
     let b = told k in
-    c.eldest-lead.ensures.0 (supply_of d.plan) d.plan.streams d.kinds d.next d.held d.places (ready_slots d b.wide b.ready)
-    (ready_asked d b.wide b.ready _ _ _ b.source) l.line-up.ensures
+    c.eldest_lead-eldest.ensures.0 (supply_of d.plan) d.plan.streams d.kinds d.next d.held d.places (ready_slots d b.wide b.ready)
+    (ready_asked d b.wide b.ready _ _ _ b.source) l.line_up-count.ensures
 
 -- what a filling slot must hold
-mark-is : (c : tie.After-low-water) → (let d = desk (lined (led c.before)) in
-    let p = supply_of d.plan in c.low-water.result ≡ low_water p (leads p (slots_in d) + eldest_lead p (slots_in d) d.places))
+mark-is : (c : tie.After-low_water-mark) → (let d = desk (lined (led c.before)) in
+    let p = supply_of d.plan in c.low_water-mark.result ≡ low_water p (leads p (slots_in d) + eldest_lead p (slots_in d) d.places))
 mark-is c =
-    let e = c.before in
-    let k = lined (led e) in
-    floor_is (desk k) _ _ _ c.low-water.ensures (ap₂ (λ (a b : ℕ). a + b) (told k).leads.sums (eldest-is e))
+    let e = c in
+    let k = lined (led c.before) in
+    floor_is (desk k) _ _ _ c.low_water-mark.ensures (ap₂ (λ (a b : ℕ). a + b) (told k).leads.sums (eldest-is c.before))
 
 -- filling slots have started to play
-first : (c : tie.After-start-playing) → (let m = marked c in
+first : (c : tie.After-start_playing) → (let m = marked c in
     let d = desk (lined (led m.before)) in
-    slots_of (supply_of d.plan) c.start-playing.new.0 d.next d.held ≡ started (supply_of d.plan) m.low-water.result (slots_in d))
+    slots_of (supply_of d.plan) c.start_playing.new.kinds d.next d.held ≡ started (supply_of d.plan) m.low_water-mark.result (slots_in d))
 first c = let k = lined (led (marked c).before) in
     let d = desk k in
     let b = told k in
-    c.start-playing.ensures (supply_of d.plan) d.next (ready_slots d b.wide b.ready)
+    c.start_playing.ensures (supply_of d.plan) d.next (ready_slots d b.wide b.ready)
 
-slots : (c : tie.After-start-playing) → (let d = desk (lined (led (marked c).before)) in
-    Slots (supply_of d.plan) d.plan.streams c.start-playing.new.0 d.next d.held)
+slots : (c : tie.After-start_playing) → (let d = desk (lined (led (marked c).before)) in
+    Slots (supply_of d.plan) d.plan.streams c.start_playing.new.kinds d.next d.held)
 slots c = let k = lined (led (marked c).before) in
     let b = told k in
     slots_started (desk k) b.wide b.ready _ _ (first c)
 
 -- both steps are done
-all : (c : tie.After-grant-asked) → (let d = desk (lined (led (marked (played (floored c.before).before)).before)) in
-    Served d c.grant-asked.new.1.0 (dropped_by c.grant-asked.result d.places))
+all : (c : tie.After-grant_asked-granted) → (let d = desk (lined (led (marked (played (floored c.before).before)).before)) in
+    Served d c.grant_asked-granted.new.kinds (dropped_by c.grant_asked-granted.result d.places))
 all c =
     let f = floored c.before in
     let l = f.before in
@@ -127,45 +127,45 @@ all c =
     let d = desk k in
     let b = told k in
     let p = supply_of d.plan in
-    begun_all d b.wide b.ready _ _ (first s) _ c.grant-asked.result
-    (c.grant-asked.ensures p d.plan.streams d.next d.held d.places (slots s)
-    (asks_started d b.wide b.ready _ _ (first s) _ _ _ _ _ (sym k.before.before.before.rate-in.ensures)
+    begun_all d b.wide b.ready _ _ (first s) _ c.grant_asked-granted.result
+    (c.grant_asked-granted.ensures p d.plan.streams d.next d.held d.places (slots s)
+    (asks_started d b.wide b.ready _ _ (first s) _ _ _ _ _ (sym k.rate_in-rate.ensures)
     (own_lead d b.wide b.ready _ _ _ b.source) b.leads
-    f.low-water2.ensures (l.least-level.ensures p d.next (slots s)))
-    n.line-up.ensures)
+    f.low_water-floor.ensures (l.least_level-level.ensures p d.next (slots s)))
+    n.line_up-count.ensures)
     (mark-is m)
 
 -- ---- the needs
 
-line-up-requires : tie.Need-line-up-requires
-line-up-requires c κs = let e = c.before.before in
-    let k = e.before in
-    let d = desk k in
-    let b = told k in
-    (streams_are d b.ready, ready_queued d b.wide b.ready, e.empty-line.ensures)
+line-up-requires : tie.Need-line_up-count-requires
+line-up-requires c κs = let e = c in
+    let k = c in
+    let d = desk c.before.before.before in
+    let b = told c.before.before.before in
+    (streams_are d b.ready, ready_queued d b.wide b.ready, e.empty_line-line.ensures)
 
-eldest-lead-requires : tie.Need-eldest-lead-requires
-eldest-lead-requires c κs = let l = c.before in
-    ((start (lined l)).requires.0, l.line-up.ensures.few, in-line l)
+eldest-lead-requires : tie.Need-eldest_lead-eldest-requires
+eldest-lead-requires c κs = let l = c in
+    ((start (lined c.before)).requires.0, l.line_up-count.ensures.few, in-line c.before)
 
-add-low-water : tie.Need-overflow-add-low-water
-add-low-water c = omega (arith, c.eldest-lead.ensures.1, (told (lined (led c))).leads.most)
+add-low-water : tie.Need-overflow_add-sum
+add-low-water c = omega (arith, c.eldest_lead-eldest.ensures.1, (told (lined (led c))).leads.most)
 
-low-water-requires : tie.Need-low-water-requires
+low-water-requires : tie.Need-low_water-mark-requires
 low-water-requires c κs = let h = (told (lined (led c))).ready.legal in (h.bytes.1, h.rate.1)
 
-start-playing-requires : tie.Need-start-playing-requires
+start-playing-requires : tie.Need-start_playing-requires
 start-playing-requires c κs = let k = lined (led c.before.before) in
     let b = told k in
     (streams_are (desk k) b.ready, b.wide.kinds)
 
-least-level-requires : tie.Need-least-level-requires
+least-level-requires : tie.Need-least_level-level-requires
 least-level-requires c κs = let k = lined (led (marked c.before).before) in streams_are (desk k) (told k).ready
 
-low-water-requires-2 : tie.Need-low-water-requires-2
+low-water-requires-2 : tie.Need-low_water-floor-requires
 low-water-requires-2 c κs = let h = (told (lined (led (marked (played c)).before))).ready.legal in (h.bytes.1, h.rate.1)
 
-grant-asked-requires : tie.Need-grant-asked-requires
+grant-asked-requires : tie.Need-grant_asked-granted-requires
 grant-asked-requires c κs =
     let f = floored c in
     let s = played f.before in
@@ -173,15 +173,15 @@ grant-asked-requires c κs =
     let k = lined n in
     let b = told k in
     let h = b.ready.legal in (
-      (start k).pre.0,
+      (start k).requires.0,
       (slots s).long,
-      n.line-up.ensures.few,
+      n.line_up-count.ensures.few,
       in-line n,
-      (start k).pre.1.ready.legal.rate.1,
-      floor_most _ _ _ _ f.low-water2.ensures h.bytes.1 h.rate.1 b.leads.most,
+      (start k).requires.1.ready.legal.rate.1,
+      floor_most _ _ _ _ f.low_water-floor.ensures h.bytes.1 h.rate.1 b.leads.most,
     )
 
-drop-places-requires : tie.Need-drop-places-requires
+drop-places-requires : tie.Need-drop_places-requires
 drop-places-requires c κs =
     let k = lined (led (marked (played (floored c.before.before).before)).before) in
     let d = desk k in
@@ -191,13 +191,13 @@ drop-places-requires c κs =
 
 returns : tie.Need-returns
 returns c =
-    let g = c.before.before in
-    let k = lined (led (marked (played (floored g.before).before)).before) in
-    subst (λ (d : Desk). Served d g.grant-asked.new.1.0 c.drop-places.new.0) (desk-is k)
-    (subst (Served (desk k) g.grant-asked.new.1.0) (sym c.drop-places.ensures) (all g))
+    let g = c in
+    let k = lined (led (marked (played (floored c.before.before.before).before)).before) in
+    subst (λ (d : Desk). Served d g.grant_asked-granted.new.kinds c.drop_places.new.places) (desk-is k)
+    (subst (Served (desk k) g.grant_asked-granted.new.kinds) (sym c.drop_places.ensures) (all c.before.before))
 
-pub serve-spec : {M : Type 1} → statement M
-serve-spec =
+pub serve_spec : {M : Type 1} → statement M
+serve_spec =
     tie.close
     (tie.spec
     (λ c κs. search rules)

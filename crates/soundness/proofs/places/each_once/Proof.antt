@@ -45,24 +45,30 @@ Passed l = SeenIn (given l) (start l).args.streams (start l).args.asked
 -- ---- what is known there
 
 -- slot i asks
-asks : (c : tie.After-place_in-place invariant-loop decreases-loop) → (let l = turn (kind c) in get_or (given l).kinds l.loop.i 0 ≡ waiting)
+asks : (c : tie.After-place_in-place invariant-loop decreases-loop) → (let l = turn (kind c) in get_or (given l).kinds l.loop-i.i 0 ≡ waiting)
 asks c = sym (kind c).kind_in.ensures ∙ c.if-kind_in-eq-WAITING.true
 
 -- its place is one of the array's
+within : (c : tie.Else-place-eq0 invariant-loop decreases-loop) → c.place_in-place.result ≤ c.args.asked → c.place_in-place.result < 257
+within c le = omega (arith, le, c.requires.0, c.requires.2)
+
 room : (c : tie.Else-place-asked invariant-loop decreases-loop) → c.place_in-place.result < 257
-room c = let s = start (turn (kind c.before.before)) in omega (arith, c.if-place-asked.false, s.requires.0, s.requires.2)
+room c = within c.before c.if-place-asked.false
+
+room-unread : (c : tie.Else-place-asked-unread invariant-loop decreases-loop) → c.place_in-place.result < 257
+room-unread c = within c.before c.if-place-asked.false
 
 -- it is new, and marked
 new : (c : tie.Else-seen-place-ne0 invariant-loop decreases-loop)
-    → (let b = c in let l = turn (kind c.before.before.before) in Passed l (set l.loop.seen b.place_in-place.result 1) (l.loop.i + 1))
+    → (let b = c in let l = turn (kind c.before.before.before) in Passed l (set l.loop-i.seen b.place_in-place.result 1) (l.loop-i.i + 1))
 new c =
     let f = c in
     let b = c in
     let l = turn (kind c.before.before.before) in
-    let s = l.loop in
+    let s = l.loop-i in
     let q = b.place_in-place.ensures in
     subst (λ (v : List ℕ). Passed l v (s.i + 1)) (ap (λ (x : ℕ). set s.seen x 1) (sym q))
-    (one_seen _ _ _ _ s.seen s.i s.inv (kind c.before.before.before).loop-i-test.true (omega (arith, room c.before, q))
+    (one_seen _ _ _ _ s.seen s.i s.invariant (kind c.before.before.before).loop-i-test.true (omega (arith, room c.before, q))
     (record { taken = λ _. (omega (arith, f.if-place-eq0.false, q), omega (arith, f.if-place-asked.false, q)); idle = λ n. absurd (n (asks c.before.before.before)) })
     (sym (ap (λ (x : ℕ). get_or s.seen x 0) q) ∙ c.if-seen-place-ne0.false))
 
@@ -75,13 +81,13 @@ returns : tie.Need-returns-then-place-eq0 invariant-loop decreases-loop
 returns c =
     let b = c in
     let t = (kind c.before).before in
-    tells_no (λ p. omega (arith, c.if-place-eq0.true, b.place_in-place.ensures, (p.each t.loop-i.i t.loop-test.true).taken (asks c.before)))
+    tells_no (λ p. omega (arith, c.if-place-eq0.true, b.place_in-place.ensures, (p.each t.loop-i.i t.loop-i-test.true).taken (asks c.before)))
 
 returns-2 : tie.Need-returns-then-place-asked invariant-loop decreases-loop
 returns-2 c =
     let b = c in
     let t = (kind c.before.before).before in
-    tells_no (λ p. omega (arith, c.if-place-asked.true, b.place_in-place.ensures, (p.each t.loop-i.i t.loop-test.true).taken (asks c.before.before)))
+    tells_no (λ p. omega (arith, c.if-place-asked.true, b.place_in-place.ensures, (p.each t.loop-i.i t.loop-i-test.true).taken (asks c.before.before)))
 
 returns-3 : tie.Need-returns-then-seen-place-ne0 invariant-loop decreases-loop
 returns-3 c =
@@ -96,20 +102,23 @@ loop-again : tie.Need-loop-i-preserved invariant-loop decreases-loop
 loop-again c =
     let k = c in
     let l = turn c.before in
-    let s = l.loop in
+    let s = l.loop-i in
     let t = k.loop-i-test.true in
     let T : List ℕ → Type 0 = λ v. Passed l v (s.i + 1) in
     ⊎_elim
     (λ w. let e : tie.Else-seen-place-ne0 invariant-loop decreases-loop = record {
       before = record {
-        before = record { before = record { before = record { before = k; if1 = w.0 }; place_in = w.1 }; if2 = w.2 };
-        if3 = w.3;
+        before = record {
+          before = record { before = record { before = c.before; if-kind_in-eq-WAITING = w.if-kind_in-eq-WAITING }; place_in-place = w.place_in-place };
+          if-place-eq0 = w.if-place-eq0;
+        };
+        if-place-asked = w.if-place-asked;
       };
-      if4 = w.4;
+      if-seen-place-ne0 = w.if-seen-place-ne0;
     } in
-    subst T (sym w.5) (new e))
-    (λ w. let n : get_or (given l).kinds s.i 0 ≡ waiting → ⊥ = λ z. w.0.left (k.kind_in.ensures ∙ z) in
-    subst T (sym w.1) (idle_seen _ _ _ _ s.seen s.i s.inv t n ((start l).requires.3 s.i t n)))
+    subst T (sym w.seen-is) (new e))
+    (λ w. let n : get_or (given l).kinds s.i 0 ≡ waiting → ⊥ = λ z. w.if-kind_in-eq-WAITING.false (k.kind_in.ensures ∙ z) in
+    subst T (sym w.seen-is) (idle_seen _ _ _ _ s.seen s.i s.invariant t n ((start l).requires.3 s.i t n)))
     c.if-kind_in-eq-WAITING.branch-raw
 
 returns-4 : tie.Need-returns invariant-loop decreases-loop
@@ -131,8 +140,8 @@ each_once_spec =
     (λ c κs. search rules)
     returns
     returns-2
-    (λ c. omega (arith, room c))
-    room
+    (λ c. omega (arith, room-unread c))
+    room-unread
     returns-3
     (λ c. omega (arith, room c.before))
     (λ c. room c.before)

@@ -6,7 +6,6 @@ use native.Mathlib.Omega.{arith}
 use lib.ListN.{get_or}
 use borrow.Author.Rules.{rules}
 use borrow.Author.Count.{below_more}
-use borrow.Author.Tests.{not-true, not-false}
 use Rattle.numbers.specs.Slots.{playing}
 use Rattle.words.specs.Words.{words_of}
 use Rattle.desk.specs.declared.Desk.{Desk}
@@ -41,8 +40,8 @@ abbrev given : tie.At-loop-i invariant-loop decreases-loop → Desk
 given l = desk_in (words_of l.args.desk.now)
 
 told : (c : tie.After-holds_least invariant-loop decreases-loop)
-    → (let l = turn c in Tells c.holds_least.result (get_or (given l).kinds l.loop.i 0 ≡ playing
-    → l.least_held-least.result ≤ get_or (given l).held l.loop.i 0))
+    → (let l = turn c in Tells c.holds_least.result (get_or (given l).kinds l.loop-i.i 0 ≡ playing
+    → l.least_held-least.result ≤ get_or (given l).held l.loop-i.i 0))
 told c = rw (sym c.kind_in.ensures, sym c.held_in.ensures) c.holds_least.ensures
 
 loop-again : tie.Need-loop-i-preserved invariant-loop decreases-loop
@@ -53,10 +52,10 @@ loop-again c =
     record {
       few = omega arith;
       tells = ⊎_elim
-          (λ w. subst T (sym w.1) (tells_no (λ f. h.no (not-true _ w.0.taken) (f l.i (omega arith)))))
-          (λ w. subst T (sym w.1)
+          (λ w. subst T (sym w.all-is) (tells_no (λ f. h.no w.if-not-holds_least.true (f l.i (omega arith)))))
+          (λ w. subst T (sym w.all-is)
           (record {
-            yes = λ e. below_more _ l.i (l.invariant.tells.yes e) (h.yes (not-false _ w.0.left));
+            yes = λ e. below_more _ l.i (l.invariant.tells.yes e) (h.yes w.if-not-holds_least.false);
             no = λ e f. l.invariant.tells.no e (λ j u. f j (omega arith));
           }))
           c.if-not-holds_least.branch-raw;

@@ -38,7 +38,7 @@ long l = let s = start l in omega (arith, s.requires.0, (wide_in s.args.desk.now
 
 -- what the bits of slot i tell
 tells : (c : tie.After-untidy-slot invariant-loop decreases-loop) → (let l = turn c in
-    (c.untidy-slot.result ≡ 0 → TidyAt (given l) l.loop.i) × (TidyAt (given l) l.loop.i → c.untidy-slot.result ≡ 0))
+    (c.untidy-slot.result ≡ 0 → TidyAt (given l) l.loop-i.i) × (TidyAt (given l) l.loop-i.i → c.untidy-slot.result ≡ 0))
 tells c =
     let h = c in
     let x = c in
@@ -46,7 +46,7 @@ tells c =
     let b = l.before in
     let z = b.before in
     let d = given l in
-    let i = l.loop.i in
+    let i = l.loop-i.i in
     let T : Type 0 = TidyWithin d.plan.showing z.length_in-blocks.result d.plan.buffer (get_or d.kinds i 0) (get_or d.next i 0) (get_or d.held i 0) in
     let slot : (c.untidy-slot.result ≡ 0 → T) × (T → c.untidy-slot.result ≡ 0) = rw (
       sym z.showing_in.ensures,

@@ -45,7 +45,7 @@ abbrev bits : tie.After-misnamed invariant-loop decreases-loop → ℕ
 bits c = bit_or c.untidy.result c.misnamed.result
 
 tells : (c : tie.After-misnamed invariant-loop decreases-loop) → (let l = turn c in
-    (bits c ≡ 0 → TidyAt (given l) l.loop.i) × (TidyAt (given l) l.loop.i → bits c ≡ 0))
+    (bits c ≡ 0 → TidyAt (given l) l.loop-i.i) × (TidyAt (given l) l.loop-i.i → bits c ≡ 0))
 tells c =
     let u = c in
     let h = c in
@@ -55,7 +55,7 @@ tells c =
     let b = l.before in
     let z = b.before in
     let d = given l in
-    let i = l.loop.i in
+    let i = l.loop-i.i in
     let k = get_or d.kinds i 0 in
     let a = get_or d.next i 0 in
     let T : Type 0 = TidyWithin d.plan.showing (length_in d.plan.figures (film_in a)) d.plan.buffer k (block_in a) (get_or d.held i 0) in
