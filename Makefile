@@ -17,30 +17,33 @@ MANDIR ?= $(PREFIX)/share/man
 test:
 	@sh tests/run
 
-# The must-fail edits over each crate's incremental folder, some seconds each, for the day's work: the verdict is the gate's, which checks
-# each from nothing. CRATES names some crates, as 'card plan'; else all are tried.
+# The must-fail edits alone, over what `rt check` kept, for the day's work: the verdict is the gate's. CRATES names some crates, as 'card plan';
+# else all are tried.
 CRATES =
 edits:
-	@sh tests/tools rt python3
-	@python3 -B tests/edits $(CRATES)
+	@sh tests/tools rt
+	@rt must-fail $(CRATES)
+
+# All that a product is made of; a product is made again where one of these has changed.
+SOURCES := crates.txt $(shell find crates \( -name must-fail -o -path 'crates/*/out' \) -prune -o -type f -print)
 
 # The listing of the bench film: reads its card from standard input.
-run:
-	@sh tests/tools rt
-	@sh tests/progress 'the listing' target/run.log rt check listing
+run: target/bin/listing
 	@target/bin/listing <crates/listing/stdin
 
 # target/bin/NAME of each installed program, proved and tried
-programs:
-	@sh tests/tools rt
-	@sh tests/progress 'the programs' target/programs.log rt check $(PROGRAMS)
+programs: $(PROGRAMS:%=target/bin/%)
 
-# target/staticlib/libfilmdisk.a, proved; made again where a crate has changed
+target/bin/%: $(SOURCES)
+	@sh tests/tools rt
+	@sh tests/progress 'the program $*' target/$*.log sh tests/program $*
+
+# target/staticlib/libfilmdisk.a, proved
 library: target/staticlib/libfilmdisk.a
 
-target/staticlib/libfilmdisk.a: crates.txt $(shell find crates -name must-fail -prune -o -type f -print)
+target/staticlib/libfilmdisk.a: $(SOURCES)
 	@sh tests/tools rt
-	@sh tests/progress 'the library' target/library.log rt staticlib filmdisk
+	@sh tests/progress 'the library' target/library.log sh tests/library
 
 build: programs library
 
@@ -98,5 +101,7 @@ pictures: library
 	@sh tests/tools cc
 	@sh pictures/run target/staticlib/libfilmdisk.a docs/pictures
 
+# Lays the sources out.
 fmt:
-	@rt fmt
+	@sh tests/tools rt
+	@for crate in crates/*/src; do (cd "$${crate%/src}" && rt fmt) || exit 1; done

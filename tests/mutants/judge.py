@@ -1,11 +1,11 @@
 """The judge: a private copy of the repository in which one change at a time is made, and the prover's answer to it."""
 
-import filecmp
 import os
 import re
 import shutil
 import signal
 import subprocess
+import tempfile
 import time
 from collections import namedtuple
 
@@ -43,61 +43,47 @@ def verdict_of(status, said):
 
 
 class Room:
-    """A copy of the repository below target/, so that no check of the repository sees it."""
+    """A copy of the repository in a folder of its own, outside it: the gate refuses sources that no crate of crates.txt has. What the repository has
+    proved of a crate is taken from there, as `rt` does in each copy on a machine."""
 
     def __init__(self, root, name, limit):
         self.root, self.limit = root, limit
-        self.path = os.path.join(root, "target", "mutants", name)
-        os.makedirs(self.path, exist_ok=True)
+        self.path = os.path.join(tempfile.gettempdir(), f"filmdisk-mutants-{os.getuid()}", name)
         shutil.rmtree(os.path.join(self.path, "crates"), ignore_errors=True)
-        shutil.copytree(os.path.join(root, "crates"), os.path.join(self.path, "crates"))
+        os.makedirs(self.path, mode=0o700, exist_ok=True)
+        shutil.copytree(os.path.join(root, "crates"), os.path.join(self.path, "crates"), ignore=lambda _, names: {"out"} & {*names})
         shutil.copy(os.path.join(root, "crates.txt"), self.path)
-        self.take_proved()
         self.kept = {}
-
-    def take_proved(self):
-        """The libraries that the repository has proved; rt proves in the room what is missing."""
-        proved, own = os.path.join(self.root, "target"), os.path.join(self.path, "target")
-        for part in ("rlib", "stamp"):
-            os.makedirs(os.path.join(own, part), exist_ok=True)
-        stamps = os.path.join(proved, "stamp")
-        for crate in os.listdir(stamps) if os.path.isdir(stamps) else []:
-            library = os.path.join(proved, "rlib", crate + ".rlib")
-            stamp = os.path.join(own, "stamp", crate)
-            if not os.path.isdir(library) or os.path.exists(stamp) and filecmp.cmp(stamp, os.path.join(stamps, crate), shallow=False):
-                continue
-            shutil.rmtree(os.path.join(own, "rlib", crate + ".rlib"), ignore_errors=True)
-            shutil.copytree(library, os.path.join(own, "rlib", crate + ".rlib"), symlinks=True)
-            shutil.copy(os.path.join(stamps, crate), stamp)
 
     def _file(self, crate, file):
         return os.path.join(self.path, "crates", crate, file)
 
-    def rt(self, *words, limit=None):
-        """Runs rt in the room: exit status (none where it took too long), what it said, seconds."""
+    def rt(self, crate, *words, limit=None, given=None):
+        """Runs rt in the crate's folder of the room: exit status (none where it took too long), what it said, what it printed, seconds. With `given`, a
+        program's input, what is printed is kept apart."""
         began = time.monotonic()
-        env = dict(os.environ, RT_JOBS="1", RT_CUT="0")
+        errors = subprocess.STDOUT if given is None else subprocess.PIPE
         run = subprocess.Popen(
-            ["rt", *words], cwd=self.path, env=env, stdout=subprocess.PIPE, stderr=subprocess.STDOUT, start_new_session=True
+            ["rt", *words], cwd=self._file(crate, ""), stdin=subprocess.PIPE, stdout=subprocess.PIPE, stderr=errors, start_new_session=True
         )
         try:
-            said, _ = run.communicate(timeout=limit)
+            printed, said = run.communicate(given or b"", timeout=limit)
             status = run.returncode
         except subprocess.TimeoutExpired:
             os.killpg(run.pid, signal.SIGKILL)
-            said, _ = run.communicate()
+            printed, said = run.communicate()
             status = None
-        return status, said.decode("utf-8", "replace"), time.monotonic() - began
+        return status, (printed if said is None else said).decode("utf-8", "replace"), printed, time.monotonic() - began
 
-    def dev(self, crate, limit=None):
-        status, said, seconds = self.rt("dev", crate, limit=limit)
+    def check(self, crate, limit=None):
+        status, said, _, seconds = self.rt(crate, "check", "--jobs", "1", limit=limit)
         verdict, why = verdict_of(status, said)
         return Judged(verdict, seconds, why)
 
     # The incremental folder of a crate as it was when the unchanged crate was proved; a change leaves what it made there.
     def keep(self, crate):
-        folder = os.path.join(self.path, "target", "inc", crate)
-        copy = os.path.join(self.path, "target", "kept", crate)
+        folder = self._file(crate, "out/incremental")
+        copy = os.path.join(self.path, "kept", crate)
         shutil.rmtree(copy, ignore_errors=True)
         shutil.copytree(folder, copy)
         self.kept[crate] = {
@@ -107,8 +93,8 @@ class Room:
         }
 
     def put_back(self, crate):
-        folder = os.path.join(self.path, "target", "inc", crate)
-        copy = os.path.join(self.path, "target", "kept", crate)
+        folder = self._file(crate, "out/incremental")
+        copy = os.path.join(self.path, "kept", crate)
         kept = self.kept[crate]
         there = {os.path.relpath(os.path.join(d, f), folder) for d, _, files in os.walk(folder) for f in files}
         for f in there - kept.keys():
@@ -116,11 +102,12 @@ class Room:
         for f, changed in kept.items():
             own = os.path.join(folder, f)
             if f not in there or os.stat(own).st_mtime_ns != changed:
+                os.makedirs(os.path.dirname(own), exist_ok=True)
                 shutil.copy2(os.path.join(copy, f), own)
 
     def ready(self, crate):
         """The judge is right: the unchanged crate is proved, and its first must-fail edit of the code is not."""
-        base = self.dev(crate)
+        base = self.check(crate)
         if base.verdict != "proved":
             raise RuntimeError(f"{crate} is {base.verdict} without a change: {base.why}")
         self.keep(crate)
@@ -128,7 +115,7 @@ class Room:
         if not edits:
             return base
         with Changed(self, crate, edits):
-            judged = self.dev(crate, self.limit)
+            judged = self.check(crate, self.limit)
         if judged.verdict not in ("killed", "misfit"):
             raise RuntimeError(f"{crate} is {judged.verdict} with a must-fail edit")
         return base
@@ -136,19 +123,38 @@ class Room:
     def judge(self, crate, file, text, users):
         """The verdict on a crate of which a file's text is changed. `users`: crates whose proofs or output rest on what is changed."""
         with Changed(self, crate, [(os.path.join("src", file), text)]):
-            judged = self.dev(crate, self.limit)
+            judged = self.check(crate, self.limit)
             if judged.verdict != "proved":
                 return judged
-            if os.path.exists(self._file(crate, "src/main.rt")):
+            if self.is_program(crate):
                 return self.run_program(crate, judged)
             return self.judge_users(users, judged)
 
+    def is_program(self, crate):
+        return os.path.exists(self._file(crate, "src/main.rt"))
+
+    def text(self, crate, file):
+        """A file of the crate's, or nothing."""
+        path = self._file(crate, file)
+        if not os.path.exists(path):
+            return b""
+        with open(path, "rb") as f:
+            return f.read()
+
+    def output(self, crate, limit):
+        """Runs a proved program on its own input: 'same' or 'other' for what it prints, or 'none' where it did not run; what was said, and seconds."""
+        words = self.text(crate, "args").decode().split("\n")[:-1]
+        status, said, printed, seconds = self.rt(crate, "run", "--jobs", "1", "--", *words, limit=limit, given=self.text(crate, "stdin"))
+        if "rt: running " not in said:
+            return "none", said, seconds
+        return ("same" if status == 0 and printed == self.text(crate, "stdout") else "other"), said, seconds
+
     def run_program(self, crate, judged):
-        status, said, seconds = self.rt("check", crate, limit=self.limit)
+        ran, said, seconds = self.output(crate, self.limit)
         seconds += judged.seconds
-        if status == 0:
+        if ran == "same":
             return self.test_program(crate, seconds)
-        if "its run FAILED" in said:
+        if ran == "other":
             return Judged("output", seconds, "proved; its output is not the expected one")
         return Judged("undecided", seconds, " ".join(said[-200:].split()))
 
@@ -158,7 +164,7 @@ class Room:
         if test is None:
             return Judged("survived", seconds, "proved, and its output is the expected one")
         began = time.monotonic()
-        program = os.path.join(self.path, "target", "bin", crate)
+        program = self._file(crate, f"out/{crate}")
         words = [word.format(program) for word in test.split()]
         run = subprocess.run(words, cwd=self.root, stdout=subprocess.DEVNULL, stderr=subprocess.DEVNULL)
         seconds += time.monotonic() - began
@@ -169,27 +175,22 @@ class Room:
     def judge_users(self, users, judged):
         if not users:
             return Judged("survived", judged.seconds, "proved")
-        saved = os.path.join(self.path, "saved")
-        for part in ("rlib", "stamp"):
-            shutil.rmtree(os.path.join(saved, part), ignore_errors=True)
-            shutil.copytree(os.path.join(self.path, "target", part), os.path.join(saved, part), symlinks=True)
-        seconds, verdict, why = judged.seconds, "survived", "proved, and so are its users"
+        seconds = judged.seconds
         for user in users:
-            status, said, more = self.rt("check", user, limit=3 * self.limit)
+            status, said, _, more = self.rt(user, "check", "--jobs", "1", limit=3 * self.limit)
             seconds += more
-            if status == 1 and "NOT PROVED" in said:
-                verdict, why = "users", f"proved; {user} is not"
-                break
-            if "its run FAILED" in said:
-                verdict, why = "output", f"proved; the output of {user} is not the expected one"
-                break
+            if status == 1 and re.search(r"^logic=not-proved", said, re.MULTILINE):
+                return Judged("users", seconds, f"proved; {user} is not")
             if status != 0:
-                verdict, why = "undecided", f"{user}: {' '.join(said[-200:].split())}"
-                break
-        for part in ("rlib", "stamp"):
-            shutil.rmtree(os.path.join(self.path, "target", part))
-            shutil.move(os.path.join(saved, part), os.path.join(self.path, "target", part))
-        return Judged(verdict, seconds, why)
+                return Judged("undecided", seconds, f"{user}: {' '.join(said[-200:].split())}")
+            if self.is_program(user):
+                ran, said, more = self.output(user, 3 * self.limit)
+                seconds += more
+                if ran == "other":
+                    return Judged("output", seconds, f"proved; the output of {user} is not the expected one")
+                if ran == "none":
+                    return Judged("undecided", seconds, f"{user}: {' '.join(said[-200:].split())}")
+        return Judged("survived", seconds, "proved, and so are its users")
 
 
 class Changed:

@@ -11,6 +11,7 @@ import glob
 import hashlib
 import os
 import re
+import shutil
 import sys
 import threading
 from collections import Counter
@@ -28,7 +29,7 @@ def crates():
     """The crates and what each depends on, as crates.txt lists them."""
     with open(os.path.join(ROOT, "crates.txt"), encoding="utf-8") as f:
         lines = [line.split("#")[0] for line in f]
-    return {line.split(":")[0].strip(): line.split(":")[1].split() for line in lines if ":" in line}
+    return {line.split()[0].rstrip(":"): line.split(":")[1].split() for line in lines if ":" in line}
 
 
 def sources(names):
@@ -243,8 +244,12 @@ def main():
                     free.append(name)
 
         with concurrent.futures.ThreadPoolExecutor(options.jobs) as pool:
-            for ended in [pool.submit(one, crate) for crate in names]:
-                ended.result()
+            try:
+                for ended in [pool.submit(one, crate) for crate in names]:
+                    ended.result()
+            finally:
+                for room in made.values():
+                    shutil.rmtree(room.path, ignore_errors=True)
     return 1 if report(names, all_sources, results) else 0
 
 

@@ -70,7 +70,7 @@ card_end s at f = cond (ltb at (length s)) (refused_card card_goes_on at) (recor
 
 -- ---- the figures from an offset on, part by part; go goes on with the values of a part and the offset after it
 
--- `left` more numbers in a row into a list, from its k-th entry on: each is judged beside what those before it leave, as `rowFault` does
+-- `left` more numbers in a row into a list, from its k-th entry on: each is judged beside what those before it leave, as `row_fault` does
 unfoldable pub row_from : {A : Type 0} → (A → ℕ → ℕ) → (A → ℕ → A) → ℕ → List ℕ → ℕ → A → ℕ → List ℕ → (List ℕ → ℕ → CardRead) → CardRead
 row_from judge after zero s at x k vs go = go vs at
 row_from judge after (suc left) s at x k vs go =

@@ -89,7 +89,7 @@ pub fn fault_of_time(innermost: u32, before: u32, v: u32) -> u32
     if before < v {
         return RISING_TIME;
     }
-    // A time in its range, times three, is a u32: law `thrice-fits`.
+    // A time in its range, times three, is a u32: law `thrice_fits`.
     if TIMES_AS_FAST * v < innermost {
         return HALF_DEAD_TIME;
     }

@@ -86,7 +86,7 @@ fn fault_of_fall(table: &[u32; 257]) -> u32
     number
 }
 
-// A table of kind 2. If no entry is below the one before, all are in range where the first and the last are: law `ends-measured`.
+// A table of kind 2. If no entry is below the one before, all are in range where the first and the last are: law `ends_measured`.
 fn fault_of_measured(table: &[u32; 257]) -> u32
     ensures { result ≡ measured_fault table.now }
 {

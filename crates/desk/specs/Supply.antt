@@ -1,5 +1,5 @@
 -- What the desk is told of a film, made of the film as it is laid, its worst time and its rates; and that a paced film's supply is lawful.
--- Document 01's film is an instance (`supplyOf`), and so is every other whose successive blocks stay within a worst time.
+-- Document 01's film is an instance (`supply_of`), and so is every other whose successive blocks stay within a worst time.
 -- Assumes nothing.
 use Rattle.std.specs.Prelude.{ℕ, ◌+◌, ◌*◌, ◌-◌, ◌≤◌, ◌<◌, ◌≡◌, true}
 use Rattle.std.proofs.Common.{arith}

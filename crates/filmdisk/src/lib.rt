@@ -1,4 +1,6 @@
 // The planner and the desk for C: numbers and byte strings, whose layouts docs/LAYOUT.md fixes. Strings lent to one call share no byte.
+#![tactic(auto)]
+
 ghost use Rattle.std.specs.Prelude.{◌≡◌};
 ghost use Rattle.placement.specs.Showing.{one, loop, pairs};
 ghost use Rattle.plan_strings.specs.Calls.{plan_answer, plan_string, positions_string, leads_string};

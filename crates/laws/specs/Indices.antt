@@ -93,7 +93,7 @@ module _ {A : Type 0} (f : ℕ → A → Bool) where
     pub fails : f i (get_or xs i d) ≡ false
     pub below : (k : ℕ) → k < i → f k (get_or xs k d) ≡ true
 
-  -- where not all pass, lowestFrom finds it
+  -- where not all pass, lowest_from finds it
   pub lowest_fails : (d : A) (xs : List A) → all_from 0 xs ≡ false → Lowest d xs (lowest_from 0 xs)
   lowest_fails d xs e = go (lowest_from 0 xs) (found d 0 xs e)
     where

@@ -58,11 +58,9 @@ pub best_none : Best [] max_number 0
 best_none = record { few = omega arith; none = λ e. refl; some = λ h. absurd (omega arith) }
 
 module _ (least count v : ℕ) where
-  -- one that is smaller
-  pub best_less : (ws : List ℕ) → v < least → Best ws least count → Best (ws ++ (v ∷ [])) v 1
-  unfolding smallest how_many
-  best_less [] h b = record { few = omega arith; none = λ z. absurd (omega arith); some = λ k. (refl, rw (eq-eqb v v refl) (omega arith)) }
-  best_less (w ∷ ws) h b =
+  -- one that is smaller than some
+  best_less_some : (w : ℕ) (ws : List ℕ) → v < least → Best (w ∷ ws) least count → Best ((w ∷ ws) ++ (v ∷ [])) v 1
+  best_less_some w ws h b =
       let m = smallest_more w v ws in
       let s = b.some (omega arith) in
       let q : smallest ((w ∷ ws) ++ (v ∷ [])) ≡ v = omega arith in
@@ -71,6 +69,12 @@ module _ (least count v : ℕ) where
         none = λ z. absurd (omega (arith, length-append (w ∷ ws) (v ∷ [])));
         some = λ k. (sym q, rw q (rw (how_many_more v v (w ∷ ws), eq-eqb v v refl, how_many_none v (w ∷ ws) (omega arith)) (omega arith)));
       }
+
+  -- one that is smaller
+  pub best_less : (ws : List ℕ) → v < least → Best ws least count → Best (ws ++ (v ∷ [])) v 1
+  unfolding smallest how_many
+  best_less [] h b = record { few = omega arith; none = λ z. absurd (omega arith); some = λ k. (refl, rw (eq-eqb v v refl) (omega arith)) }
+  best_less (w ∷ ws) h b = best_less_some w ws h b
 
   -- one that is as small
   pub best_equal : (ws : List ℕ) → v < max_number → v ≡ least → Best ws least count → Best (ws ++ (v ∷ [])) least (count + 1)

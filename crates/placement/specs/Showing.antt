@@ -28,7 +28,7 @@ visits_few loop = omega arith
 visits_few pairs = omega arith
 
 -- entry v of the positions of N blocks on P positions, of which they take the highest: `laying x P N v` (P1, T7.3). The visits of block b
--- are the entries from `visitsOf x * b` on
+-- are the entries from `visits_of x * b` on
 abbrev pub laying : Showing → ℕ → ℕ → ℕ → ℕ
 laying one = zigzag
 laying loop = ring

@@ -39,7 +39,7 @@ walk_of w = walked (showing_of w)
 abbrev pub showing_in : Plan → Showing
 showing_in p = showing_of p.showing
 
--- ---- the films: film i has `lengthIn f i` blocks, and its blocks stand behind those of the films before it (ticket 14)
+-- ---- the films: film i has `length_in f i` blocks, and its blocks stand behind those of the films before it (ticket 14)
 
 -- the blocks before film i: block b of it is number `start_in f i + b` through the lists
 abbrev pub start_in : Figures → ℕ → ℕ

@@ -13,11 +13,9 @@ returns c = c.refused_field.ensures _ _ _ _ ∙ card_stops c.read_field-first.en
 returns-2 : tie.Need-returns-in_default-second
 unfolding read_card
 returns-2 c =
-    let count = c in
-    let kind = c in
     c.refused_field-in_default-second.ensures _ _ _ _
-    ∙ card_stops count.read_field-second.ensures _ _ c.in_default-second.is
-    ∙ card_goes kind.read_field-first.ensures _ kind.in-Value.is
+    ∙ card_stops c.read_field-second.ensures _ _ c.in_default-second.is
+    ∙ card_goes c.read_field-first.ensures _ c.in-Value.is
 
 -- the number of zones is read
 abbrev counted : tie.After-read_zones-arg-2-1 → tie.In-Value-second
@@ -28,29 +26,23 @@ read-zones-requires c κs = let n = counted c in zones_bound _ _ _ n.read_field-
 
 -- the card is that of its zones, read into lists that are all zero, and of what follows them
 zones-read : (c : tie.After-read_zones-third)
-    → (let count = counted c.before in
-    let kind = count.before.before.before.before in
-    let a = kind.args in
+    → (let a = c.args in
     zones_with c.read_zones-third.new.sizes c.read_zones-third.new.times c.read_zones-third.result
-    (after_zones a.visits a.card.now kind.match.kind count.in-Value-second.zones)
+    (after_zones a.visits a.card.now c.in-Value.kind c.in-Value-second.zones)
     ≡ read_card a.visits a.card.now)
 unfolding read_card
 zones-read c =
-    let count = counted c.before in
-    let kind = count.before.before.before.before in
-    let start = kind.before.before.before.before in
     c.read_zones-third.ensures _
-    ∙ zones_blank _ _ _ _ start.requires.0 start.requires.1
-    ∙ card_goes count.read_field-second.ensures _ count.in-Value-second.is
-    ∙ card_goes kind.read_field-first.ensures _ kind.in-Value.is
+    ∙ zones_blank _ _ _ _ c.requires.0 c.requires.1
+    ∙ card_goes c.read_field-second.ensures _ c.in-Value-second.is
+    ∙ card_goes c.read_field-first.ensures _ c.in-Value.is
 
 returns-3 : tie.Need-returns-in_default-third
 returns-3 c = c.refused_field-in_default-third.ensures _ _ _ _ ∙ card_stops refl _ _ c.in_default-third.is ∙ zones-read c.before.before
 
 returns-4 : tie.Need-returns
 returns-4 c =
-    let third = c in
-    c.read_film.ensures _ _ ∙ card_goes refl _ third.in-Value-third.is ∙ zones-read c.before.before.before.before
+    c.read_film.ensures _ _ ∙ card_goes refl _ c.in-Value-third.is ∙ zones-read c.before.before.before.before
 
 pub read_into_spec : {M : Type 1} → statement M
 read_into_spec =

@@ -4,12 +4,12 @@ use Rattle.desk_layout.specs.Layout.{desk_in}
 use Rattle.desk_columns.proofs.all_held.Statement.{statement}
 use Rattle.desk_columns.proofs.all_held.Tie as tie
 
-read-256-requires : tie.Need-read-256-requires
-read-256-requires c κs = omega (arith, words_length c.before.args.desk.now)
+read-256-requires : tie.Need-read_256-requires
+read-256-requires c κs = omega (arith, words_length c.args.desk.now)
 
 returns : tie.Need-returns
 unfolding desk_in
-returns c = c.read-256.ensures
+returns c = c.read_256.ensures
 
-pub all-held-spec : {M : Type 1} → statement M
-all-held-spec = tie.close (tie.spec read-256-requires returns)
+pub all_held_spec : {M : Type 1} → statement M
+all_held_spec = tie.close (tie.spec read-256-requires returns)

@@ -20,39 +20,39 @@ record Counted (ks : List ℕ) (streams asked i : ℕ) : Type 0 where
   low : asked ≤ i
   count : asked ≡ asked_count (take i ks)
 
-abbrev invariant-loop : tie.invariant-loop
+abbrev invariant-loop : tie.invariant-loop-i
 invariant-loop desk streams asked₀ i₀ asked i = Counted (desk_in (words_of desk)).kinds streams asked i
 
-abbrev decreases-loop : tie.decreases-loop
+abbrev decreases-loop : tie.decreases-loop-i
 decreases-loop desk streams asked₀ i₀ asked i = streams - i
 
-loop-holds : tie.Need-loop-init invariant-loop decreases-loop
-loop-holds c = record { few = omega arith; low = omega arith; count = sym (asked_none (desk_in (words_of c.before.args.desk.now)).kinds) }
+loop-holds : tie.Need-loop-i-init invariant-loop decreases-loop
+loop-holds c = record { few = omega arith; low = omega arith; count = sym (asked_none (desk_in (words_of c.args.desk.now)).kinds) }
 
-add-asked : tie.Need-overflow-add-asked invariant-loop decreases-loop
-add-asked c = omega (arith, c.asking.ensures.1)
+add-asked : tie.Need-overflow_add-asked invariant-loop decreases-loop
+add-asked c = omega (arith, c.asking-asked.ensures.1)
 
-loop-again : tie.Need-loop-preserved invariant-loop decreases-loop
+loop-again : tie.Need-loop-i-preserved invariant-loop decreases-loop
 loop-again c =
-    let k = c.before in
-    let t = k.before in
-    let l = t.before.loop in
-    let s = t.before.before.before in
+    let k = c in
+    let t = c in
+    let l = t.loop-i in
+    let s = c in
     let D = s.args.desk.now in
     record {
       few = omega arith;
-      low = omega (arith, c.asking.ensures.1);
-      count = ap₂ (λ (m n : ℕ). m + n) l.invariant.count (c.asking.ensures.0 ∙ ap (λ (x : ℕ). bit (eqb x waiting)) k.kind-in.ensures)
+      low = omega (arith, c.asking-asked.ensures.1);
+      count = ap₂ (λ (m n : ℕ). m + n) l.invariant.count (c.asking-asked.ensures.0 ∙ ap (λ (x : ℕ). bit (eqb x waiting)) k.kind_in.ensures)
           ∙ asked_turn_law (desk_in (words_of D)).kinds l.i (omega (arith, (wide_in D s.requires.1).kinds));
     }
 
 returns : tie.Need-returns invariant-loop decreases-loop
-returns c = let l = c.before.loop in
-    let e : l.i ≡ c.before.before.before.args.streams = omega (arith, l.invariant.few) in
+returns c = let l = c.loop-i in
+    let e : l.i ≡ c.args.streams = omega (arith, l.invariant.few) in
     (rw e at l.invariant.count, omega (arith, l.invariant.low, l.invariant.few))
 
-pub asked-in-spec : {M : Type 1} → statement M
-asked-in-spec =
+pub asked_in_spec : {M : Type 1} → statement M
+asked_in_spec =
     tie.close
     (tie.spec
     invariant-loop

@@ -4,11 +4,11 @@ use Rattle.numbers.specs.Slots.{waiting}
 use Rattle.desk_columns.proofs.asking.Statement.{statement}
 use Rattle.desk_columns.proofs.asking.Tie as tie
 
-returns : tie.Need-returns
-returns c = rw (eq-eqb _ waiting c.if1.true) (omega arith)
+returns : tie.Need-returns-then-kind-eq-WAITING
+returns c = rw (eq-eqb _ waiting c.if-kind-eq-WAITING.true) (omega arith)
 
-returns-2 : tie.Need-returns-2
-returns-2 c = rw (ne_eqb _ waiting c.if1.false) (omega arith)
+returns-2 : tie.Need-returns
+returns-2 c = rw (ne_eqb _ waiting c.if-kind-eq-WAITING.false) (omega arith)
 
-pub asking-spec : {M : Type 1} → statement M
-asking-spec = tie.close (tie.spec returns returns-2)
+pub asking_spec : {M : Type 1} → statement M
+asking_spec = tie.close (tie.spec returns returns-2)

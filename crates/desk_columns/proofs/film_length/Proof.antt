@@ -9,16 +9,16 @@ use Rattle.desk_layout.specs.Sized.{sized_in}
 use Rattle.desk_columns.proofs.film_length.Statement.{statement}
 use Rattle.desk_columns.proofs.film_length.Tie as tie
 
-returns : tie.Need-returns
-returns c = c.length-in.ensures
+returns : tie.Need-returns-then-film
+returns c = c.length_in.ensures
 
 -- past the last of 16
-returns-2 : tie.Need-returns-2
+returns-2 : tie.Need-returns
 returns-2 c =
-    let s = c.before.before in
+    let s = c in
     let D = s.args.desk.now in
     sym (get_or-eq_default (desk_in (words_of D)).plan.figures.blocks 0 {n = film_in s.args.name}
-    (omega (arith, (sized_in D s.requires).plan.blocks, c.if1.false)))
+    (omega (arith, (sized_in D s.requires).plan.blocks, c.if-film.false)))
 
-pub film-length-spec : {M : Type 1} → statement M
-film-length-spec = tie.close (tie.spec (λ c. search rules) (λ c. search rules) (λ c κs. omega arith) returns returns-2)
+pub film_length_spec : {M : Type 1} → statement M
+film_length_spec = tie.close (tie.spec (λ c. search rules) (λ c. search rules) (λ c κs. omega arith) returns returns-2)

@@ -25,25 +25,25 @@ record Begun (f : Figures) (films : ℕ) (starts : List ℕ) (sum i : ℕ) : Typ
   each : (j : ℕ) → j < i → get_or starts j 0 ≡ start_in f j
   next : sum ≡ start_in f i
 
-abbrev invariant-loop : tie.invariant-loop
+abbrev invariant-loop : tie.invariant-loop-i
 invariant-loop desk films starts₀ sum₀ i₀ starts sum i = Begun (desk_in (words_of desk)).plan.figures films starts sum i
 
-abbrev decreases-loop : tie.decreases-loop
+abbrev decreases-loop : tie.decreases-loop-i
 decreases-loop desk films starts₀ sum₀ i₀ starts sum i = films - i
 
-abbrev start : tie.At-loop invariant-loop decreases-loop → tie.Start invariant-loop decreases-loop
+abbrev start : tie.At-loop-i invariant-loop decreases-loop → tie.Start invariant-loop decreases-loop
 start l = l.before.before.before.before
 
-abbrev given : tie.At-loop invariant-loop decreases-loop → Figures
+abbrev given : tie.At-loop-i invariant-loop decreases-loop → Figures
 given l = (desk_in (words_of (start l).args.desk.now)).plan.figures
 
-loop-holds : tie.Need-loop-init invariant-loop decreases-loop
+loop-holds : tie.Need-loop-i-init invariant-loop decreases-loop
 loop-holds c =
-    let f = (desk_in (words_of c.before.before.before.args.desk.now)).plan.figures in
+    let f = (desk_in (words_of c.args.desk.now)).plan.figures in
     record {
-      count = c.before.films-in.ensures;
+      count = c.films_in-films.ensures;
       few = omega arith;
-      wide = c.no-starts.ensures;
+      wide = c.no_starts-starts.ensures;
       each = λ j h. absurd (omega arith);
       next = sym (start_none (length_in f));
     }
@@ -64,37 +64,37 @@ turn f films starts sum i n b few l e =
     }
 
 -- the films are at most 16
-films-few : (l : tie.At-loop invariant-loop decreases-loop) → l.before.before.films-in.result ≤ max_films
-films-few l = omega (arith, l.before.before.films-in.ensures, (start l).requires.1.few)
+films-few : (l : tie.At-loop-i invariant-loop decreases-loop) → l.films_in-films.result ≤ max_films
+films-few l = omega (arith, l.films_in-films.ensures, (start l).requires.1.few)
 
 -- the blocks up to the next film are at most all
 most : (f : Figures) (films : ℕ) (starts : List ℕ) (sum i : ℕ) → Begun f films starts sum i → i < films → sum + length_in f i ≤ blocks_of f
 most f films starts sum i b l =
     omega (arith, b.next, start_next (length_in f) i, start_rises (length_in f) (suc i) f.films (omega (arith, b.count)))
 
-array-write-starts : tie.Need-array-write-starts invariant-loop decreases-loop
-array-write-starts c = omega (arith, films-few c.before, c.loop-test.true)
+array-write-starts : tie.Need-bounds-starts-i invariant-loop decreases-loop
+array-write-starts c = omega (arith, films-few c.before, c.loop-i-test.true)
 
-length-in-requires : tie.Need-length-in-requires invariant-loop decreases-loop
-length-in-requires c κs = (omega (arith, films-few c.before, c.loop-test.true), (start c.before).pre.0)
+length-in-requires : tie.Need-length_in-sum-requires invariant-loop decreases-loop
+length-in-requires c κs = (omega (arith, films-few c.before, c.loop-i-test.true), (start c.before).requires.0)
 
-add-sum : tie.Need-overflow-add-sum invariant-loop decreases-loop
+add-sum : tie.Need-overflow_add-sum invariant-loop decreases-loop
 add-sum c =
-    let t = c.before in
-    let l = t.before.loop in
-    omega (arith, c.length-in.ensures, most (given t.before) _ l.starts l.sum l.i l.invariant t.loop-test.true, (start t.before).pre.1.all)
+    let t = c in
+    let l = t.loop-i in
+    omega (arith, c.length_in-sum.ensures, most (given c.before.before) _ l.starts l.sum l.i l.invariant t.loop-i-test.true, (start c.before.before).requires.1.all)
 
-loop-again : tie.Need-loop-preserved invariant-loop decreases-loop
-loop-again c = let t = c.before in
-    let l = t.before.loop in
-    turn _ _ l.starts l.sum l.i _ l.invariant (films-few t.before) t.loop-test.true c.length-in.ensures
+loop-again : tie.Need-loop-i-preserved invariant-loop decreases-loop
+loop-again c = let t = c in
+    let l = t.loop-i in
+    turn _ _ l.starts l.sum l.i _ l.invariant (films-few c.before.before) t.loop-i-test.true c.length_in-sum.ensures
 
 returns : tie.Need-returns invariant-loop decreases-loop
-returns c = let l = c.before.loop in
-    record { wide = l.invariant.wide; each = λ j h. l.invariant.each j (omega (arith, c.loop-test.false, l.invariant.count)) }
+returns c = let l = c.loop-i in
+    record { wide = l.invariant.wide; each = λ j h. l.invariant.each j (omega (arith, c.loop-i-test.false, l.invariant.count)) }
 
-pub film-starts-spec : {M : Type 1} → statement M
-film-starts-spec =
+pub film_starts_spec : {M : Type 1} → statement M
+film_starts_spec =
     tie.close
     (tie.spec
     invariant-loop
@@ -103,11 +103,11 @@ film-starts-spec =
     (λ c. omega arith)
     (λ c κs. search rules)
     loop-holds
-    (λ c. omega (arith, films-few c.before, c.loop-test.true))
+    (λ c. omega (arith, films-few c.before, c.loop-i-test.true))
     array-write-starts
     length-in-requires
     add-sum
-    (λ c. omega (arith, films-few c.before.before, c.before.loop-test.true))
+    (λ c. omega (arith, films-few c.before.before, c.loop-i-test.true))
     (λ c. omega arith)
     loop-again
     returns)

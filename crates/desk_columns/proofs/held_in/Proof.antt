@@ -9,16 +9,16 @@ use Rattle.desk_columns.specs.Columns.{entry_at}
 use Rattle.desk_columns.proofs.held_in.Statement.{statement}
 use Rattle.desk_columns.proofs.held_in.Tie as tie
 
-add-word-at : tie.Need-overflow-add-word-at
+add-word-at : tie.Need-overflow_add-i
 add-word-at c = omega arith
 
-word-at-requires : tie.Need-word-at-requires
-word-at-requires c κs = omega (arith, words_length c.before.args.desk.now)
+word-at-requires : tie.Need-word_at-requires
+word-at-requires c κs = omega (arith, words_length c.args.desk.now)
 
 returns : tie.Need-returns
 unfolding desk_in
-returns c = let a = c.before.before.args in
+returns c = let a = c.args in
     c.word_at.ensures ∙ entry_at (words_of a.desk.now) max_streams held_at a.i (omega arith)
 
-pub held-in-spec : {M : Type 1} → statement M
-held-in-spec = tie.close (tie.spec add-word-at word-at-requires returns)
+pub held_in_spec : {M : Type 1} → statement M
+held_in_spec = tie.close (tie.spec add-word-at word-at-requires returns)

@@ -4,12 +4,12 @@ use Rattle.desk_layout.specs.Layout.{desk_in}
 use Rattle.desk_columns.proofs.overheads.Statement.{statement}
 use Rattle.desk_columns.proofs.overheads.Tie as tie
 
-read-257-requires : tie.Need-read-257-requires
-read-257-requires c κs = omega (arith, words_length c.before.args.desk.now)
+read-257-requires : tie.Need-read_257-requires
+read-257-requires c κs = omega (arith, words_length c.args.desk.now)
 
 returns : tie.Need-returns
 unfolding desk_in
-returns c = c.read-257.ensures
+returns c = c.read_257.ensures
 
-pub overheads-spec : {M : Type 1} → statement M
-overheads-spec = tie.close (tie.spec read-257-requires returns)
+pub overheads_spec : {M : Type 1} → statement M
+overheads_spec = tie.close (tie.spec read-257-requires returns)

@@ -4,12 +4,12 @@ use Rattle.desk_layout.specs.Layout.{desk_in}
 use Rattle.desk_columns.proofs.streams_in.Statement.{statement}
 use Rattle.desk_columns.proofs.streams_in.Tie as tie
 
-word-at-requires : tie.Need-word-at-requires
-word-at-requires c κs = omega (arith, words_length c.before.args.desk.now)
+word-at-requires : tie.Need-word_at-requires
+word-at-requires c κs = omega (arith, words_length c.args.desk.now)
 
 returns : tie.Need-returns
 unfolding desk_in
 returns c = c.word_at.ensures
 
-pub streams-in-spec : {M : Type 1} → statement M
-streams-in-spec = tie.close (tie.spec word-at-requires returns)
+pub streams_in_spec : {M : Type 1} → statement M
+streams_in_spec = tie.close (tie.spec word-at-requires returns)

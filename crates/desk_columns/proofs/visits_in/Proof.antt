@@ -6,7 +6,7 @@ use Rattle.desk_columns.proofs.visits_in.Statement.{statement}
 use Rattle.desk_columns.proofs.visits_in.Tie as tie
 
 returns : tie.Need-returns
-returns c = c.visits-of.ensures ∙ ap (λ w. visits_of (showing_of w)) c.before.showing-in.ensures
+returns c = c.visits_of.ensures ∙ ap (λ w. visits_of (showing_of w)) c.showing_in.ensures
 
-pub visits-in-spec : {M : Type 1} → statement M
-visits-in-spec = tie.close (tie.spec (λ c κs. search rules) (λ c κs. search rules) returns)
+pub visits_in_spec : {M : Type 1} → statement M
+visits_in_spec = tie.close (tie.spec (λ c κs. search rules) (λ c κs. search rules) returns)

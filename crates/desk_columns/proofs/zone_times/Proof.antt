@@ -4,12 +4,12 @@ use Rattle.desk_layout.specs.Layout.{desk_in}
 use Rattle.desk_columns.proofs.zone_times.Statement.{statement}
 use Rattle.desk_columns.proofs.zone_times.Tie as tie
 
-read-64-requires : tie.Need-read-64-requires
-read-64-requires c κs = omega (arith, words_length c.before.args.desk.now)
+read-64-requires : tie.Need-read_64-requires
+read-64-requires c κs = omega (arith, words_length c.args.desk.now)
 
 returns : tie.Need-returns
 unfolding desk_in
-returns c = c.read-64.ensures
+returns c = c.read_64.ensures
 
-pub zone-times-spec : {M : Type 1} → statement M
-zone-times-spec = tie.close (tie.spec read-64-requires returns)
+pub zone_times_spec : {M : Type 1} → statement M
+zone_times_spec = tie.close (tie.spec read-64-requires returns)

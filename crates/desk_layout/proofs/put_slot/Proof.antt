@@ -25,16 +25,13 @@ write-words-requires-2 c κs = search rules
 add-write-words-3 : tie.Need-overflow_add-i-3
 add-write-words-3 c = search rules
 
-slice-aggregate-write-words-3 : tie.Need-slice_bounds-write_words-end-4
-slice-aggregate-write-words-3 c = search rules
-
 write-words-requires-3 : tie.Need-write_words-requires-3
 write-words-requires-3 c κs = search rules
 
 add-write-words-4 : tie.Need-overflow_add-i-4
 add-write-words-4 c = search rules
 
-slice-aggregate-write-words-4 : tie.Need-slice-aggregate-write-words-4
+slice-aggregate-write-words-4 : tie.Need-slice_bounds-write_words-end-4
 slice-aggregate-write-words-4 c = search rules
 
 write-words-requires-4 : tie.Need-write_words-requires-4
@@ -57,7 +54,6 @@ put_slot_spec =
     slice-aggregate-write-words-2
     write-words-requires-2
     add-write-words-3
-    slice-aggregate-write-words-3
     write-words-requires-3
     add-write-words-4
     slice-aggregate-write-words-4

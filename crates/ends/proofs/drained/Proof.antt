@@ -4,14 +4,14 @@ use borrow.Author.Rules.{rules}
 use Rattle.ends.proofs.drained.Statement.{statement}
 use Rattle.ends.proofs.drained.Tie as tie
 
-returns : tie.Need-returns
-returns c = λ p z. let a = c.before.before in drained_empty p a.args.slot a.args.draw z a.requires.0 (omega arith)
+returns : tie.Need-returns-then-slot-draw
+returns c = λ p z. let a = c in drained_empty p a.args.slot a.args.draw z a.requires.0 (omega arith)
 
-sub-t4 : tie.Need-overflow-sub-t4
+sub-t4 : tie.Need-overflow_sub-result
 sub-t4 c = search rules
 
-returns-2 : tie.Need-returns-2
-returns-2 c = λ p z. let a = c.before.before.before in drained_on p a.args.slot a.args.draw a.requires.0 (omega arith)
+returns-2 : tie.Need-returns
+returns-2 c = λ p z. let a = c in drained_on p a.args.slot a.args.draw a.requires.0 (omega arith)
 
-pub drained-spec : {M : Type 1} → statement M
-drained-spec = tie.close (tie.spec returns sub-t4 returns-2)
+pub drained_spec : {M : Type 1} → statement M
+drained_spec = tie.close (tie.spec returns sub-t4 returns-2)

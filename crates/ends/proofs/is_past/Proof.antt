@@ -5,5 +5,5 @@ use Rattle.ends.proofs.is_past.Tie as tie
 returns : tie.Need-returns
 returns c = refl
 
-pub is-past-spec : {M : Type 1} → statement M
-is-past-spec = tie.close (tie.spec returns)
+pub is_past_spec : {M : Type 1} → statement M
+is_past_spec = tie.close (tie.spec returns)

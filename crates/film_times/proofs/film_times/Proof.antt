@@ -46,10 +46,10 @@ gathering-next f total blocks times i t h few e low g = record {
       ∙ sym (ap (map (time_on f)) (upto_more a i) ∙ map-append (time_on f) (upto a i) ((a + i) ∷ [])));
 }
 
-abbrev invariant-loop : tie.invariant-loop
+abbrev invariant-loop : tie.invariant-loop-i
 invariant-loop figures total blocks times₀ i₀ times i = Gathering figures total blocks times i
 
-abbrev decreases-loop : tie.decreases-loop
+abbrev decreases-loop : tie.decreases-loop-i
 decreases-loop figures total blocks times₀ i₀ times i = blocks - i
 
 -- the position that is looked at is one of the disk
@@ -57,14 +57,14 @@ on-disk : (f : Figures) → Legal 1 f → f.films ≡ 1 → (t i : ℕ) → t �
     → (length_in f 0 ≤ t) × (t - length_in f 0 + i < total_positions f)
 on-disk f ok alone t i e h = omega (arith, ok.room, single_blocks f alone)
 
-sum-positions-requires : tie.Need-sum-positions-requires invariant-loop decreases-loop
-sum-positions-requires c κs = let s = c.before.before in (legal_zoned s.args.t1 s.requires.0, s.requires.0.zones.1)
+sum-positions-requires : tie.Need-sum_positions-total-requires invariant-loop decreases-loop
+sum-positions-requires c κs = let s = c in (legal_zoned s.args.figures s.requires.0, s.requires.0.zones.1)
 
-loop-holds : tie.Need-loop-init invariant-loop decreases-loop
+loop-holds : tie.Need-loop-i-init invariant-loop decreases-loop
 unfolding upto
-loop-holds c = let s = c.before.before.before.before in
+loop-holds c = let s = c in
     record {
-      all = c.before.sum-positions.ensures ∙ total_zones s.args.t1 s.requires.0;
+      all = c.sum_positions-total.ensures ∙ total_zones s.args.figures s.requires.0;
       own = refl;
       within = omega arith;
       long = refl;
@@ -72,56 +72,56 @@ loop-holds c = let s = c.before.before.before.before in
       taken = refl;
     }
 
-sub-time-at : tie.Need-overflow-sub-time-at invariant-loop decreases-loop
-sub-time-at c = let at = c.before.before.before.before in
-    let l = at.loop in
-    let s = at.before.before.before.before.before in
-    omega (arith, l.invariant.all, s.requires.0.room, single_blocks s.args.t1 s.requires.1)
+sub-time-at : tie.Need-overflow_sub-total invariant-loop decreases-loop
+sub-time-at c = let at = c in
+    let l = at.loop-i in
+    let s = c in
+    omega (arith, l.invariant.all, s.requires.0.room, single_blocks s.args.figures s.requires.1)
 
-add-time-at : tie.Need-overflow-add-time-at invariant-loop decreases-loop
-add-time-at c = let at = c.before.before.before.before in
-    let l = at.loop in
-    let s = at.before.before.before.before.before in
+add-time-at : tie.Need-overflow_add-total invariant-loop decreases-loop
+add-time-at c = let at = c in
+    let l = at.loop-i in
+    let s = c in
     omega (arith, l.invariant.all, s.requires.0.total, s.requires.2, l.invariant.within)
 
-time-at-requires : tie.Need-time-at-requires invariant-loop decreases-loop
-time-at-requires c κs = let at = c.before.before.before.before in
-    let l = at.loop in
-    let s = at.before.before.before.before.before in
-    let f = s.args.t1 in
-    let u = c.before.before.before.loop-test.true in
+time-at-requires : tie.Need-time_at-requires invariant-loop decreases-loop
+time-at-requires c κs = let at = c in
+    let l = at.loop-i in
+    let s = c in
+    let f = s.args.figures in
+    let u = c.loop-i-test.true in
     (legal_zoned f s.requires.0, omega (arith, on-disk f s.requires.0 s.requires.1 _ l.i l.invariant.all u, total_is f s.requires.0))
 
 -- the turn of the loop, and where the function begins
-abbrev turn : tie.After-time-at invariant-loop decreases-loop → tie.At-loop invariant-loop decreases-loop
-turn c = c.before.before.before.before.before
+abbrev turn : tie.After-time_at invariant-loop decreases-loop → tie.At-loop-i invariant-loop decreases-loop
+turn c = c.before.before.before.before
 
-abbrev start : tie.After-time-at invariant-loop decreases-loop → tie.Start invariant-loop decreases-loop
-start c = (turn c).before.before.before.before.before
+abbrev start : tie.After-time_at invariant-loop decreases-loop → tie.Start invariant-loop decreases-loop
+start c = (turn c).before.before.before.before
 
-below : (c : tie.After-time-at invariant-loop decreases-loop) → (turn c).loop.i < length_in (start c).args.t1 0
-below c = omega (arith, c.before.before.before.before.loop-test.true)
+below : (c : tie.After-time_at invariant-loop decreases-loop) → (turn c).loop-i.i < length_in (start c).args.figures 0
+below c = omega (arith, c.loop-i-test.true)
 
-loop-again : tie.Need-loop-preserved invariant-loop decreases-loop
+loop-again : tie.Need-loop-i-preserved invariant-loop decreases-loop
 loop-again c =
-    let l = (turn c).loop in
+    let l = (turn c).loop-i in
     let s = start c in
-    let f = s.args.t1 in
-    let e : c.time-at.result ≡ time_on f (total_positions f - length_in f 0 + l.i) = c.time-at.ensures
-    ∙ ap (λ (p : ℕ). time_on f (p - length_in f 0 + l.i)) l.inv.all in
-    gathering-next f _ (length_in f 0) l.times l.i _ (below c) s.pre.2 e
-    (rw e (time_small f s.pre.0 (total_positions f - length_in f 0 + l.i) (omega (arith, below c, s.pre.0.room, single_blocks f s.pre.1)))) l.inv
+    let f = s.args.figures in
+    let e : c.time_at.result ≡ time_on f (total_positions f - length_in f 0 + l.i) = c.time_at.ensures
+    ∙ ap (λ (p : ℕ). time_on f (p - length_in f 0 + l.i)) l.invariant.all in
+    gathering-next f _ (length_in f 0) l.times l.i _ (below c) s.requires.2 e
+    (rw e (time_small f s.requires.0 (total_positions f - length_in f 0 + l.i) (omega (arith, below c, s.requires.0.room, single_blocks f s.requires.1)))) l.invariant
 
 returns : tie.Need-returns invariant-loop decreases-loop
 unfolding film_positions
 returns c =
-    let l = c.before.loop in
-    let f = c.before.before.before.before.before.before.args.t1 in
-    let e : l.i ≡ length_in f 0 = omega (arith, l.invariant.within, c.loop-test.false) in
+    let l = c.loop-i in
+    let f = c.args.figures in
+    let e : l.i ≡ length_in f 0 = omega (arith, l.invariant.within, c.loop-i-test.false) in
     (rw e at l.invariant.taken, l.invariant.small)
 
-pub film-times-spec : {M : Type 1} → statement M
-film-times-spec =
+pub film_times_spec : {M : Type 1} → statement M
+film_times_spec =
     tie.close
     (tie.spec
     invariant-loop

@@ -13,28 +13,28 @@ use Rattle.floor.specs.Sources.{Sourced, lead_from}
 use Rattle.floor.proofs.next_lead.Statement.{statement}
 use Rattle.floor.proofs.next_lead.Tie as tie
 
-abbrev start : tie.After-next-in → tie.Start
+abbrev start : tie.After-next_in → tie.Start
 start c = c.before.before.before.before.before
 
 abbrev given : tie.Start → Desk
 given s = desk_in (words_of s.args.desk.now)
 
 -- the number through the lists
-entry-is : (c : tie.After-entry-of) → (let s = start c.before in
-    c.entry_of.result ≡ listed_at (given s).plan.figures (get_or (given s).next s.args.slot 0))
+entry-is : (c : tie.After-entry_of-number) → (let s = start c.before in
+    c.entry_of-number.result ≡ listed_at (given s).plan.figures (get_or (given s).next s.args.slot 0))
 entry-is c =
-    let n = c.before in
-    let s = start n in
-    c.entry_of.ensures ∙ ap (entry_of s.args.starts.now) n.next-in.ensures ∙ entry_listed _ _ s.pre.2 _ s.pre.3.film
+    let n = c in
+    let s = start c.before in
+    c.entry_of-number.ensures ∙ ap (entry_of s.args.starts.now) n.next_in.ensures ∙ entry_listed _ _ s.requires.2 _ s.requires.3.film
 
-entry-of-requires : tie.Need-entry-of-requires
+entry-of-requires : tie.Need-entry_of-number-requires
 entry-of-requires c κs = let s = start c in
-    subst (HasStart s.args.starts.now) (sym c.next-in.ensures) (has_start _ _ s.pre.3.shelved s.pre.2 _ s.pre.3.film)
+    subst (HasStart s.args.starts.now) (sym c.next_in.ensures) (has_start _ _ s.requires.3.shelved s.requires.2 _ s.requires.3.film)
 
-lead-from-requires : tie.Need-lead-from-requires
+lead-from-requires : tie.Need-lead_from-requires
 lead-from-requires c κs = let s = start c.before in
     let a = s.args in
-    subst (Sourced a.listed a.sizes.now a.times.now a.positions.now a.leads.now) (sym (entry-is c)) s.pre.3.here
+    subst (Sourced a.listed a.sizes.now a.times.now a.positions.now a.leads.now) (sym (entry-is c)) s.requires.3.here
 
 -- the lead of a block, of numbers that are equal
 lead-same : (listed : Bool) (sizes times ps ls : List ℕ) {v w x y : ℕ} → v ≡ w → x ≡ y
@@ -43,11 +43,11 @@ lead-same listed sizes times ps ls e q = rw (e, q)
 
 returns : tie.Need-returns
 returns c =
-    let e = c.before in
-    let n = e.before in
-    let a = (start n).args in
-    c.lead-from.ensures
-    ∙ lead-same a.listed a.sizes.now a.times.now a.positions.now a.leads.now n.before.worst2-in.ensures (entry-is e)
+    let e = c in
+    let n = c in
+    let a = (start c.before.before).args in
+    c.lead_from.ensures
+    ∙ lead-same a.listed a.sizes.now a.times.now a.positions.now a.leads.now n.worst2_in-worst2.ensures (entry-is c.before)
 
-pub next-lead-spec : {M : Type 1} → statement M
-next-lead-spec = tie.close (tie.spec (λ c κs. search rules) (λ c κs. search rules) entry-of-requires lead-from-requires returns)
+pub next_lead_spec : {M : Type 1} → statement M
+next_lead_spec = tie.close (tie.spec (λ c κs. search rules) (λ c κs. search rules) entry-of-requires lead-from-requires returns)

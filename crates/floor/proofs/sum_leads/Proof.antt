@@ -15,96 +15,96 @@ use Rattle.floor.proofs.Summing.{Summed, Adds, summed_none, added_small, summed_
 use Rattle.floor.proofs.sum_leads.Statement.{statement}
 use Rattle.floor.proofs.sum_leads.Tie as tie
 
-abbrev invariant-loop : tie.invariant-loop
+abbrev invariant-loop : tie.invariant-loop-i
 invariant-loop desk streams sizes times positions leads listed worst2 starts sum₀ i₀ sum i = (let d = desk_in (words_of desk) in
     Summed (leads_next listed d sizes times positions leads) d.kinds d.next streams sum i)
 
-abbrev decreases-loop : tie.decreases-loop
+abbrev decreases-loop : tie.decreases-loop-i
 decreases-loop desk streams sizes times positions leads listed worst2 starts sum₀ i₀ sum i = streams - i
 
 -- ---- the places, each from a later one
 
-abbrev turn : tie.After-entry-of invariant-loop decreases-loop → tie.In-loop invariant-loop decreases-loop
+abbrev turn : tie.After-entry_of-number invariant-loop decreases-loop → tie.In-loop-i invariant-loop decreases-loop
 turn c = c.before.before.before.before
 
-abbrev start : tie.At-loop invariant-loop decreases-loop → tie.Start invariant-loop decreases-loop
+abbrev start : tie.At-loop-i invariant-loop decreases-loop → tie.Start invariant-loop decreases-loop
 start l = l.before.before.before.before.before.before
 
-abbrev given : tie.At-loop invariant-loop decreases-loop → Desk
+abbrev given : tie.At-loop-i invariant-loop decreases-loop → Desk
 given l = desk_in (words_of (start l).args.desk.now)
 
 -- the leads of the slots
-abbrev lead : tie.At-loop invariant-loop decreases-loop → ℕ → ℕ
+abbrev lead : tie.At-loop-i invariant-loop decreases-loop → ℕ → ℕ
 lead l = let a = (start l).args in leads_next a.listed (given l) a.sizes.now a.times.now a.positions.now a.leads.now
 
 -- the number through the lists of slot i's next block
-entry-is : (c : tie.After-entry-of invariant-loop decreases-loop) → (let l = (turn c).before in
-    c.entry_of.result ≡ listed_at (given l).plan.figures (get_or (given l).next l.loop.i 0))
+entry-is : (c : tie.After-entry_of-number invariant-loop decreases-loop) → (let l = (turn c).before in
+    c.entry_of-number.result ≡ listed_at (given l).plan.figures (get_or (given l).next l.loop-i.i 0))
 entry-is c =
     let t = turn c in
     let l = t.before in
-    c.entry_of.ensures ∙ ap (entry_of l.before.film-starts.result) c.before.next-in.ensures
-    ∙ entry_listed _ _ l.before.film-starts.ensures _ ((start l).pre.2.films l.loop.i t.loop-test.taken)
+    c.entry_of-number.ensures ∙ ap (entry_of l.film_starts-starts.result) c.next_in.ensures
+    ∙ entry_listed _ _ l.film_starts-starts.ensures _ ((start l).requires.2.films l.loop-i.i t.loop-i-test.true)
 
 -- ---- the needs
 
-worst2-in-requires : tie.Need-worst2-in-requires invariant-loop decreases-loop
-worst2-in-requires c κs = c.before.before.before.requires.1
+worst2-in-requires : tie.Need-worst2_in-worst2-requires invariant-loop decreases-loop
+worst2-in-requires c κs = c.requires.1
 
-film-starts-requires : tie.Need-film-starts-requires invariant-loop decreases-loop
-film-starts-requires c κs = let s = c.before.before.before.before in (s.requires.1, s.requires.2.shelved)
+film-starts-requires : tie.Need-film_starts-starts-requires invariant-loop decreases-loop
+film-starts-requires c κs = let s = c in (s.requires.1, s.requires.2.shelved)
 
-loop-holds : tie.Need-loop-init invariant-loop decreases-loop
+loop-holds : tie.Need-loop-i-init invariant-loop decreases-loop
 loop-holds c = summed_none _ _ _ _
 
-entry-of-requires : tie.Need-entry-of-requires invariant-loop decreases-loop
+entry-of-requires : tie.Need-entry_of-number-requires invariant-loop decreases-loop
 entry-of-requires c κs =
-    let t = c.before.before.before in
-    let z = t.before.before.film-starts in
-    let f = (start t.before).pre.2 in
-    subst (HasStart z.result) (sym c.next-in.ensures)
-    (has_start _ _ f.shelved z.ensures _ (f.films t.before.loop.i t.loop-test.true))
+    let t = c in
+    let z = t.film_starts-starts in
+    let f = (start c.before.before.before.before).requires.2 in
+    subst (HasStart z.result) (sym c.next_in.ensures)
+    (has_start _ _ f.shelved z.ensures _ (f.films t.loop-i.i t.loop-i-test.true))
 
-added-lead-requires : tie.Need-added-lead-requires invariant-loop decreases-loop
+added-lead-requires : tie.Need-added_lead-sum-requires invariant-loop decreases-loop
 added-lead-requires c κs =
     let t = turn c in
-    let here = (start t.before).pre.2.here t.before.loop.i t.loop-test.taken in
-    rw (c.before.before.before.kind-in.ensures, entry-is c) (λ a b. here (omega arith) b)
+    let here = (start t.before).requires.2.here t.loop-i.i t.loop-i-test.true in
+    rw (c.kind_in-kind.ensures, entry-is c) (λ a b. here (omega arith) b)
 
 -- what slot i adds, said of the desk
-adds : (c : tie.After-added-lead invariant-loop decreases-loop) → (let l = (turn c.before).before in
-    Adds (get_or (given l).kinds l.loop.i 0) (lead l l.loop.i) c.added-lead.result)
-adds c = let e = c.added-lead.ensures in
-    let n = c.before in
-    rw (sym n.before.before.before.kind-in.ensures, sym (entry-is n), sym (turn n).before.before.before.worst2-in.ensures)
+adds : (c : tie.After-added_lead-sum invariant-loop decreases-loop) → (let l = (turn c.before).before in
+    Adds (get_or (given l).kinds l.loop-i.i 0) (lead l l.loop-i.i) c.added_lead-sum.result)
+adds c = let e = c.added_lead-sum.ensures in
+    let n = c in
+    rw (sym n.kind_in-kind.ensures, sym (entry-is c.before), sym (turn c.before).worst2_in-worst2.ensures)
     (record { block = e.0; none = e.1 })
 
-add-sum : tie.Need-overflow-add-sum invariant-loop decreases-loop
+add-sum : tie.Need-overflow_add-sum invariant-loop decreases-loop
 add-sum c =
     let t = turn c.before in
-    let l = t.before.loop in
-    let p = (start t.before).pre in
+    let l = t.loop-i in
+    let p = (start t.before).requires in
     let d = given t.before in
-    let small : c.added-lead.result ≤ most_lead =
-    added_small (lead t.before) d.kinds d.next _ p.2.small l.i _ t.loop-test.taken (adds c)
+    let small : c.added_lead-sum.result ≤ most_lead =
+    added_small (lead t.before) d.kinds d.next _ p.2.small l.i _ t.loop-i-test.true (adds c)
     in
-    omega (arith, small, l.inv.most, l.inv.few, p.0)
+    omega (arith, small, l.invariant.most, l.invariant.few, p.0)
 
-loop-again : tie.Need-loop-preserved invariant-loop decreases-loop
+loop-again : tie.Need-loop-i-preserved invariant-loop decreases-loop
 loop-again c =
     let t = turn c.before in
-    let l = t.before.loop in
-    let p = (start t.before).pre in
+    let l = t.loop-i in
+    let p = (start t.before).requires in
     let d = given t.before in
-    summed_next (lead t.before) d.kinds d.next _ p.2.small l.i _ t.loop-test.taken (adds c) l.sum l.inv
-    (omega (arith, t.loop-test.taken, p.0))
+    summed_next (lead t.before) d.kinds d.next _ p.2.small l.i _ t.loop-i-test.true (adds c) l.sum l.invariant
+    (omega (arith, t.loop-i-test.true, p.0))
 
 returns : tie.Need-returns invariant-loop decreases-loop
-returns c = let l = c.before.loop in
-    summed_end _ _ _ _ l.sum l.i l.invariant (omega (arith, c.loop-test.false, l.invariant.few)) (start c.before).pre.0
+returns c = let l = c.loop-i in
+    summed_end _ _ _ _ l.sum l.i l.invariant (omega (arith, c.loop-i-test.false, l.invariant.few)) (start c.before).requires.0
 
-pub sum-leads-spec : {M : Type 1} → statement M
-sum-leads-spec =
+pub sum_leads_spec : {M : Type 1} → statement M
+sum_leads_spec =
     tie.close
     (tie.spec
     invariant-loop

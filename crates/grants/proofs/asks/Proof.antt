@@ -5,11 +5,11 @@ use Rattle.laws.specs.Bools.{bit}
 use Rattle.grants.proofs.asks.Statement.{statement}
 use Rattle.grants.proofs.asks.Tie as tie
 
-returns : tie.Need-returns
-returns c = sym (ap bit (lt-ltb 0 _ c.if1.true))
+returns : tie.Need-returns-then-place-gt0
+returns c = sym (ap bit (lt-ltb 0 _ c.if-place-gt0.true))
 
-returns-2 : tie.Need-returns-2
-returns-2 c = sym (ap bit (le-ltb 0 c.before.args.place (omega arith)))
+returns-2 : tie.Need-returns
+returns-2 c = sym (ap bit (le-ltb 0 c.args.place (omega arith)))
 
-pub asks-spec : {M : Type 1} → statement M
-asks-spec = tie.close (tie.spec returns returns-2)
+pub asks_spec : {M : Type 1} → statement M
+asks_spec = tie.close (tie.spec returns returns-2)

@@ -13,20 +13,20 @@ use Rattle.grants.proofs.drop_places.Tie as tie
 abbrev droppedTo : ℕ → ℕ → List ℕ → List ℕ
 droppedTo g i qs = map_to (λ j x. x - g) 0 i qs
 
-abbrev invariant-loop : tie.invariant-loop
+abbrev invariant-loop : tie.invariant-loop-i
 invariant-loop places₀ streams granted i₀ places i = (i ≤ streams) × (places ≡ droppedTo granted i places₀)
 
-abbrev decreases-loop : tie.decreases-loop
+abbrev decreases-loop : tie.decreases-loop-i
 decreases-loop places₀ streams granted i₀ places i = streams - i
 
-loop-holds : tie.Need-loop-init invariant-loop decreases-loop
+loop-holds : tie.Need-loop-i-init invariant-loop decreases-loop
 loop-holds c = (omega arith, sym (map_to_none _ 0 _))
 
-loop-again : tie.Need-loop-preserved invariant-loop decreases-loop
+loop-again : tie.Need-loop-i-preserved invariant-loop decreases-loop
 loop-again c =
-    let t = c.before.before in
-    let l = t.before.loop in
-    let s = t.before.before in
+    let t = c in
+    let l = t.loop-i in
+    let s = c in
     let g = s.args.granted in (
       omega arith,
       ap (λ (v : ℕ). set l.places l.i v) c.dropped.ensures
@@ -36,16 +36,16 @@ loop-again c =
 
 returns : tie.Need-returns invariant-loop decreases-loop
 returns c =
-    let l = c.before.loop in
-    let s = c.before.before in
+    let l = c.loop-i in
+    let s = c in
     let g = s.args.granted in
     l.invariant.1
-    ∙ ap (λ (n : ℕ). droppedTo g n s.args.places.now) (omega (arith, l.invariant.0, c.loop-test.false))
+    ∙ ap (λ (n : ℕ). droppedTo g n s.args.places.now) (omega (arith, l.invariant.0, c.loop-i-test.false))
     ∙ map_to_rest (λ j x. x - g) 0 s.args.streams _ (λ j h u. omega (arith, s.requires.2 j h))
     ∙ map_from_map (λ x. x - g) 0 _
 
-pub drop-places-spec : {M : Type 1} → statement M
-drop-places-spec =
+pub drop_places_spec : {M : Type 1} → statement M
+drop_places_spec =
     tie.close
     (tie.spec
     invariant-loop

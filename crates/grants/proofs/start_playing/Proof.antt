@@ -18,60 +18,60 @@ record Starting (kinds₀ held : List ℕ) (streams mark : ℕ) (kinds : List �
   long : length kinds ≡ 256
   started : (p : Supply ℕ) (xs : List ℕ) → Slots p streams kinds₀ xs held → slots_of p kinds xs held ≡ started_to p mark i (slots_of p kinds₀ xs held)
 
-abbrev invariant-loop : tie.invariant-loop
+abbrev invariant-loop : tie.invariant-loop-i
 invariant-loop kinds₀ held streams mark i₀ kinds i = Starting kinds₀ held streams mark kinds i
 
-abbrev decreases-loop : tie.decreases-loop
+abbrev decreases-loop : tie.decreases-loop-i
 decreases-loop kinds₀ held streams mark i₀ kinds i = streams - i
 
-loop-holds : tie.Need-loop-init invariant-loop decreases-loop
+loop-holds : tie.Need-loop-i-init invariant-loop decreases-loop
 loop-holds c = record { few = omega arith; long = c.requires.1; started = λ p xs w. started_none p _ _ xs _ w _ }
 
-mul-started-kind : tie.Need-overflow-mul-started-kind invariant-loop decreases-loop
+mul-started-kind : tie.Need-offset_bounds-kinds-i invariant-loop decreases-loop
 mul-started-kind c = omega arith
 
-element-copy-out-started-kind : tie.Need-element-copy-out-started-kind invariant-loop decreases-loop
+element-copy-out-started-kind : tie.Need-bounds-kinds-i invariant-loop decreases-loop
 element-copy-out-started-kind c = omega arith
 
-mul-started-kind-2 : tie.Need-overflow-mul-started-kind-2 invariant-loop decreases-loop
+mul-started-kind-2 : tie.Need-offset_bounds-held-i invariant-loop decreases-loop
 mul-started-kind-2 c = omega arith
 
-element-copy-out-started-kind-2 : tie.Need-element-copy-out-started-kind-2 invariant-loop decreases-loop
+element-copy-out-started-kind-2 : tie.Need-bounds-held-i invariant-loop decreases-loop
 element-copy-out-started-kind-2 c = omega arith
 
-started-kind-requires : tie.Need-started-kind-requires invariant-loop decreases-loop
+started-kind-requires : tie.Need-started_kind-requires invariant-loop decreases-loop
 started-kind-requires c κs = search rules
 
-mul-kinds : tie.Need-overflow-mul-kinds invariant-loop decreases-loop
+mul-kinds : tie.Need-offset_bounds-kinds-i-in-loop-i invariant-loop decreases-loop
 mul-kinds c = omega arith
 
-element-write-kinds : tie.Need-element-write-kinds invariant-loop decreases-loop
+element-write-kinds : tie.Need-bounds-kinds-i-in-loop-i invariant-loop decreases-loop
 element-write-kinds c = omega arith
 
-add-i : tie.Need-overflow-add-i invariant-loop decreases-loop
+add-i : tie.Need-overflow_add-i invariant-loop decreases-loop
 add-i c = omega arith
 
-loop-less : tie.Need-loop-smaller invariant-loop decreases-loop
+loop-less : tie.Need-loop-i-smaller invariant-loop decreases-loop
 loop-less c = omega arith
 
-loop-again : tie.Need-loop-preserved invariant-loop decreases-loop
+loop-again : tie.Need-loop-i-preserved invariant-loop decreases-loop
 loop-again c =
-    let t = c.before.before.before in
-    let l = t.before.loop in
-    let a = t.before.before in
+    let t = c in
+    let l = t.loop-i in
+    let a = c in
     record {
-      few = omega (arith, t.loop-test.true);
+      few = omega (arith, t.loop-i-test.true);
       long = length-set l.kinds l.i _ ∙ l.invariant.long;
-      started = λ p xs w. started_turn p _ _ xs _ w a.args.mark l.i c.started-kind.result l.kinds l.invariant.long (l.invariant.started p xs w)
-          (omega (arith, t.loop-test.true, a.requires.0)) c.started-kind.ensures;
+      started = λ p xs w. started_turn p _ _ xs _ w a.args.mark l.i c.started_kind.result l.kinds l.invariant.long (l.invariant.started p xs w)
+          (omega (arith, t.loop-i-test.true, a.requires.0)) c.started_kind.ensures;
     }
 
 returns : tie.Need-returns invariant-loop decreases-loop
-returns c = let l = c.before.loop in
-    λ p xs w. started_end p _ _ xs _ w _ l.i l.kinds (l.invariant.started p xs w) (omega (arith, c.loop-test.false, l.invariant.few))
+returns c = let l = c.loop-i in
+    λ p xs w. started_end p _ _ xs _ w _ l.i l.kinds (l.invariant.started p xs w) (omega (arith, c.loop-i-test.false, l.invariant.few))
 
-pub start-playing-spec : {M : Type 1} → statement M
-start-playing-spec =
+pub start_playing_spec : {M : Type 1} → statement M
+start_playing_spec =
     tie.close
     (tie.spec
     invariant-loop

@@ -6,5 +6,5 @@ use Rattle.layout.proofs.read_writes_back.Tie as tie
 returns : tie.Need-returns
 returns c = (plan_kept, desk_kept)
 
-pub read-writes-back-spec : {M : Type 1} → statement M
-read-writes-back-spec = tie.close (tie.spec returns)
+pub read_writes_back_spec : {M : Type 1} → statement M
+read_writes_back_spec = tie.close (tie.spec returns)

@@ -7,5 +7,5 @@ returns : tie.Need-returns
 unfolding verdict_answer
 returns c = refl
 
-pub verdict-answer-spec : {M : Type 1} → statement M
-verdict-answer-spec = tie.close (tie.spec returns)
+pub verdict_answer_spec : {M : Type 1} → statement M
+verdict_answer_spec = tie.close (tie.spec returns)

@@ -7,5 +7,5 @@ returns : tie.Need-returns
 unfolding window_answer_of
 returns c = refl
 
-pub window-answer-spec : {M : Type 1} → statement M
-window-answer-spec = tie.close (tie.spec returns)
+pub window_answer_spec : {M : Type 1} → statement M
+window_answer_spec = tie.close (tie.spec returns)

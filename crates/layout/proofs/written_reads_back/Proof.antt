@@ -6,5 +6,5 @@ use Rattle.layout.proofs.written_reads_back.Tie as tie
 returns : tie.Need-returns
 returns c = (plan_written, desk_written)
 
-pub written-reads-back-spec : {M : Type 1} → statement M
-written-reads-back-spec = tie.close (tie.spec returns)
+pub written_reads_back_spec : {M : Type 1} → statement M
+written_reads_back_spec = tie.close (tie.spec returns)

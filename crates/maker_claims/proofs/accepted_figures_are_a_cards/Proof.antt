@@ -5,5 +5,5 @@ use Rattle.maker_claims.proofs.accepted_figures_are_a_cards.Tie as tie
 returns : tie.Need-returns
 returns c = accepted_card_law
 
-pub accepted-figures-are-a-cards-spec : {M : Type 1} → statement M
-accepted-figures-are-a-cards-spec = tie.close (tie.spec returns)
+pub accepted_figures_are_a_cards_spec : {M : Type 1} → statement M
+accepted_figures_are_a_cards_spec = tie.close (tie.spec returns)

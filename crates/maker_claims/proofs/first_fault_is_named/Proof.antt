@@ -5,5 +5,5 @@ use Rattle.maker_claims.proofs.first_fault_is_named.Tie as tie
 returns : tie.Need-returns
 returns c = refused_fault
 
-pub first-fault-is-named-spec : {M : Type 1} → statement M
-first-fault-is-named-spec = tie.close (tie.spec returns)
+pub first_fault_is_named_spec : {M : Type 1} → statement M
+first_fault_is_named_spec = tie.close (tie.spec returns)

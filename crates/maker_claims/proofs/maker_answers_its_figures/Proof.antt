@@ -5,5 +5,5 @@ use Rattle.maker_claims.proofs.maker_answers_its_figures.Tie as tie
 returns : tie.Need-returns
 returns c = listing_answered
 
-pub maker-answers-its-figures-spec : {M : Type 1} → statement M
-maker-answers-its-figures-spec = tie.close (tie.spec returns)
+pub maker_answers_its_figures_spec : {M : Type 1} → statement M
+maker_answers_its_figures_spec = tie.close (tie.spec returns)

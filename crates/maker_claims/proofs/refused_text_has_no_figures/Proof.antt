@@ -5,5 +5,5 @@ use Rattle.maker_claims.proofs.refused_text_has_no_figures.Tie as tie
 returns : tie.Need-returns
 returns c = refused_blank
 
-pub refused-text-has-no-figures-spec : {M : Type 1} → statement M
-refused-text-has-no-figures-spec = tie.close (tie.spec returns)
+pub refused_text_has_no_figures_spec : {M : Type 1} → statement M
+refused_text_has_no_figures_spec = tie.close (tie.spec returns)

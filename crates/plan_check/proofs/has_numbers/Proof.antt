@@ -22,36 +22,36 @@ wide : (c : tie.Start) → Wide (given c).figures
 wide c = (c.requires.0, c.requires.1, search rules, c.requires.2)
 
 -- the judge's number, for blocks of as many positions as the plan's showing has
-judged : (c : tie.After-fault-of-figures)
-    → (let p = given c.before.before in c.fault-of-figures.result ≡ record_fault (visits_of (showing_in p)) p.figures)
+judged : (c : tie.After-fault_of_figures)
+    → (let p = given c.before.before in c.fault_of_figures.result ≡ record_fault (visits_of (showing_in p)) p.figures)
 judged c = let p = given c.before.before in
-    c.fault-of-figures.ensures ∙ ap (λ (k : ℕ). record_fault k p.figures) c.before.visits-of.ensures
+    c.fault_of_figures.ensures ∙ ap (λ (k : ℕ). record_fault k p.figures) c.visits_of-visits.ensures
 
 -- past the judge
-clear : (c : tie.Else1) → (let p = given c.before.before.before in record_fault (visits_of (showing_in p)) p.figures ≡ 0)
-clear c = sym (judged c.before) ∙ c.if1.false
+clear : (c : tie.Else-fault_of_figures-ne-ACCEPTED) → (let p = given c.before.before.before in record_fault (visits_of (showing_in p)) p.figures ≡ 0)
+clear c = sym (judged c.before) ∙ c.if-fault_of_figures-ne-ACCEPTED.false
 
-fault-of-figures-requires : tie.Need-fault-of-figures-requires
-fault-of-figures-requires c κs = c.before.requires
+fault-of-figures-requires : tie.Need-fault_of_figures-requires
+fault-of-figures-requires c κs = c.requires
 
-returns : tie.Need-returns
-returns c = not_legal (given c.before.before.before) (λ e. c.if1.true (judged c.before ∙ e))
+returns : tie.Need-returns-then-fault_of_figures-ne-ACCEPTED
+returns c = not_legal (given c.before.before.before) (λ e. c.if-fault_of_figures-ne-ACCEPTED.true (judged c.before ∙ e))
 
-plan-numbers-requires : tie.Need-plan-numbers-requires
-plan-numbers-requires c κs = let s = c.before.before.before in fault_legal (visits_of (showing_in (given s))) (given s).figures (wide s) (clear c)
+plan-numbers-requires : tie.Need-plan_numbers-own-requires
+plan-numbers-requires c κs = let s = c in fault_legal (visits_of (showing_in (given c.before.before.before))) (given c.before.before.before).figures (wide c.before.before.before) (clear c)
 
-returns-2 : tie.Need-returns-2
-returns-2 c = let o = c.before.before.before in
-    let e = o.before in
-    let p = given e.before.before.before in
-    let own = o.plan-numbers.ensures in
+returns-2 : tie.Need-returns
+returns-2 c = let o = c in
+    let e = c in
+    let p = given c.before.before.before.before.before.before.before in
+    let own = o.plan_numbers-own.ensures in
     c.both.ensures
     ∙ ap₂ (λ (n : ℕ) (t : Bool). ltb 0 n && t) (plan_streams (showing_in p) p.figures _ own)
-    (c.before.same_numbers.ensures p.figures ∙ ap (λ (q : Plan). same_numbers p q) own)
-    ∙ numbers_decide p (clear e)
+    (c.same_numbers.ensures p.figures ∙ ap (λ (q : Plan). same_numbers p q) own)
+    ∙ numbers_decide p (clear c.before.before.before.before)
 
-pub has-numbers-spec : {M : Type 1} → statement M
-has-numbers-spec =
+pub has_numbers_spec : {M : Type 1} → statement M
+has_numbers_spec =
     tie.close
     (tie.spec
     (λ c κs. search rules)

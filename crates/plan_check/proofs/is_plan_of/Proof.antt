@@ -11,14 +11,14 @@ use Rattle.plan_check.proofs.is_plan_of.Tie as tie
 wide : (c : tie.Start) → (let a = c.args in Wide (figures_from a.figures a.sizes.now a.times.now a.table.now))
 wide c = (c.requires.0, c.requires.1, search rules, c.requires.2)
 
-is-plan-with-requires : tie.Need-is-plan-with-requires
-is-plan-with-requires c κs = c.before.before.requires
+is-plan-with-requires : tie.Need-is_plan_with-requires
+is-plan-with-requires c κs = c.requires
 
 returns : tie.Need-returns
-returns c = let s = c.before.before.before in
+returns c = let s = c in
     let a = s.args in
-    c.is-plan-with.ensures
-    ∙ checked_by (lent_plan a.figures a.sizes.now a.times.now a.table.now a.plan) (wide s) a.listed a.positions.now a.leads.now
+    c.is_plan_with.ensures
+    ∙ checked_by (lent_plan a.figures a.sizes.now a.times.now a.table.now a.plan) (wide c.before.before.before) a.listed a.positions.now a.leads.now
 
-pub is-plan-of-spec : {M : Type 1} → statement M
-is-plan-of-spec = tie.close (tie.spec is-plan-with-requires returns)
+pub is_plan_of_spec : {M : Type 1} → statement M
+is_plan_of_spec = tie.close (tie.spec is-plan-with-requires returns)

@@ -2,11 +2,11 @@ use mathlib.Core.Path.{refl}
 use Rattle.plan_legal.proofs.entries_asked.Statement.{statement}
 use Rattle.plan_legal.proofs.entries_asked.Tie as tie
 
-returns : tie.Need-returns
-returns c = rw c.if1.true refl
+returns : tie.Need-returns-then-listed
+returns c = rw c.if-listed.true refl
 
-returns-2 : tie.Need-returns-2
-returns-2 c = rw c.if1.false refl
+returns-2 : tie.Need-returns
+returns-2 c = rw c.if-listed.false refl
 
-pub entries-asked-spec : {M : Type 1} → statement M
-entries-asked-spec = tie.close (tie.spec returns returns-2)
+pub entries_asked_spec : {M : Type 1} → statement M
+entries_asked_spec = tie.close (tie.spec returns returns-2)

@@ -9,26 +9,26 @@ use borrow.Author.Rules.{rules}
 use Rattle.plan_legal.proofs.lists_short.Statement.{statement}
 use Rattle.plan_legal.proofs.lists_short.Tie as tie
 
-returns : tie.Need-returns
+returns : tie.Need-returns-then-entries-visits
 returns c =
-    let a = c.before.before.before.before.args in
-    let e = c.before.entries.ensures in
-    rw (lt-ltb (length (words_of a.positions.now)) (a.visits * a.blocks) (omega (arith, c.if1.true)))
+    let a = c.args in
+    let e = c.entries.ensures in
+    rw (lt-ltb (length (words_of a.positions.now)) (a.visits * a.blocks) (omega (arith, c.if-entries-visits.true)))
 
-returns-2 : tie.Need-returns-2
+returns-2 : tie.Need-returns
 returns-2 c =
-    let l = c.before.before in
-    let a = l.before.before.before.before.args in
-    let e = l.before.entries.ensures in
-    rw (le-ltb (length (words_of a.positions.now)) (a.visits * a.blocks) (omega (arith, l.if1.false)))
-    (ap₂ ltb c.before.entries2.ensures c.entries-asked.ensures)
+    let l = c in
+    let a = l.args in
+    let e = l.entries.ensures in
+    rw (le-ltb (length (words_of a.positions.now)) (a.visits * a.blocks) (omega (arith, l.if-entries-visits.false)))
+    (ap₂ ltb c.entries-2.ensures c.entries_asked.ensures)
 
-pub lists-short-spec : {M : Type 1} → statement M
-lists-short-spec =
+pub lists_short_spec : {M : Type 1} → statement M
+lists_short_spec =
     tie.close
     (tie.spec
     (λ c κs. search rules)
-    (λ c. let p = c.before.before.before.requires in omega arith)
+    (λ c. let p = c.requires in omega arith)
     (λ c. omega arith)
     returns
     (λ c κs. search rules)

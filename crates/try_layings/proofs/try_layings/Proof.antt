@@ -26,66 +26,66 @@ record Trying (showing blocks : ℕ) (times : List ℕ) (total : ℕ) (found : S
   within : number ≤ total
   best : Best (take number (tries showing blocks times)) found.least found.count
 
-abbrev invariant-loop : tie.invariant-loop
+abbrev invariant-loop : tie.invariant-loop-number
 invariant-loop times blocks showing total found₀ number₀ found number = Trying showing blocks times total found number
 
-abbrev decreases-loop : tie.decreases-loop
+abbrev decreases-loop : tie.decreases-loop-number
 decreases-loop times blocks showing total found₀ number₀ found number = total - number
 
-loop-holds : tie.Need-loop-init invariant-loop decreases-loop
-loop-holds c = record { all = c.factorial.ensures; within = omega arith; best = best_none }
+loop-holds : tie.Need-loop-number-init invariant-loop decreases-loop
+loop-holds c = record { all = c.factorial-total.ensures; within = omega arith; best = best_none }
 
 -- one more order is there
-more : (c : tie.In-loop invariant-loop decreases-loop) → (c.before.loop.number < factorial c.before.before.before.args.blocks) × (c.before.loop.number < 40320)
+more : (c : tie.In-loop-number invariant-loop decreases-loop) → (c.loop-number.number < factorial c.args.blocks) × (c.loop-number.number < 40320)
 more c =
-    let l = c.before.loop in
-    let s = c.before.before.before in
-    let h : l.number < factorial s.args.blocks = omega (arith, c.loop-test.true, l.invariant.all) in
+    let l = c.loop-number in
+    let s = c in
+    let h : l.number < factorial s.args.blocks = omega (arith, c.loop-number-test.true, l.invariant.all) in
     (h, omega (arith, factorial_most s.args.blocks s.requires.1))
 
-order-requires : tie.Need-order-requires invariant-loop decreases-loop
-order-requires c κs = let s = c.before.before.before in (s.requires.1, (more c).0, s.requires.2)
+order-requires : tie.Need-order-row-requires invariant-loop decreases-loop
+order-requires c κs = let s = c in (s.requires.1, (more c).0, s.requires.2)
 
-worst-of-requires : tie.Need-worst-of-requires invariant-loop decreases-loop
-worst-of-requires c κs = let s = c.before.before.before.before in (s.requires.0, s.requires.1, c.order.ensures.1)
+worst-of-requires : tie.Need-worst_of-requires invariant-loop decreases-loop
+worst-of-requires c κs = let s = c in (s.requires.0, s.requires.1, c.order-row.ensures.1)
 
-met-requires : tie.Need-met-requires invariant-loop decreases-loop
+met-requires : tie.Need-met-found-requires invariant-loop decreases-loop
 met-requires c κs =
-    let i = c.before.before in
-    let l = i.before.loop in
-    let a = i.before.before.before.args in
-    (omega (arith, c.worst-of.ensures.1), omega (arith, (more i).1, l.invariant.best.few, length-take l.number (tries a.showing a.blocks a.times)))
+    let i = c in
+    let l = i.loop-number in
+    let a = i.args in
+    (omega (arith, c.worst_of.ensures.1), omega (arith, (more c.before.before).1, l.invariant.best.few, length-take l.number (tries a.showing a.blocks a.times)))
 
-loop-again : tie.Need-loop-preserved invariant-loop decreases-loop
+loop-again : tie.Need-loop-number-preserved invariant-loop decreases-loop
 loop-again c =
-    let w = c.before in
-    let o = w.before in
-    let i = o.before in
-    let l = i.before.loop in
-    let a = i.before.before.before.args in
+    let w = c in
+    let o = c in
+    let i = c in
+    let l = i.loop-number in
+    let a = i.args in
     let ws = tries a.showing a.blocks a.times in
     let x = walk_of a.showing in
-    let e = w.worst-of.ensures.0
-    ∙ tried_at x (walked_single (showing_of a.showing)) a.blocks l.number a.times o.order.result (more i).0 o.order.ensures.0 in
+    let e = w.worst_of.ensures.0
+    ∙ tried_at x (walked_single (showing_of a.showing)) a.blocks l.number a.times o.order-row.result (more c.before.before.before).0 o.order-row.ensures.0 in
     record {
       all = l.invariant.all;
-      within = omega (arith, i.loop-test.true);
-      best = best_next ws l.number w.worst-of.result _ _ (omega (arith, (more i).0, orders_length x a.blocks (take a.blocks a.times))) e
-          (c.met.ensures (take l.number ws) l.invariant.best);
+      within = omega (arith, i.loop-number-test.true);
+      best = best_next ws l.number w.worst_of.result _ _ (omega (arith, (more c.before.before.before).0, orders_length x a.blocks (take a.blocks a.times))) e
+          (c.met-found.ensures (take l.number ws) l.invariant.best);
     }
 
 returns : tie.Need-returns invariant-loop decreases-loop
 returns c =
-    let l = c.before.loop in
-    let a = c.before.before.before.args in
+    let l = c.loop-number in
+    let a = c.args in
     let ws = tries a.showing a.blocks a.times in
     let n = orders_length (walk_of a.showing) a.blocks (take a.blocks a.times) in
-    let b = rw (take_all l.number ws (omega (arith, l.invariant.all, c.loop-test.false))) at l.invariant.best in
+    let b = rw (take_all l.number ws (omega (arith, l.invariant.all, c.loop-number-test.false))) at l.invariant.best in
     let s = b.some (omega (arith, factorial_pos a.blocks)) in
     (s.0, s.1 ∙ ap (λ (w : ℕ). how_many w ws) (sym s.0))
 
-pub try-layings-spec : {M : Type 1} → statement M
-try-layings-spec =
+pub try_layings_spec : {M : Type 1} → statement M
+try_layings_spec =
     tie.close
     (tie.spec
     invariant-loop
@@ -96,6 +96,6 @@ try-layings-spec =
     worst-of-requires
     met-requires
     (λ c. omega (arith, (more c.before.before.before).1))
-    (λ c. omega (arith, c.before.before.before.loop-test.true))
+    (λ c. omega (arith, c.loop-number-test.true))
     loop-again
     returns)

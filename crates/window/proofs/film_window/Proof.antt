@@ -8,19 +8,19 @@ use Rattle.window.specs.WindowLaws.{window_at_few}
 use Rattle.window.proofs.film_window.Statement.{statement}
 use Rattle.window.proofs.film_window.Tie as tie
 
-returns : tie.Need-returns
-returns c = let a = c.before.args in rw (lt-ltb a.blocks a.count c.if1.true) (omega arith)
+returns : tie.Need-returns-then-blocks-count
+returns c = let a = c.args in rw (lt-ltb a.blocks a.count c.if-blocks-count.true) (omega arith)
 
-worst-blocks-requires : tie.Need-worst-blocks-requires
-worst-blocks-requires c κs = let p = c.before.requires in (p.0, p.1, p.2, p.3, c.if1.false)
+worst-blocks-requires : tie.Need-worst_blocks-requires
+worst-blocks-requires c κs = let p = c.requires in (p.0, p.1, p.2, p.3, c.if-blocks-count.false)
 
-returns-2 : tie.Need-returns-2
+returns-2 : tie.Need-returns
 returns-2 c =
-    let s = c.before.before in
+    let s = c in
     let a = s.args in
     let τ = time_at a.sizes.now a.times.now in
-    let w = c.worst-blocks.ensures in
-    rw (le-ltb a.blocks a.count c.before.if1.false) (
+    let w = c.worst_blocks.ensures in
+    rw (le-ltb a.blocks a.count c.if-blocks-count.false) (
       w.0,
       (
         w.1,
@@ -32,5 +32,5 @@ returns-2 c =
       ),
     )
 
-pub film-window-spec : {M : Type 1} → statement M
-film-window-spec = tie.close (tie.spec returns worst-blocks-requires returns-2)
+pub film_window_spec : {M : Type 1} → statement M
+film_window_spec = tie.close (tie.spec returns worst-blocks-requires returns-2)

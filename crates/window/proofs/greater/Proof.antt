@@ -2,11 +2,11 @@ use native.Mathlib.Omega.{arith}
 use Rattle.window.proofs.greater.Statement.{statement}
 use Rattle.window.proofs.greater.Tie as tie
 
-returns : tie.Need-returns
-returns c = omega (arith, c.if1.true)
+returns : tie.Need-returns-then-a-b
+returns c = omega (arith, c.if-a-b.true)
 
-returns-2 : tie.Need-returns-2
-returns-2 c = omega (arith, c.if1.false)
+returns-2 : tie.Need-returns
+returns-2 c = omega (arith, c.if-a-b.false)
 
-pub greater-spec : {M : Type 1} → statement M
-greater-spec = tie.close (tie.spec returns returns-2)
+pub greater_spec : {M : Type 1} → statement M
+greater_spec = tie.close (tie.spec returns returns-2)

@@ -3,17 +3,17 @@ use Rattle.window.specs.Window.{is_outside}
 use Rattle.window.proofs.is_outside.Statement.{statement}
 use Rattle.window.proofs.is_outside.Tie as tie
 
-returns : tie.Need-returns
+returns : tie.Need-returns-then-count-eq0
 unfolding is_outside
-returns c = simp (eq-eqb _ _ c.if1.true)
+returns c = simp (eq-eqb _ _ c.if-count-eq0.true)
 
-returns-2 : tie.Need-returns-2
+returns-2 : tie.Need-returns-then-count-gt-MAX_WINDOW
 unfolding is_outside
-returns-2 c = simp (ne_eqb _ _ c.before.if1.false, lt-ltb _ _ c.if2.true)
+returns-2 c = simp (ne_eqb _ _ c.if-count-eq0.false, lt-ltb _ _ c.if-count-gt-MAX_WINDOW.true)
 
-returns-3 : tie.Need-returns-3
+returns-3 : tie.Need-returns
 unfolding is_outside
-returns-3 c = simp (ne_eqb _ _ c.before.if1.false, le-ltb _ _ c.if2.false)
+returns-3 c = simp (ne_eqb _ _ c.if-count-eq0.false, le-ltb _ _ c.if-count-gt-MAX_WINDOW.false)
 
-pub is-outside-spec : {M : Type 1} → statement M
-is-outside-spec = tie.close (tie.spec returns returns-2 returns-3)
+pub is_outside_spec : {M : Type 1} → statement M
+is_outside_spec = tie.close (tie.spec returns returns-2 returns-3)

@@ -4,11 +4,11 @@ use Rattle.plan.specs.Check.{walks_loop, walks_once}
 use Rattle.window.proofs.last_place.Statement.{statement}
 use Rattle.window.proofs.last_place.Tie as tie
 
-returns : tie.Need-returns
-returns c = rw (walks_loop _ c.if1.true) (omega arith)
+returns : tie.Need-returns-then-showing-eq-LOOP
+returns c = rw (walks_loop _ c.if-showing-eq-LOOP.true) (omega arith)
 
-returns-2 : tie.Need-returns-2
-returns-2 c = rw (walks_once _ c.if1.false) (omega arith)
+returns-2 : tie.Need-returns
+returns-2 c = rw (walks_once _ c.if-showing-eq-LOOP.false) (omega arith)
 
-pub last-place-spec : {M : Type 1} → statement M
-last-place-spec = tie.close (tie.spec (λ c. search rules) returns (λ c. search rules) returns-2)
+pub last_place_spec : {M : Type 1} → statement M
+last_place_spec = tie.close (tie.spec (λ c. search rules) returns (λ c. search rules) returns-2)

@@ -18,73 +18,59 @@ returns c =
 
 -- after the films B is left
 bytes_left : (c : tie.In-Value) (go : ℕ → List ℕ → ℕ → CardRead)
-    → (let first = c.before in
-    let shelf = first.before.before in
-    let a = shelf.args in
-    go first.match.films shelf.read_shelf-first.new.blocks first.in-Value.at1
+    → (let a = c.args in
+    go c.in-Value.films c.read_shelf-first.new.blocks c.in-Value.at1
     ≡ shelf_from a.visits a.card.now a.at a.total go)
 bytes_left c go = card_goes refl _ c.in-Value.is ∙ c.read_shelf-first.ensures go
 
 returns-2 : tie.Need-returns-in_default-second
 unfolding film_from
 returns-2 c =
-    let bytes = c in
     λ ps ts. c.refused_field-in_default-second.ensures ps ts _ _
-    ∙ card_stops bytes.read_field-second.ensures _ _ c.in_default-second.is
-    ∙ bytes_left bytes.before _
+    ∙ card_stops c.read_field-second.ensures _ _ c.in_default-second.is
+    ∙ bytes_left c.before.before.before _
 
 returns-3 : tie.Need-returns-in_default-third
 unfolding film_from
 returns-3 c =
-    let rate = c in
-    let bytes = c in
     λ ps ts. c.refused_field-in_default-third.ensures ps ts _ _
-    ∙ card_stops rate.read_field-third.ensures _ _ c.in_default-third.is
-    ∙ card_goes bytes.read_field-second.ensures _ rate.in-Value-second.is
-    ∙ bytes_left bytes.before _
+    ∙ card_stops c.read_field-third.ensures _ _ c.in_default-third.is
+    ∙ card_goes c.read_field-second.ensures _ c.in-Value-second.is
+    ∙ bytes_left c.before.before.before.before.before _
 
 -- after the films, B and c the overheads are left
 overheads-left : (c : tie.In-Value-third) (go : ℕ → List ℕ → ℕ → ℕ → ℕ → CardRead)
-    → (let third = c.before in
-    let second = third.before.before.before.before in
-    let first = second.before.before.before.before in
-    let shelf = first.before.before in
-    let a = shelf.args in
-    go first.in-Value.films shelf.read_shelf-first.new.blocks second.in-Value-second.bytes third.in-Value-third.rate third.in-Value-third.at3
+    → (let a = c.args in
+    go c.in-Value.films c.read_shelf-first.new.blocks c.in-Value-second.bytes c.in-Value-third.rate c.in-Value-third.at3
     ≡ film_from a.visits a.card.now a.at a.total go)
 unfolding film_from
 overheads-left c go =
-    let rate = c.before.before.before in
-    let bytes = rate.before.before.before.before in
-    card_goes rate.read_field-third.ensures _ c.in-Value-third.is
-    ∙ card_goes bytes.read_field-second.ensures _ rate.in-Value-second.is
-    ∙ bytes_left bytes.before _
+    card_goes c.read_field-third.ensures _ c.in-Value-third.is
+    ∙ card_goes c.read_field-second.ensures _ c.in-Value-second.is
+    ∙ bytes_left c.before.before.before.before _
 
 returns-4 : tie.Need-returns-in_default-last
 returns-4 c =
-    let table = c in
     λ ps ts. c.refused_field-in_default-last.ensures ps ts _ _
     ∙ card_stops refl _ _ c.in_default-last.is
-    ∙ table.read_table-last.ensures _
-    ∙ overheads-left table.before.before _
+    ∙ c.read_table-last.ensures _
+    ∙ overheads-left c.before.before.before.before _
 
 returns-5 : tie.Need-returns-then-end-card
 unfolding told_card
 returns-5 c =
-    let table = c in
     λ ps ts. end_left _ _ _ c.if-end-card.true
     ∙ card_goes refl _ c.in-Value-last.is
-    ∙ table.read_table-last.ensures _
-    ∙ overheads-left table.before.before _
+    ∙ c.read_table-last.ensures _
+    ∙ overheads-left c.before.before.before.before _
 
 returns-6 : tie.Need-returns
 unfolding told_card
 returns-6 c =
-    let table = c in
     λ ps ts. end_none _ _ _ c.if-end-card.false
     ∙ card_goes refl _ c.in-Value-last.is
-    ∙ table.read_table-last.ensures _
-    ∙ overheads-left table.before.before _
+    ∙ c.read_table-last.ensures _
+    ∙ overheads-left c.before.before.before.before _
 
 pub read_film_spec : {M : Type 1} → statement M
 read_film_spec =

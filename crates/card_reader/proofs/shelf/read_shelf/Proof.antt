@@ -30,19 +30,18 @@ lengths_read : (c : tie.After-read_lengths-last) (go : ℕ → List ℕ → ℕ 
 unfolding shelf_from
 lengths_read c go =
     let n = counted c.before in
-    let start = n.before.before.before.before in
-    let a = start.args in
+    let a = n.args in
     let films = n.in-Value.films in
     c.read_lengths-last.ensures (go films)
-    ∙ ap (λ (vs : List ℕ). row_from (blocks_fault a.visits a.total) ◌+◌ films a.card.now n.in-Value.next 0 0 vs (go films)) start.requires
+    ∙ ap (λ (vs : List ℕ). row_from (blocks_fault a.visits a.total) ◌+◌ films a.card.now n.in-Value.next 0 0 vs (go films)) n.requires
     ∙ card_goes n.read_field-first.ensures _ n.in-Value.is
 
 returns-2 : tie.Need-returns-in_default-last
-returns-2 c = λ go. card_stops refl _ _ c.in_default-last.is ∙ lengths_read c.before.before go
+returns-2 c = λ go. card_stops refl _ _ c.in_default-last.is ∙ lengths_read c.before go
 
 returns-3 : tie.Need-returns
 unfolding then_field
-returns-3 c = λ go. card_goes refl _ c.in-Value-last.is ∙ lengths_read c.before.before.before go
+returns-3 c = λ go. card_goes refl _ c.in-Value-last.is ∙ lengths_read c.before go
 
 pub read_shelf_spec : {M : Type 1} → statement M
 read_shelf_spec =

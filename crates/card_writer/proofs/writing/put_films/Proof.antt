@@ -53,7 +53,7 @@ room c = writes_rest (start c).requires.1 (films-left c)
 -- where a film begins, and where what follows them does
 film-left : (c : tie.In-loop-i invariant-loop decreases-loop)
     → (let n = counted c.before in let a = (start n).args in let f = a.figures in let l = c.loop-i in
-    Writes a.write n.put_number-at.last.0 n.put_number-at.result (filmsFrom f f.films 0) l.out l.at
+    Writes a.write n.put_number-at.new.out n.put_number-at.result (filmsFrom f f.films 0) l.out l.at
     (get_or f.blocks l.i 0 ∷ filmsFrom f (f.films - (l.i + 1)) (l.i + 1)))
 film-left c =
     let f = (start (counted c.before)).args.figures in
@@ -62,7 +62,7 @@ film-left c =
 
 measures-left : (c : tie.After-loop-i invariant-loop decreases-loop)
     → (let n = counted c.before in let a = (start n).args in let l = c.loop-i in
-    Writes a.write n.put_number-at.last.0 n.put_number-at.result (filmsFrom a.t1 a.t1.films 0) l.out l.at (measure_numbers a.t1))
+    Writes a.write n.put_number-at.new.out n.put_number-at.result (filmsFrom a.figures a.figures.films 0) l.out l.at (measure_numbers a.figures))
 measures-left c =
     let f = (start (counted c.before)).args.figures in
     let l = c.loop-i in

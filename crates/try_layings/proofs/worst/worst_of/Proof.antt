@@ -25,11 +25,11 @@ taken showing blocks row = pair_time (walk_of showing) (λ (t : ℕ). t) (laid r
 abbrev single : (w : ℕ) → visits_of (walk_of w) ≡ 1
 single w = walked_single (showing_of w)
 
-abbrev invariant-loop : tie.invariant-loop
+abbrev invariant-loop : tie.invariant-loop-b
 invariant-loop blocks showing row count worst₀ b₀ worst b = (count ≡ pairs_of (walk_of showing) blocks) × (b ≤ count)
     × (worst ≡ greatest_of (taken showing blocks row) b) × (worst ≤ 2 * max_time)
 
-abbrev decreases-loop : tie.decreases-loop
+abbrev decreases-loop : tie.decreases-loop-b
 decreases-loop blocks showing row count worst₀ b₀ worst b = count - b
 
 -- where a block is visited once the block after is the one round the film
@@ -42,67 +42,67 @@ greatest-next : (g : ℕ → ℕ) (b : ℕ) → greatest_of g (b + 1) ≡ max (g
 unfolding greatest_of
 greatest-next g b = rw (add-one b)
 
-loop-holds : tie.Need-loop-init invariant-loop decreases-loop
+loop-holds : tie.Need-loop-b-init invariant-loop decreases-loop
 unfolding greatest_of
-loop-holds c = (c.count-pairs.ensures, omega arith, refl, omega arith)
+loop-holds c = (c.count_pairs-pairs.ensures, omega arith, refl, omega arith)
 
 -- both blocks of the pair are the film's
-inside : (c : tie.In-loop invariant-loop decreases-loop) → (let a = c.before.before.before.args in let b = c.before.loop.b in
+inside : (c : tie.In-loop-b invariant-loop decreases-loop) → (let a = c.args in let b = c.loop-b.b in
     (b < pairs_of (walk_of a.showing) a.blocks) × (b < a.blocks) × (round a.blocks b < a.blocks))
 inside c =
-    let l = c.before.loop in
-    let a = c.before.before.before.args in
+    let l = c.loop-b in
+    let a = c.args in
     let x = walk_of a.showing in
-    let h : l.b < pairs_of x a.blocks = omega (arith, l.invariant.0, c.loop-test.true) in
+    let h : l.b < pairs_of x a.blocks = omega (arith, l.invariant.0, c.loop-b-test.true) in
     let p = pair_below x (single a.showing) a.blocks l.b h in
     (h, p.0, omega (arith, p.1, after-round x (single a.showing) a.blocks l.b h))
 
-next-block-requires : tie.Need-next-block-requires invariant-loop decreases-loop
-next-block-requires c κs = ((inside c).1, c.before.before.before.requires.1)
+next-block-requires : tie.Need-next_block-next-requires invariant-loop decreases-loop
+next-block-requires c κs = ((inside c).1, c.requires.1)
 
 -- the block after is below 8, and each time is small
-next_small : (c : tie.After-next-block invariant-loop decreases-loop) → c.next_block.result < 8
-next_small c = omega (arith, c.next_block.ensures, (inside c.before).2, c.before.before.before.before.requires.1)
+next_small : (c : tie.After-next_block-next invariant-loop decreases-loop) → c.next_block-next.result < 8
+next_small c = omega (arith, c.next_block-next.ensures, (inside c.before).2, c.requires.1)
 
-here-small : (c : tie.After-next-block invariant-loop decreases-loop) → c.before.before.loop.b < 8
-here-small c = omega (arith, (inside c.before).1, c.before.before.before.before.requires.1)
+here-small : (c : tie.After-next_block-next invariant-loop decreases-loop) → c.loop-b.b < 8
+here-small c = omega (arith, (inside c.before).1, c.requires.1)
 
-time-small : (c : tie.After-next-block invariant-loop decreases-loop) (i : ℕ) → get_or c.before.before.before.before.args.t1 i 0 ≤ max_time
-time-small c i = let s = c.before.before.before.before in each_at (λ (t : ℕ). t ≤ max_time) s.args.t1 i 0 s.requires.2 (omega arith)
+time-small : (c : tie.After-next_block-next invariant-loop decreases-loop) (i : ℕ) → get_or c.args.row i 0 ≤ max_time
+time-small c i = let s = c in each_at (λ (t : ℕ). t ≤ max_time) s.args.row i 0 s.requires.2 (omega arith)
 
-add-greater : tie.Need-overflow-add-greater invariant-loop decreases-loop
-add-greater c = omega (arith, time-small c c.before.before.loop.b, time-small c c.next_block.result)
+add-greater : tie.Need-overflow_add-row invariant-loop decreases-loop
+add-greater c = omega (arith, time-small c c.loop-b.b, time-small c c.next_block-next.result)
 
-loop-again : tie.Need-loop-preserved invariant-loop decreases-loop
+loop-again : tie.Need-loop-b-preserved invariant-loop decreases-loop
 loop-again c =
-    let n = c.before in
-    let i = n.before in
-    let l = i.before.loop in
-    let a = i.before.before.before.args in
+    let n = c in
+    let i = c in
+    let l = i.loop-b in
+    let a = i.args in
     let x = walk_of a.showing in
-    let g = taken a.showing a.blocks a.t1 in
-    let e : after x a.blocks l.b ≡ n.next_block.result =
-    after-round x (single a.showing) a.blocks l.b (inside i).0 ∙ sym n.next_block.ensures in
-    let q : g l.b ≡ get_or a.t1 l.b 0 + get_or a.t1 n.next_block.result 0 =
-    pair_of_two x (single a.showing) (λ (t : ℕ). t) (laid a.t1) a.blocks l.b ∙ ap (λ (k : ℕ). get_or a.t1 l.b 0 + get_or a.t1 k 0) e in (
+    let g = taken a.showing a.blocks a.row in
+    let e : after x a.blocks l.b ≡ n.next_block-next.result =
+    after-round x (single a.showing) a.blocks l.b (inside c.before.before).0 ∙ sym n.next_block-next.ensures in
+    let q : g l.b ≡ get_or a.row l.b 0 + get_or a.row n.next_block-next.result 0 =
+    pair_of_two x (single a.showing) (λ (t : ℕ). t) (laid a.row) a.blocks l.b ∙ ap (λ (k : ℕ). get_or a.row l.b 0 + get_or a.row k 0) e in (
       l.invariant.0,
-      omega (arith, i.loop-test.true),
-      omega (arith, c.greater.ensures, greatest-next g l.b, q, l.invariant.2),
-      omega (arith, c.greater.ensures, time-small n l.b, time-small n n.next_block.result, l.invariant.3),
+      omega (arith, i.loop-b-test.true),
+      omega (arith, c.greater-worst.ensures, greatest-next g l.b, q, l.invariant.2),
+      omega (arith, c.greater-worst.ensures, time-small c.before l.b, time-small c.before n.next_block-next.result, l.invariant.3),
     )
 
 returns : tie.Need-returns invariant-loop decreases-loop
 returns c =
-    let l = c.before.loop in
-    let a = c.before.before.before.args in
-    let e : l.b ≡ pairs_of (walk_of a.showing) a.blocks = omega (arith, l.invariant.0, l.invariant.1, c.loop-test.false) in (
-      l.invariant.2 ∙ ap (greatest_of (taken a.showing a.blocks a.t1)) e
-          ∙ sym (worst_pair (walk_of a.showing) (λ (t : ℕ). t) (laid a.t1) a.blocks),
+    let l = c.loop-b in
+    let a = c.args in
+    let e : l.b ≡ pairs_of (walk_of a.showing) a.blocks = omega (arith, l.invariant.0, l.invariant.1, c.loop-b-test.false) in (
+      l.invariant.2 ∙ ap (greatest_of (taken a.showing a.blocks a.row)) e
+          ∙ sym (worst_pair (walk_of a.showing) (λ (t : ℕ). t) (laid a.row) a.blocks),
       l.invariant.3,
     )
 
-pub worst-of-spec : {M : Type 1} → statement M
-worst-of-spec =
+pub worst_of_spec : {M : Type 1} → statement M
+worst_of_spec =
     tie.close
     (tie.spec
     invariant-loop
