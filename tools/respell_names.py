@@ -1,13 +1,14 @@
 #!/usr/bin/env python3
 """Spells the repository's own definitions, lemmas, fields and constructors of .antt files in snake case: run once, at the top of the
 repository, right after port.py. Types and modules keep their camel case, and so do names of libraries and the names that the prover makes
-for a proof. Where two names fall together, the one that is not the definition gets '_law' after it; respell_names.tsv has every name."""
+for a proof. A respell_names.tsv beside it is followed. Where two names fall together, the one that is not the definition gets '_law' after it; respell_names.tsv has every name."""
 import collections
 import os
 import re
 import sys
 
 TOKEN = re.compile(r"--[^\n]*|\"(?:[^\"\\]|\\.)*\"|[^\s(){}\[\],;.⟦⟧«»⌜⌝:@\\\"]+|.|\n")
+TABLE = os.path.join(os.path.dirname(os.path.abspath(__file__)), "respell_names.tsv")
 COMMENT = re.compile(r"--[^\n]*")
 USE = re.compile(r"^(?:ghost )?use ([^\s{]+?)\.\{([^}]*)\}", re.M)
 USE_ONE = re.compile(r"^(?:ghost )?use (Rattle\.[^\s{};]+)(?: as ([^\s;]+))?;?$", re.M)
@@ -87,6 +88,9 @@ def main():
         new[rank[0]] = to
         for k, name in enumerate(rank[1:]):
             new[name] = to + "_law" + ("" if k == 0 else "_" + str(k + 1))
+    if os.path.exists(TABLE):
+        # a table that is there says the names, so that an earlier state gets the same ones
+        new = dict(line.split("\t") for line in read(TABLE).split("\n") if line)
     taken = collections.Counter(new.values())
     fall = [n for n, c in taken.items() if c > 1] + [t for o, t in new.items() if t != o and t in where and t not in new]
     if fall:
@@ -191,7 +195,7 @@ def main():
             with open(path, "w", encoding="utf-8") as f:
                 f.write(s)
             changed += 1
-    with open(os.path.join(os.path.dirname(os.path.abspath(__file__)), "respell_names.tsv"), "w", encoding="utf-8") as f:
+    with open(TABLE, "w", encoding="utf-8") as f:
         for old in sorted(new):
             if new[old] != old:
                 f.write(f"{old}\t{new[old]}\n")

@@ -1,4 +1,6 @@
 // The calls open, join and leave. A join and a leave are judged and written as one, a move.
+#![tactic(auto)]
+
 ghost use Rattle.std.specs.Prelude.{◌≡◌, map, ◌≤◌, ◌<◌, length, get_or};
 ghost use Rattle.numbers.specs.Limits.{max_streams};
 ghost use Rattle.card.specs.Card.{length_in};

@@ -1,4 +1,6 @@
 // A batch of joins and leaves on a desk that the caller lends, altered there (document 02, ticket 6).
+#![tactic(auto)]
+
 ghost use Rattle.std.specs.Prelude.{◌≡◌, ◌≤◌, length};
 ghost use Rattle.words.specs.Words.{words_of};
 ghost use Rattle.plan.specs.Scratch.{leads_by};

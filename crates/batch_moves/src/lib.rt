@@ -1,5 +1,7 @@
 // A batch of joins and leaves on lent byte strings. The desk is judged once; then each item is judged by its slot, film and block alone and written where
 // it lies. Meanwhile the places of the desk string hold tickets, the higher the later a slot asked, and at the end they become places again.
+#![tactic(auto)]
+
 ghost use Rattle.std.specs.Prelude.{◌≡◌, ◌+◌, ◌*◌, ◌≤◌, ◌<◌, length};
 ghost use Rattle.numbers.specs.Limits.{max_items};
 ghost use Rattle.words.specs.Words.{words_of, with_word, with_words};

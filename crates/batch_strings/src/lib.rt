@@ -1,4 +1,6 @@
 // A batch of joins and leaves on lent byte strings, with the lead list or with a scratch in its place. Strings lent to one call share no byte.
+#![tactic(auto)]
+
 ghost use Rattle.std.specs.Prelude.{◌≡◌};
 ghost use Rattle.desk_calls.specs.Batches.{batch_answer, batch_string, answers_string};
 ghost use Rattle.desk_calls.specs.Batches.{batch_scratch_answer, batch_scratch_string, answers_scratch_string};

@@ -1,5 +1,7 @@
 // The two lent lists: the positions and the leads of the film's blocks. Half blocks are written and compared as one
 // showing of twice as many, and their leads, which are 0, by the walk of one showing.
+#![tactic(auto)]
+
 ghost use Rattle.std.specs.Prelude.{◌≡◌, ◌&&◌, ◌≤◌, ◌<◌, length};
 ghost use Rattle.numbers.specs.Limits.{max_positions};
 ghost use Rattle.placement.specs.Circle.{ring};

@@ -1,4 +1,6 @@
 // The figures of a card: their record, and its judge.
+#![tactic(auto)]
+
 pub mod judge; // the figures of a record, in the card's order
 
 ghost use Rattle.std.specs.Prelude.{◌≡◌};

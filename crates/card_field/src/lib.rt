@@ -1,4 +1,6 @@
 // One figure of a card: its form, then its range.
+#![tactic(auto)]
+
 ghost use Rattle.std.specs.Prelude.{◌≡◌, ℕ};
 ghost use Rattle.card_field.specs.Ranges.{outside, then_above, then_below, fault_of, time_fault, room_fault, blocks_fault};
 ghost use Rattle.card_field.specs.Figure.{value_in, field_at, on_number, on_fault};

@@ -1,4 +1,6 @@
 // The card's reader: bytes to figures, number by number, the first fault ends it.
+#![tactic(auto)]
+
 mod figures; // the zones, and the figures of the films
 mod shelf; // the films
 mod table; // the overheads

@@ -1,4 +1,6 @@
 // The table of overheads: that of hop and return, and the judge of a record's.
+#![tactic(auto)]
+
 ghost use Rattle.std.specs.Prelude.{◌≡◌, cond, ◌≤◌, length};
 ghost use Rattle.numbers.specs.Limits.{max_move, table_length};
 ghost use Rattle.numbers.specs.Refusals.{wrong_measure, wrong_overhead};

@@ -1,4 +1,6 @@
 // The card's writer: figures to bytes in a lent buffer.
+#![tactic(auto)]
+
 mod writing; // the numbers of a card, one after the other
 
 ghost use Rattle.std.specs.Prelude.{◌≡◌};

@@ -1,4 +1,6 @@
 // Numbers in decimal in a text of bytes. A value is kept up to 4,294,967,295; NO_NUMBER stands for every greater one.
+#![tactic(auto)]
+
 ghost use Rattle.std.specs.Prelude.{◌≡◌};
 ghost use Rattle.decimal.specs.Decimal.{is_digit, grown, digits_at, number_at, capped_number};
 

@@ -1,4 +1,6 @@
 // The desk of document 01 as a record, its answers, and what each call makes of it; the records that its calls answer.
+#![tactic(auto)]
+
 ghost use Rattle.std.specs.Prelude.{◌≡◌, [], ◌<◌};
 ghost use Rattle.desk.specs.Desk.{zeros, fresh_desk, blank_desk, verdict, fetches_of};
 ghost use Rattle.desk.specs.Records.{answers, with_slot, not_begun};

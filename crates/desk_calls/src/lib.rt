@@ -1,4 +1,6 @@
 // What the desk's calls answer on lent byte strings, as definitions; an answer that is a number alone.
+#![tactic(auto)]
+
 ghost use Rattle.std.specs.Prelude.{◌≡◌};
 ghost use Rattle.desk_calls.specs.Calls.{refused_by};
 

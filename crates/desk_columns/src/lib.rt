@@ -1,4 +1,6 @@
 // A desk where it lies in a lent byte string: one reader for each number, and for each array one of an entry or of all; how many slots ask.
+#![tactic(auto)]
+
 ghost use Rattle.std.specs.Prelude.{◌≡◌, ◌≤◌, ◌<◌, length, get_or, take, eqb};
 ghost use Rattle.laws.specs.Bools.{bit};
 ghost use Rattle.numbers.specs.Limits.{max_films, max_streams};

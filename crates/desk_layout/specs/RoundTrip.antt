@@ -1,7 +1,7 @@
 -- Desks in words and in bytes: decoding what was encoded gives it back, and encoding what was decoded gives the same bytes. Each law is that of
 -- every table (crate fields), at the desk's.
 -- Assumes nothing.
-use Rattle.std.specs.Prelude.{ℕ, ◌+◌, ◌≤◌, ◌≡◌, refl, List, [], length}
+use Rattle.std.specs.Prelude.{ℕ, ◌+◌, ◌≤◌, ◌≡◌, refl, List, length}
 use Rattle.std.proofs.Common.{sym, ap, ◌∙◌, arith}
 use Rattle.numbers.specs.Limits.{max_streams}
 use Rattle.words.specs.Words.{Bytes, Words, words_of, with_words, zero_words}
@@ -12,7 +12,7 @@ use Rattle.plan.specs.declared.Plan.{Plan}
 use Rattle.plan.specs.Plan.{blank_plan}
 use Rattle.desk.specs.declared.Desk.{Desk}
 use Rattle.desk.specs.Desk.{zeros, fresh_desk, blank_desk}
-use Rattle.fields.specs.Fields.{unpacked, word_count, packed, Sized}
+use Rattle.fields.specs.Fields.{word_count, packed, Sized}
 use Rattle.fields.specs.FieldLaws.{unpacked_sized, fields_written, fields_kept, packed_joined, AllFit, joined_fit}
 use Rattle.plan_layout.specs.Layout.{plan_fields, plan_values, plan_words, plan_in, plan_word_count, zero_bytes}
 use Rattle.plan_layout.specs.RoundTrip.{PlanSized}

@@ -1,4 +1,6 @@
 // A desk in a lent byte string: its plan, then the phase and the slots, as 32-bit words.
+#![tactic(auto)]
+
 pub mod offsets; // the word at which each field starts
 
 ghost use Rattle.std.specs.Prelude.{◌≡◌, ◌≤◌, ◌<◌, length, set};

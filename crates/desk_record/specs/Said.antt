@@ -1,6 +1,6 @@
 -- A desk whose plan, then whose slots and then whose places are written is what the string says.
 -- Assumes nothing.
-use Rattle.std.specs.Prelude.{ℕ, ◌≤◌, ◌≡◌, refl, List, length}
+use Rattle.std.specs.Prelude.{ℕ, ◌≤◌, ◌≡◌, List, length}
 use Rattle.std.proofs.Common.{ap, ◌∙◌, arith}
 use Rattle.words.specs.Words.{Bytes, Words, words_of, with_words}
 use Rattle.words.specs.Laws.{words_length, with_words_length, with_words_bytes}

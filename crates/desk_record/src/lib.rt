@@ -1,4 +1,6 @@
 // A desk that is handed over by value, as the byte string in which the calls read it.
+#![tactic(auto)]
+
 ghost use Rattle.std.specs.Prelude.{◌≡◌, length};
 ghost use Rattle.words.specs.Words.{words_of};
 ghost use Rattle.desk_layout.specs.Layout.{desk_in, desk_size};

@@ -1,6 +1,6 @@
 -- A slot after a sweep, and one turn of the loop over the slots.
 -- Assumes nothing.
-use Prim.Native.Nat.{ℕ, suc, ◌+◌, ◌-◌, ◌≤◌, ◌<◌}
+use Prim.Native.Nat.{ℕ, ◌+◌, ◌-◌, ◌≤◌, ◌<◌}
 use mathlib.Core.Path.{◌≡◌, refl, sym, ap, ◌∙◌, subst}
 use mathlib.Core.Logic.{by_cases}
 use mathlib.Core.Bool.{Bool, true, false, cond, ◌&&◌}
@@ -35,7 +35,7 @@ use Rattle.turns.specs.Sweeps.{Drawable, drawable_of}
 use Rattle.desk.specs.declared.Desk.{Desk}
 use Rattle.desk.specs.Desk.{supply_of, slots_in, view_of}
 use Rattle.desk.specs.View.{Wide}
-use Rattle.desk.specs.Ready.{Ready, ready_lawful, room_left}
+use Rattle.desk.specs.Ready.{Ready, room_left}
 use Rattle.desk.specs.Records.{record_of}
 use Rattle.desk.specs.Slots.{with_slots, length_in_law, load_kind, load_next, load_held, store_slot, with_own}
 use Rattle.ends.specs.declared.Slot.{Slot}

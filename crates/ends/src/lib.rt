@@ -1,4 +1,6 @@
 // End: each slot loses its draw, and each that was fetched for gains a block.
+#![tactic(auto)]
+
 ghost use Rattle.std.specs.Prelude.{◌≡◌, ℕ, ◌+◌, ◌≤◌, ◌<◌, eqb, length};
 ghost use Rattle.words.specs.Words.{words_of};
 ghost use Rattle.numbers.specs.Limits.{max_blocks};

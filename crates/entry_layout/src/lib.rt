@@ -1,4 +1,6 @@
 // The fetch entries of a sweep in a lent byte string, three 32-bit words an entry: position, slot, block.
+#![tactic(auto)]
+
 ghost use Rattle.std.specs.Prelude.{◌≡◌, ◌*◌, ◌≤◌, length};
 ghost use Rattle.words.specs.Words.{words_of, with_words};
 ghost use Rattle.entry_layout.specs.Entries.{rows, list_of};

@@ -1,4 +1,6 @@
 // What a card or a record is refused by is its first fault: claims without code.
+#![tactic(auto)]
+
 ghost use Rattle.std.specs.Prelude.{◌≡◌, ◌↔◌, List, ℕ, suc};
 ghost use Rattle.leb128.specs.Number.{Bytes};
 ghost use Rattle.card.specs.declared.Figures.{Figures};

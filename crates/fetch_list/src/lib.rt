@@ -1,4 +1,6 @@
 // The fetches of a sweep, written to a list of entries that the caller lends.
+#![tactic(auto)]
+
 ghost use Rattle.std.specs.Prelude.{◌≡◌, ℕ, ◌≤◌, ◌<◌, List, length};
 ghost use Rattle.desk.specs.declared.Desk.{Desk as DeskRecord};
 ghost use Rattle.desk.specs.declared.Fetch.{Fetch as FetchRecord};

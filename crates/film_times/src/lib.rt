@@ -1,4 +1,6 @@
 // How long a block takes on each of the film's positions, as a search over layings needs it.
+#![tactic(auto)]
+
 ghost use Rattle.std.specs.Prelude.{◌≡◌, map, ℕ, ◌≤◌, take};
 ghost use Rattle.laws.specs.Each.{Each};
 ghost use Rattle.numbers.specs.Limits.{max_time, max_tried};

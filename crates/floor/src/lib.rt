@@ -1,4 +1,6 @@
 // The leads of slots, and the floor of document 01 (rules: the low-water mark) that they give.
+#![tactic(auto)]
+
 ghost use Rattle.std.specs.Prelude.{◌≡◌, List, ℕ, ◌+◌, ◌*◌, ◌≤◌, ◌<◌, min, length};
 ghost use Rattle.words.specs.Words.{words_of};
 ghost use Rattle.numbers.specs.Limits.{max_bytes, max_rate, max_streams};

@@ -1,4 +1,6 @@
 // What is gathered of the list of positions and the zones for the slots of a desk.
+#![tactic(auto)]
+
 ghost use Rattle.std.specs.Prelude.{◌≡◌, ◌≤◌, length};
 ghost use Rattle.words.specs.Words.{words_of};
 ghost use Rattle.numbers.specs.Limits.{max_streams};

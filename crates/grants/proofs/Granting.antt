@@ -3,22 +3,21 @@
 use Prim.Native.Nat.{ℕ, zero, suc, ◌+◌, ◌*◌, ◌-◌, ◌≤◌, ◌<◌}
 use mathlib.Core.Path.{◌≡◌, refl, sym, ap, ap₂, subst, ◌∙◌}
 use mathlib.Core.Logic.{◌≢◌, by_cases}
-use mathlib.Core.Bool.{Bool, true, false, ◌&&◌}
+use mathlib.Core.Bool.{true, false}
 use mathlib.Core.List.{List, map}
 use native.Mathlib.Omega.{arith}
 use native.Mathlib.Decide.{ℕ_discrete}
 use native.Mathlib.Numerals.{add-one}
 use lib.ListN.{length, get_or, set}
-use lib.Dec.{leb, eqb}
-use borrow.Author.Tests.{eqb-true, eq-eqb, ne_eqb, le-leb, lt-leb}
-use Rattle.laws.specs.Bools.{is_false, and_left}
+use lib.Dec.{leb}
+use borrow.Author.Tests.{eq-eqb, ne_eqb, le-leb, lt-leb}
 use Rattle.numbers.specs.Slots.{waiting, filling}
 use Rattle.numbers.specs.Units.{parts}
 use Rattle.rules.specs.Supply.{Supply}
 use Rattle.rules.specs.Scheduler.{Slot, at, leads, low_water, players_hold, filling_slot, grantable, granted}
-use Rattle.rules.specs.Order.{Begun, eldest, dropped, eldest_lead, served}
-use Rattle.rules.specs.Arrays.{slot_of, slots_of}
-use Rattle.turns.specs.ArrayLaws.{SameLength, slot_at, slots_set_kind}
+use Rattle.rules.specs.Order.{eldest, dropped, eldest_lead, served}
+use Rattle.rules.specs.Arrays.{slots_of}
+use Rattle.turns.specs.ArrayLaws.{slot_at, slots_set_kind}
 use Rattle.turns.specs.Turns.{granted_leads, granted_players, least_holds}
 use Rattle.turns.specs.Places.{get_map, eldest_le, Places, places_gone}
 use Rattle.turns.specs.Served.{dropped_by, drop_next, drop_none}

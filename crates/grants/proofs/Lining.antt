@@ -9,7 +9,7 @@ use native.Mathlib.Omega.{arith}
 use native.Mathlib.Decide.{dec_lt, ℕ_discrete}
 use lib.ListN.{length, get_or, set, take, length-set}
 use lib.Dec.{ltb, eqb}
-use borrow.Author.Tests.{ltb-true, ltb-false, eqb-true, eqb-false, lt-ltb, eq-eqb, ne_eqb}
+use borrow.Author.Tests.{ltb-true, ltb-false, eqb-true, lt-ltb, eq-eqb, ne_eqb}
 use Rattle.laws.specs.Bools.{bit, bit_le, and_left, and_right, and_other}
 use Rattle.laws.specs.Runs.{sum_by}
 use Rattle.laws.specs.Sums.{sum_none, sum_next, sum_rest}

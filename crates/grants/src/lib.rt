@@ -1,4 +1,6 @@
 // Begin: filling slots start to play, then asked slots are granted in the order of asking, none behind one that has to wait.
+#![tactic(auto)]
+
 ghost use Rattle.std.specs.Prelude.{◌≡◌, List, ℕ, ◌-◌, ◌≤◌, ◌<◌, length, get_or};
 ghost use Rattle.words.specs.Words.{words_of};
 ghost use Rattle.numbers.specs.Limits.{max_rate, max_streams};

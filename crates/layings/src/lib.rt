@@ -1,4 +1,6 @@
 // Every laying of a film on its own positions, as a list, and the smallest worst time among them: definitions, laws and claims without code.
+#![tactic(auto)]
+
 ghost use Rattle.std.specs.Prelude.{◌≡◌, List, ℕ, ◌≤◌, length};
 ghost use Rattle.laws.specs.Members.{In, Unique};
 ghost use Rattle.card.specs.declared.Figures.{Figures};

@@ -1,4 +1,6 @@
 // The answers that calls from C get; and that plans and desks in lent byte strings read back as written and are written as read.
+#![tactic(auto)]
+
 ghost use Rattle.std.specs.Prelude.{◌≡◌, ℕ, ◌≤◌, List, length};
 ghost use Rattle.words.specs.Words.{Bytes, Words, words_of, with_words};
 ghost use Rattle.plan.specs.declared.Plan.{Plan};

@@ -1,4 +1,6 @@
 // One number of a card: groups of seven bits, lowest first, in the shortest form, at most five bytes and at most 4,294,967,295.
+#![tactic(auto)]
+
 ghost use Rattle.std.specs.Prelude.{◌≡◌, ◌+◌, ◌-◌, ◌*◌, ◌≤◌, ◌<◌, ◌^◌, length};
 ghost use Rattle.leb128.specs.Number.{number_at, groups, judged};
 ghost use Rattle.laws.specs.Overwrite.{overwrite};

@@ -1,4 +1,6 @@
 // The maker's text of a disk: its numbers, and the figures that a card with them would give.
+#![tactic(auto)]
+
 mod figures; // the zones of the rows, and the record
 
 ghost use Rattle.std.specs.Prelude.{◌≡◌};

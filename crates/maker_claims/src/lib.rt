@@ -1,4 +1,6 @@
 // What is accepted of makers' texts, and what the answer is: claims without code.
+#![tactic(auto)]
+
 ghost use Rattle.std.specs.Prelude.{◌≡◌, ◌↔◌, List, ℕ, suc};
 ghost use Rattle.card.specs.Card.{Legal, judge_record, card_of};
 ghost use Rattle.card.specs.Read.{accepted, blank_figures, read_card};

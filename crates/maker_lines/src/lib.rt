@@ -1,4 +1,6 @@
 // One line of a maker's text: its form, then its range.
+#![tactic(auto)]
+
 ghost use Rattle.std.specs.Prelude.{◌≡◌};
 ghost use Rattle.decimal.specs.Decimal.{capped_number};
 ghost use Rattle.maker_lines.specs.Lines.{word_at, within, judged_heading, judged_row, three_read, heading_in, row_at};

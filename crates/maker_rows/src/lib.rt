@@ -1,4 +1,6 @@
 // The rows of a maker's text, one after the other to its end.
+#![tactic(auto)]
+
 ghost use Rattle.std.specs.Prelude.{◌≡◌, [], ◌+◌, ◌<◌, length};
 ghost use Rattle.numbers.specs.Limits.{no_number};
 ghost use Rattle.maker_rows.specs.Rows.{row_fault, rows_from};

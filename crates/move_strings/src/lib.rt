@@ -1,4 +1,6 @@
 // Joins and leaves on lent byte strings: what the bytes say, judged, and written back. Strings lent to one call share no byte.
+#![tactic(auto)]
+
 pub mod scratch; // with a scratch in the lead list's place
 
 ghost use Rattle.std.specs.Prelude.{◌≡◌, map, ◌≤◌, ◌<◌, length};

@@ -1,4 +1,6 @@
 // The small cards one after the other: the first, the one after a card, and a card's figures.
+#![tactic(auto)]
+
 ghost use Rattle.std.specs.Prelude.{◌≡◌, true, false, ℕ, ◌≤◌, ◌<◌, get_or};
 ghost use Rattle.laws.specs.Each.{Each};
 ghost use Rattle.card.specs.Read.{blank_table};

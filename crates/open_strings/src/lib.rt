@@ -1,4 +1,6 @@
 // Opening a desk on lent byte strings. Strings lent to one call share no byte.
+#![tactic(auto)]
+
 pub mod scratch; // with a scratch in the lead list's place
 
 ghost use Rattle.std.specs.Prelude.{◌≡◌, length};

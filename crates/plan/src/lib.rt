@@ -1,5 +1,7 @@
 // The plan as a definition: its record and lists, the planner's answers, the check of a plan, and the laws that the code and the desk
 // rely on; the plan that is all zero, and a record's figures with their verdict.
+#![tactic(auto)]
+
 ghost use Rattle.std.specs.Prelude.{◌≡◌, ◌≢◌, ℕ, ◌+◌, ◌*◌, ◌≤◌, ◌<◌, get_or};
 ghost use Rattle.laws.specs.Starts.{start_of};
 ghost use Rattle.numbers.specs.Limits.{max_films, max_number};

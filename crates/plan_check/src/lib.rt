@@ -1,4 +1,6 @@
 // The check of a plan: is a record the plan of its figures, and do the lists begin with its entries?
+#![tactic(auto)]
+
 ghost use Rattle.std.specs.Prelude.{◌≡◌, not, ◌&&◌, ◌||◌, length};
 ghost use Rattle.numbers.specs.Limits.{max_zones, table_length};
 ghost use Rattle.card.specs.declared.Figures.{Figures};

@@ -1,4 +1,6 @@
 // A plan in a lent byte string, as 32-bit words, lowest byte first, without padding.
+#![tactic(auto)]
+
 pub mod offsets; // the word at which each field starts
 
 ghost use Rattle.std.specs.Prelude.{◌≡◌, [], ◌≤◌, length};

@@ -1,5 +1,7 @@
 // The plan of legal figures and its lists, with a lead list or with a scratch in its place: 13 where a list is too short, then 12 where no
 // stream fits.
+#![tactic(auto)]
+
 ghost use Rattle.std.specs.Prelude.{◌≡◌, cond, ◌*◌, ◌≤◌, ◌<◌, length};
 ghost use Rattle.numbers.specs.Limits.{max_number};
 ghost use Rattle.numbers.specs.Refusals.{no_stream};

@@ -1,4 +1,6 @@
 // The numbers of the plan of legal figures: worst2 and where it is, margin, streams and buffer.
+#![tactic(auto)]
+
 ghost use Rattle.std.specs.Prelude.{◌≡◌};
 ghost use Rattle.card.specs.Card.{Legal};
 ghost use Rattle.placement.specs.Showing.{visits_of};

@@ -1,4 +1,6 @@
 // The plan calls on lent byte strings, one for each showing. Strings lent to one call share no byte.
+#![tactic(auto)]
+
 ghost use Rattle.std.specs.Prelude.{◌≡◌, ◌≤◌, length};
 ghost use Rattle.words.specs.Words.{with_words};
 ghost use Rattle.card.specs.Card.{Legal};

@@ -1,5 +1,7 @@
 // The planner: from the figures of a card it lays the films, for one showing, for a loop or for one showing of half blocks, and says how many
 // streams may be fed and with what buffers.
+#![tactic(auto)]
+
 mod figures; // the answer to figures that were read or judged
 
 ghost use Rattle.std.specs.Prelude.{◌≡◌};

@@ -1,4 +1,6 @@
 // The layings of one showing and of a loop: the position of a block. Half blocks are laid as one showing of twice as many.
+#![tactic(auto)]
+
 ghost use Rattle.std.specs.Prelude.{◌≡◌, ◌≤◌, ◌<◌};
 ghost use Rattle.numbers.specs.Limits.{max_positions};
 ghost use Rattle.placement.specs.Placement.{zigzag};

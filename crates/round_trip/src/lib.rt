@@ -1,4 +1,6 @@
 // How the reader, the judge and the writer of a card fit together, and that they accept just the legal figures: claims without code.
+#![tactic(auto)]
+
 ghost use Rattle.std.specs.Prelude.{◌≡◌, ◌↔◌, List, ◌++◌, ℕ, suc, ◌*◌, ◌≤◌, length, drop};
 ghost use Rattle.numbers.specs.Limits.{min_card, max_card};
 ghost use Rattle.leb128.specs.Number.{Bytes};

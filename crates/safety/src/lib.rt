@@ -1,1 +1,2 @@
 // Every list of calls is safe, over any lawful supply and any lawful order of granting; no functions.
+#![tactic(auto)]

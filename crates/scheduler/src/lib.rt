@@ -1,4 +1,6 @@
 // Begin and end of a sweep. (Open, join and leave stand in crate admission.)
+#![tactic(auto)]
+
 ghost use Rattle.std.specs.Prelude.{◌≡◌, ◌*◌, ◌/◌, ◌≤◌, length};
 ghost use Rattle.numbers.specs.Limits.{max_streams};
 ghost use Rattle.words.specs.Words.{words_of, with_words};

@@ -1,5 +1,7 @@
 // The two lent lists of a shelf of films, film by film: each is laid on the highest positions still free, and its entries stand behind those of the
 // films before it.
+#![tactic(auto)]
+
 ghost use Rattle.std.specs.Prelude.{◌≡◌, ◌*◌, ◌≤◌, length};
 ghost use Rattle.laws.specs.Starts.{start_of};
 ghost use Rattle.words.specs.Words.{words_of, with_words};

@@ -1,5 +1,7 @@
 // Every small card of document 02, ticket 13: what they are, the list of them in its order, and the way from each to the next. Definitions, laws and
 // claims without code.
+#![tactic(auto)]
+
 ghost use Rattle.std.specs.Prelude.{◌≡◌, ℕ, ◌<◌, length, get_or};
 ghost use Rattle.laws.specs.Members.{In, Unique};
 ghost use Rattle.card.specs.declared.Figures.{Figures};

@@ -1,4 +1,6 @@
 // A desk tested where it lies.
+#![tactic(auto)]
+
 mod leads; // the leads of its slots, added up
 mod places; // the test of their places
 mod slots; // the test of its slots

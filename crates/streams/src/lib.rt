@@ -1,4 +1,6 @@
 // The formula of streams, the buffer and the leads, in 32 and 64 bits.
+#![tactic(auto)]
+
 mod halves; // the products of halves
 
 ghost use Rattle.std.specs.Prelude.{◌≡◌, ℕ, ◌+◌, ◌-◌, ◌*◌, ◌/◌, ◌≤◌, ◌<◌, get_or};

@@ -1,4 +1,6 @@
 // What the calls leave in their byte strings, as claims about the definitions that their contracts name.
+#![tactic(auto)]
+
 ghost use Rattle.std.specs.Prelude.{◌≡◌, ℕ, ◌*◌, ◌≤◌, ◌<◌, true, cond, List, map, length};
 ghost use Rattle.numbers.specs.Limits.{scratch_length};
 ghost use Rattle.numbers.specs.Refusals.{too_short, wrong_window};

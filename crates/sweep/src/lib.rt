@@ -1,4 +1,6 @@
 // The steps of a begin and of an end, on a desk that is known to be sound and on what was gathered for its slots.
+#![tactic(auto)]
+
 ghost use Rattle.std.specs.Prelude.{◌≡◌, ◌≤◌, length};
 ghost use Rattle.words.specs.Words.{words_of};
 ghost use Rattle.desk.specs.Ready.{Ready};

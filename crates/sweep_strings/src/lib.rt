@@ -1,4 +1,6 @@
 // Sweeps on lent byte strings: begins, ends and what a slot may draw. Strings lent to one call share no byte.
+#![tactic(auto)]
+
 pub mod scratch; // with a scratch in the lead list's place
 
 ghost use Rattle.std.specs.Prelude.{◌≡◌, ◌≤◌, length};

@@ -1,5 +1,7 @@
 // The places that tickets stand for: how many are held up to each (document 02, ticket 6). One pass over the slots counts them, one over the
 // tickets adds them up, one more looks each up.
+#![tactic(auto)]
+
 ghost use Rattle.std.specs.Prelude.{◌≡◌, map};
 ghost use Rattle.numbers.specs.Limits.{max_streams};
 ghost use Rattle.turns.specs.Tickets.{ranks};

@@ -1,5 +1,7 @@
 // Demand 3 of the customer: one claim about every list of calls and batches from an accepted opening, and one about any record. How long a
 // request waits in such a list. And what the desk's calls answer, in document 01's words.
+#![tactic(auto)]
+
 ghost use Rattle.std.specs.Prelude.{◌≡◌, ℕ, ◌*◌, ◌≤◌, ◌<◌, min, true, false, cond, not, ◌&&◌, List, [], length, get_or, replicate, leb};
 ghost use Rattle.numbers.specs.Limits.{scratch_length, max_items};
 ghost use Rattle.numbers.specs.Refusals.{too_short, not_sound, wrong_phase, draw_above_limit, draw_above_held};

@@ -1,5 +1,7 @@
 // What a maker's numbers say of a zone: its positions, and the time to read one block there. A result past 32 bits is answered as
 // 4,294,967,295, which is out of range for both.
+#![tactic(auto)]
+
 ghost use Rattle.std.specs.Prelude.{◌≡◌, ◌+◌, ◌^◌, ◌≤◌, ◌<◌};
 ghost use Rattle.numbers.specs.Limits.{max_turns, max_switch, max_heads, max_block, max_cylinder, max_track};
 ghost use Rattle.tracks.specs.Tracks.{rounded_up, positions_in, time_in, narrowed};

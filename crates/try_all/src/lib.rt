@@ -1,6 +1,8 @@
 // The second planner (document 02, ticket 12): it tries every laying of a film of up to 8 blocks on the film's positions, for one showing or for
 // a loop, and answers the smallest worst2 and how many layings have it. The film is alone on its shelf (ticket 14). It is lent no list, and names
 // neither the planner nor its laying.
+#![tactic(auto)]
+
 ghost use Rattle.std.specs.Prelude.{◌≡◌, List, ℕ};
 ghost use Rattle.leb128.specs.Number.{Bytes};
 ghost use Rattle.card.specs.declared.Figures.{Figures};

@@ -1,5 +1,7 @@
 // The search behind the second planner: every order of up to eight times is tried, and the smallest worst time kept with how many orders have
 // it. It knows no disk and no laying rule.
+#![tactic(auto)]
+
 mod orders; // the orders of some times, by number
 mod worst; // the worst time of one order
 

@@ -1,4 +1,6 @@
 // One walk over a film, for one showing or a loop, in runs of blocks that lie in the same two zones: how long each block takes where it lies.
+#![tactic(auto)]
+
 ghost use Rattle.std.specs.Prelude.{◌≡◌, ◌+◌, ◌-◌, ◌%◌, ◌≤◌, ◌<◌, min};
 ghost use Rattle.numbers.specs.Limits.{max_positions};
 ghost use Rattle.placement.specs.Placement.{zigzag};

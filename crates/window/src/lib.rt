@@ -1,5 +1,7 @@
 // Rates over longer windows: the worst time of k successive blocks of one of the planned films, for one showing, for loops and for half blocks,
 // whose time is that of both halves.
+#![tactic(auto)]
+
 ghost use Rattle.std.specs.Prelude.{◌≡◌, cond, suc, ◌*◌, ◌≤◌, ◌<◌, max, ltb};
 ghost use Rattle.laws.specs.Greatest.{greatest_of};
 ghost use Rattle.laws.specs.Through.{Found};

@@ -1,4 +1,6 @@
 // What is known of the worst window of a film: claims without code.
+#![tactic(auto)]
+
 ghost use Rattle.std.specs.Prelude.{◌≡◌, true, cond, List, ℕ, ◌*◌, ◌/◌, ◌%◌, ◌≤◌, ◌<◌, length};
 ghost use Rattle.numbers.specs.Refusals.{wrong_window};
 ghost use Rattle.words.specs.Words.{words_of, with_words};

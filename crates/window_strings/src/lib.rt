@@ -1,4 +1,6 @@
 // The window call on lent byte strings.
+#![tactic(auto)]
+
 ghost use Rattle.std.specs.Prelude.{◌≡◌};
 ghost use Rattle.window_strings.specs.Calls.{window_from, window_call};
 

@@ -1,4 +1,6 @@
 // Lists of 32-bit numbers in lent byte strings: four bytes an entry, lowest byte first, no padding. Spare bytes at the end are ignored and kept.
+#![tactic(auto)]
+
 ghost use Rattle.std.specs.Prelude.{◌≡◌, ◌+◌, ◌*◌, ◌≤◌, ◌<◌, length, get_or, take, drop};
 ghost use Rattle.words.specs.Words.{words_of, with_word, with_words, zero_words};
 

@@ -1,4 +1,6 @@
 // The worst pair of successive blocks of a film: worst2, and where it is.
+#![tactic(auto)]
+
 ghost use Rattle.std.specs.Prelude.{◌≡◌, ◌≤◌, ◌<◌};
 ghost use Rattle.placement.specs.Showing.{laying, worst_of, worst_at};
 ghost use Rattle.placement.specs.Zones.{time_at};

@@ -1,5 +1,7 @@
 // The worst of the rows of k blocks, in one pass: two walks over the film, one k blocks ahead of the other. A row gains the block that the one
 // has passed and loses the block that the other has. Within a run of either walk the rows slide on without a look at the zones.
+#![tactic(auto)]
+
 ghost use Rattle.std.specs.Prelude.{◌≡◌, List, ℕ, suc, ◌≤◌, ◌<◌};
 ghost use Rattle.laws.specs.Greatest.{Peak};
 ghost use Rattle.placement.specs.Circle.{round};

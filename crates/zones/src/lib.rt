@@ -1,4 +1,6 @@
 // The zones of a disk: how many positions they have, which one a position is in, and how long a block takes there.
+#![tactic(auto)]
+
 ghost use Rattle.std.specs.Prelude.{◌≡◌, ◌≤◌, ◌<◌, take};
 ghost use Rattle.numbers.specs.Limits.{max_zones};
 ghost use Rattle.placement.specs.Zones.{total, time_at};

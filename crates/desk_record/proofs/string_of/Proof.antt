@@ -1,6 +1,6 @@
 use mir.Syntax.{w32}
 use mir.Val.{Fits}
-use Prim.Native.Nat.{ℕ, ◌<◌}
+use Prim.Native.Nat.{ℕ}
 use mathlib.Core.Path.{ap, ◌∙◌}
 use mathlib.Core.List.{List}
 use native.Mathlib.Omega.{arith}
@@ -13,7 +13,7 @@ use Rattle.plan.specs.Lent.{lent_plan_law}
 use Rattle.fields.specs.Fields.{◌&◌}
 use Rattle.fields.specs.FieldLaws.{AllFit, packed_fit}
 use Rattle.plan_layout.specs.Layout.{plan_fields, plan_values, plan_words}
-use Rattle.desk_layout.specs.Layout.{slot_fields, slot_values, desk_words}
+use Rattle.desk_layout.specs.Layout.{slot_fields, slot_values}
 use Rattle.desk_layout.specs.RoundTrip.{DeskSized, desk_fit}
 use Rattle.desk_record.specs.Said.{desk_said}
 use Rattle.desk_record.proofs.string_of.Statement.{statement}

@@ -1,5 +1,5 @@
 use native.Mathlib.Omega.{arith}
-use Prim.Native.Nat.{ℕ, ◌+◌, ◌-◌, ◌≤◌, ◌<◌}
+use Prim.Native.Nat.{ℕ, ◌-◌, ◌≤◌, ◌<◌}
 use mathlib.Core.Path.{◌≡◌, sym, ap, ap₂, ◌∙◌}
 use mathlib.Core.List.{List}
 use borrow.Author.Rules.{rules}
@@ -7,13 +7,12 @@ use lib.ListN.{length}
 use Rattle.words.specs.Words.{words_of}
 use Rattle.plan.specs.Plan.{showing_of, showing_in}
 use Rattle.rules.specs.Supply.{Supply}
-use Rattle.rules.specs.Scheduler as S
 use Rattle.desk.specs.declared.Desk.{Desk}
 use Rattle.desk.specs.Ready.{streams_are, buffer_has, buffer_most}
 use Rattle.desk.specs.Records.{record_of}
 use Rattle.desk_layout.specs.Layout.{desk_in}
 use Rattle.ends.specs.declared.Slot.{Slot}
-use Rattle.ends.specs.Ends.{Ends, Continues, Fair}
+use Rattle.ends.specs.Ends.{Continues, Fair}
 use Rattle.ends.proofs.Ending.{ended_up_to, ends_none, drawn_count, fair_now, ends_turn, ends_all}
 use Rattle.ends.proofs.end_slots.Statement.{statement}
 use Rattle.ends.proofs.end_slots.Tie as tie

@@ -3,7 +3,6 @@ use mathlib.Core.Path.{◌≡◌, sym, ap, subst, ◌∙◌}
 use mathlib.Core.List.{List}
 use native.Mathlib.Omega.{arith}
 use lib.ListN.{get_or}
-use borrow.Author.Rules.{rules}
 use Rattle.numbers.specs.Slots.{filling, playing}
 use Rattle.words.specs.Words.{words_of}
 use Rattle.plan.specs.Disk.{Zoned}

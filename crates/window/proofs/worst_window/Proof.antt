@@ -109,10 +109,10 @@ returns-3 : tie.Need-returns
 returns-3 c =
     let r = c in
     let t = summed c.before in
-    let d = t.before.before.before in
+    let d = t.before.before in
     let a = (start (shelf d)).args in
     let w = inside d in
-    answered a.t1 a.positions.now a.count (is-laid (shelf d)) (sym (outside d.before) ∙ d.if-is_outside.false) _ _ _
+    answered a.plan a.positions.now a.count (is-laid (shelf d)) (sym (outside d.before) ∙ d.if-is_outside.false) _ _ _
     (found_window (showing_in a.t1) a.t1.figures (legal (shelf d)) a.count w.0 w.2 _ _ _ (sum t) r.worst_of_films-worst.ensures)
     c.window_bytes.ensures
 
