@@ -8,7 +8,7 @@ use Rattle.numbers.specs.Limits.{max_blocks, max_films, max_streams}
 use Rattle.card.specs.Card.{length_in}
 use Rattle.legality.specs.Legality as legality
 use Rattle.plan.specs.declared.Plan.{Plan}
-use Rattle.plan.specs.Check.{checked_legal}
+use Rattle.plan.proofs.Check.{checked_legal}
 use Rattle.desk.specs.declared.Desk.{Desk}
 use Rattle.desk.specs.Desk.{verdict}
 use Rattle.soundness.specs.Facts.{sound_desk}

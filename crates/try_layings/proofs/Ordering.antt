@@ -13,7 +13,8 @@ use Rattle.placement.specs.Showing.{Showing, visits_of}
 use Rattle.layings.specs.Layings.{others, laid, worst_in}
 use Rattle.layings.specs.Numbered.{factorial, factorial_pos, factorial_down, numbered, pick_below, rest_below, numbered_take}
 use Rattle.layings.specs.Smallest.{Best}
-use Rattle.layings.specs.Times.{worst_same, orders_tried, orders_at}
+use Rattle.layings.specs.Times.{worst_same, orders_tried}
+use Rattle.layings.proofs.Times.{orders_at}
 
 -- the first `next` of the row are the order's, and its others are those of the rest
 pub record Ordering (count number : ℕ) (times row : List ℕ) (rest size next : ℕ) : Type 0 where

@@ -3,7 +3,7 @@ use Rattle.card.specs.Read.{read_card}
 use Rattle.plan.specs.Answer.{judged}
 use Rattle.round_trip.specs.RoundTrip.{card_legal}
 use Rattle.plan.specs.Ways.{judged_legal}
-use Rattle.try_all.specs.Ways.{same_answer}
+use Rattle.try_all.proofs.Ways.{same_answer}
 use Rattle.try_all.proofs.both_planners_agree.Statement.{statement}
 use Rattle.try_all.proofs.both_planners_agree.Tie as tie
 

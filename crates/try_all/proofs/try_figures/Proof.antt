@@ -9,7 +9,8 @@ use Rattle.plan.specs.Legal.{some_film, film_two}
 use Rattle.pacing.specs.Streams.{streams, cap_of}
 use Rattle.layings.specs.Layings.{least_of, count_of}
 use Rattle.try_all.specs.Answer.{Few}
-use Rattle.try_all.specs.Ways.{by_figures, by_films, by_length, by_streams, by_none, fed_once, least_small, alone, found_is}
+use Rattle.try_all.specs.Ways.{by_figures, by_films, fed_once, alone, found_is}
+use Rattle.try_all.proofs.Ways.{by_length, by_streams, by_none, least_small}
 use borrow.Author.Rules.{rules}
 use Rattle.try_all.proofs.try_figures.Statement.{statement}
 use Rattle.try_all.proofs.try_figures.Tie as tie

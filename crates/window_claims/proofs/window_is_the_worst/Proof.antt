@@ -1,4 +1,4 @@
-use Rattle.window_claims.specs.WorstLaws.{window_worst, worst_window_law, answer_worst}
+use Rattle.window_claims.proofs.WorstLaws.{window_worst, worst_window_law, answer_worst}
 use Rattle.window_claims.proofs.window_is_the_worst.Statement.{statement}
 use Rattle.window_claims.proofs.window_is_the_worst.Tie as tie
 

@@ -10,9 +10,10 @@ use Rattle.card.specs.Read.{blank_figures}
 use Rattle.small_cards.specs.declared.SmallCard.{SmallCard}
 use Rattle.small_cards.specs.Cards.{Small, small_cards}
 use Rattle.small_cards.specs.Next.{figures_of, next_card, first_card, after}
-use Rattle.small_cards.specs.Steps.{Stepped, after_next, step_listed, step_ranged, step_last}
+use Rattle.small_cards.specs.Steps.{Stepped, after_next}
+use Rattle.small_cards.proofs.Steps.{step_listed, step_ranged, step_last}
 use Rattle.small_cards.specs.Computed.{how_many_law}
-use Rattle.small_cards.specs.Form.{listed_small}
+use Rattle.small_cards.proofs.Form.{listed_small}
 use Rattle.placement.specs.Showing.{one, loop}
 use Rattle.compare_planners.specs.Compare.{counted_with}
 use Rattle.compare_planners.specs.Agree.{agree}

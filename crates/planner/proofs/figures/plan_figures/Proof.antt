@@ -9,7 +9,8 @@ use Rattle.plan.specs.declared.Planned.{Planned}
 use Rattle.plan.specs.Plan.{showing_of, plan_of, positions_of, leads_of}
 use Rattle.plan.specs.Answer.{fault_after, refusal, filled}
 use Rattle.plan.specs.Scratch.{leads_lent}
-use Rattle.plan.specs.Ways.{Lists, Outcome, by_figures, by_refusal, by_none, by_lists}
+use Rattle.plan.specs.Ways.{Lists, Outcome, by_figures, by_none, by_lists}
+use Rattle.plan.proofs.Ways.{by_refusal}
 use borrow.Author.Rules.{rules}
 use Rattle.planner.proofs.figures.plan_figures.Statement.{statement}
 use Rattle.planner.proofs.figures.plan_figures.Tie as tie
