@@ -40,8 +40,8 @@ breaks_behind (r ∷ rs) qs k h b = inr (h.0, breaks_behind rs qs k h.1 b)
 
 -- the number j is 0 and the rules hold, or it is the refusal of the first that does not
 pub data Says (rs : List Rule) (j : ℕ) : Type 0 where
-  pub none : j ≡ 0 → Holds rs → Says rs j
-  pub names : 0 < j → Breaks rs j → Says rs j
+  none : j ≡ 0 → Holds rs → Says rs j
+  names : 0 < j → Breaks rs j → Says rs j
 
 -- rules that say the same
 pub says_same : {rs qs : List Rule} {j : ℕ} → (Holds rs → Holds qs) → (Breaks rs j → Breaks qs j) → Says rs j → Says qs j
