@@ -19,7 +19,7 @@ use Rattle.card.specs.Card.{length_in}
 use Rattle.legality.specs.Legality as legality
 use Rattle.pacing.specs.Shelf.{name_of, film_in, block_in, film_of_name, block_of_name}
 use Rattle.plan.specs.declared.Plan.{Plan}
-use Rattle.plan.specs.Check.{checked_legal}
+use Rattle.plan.proofs.Check.{checked_legal}
 use Rattle.plan.specs.Answer.{is_plan}
 use Rattle.rules.specs.Scheduler.{Call, join, leave, joined, left}
 use Rattle.rules.specs.Order.{dropped, waiting_count, by_place}

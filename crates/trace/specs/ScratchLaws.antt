@@ -22,9 +22,10 @@ use Rattle.plan.specs.declared.Planned.{Planned}
 use Rattle.plan.specs.Plan.{entries_of, streams_of, plan_of, positions_of, leads_of}
 use Rattle.plan.specs.Answer.{plan_fault, fault_after, refusal, answer, filled, planned, positions_after, has_numbers, has_positions, has_leads, is_plan}
 use Rattle.plan.specs.Scratch.{scratch_short, scratch_leads, planned_scratch, positions_scratch}
-use Rattle.plan.specs.ScratchLaws.{scratch_short_law, scratch_long, short_leads_none, long_leads_all, own_leads_law}
-use Rattle.plan.specs.Ways.{by_plan}
-use Rattle.plan.specs.Check.{plan_passes}
+use Rattle.plan.specs.ScratchLaws.{scratch_short_law, scratch_long, short_leads_none}
+use Rattle.plan.proofs.ScratchLaws.{long_leads_all, own_leads_law}
+use Rattle.plan.proofs.Ways.{by_plan}
+use Rattle.plan.proofs.Check.{plan_passes}
 use Rattle.rules.specs.Scheduler.{Call, join, leave, begin, end}
 use Rattle.rules.specs.Calls as C
 use Rattle.desk.specs.declared.Desk.{Desk}

@@ -32,68 +32,68 @@ told e = ap (λ (a : Answer). a.verdict) e
 
 -- ---- the places, each from a later one
 
-abbrev start : tie.After-is-sound → tie.Start
+abbrev start : tie.After-is_sound → tie.Start
 start c = c.before.before.before.before
 
-abbrev between : tie.After-streams-in → tie.Else2
+abbrev between : tie.After-streams_in → tie.Else-phase_in-ne-BETWEEN
 between c = c.before.before
 
-abbrev first : tie.After-streams-in → tie.Else1
+abbrev first : tie.After-streams_in → tie.Else-not-is_sound
 first c = (between c).before.before
 
 -- ---- what is known there
 
-passed : (c : tie.Else1) → (let s = start c.before in sound_desk (given s) s.args.positions.now (leads s) ≡ true)
-passed c = sym c.before.is-sound.ensures ∙ not-false _ c.if1.false
+passed : (c : tie.Else-not-is_sound) → (let s = start c.before in sound_desk (given s) s.args.positions.now (leads s) ≡ true)
+passed c = sym c.is_sound.ensures ∙ not-false _ c.if-not-is_sound.false-raw
 
 -- ---- the needs
 
-returns : tie.Need-returns
+returns : tie.Need-returns-then-not-is_sound
 returns c =
-    let t = c.before.before in
-    let s = start t in
-    c.verdict.ensures ∙ told (move_unsound (given s) (wide_in _ s.pre) _ _ _ (sym t.is-sound.ensures ∙ not-true _ c.before.if1.true))
+    let t = c in
+    let s = start c.before.before in
+    c.verdict.ensures ∙ told (move_unsound (given s) (wide_in _ s.requires) _ _ _ (sym t.is_sound.ensures ∙ not-true _ c.if-not-is_sound.true-raw))
 
-returns-2 : tie.Need-returns-2
+returns-2 : tie.Need-returns-then-phase_in-ne-BETWEEN
 returns-2 c =
-    let p = c.before.before in
-    let e = p.before in
-    let s = start e.before in
-    c.verdict2.ensures ∙ told (move_in_sweep (given s) (wide_in _ s.pre) _ _ _ (passed e) (λ z. c.before.if2.true (p.phase-in.ensures ∙ z)))
+    let p = c in
+    let e = c in
+    let s = start c.before.before.before.before in
+    c.verdict-then-phase_in-ne-BETWEEN.ensures ∙ told (move_in_sweep (given s) (wide_in _ s.requires) _ _ _ (passed c.before.before.before) (λ z. c.if-phase_in-ne-BETWEEN.true (p.phase_in.ensures ∙ z)))
 
-returns-3 : tie.Need-returns-3
+returns-3 : tie.Need-returns-then-slot-streams_in
 returns-3 c =
-    let n = c.before.before in
-    let p = between n in
-    let e = first n in
+    let n = c in
+    let p = between c.before.before in
+    let e = first c.before.before in
     let s = start e.before in
-    c.verdict3.ensures
-    ∙ told (move_no_slot (given s) (wide_in _ s.pre) _ _ _ (passed e) (sym p.before.phase-in.ensures ∙ p.if2.left)
-    (omega (arith, c.before.if3.true, n.streams-in.ensures)))
+    c.verdict-then-slot-streams_in.ensures
+    ∙ told (move_no_slot (given s) (wide_in _ s.requires) _ _ _ (passed e) (sym p.phase_in.ensures ∙ p.if-phase_in-ne-BETWEEN.false)
+    (omega (arith, c.if-slot-streams_in.true, n.streams_in.ensures)))
 
-kind-in-requires : tie.Need-kind-in-requires
+kind-in-requires : tie.Need-kind_in-requires
 kind-in-requires c κs =
-    let n = c.before in
-    let e = first n in
+    let n = c in
+    let e = first c.before in
     let s = start e.before in
-    (omega (arith, c.if3.false, n.streams-in.ensures, plan_streams _ _ _ (slim_in _ s.pre) (sound_plan _ _ _ (passed e))), s.pre)
+    (omega (arith, c.if-slot-streams_in.false, n.streams_in.ensures, plan_streams _ _ _ (slim_in _ s.requires) (sound_plan _ _ _ (passed e))), s.requires)
 
-returns-4 : tie.Need-returns-4
+returns-4 : tie.Need-returns
 returns-4 c =
-    let b = c.before in
-    let i = b.before in
-    let k = i.before in
-    let n = k.before.before in
-    let p = between n in
-    let e = first n in
+    let b = c in
+    let i = c in
+    let k = c in
+    let n = c in
+    let p = between c.before.before.before.before.before in
+    let e = first c.before.before.before.before.before in
     let s = start e.before in
-    c.judge-state.ensures
-    ∙ (λ t. state_verdict (k.kind-in.ensures t) (i.films-in.ensures t) (b.blocks-of.ensures t) s.args.step)
-    ∙ told (move_state (given s) (wide_in _ s.pre) _ _ (slim_in _ s.pre) (passed e) (sym p.before.phase-in.ensures ∙ p.if2.left) s.args.step
-    (omega (arith, k.before.if3.false, n.streams-in.ensures)))
+    c.judge_state.ensures
+    ∙ (λ t. state_verdict (k.kind_in.ensures t) (i.films_in.ensures t) (b.blocks_of.ensures t) s.args.step)
+    ∙ told (move_state (given s) (wide_in _ s.requires) _ _ (slim_in _ s.requires) (passed e) (sym p.phase_in.ensures ∙ p.if-phase_in-ne-BETWEEN.false) s.args.step
+    (omega (arith, k.if-slot-streams_in.false, n.streams_in.ensures)))
 
-pub judge-move-spec : {M : Type 1} → statement M
-judge-move-spec =
+pub judge_move_spec : {M : Type 1} → statement M
+judge_move_spec =
     tie.close
     (tie.spec
     (λ c κs. search rules)

@@ -5,5 +5,5 @@ use Rattle.trace.proofs.every_list_safe.Tie as tie
 returns : tie.Need-returns
 returns c = opening_safe
 
-pub every-list-safe-spec : {M : Type 1} → statement M
-every-list-safe-spec = tie.close (tie.spec returns)
+pub every_list_safe_spec : {M : Type 1} → statement M
+every_list_safe_spec = tie.close (tie.spec returns)

@@ -5,5 +5,5 @@ use Rattle.trace.proofs.fetches_are_whole.Tie as tie
 returns : tie.Need-returns
 returns c = begin_fetched
 
-pub fetches-are-whole-spec : {M : Type 1} → statement M
-fetches-are-whole-spec = tie.close (tie.spec returns)
+pub fetches_are_whole_spec : {M : Type 1} → statement M
+fetches_are_whole_spec = tie.close (tie.spec returns)

@@ -9,5 +9,5 @@ returns c = (
   λ film w m r ok rated names gs. every_list_safe (supplied film w r) (paced_lawful film w r m ok rated) names gs,
 )
 
-pub paced-film-is-safe-spec : {M : Type 1} → statement M
-paced-film-is-safe-spec = tie.close (tie.spec returns)
+pub paced_film_is_safe_spec : {M : Type 1} → statement M
+paced_film_is_safe_spec = tie.close (tie.spec returns)

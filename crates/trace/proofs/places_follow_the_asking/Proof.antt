@@ -5,5 +5,5 @@ use Rattle.trace.proofs.places_follow_the_asking.Tie as tie
 returns : tie.Need-returns
 returns c = opening_ordered
 
-pub places-follow-the-asking-spec : {M : Type 1} → statement M
-places-follow-the-asking-spec = tie.close (tie.spec returns)
+pub places_follow_the_asking_spec : {M : Type 1} → statement M
+places_follow_the_asking_spec = tie.close (tie.spec returns)

@@ -6,5 +6,5 @@ use Rattle.trace.proofs.planned_film_opens.Tie as tie
 returns : tie.Need-returns
 returns c = (card_opens, (record_opens, scratch_opens))
 
-pub planned-film-opens-spec : {M : Type 1} → statement M
-planned-film-opens-spec = tie.close (tie.spec returns)
+pub planned_film_opens_spec : {M : Type 1} → statement M
+planned_film_opens_spec = tie.close (tie.spec returns)

@@ -7,5 +7,5 @@ use Rattle.trace.proofs.refused_call_leaves_all.Tie as tie
 returns : tie.Need-returns
 returns c = (refused_leaves, (fetches_kept, (lists_kept, (scratch_kept, scratch_fetches_kept))))
 
-pub refused-call-leaves-all-spec : {M : Type 1} → statement M
-refused-call-leaves-all-spec = tie.close (tie.spec returns)
+pub refused_call_leaves_all_spec : {M : Type 1} → statement M
+refused_call_leaves_all_spec = tie.close (tie.spec returns)

@@ -5,5 +5,5 @@ use Rattle.trace.proofs.request_is_granted_in_time.Tie as tie
 returns : tie.Need-returns
 returns c = opening_in_time
 
-pub request-is-granted-in-time-spec : {M : Type 1} → statement M
-request-is-granted-in-time-spec = tie.close (tie.spec returns)
+pub request_is_granted_in_time_spec : {M : Type 1} → statement M
+request_is_granted_in_time_spec = tie.close (tie.spec returns)

@@ -5,5 +5,5 @@ use Rattle.trace.proofs.scratch_equals_list.Tie as tie
 returns : tie.Need-returns
 returns c = (same_planned, (same_opened, same_desk))
 
-pub scratch-equals-list-spec : {M : Type 1} → statement M
-scratch-equals-list-spec = tie.close (tie.spec returns)
+pub scratch_equals_list_spec : {M : Type 1} → statement M
+scratch_equals_list_spec = tie.close (tie.spec returns)

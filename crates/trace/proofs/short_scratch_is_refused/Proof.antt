@@ -5,5 +5,5 @@ use Rattle.trace.proofs.short_scratch_is_refused.Tie as tie
 returns : tie.Need-returns
 returns c = (short_planned, short_desk)
 
-pub short-scratch-is-refused-spec : {M : Type 1} → statement M
-short-scratch-is-refused-spec = tie.close (tie.spec returns)
+pub short_scratch_is_refused_spec : {M : Type 1} → statement M
+short_scratch_is_refused_spec = tie.close (tie.spec returns)

@@ -5,5 +5,5 @@ use Rattle.trace.proofs.wait_is_at_most_one_sweep.Tie as tie
 returns : tie.Need-returns
 returns c = (planned_least, opened_least)
 
-pub wait-is-at-most-one-sweep-spec : {M : Type 1} → statement M
-wait-is-at-most-one-sweep-spec = tie.close (tie.spec returns)
+pub wait_is_at_most_one_sweep_spec : {M : Type 1} → statement M
+wait_is_at_most_one_sweep_spec = tie.close (tie.spec returns)
