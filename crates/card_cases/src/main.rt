@@ -9,13 +9,15 @@
 //     NAME: w SIZE RECORD    writes a record's card into a buffer of SIZE bytes, 4,096 at most
 //
 // A line is printed for each: its name and the answer; a line with no colon as it is.
+#![tactic(auto)]
+
 use card::Figures;
 use case_text::runs::read_runs;
 use case_text::{
-    next_case, no_case, print, print_number, print_refusal, print_word, read_bytes, read_number,
-    read_record, wide,
+    next_case, no_case, print, print_number, print_refusal, print_word, read_bytes, read_full,
+    read_number, read_record, wide,
 };
-use libc::STDIN_FILENO;
+use std::io;
 
 // Whether the first bytes of two strings are the same.
 fn same(a: &[u8], b: &[u8], n: usize) -> bool {
@@ -36,96 +38,96 @@ fn same(a: &[u8], b: &[u8], n: usize) -> bool {
 }
 
 // The number of films, and N of each.
-fn show_films(films: u32, blocks: &[u32; 16]) {
-    print_word(films);
+fn show_films(rt: &impl Print, films: u32, blocks: &[u32; 16]) -> io::Result<()> {
+    print_word(rt, films)?;
     let mut i: usize = 0;
     while i < 16 {
         if films as usize <= i {
             break;
         }
-        print_word(blocks[i]);
+        print_word(rt, blocks[i])?;
         i += 1;
     }
+    Ok(())
 }
 
 // An accepted card's figures, and whether it is the card that the writer makes of them.
-fn show_accepted(f: Figures, bytes: &[u8]) {
-    print(b" accepted");
-    print_word(f.kind);
-    print_word(f.zones);
-    show_films(f.films, &f.blocks);
-    print_word(f.bytes);
-    print_word(f.rate);
-    print_word(f.table[0]);
-    print_word(f.table[1]);
-    print_word(f.table[256]);
-    let mut buffer = io::buffer();
+fn show_accepted(rt: &impl Print, f: Figures, bytes: &[u8]) -> io::Result<()> {
+    print(rt, b" accepted")?;
+    print_word(rt, f.kind)?;
+    print_word(rt, f.zones)?;
+    show_films(rt, f.films, &f.blocks)?;
+    print_word(rt, f.bytes)?;
+    print_word(rt, f.rate)?;
+    print_word(rt, f.table[0])?;
+    print_word(rt, f.table[1])?;
+    print_word(rt, f.table[256])?;
+    let mut buffer = [0u8; 4096];
     let w = card_writer::write_card(f, &mut buffer);
-    print_number(w.length as u64);
+    print_number(rt, w.length as u64)?;
     if w.length == bytes.len() {
         if same(&buffer, bytes, w.length) {
-            print(b" same");
+            return print(rt, b" same");
         }
     }
+    Ok(())
 }
 
 // The answer of the reader.
-fn show_card(bytes: &[u8]) {
+fn show_card(rt: &impl Print, bytes: &[u8]) -> io::Result<()> {
     let r = card_reader::read_card(bytes);
     let v = r.verdict;
     if v.number != 0 {
-        print_refusal(v);
-        return;
+        return print_refusal(rt, v);
     }
-    show_accepted(r.figures, bytes);
+    show_accepted(rt, r.figures, bytes)
 }
 
 // The writer's answer: the length, the first byte of the buffer, and the refusal, 0 where there is none.
-fn show_written(f: Figures, size: u32) {
-    let mut buffer = io::buffer();
-    let n = io::count(size as isize, &buffer);
+fn show_written(rt: &impl Print, f: Figures, size: u32) -> io::Result<()> {
+    let mut buffer = [0u8; 4096];
+    let n = (size as usize).min(buffer.len());
     let w = card_writer::write_card(f, &mut buffer[..n]);
-    print(b" length");
-    print_number(w.length as u64);
-    print_number(wide(buffer[0]));
-    print_refusal(w.verdict);
+    print(rt, b" length")?;
+    print_number(rt, w.length as u64)?;
+    print_number(rt, wide(buffer[0]))?;
+    print_refusal(rt, w.verdict)
 }
 
 // Does what the letter says to what stands from `start` on.
-fn run_case(text: &[u8], letter: u8, start: usize) {
+fn run_case(rt: &impl Print, text: &[u8], letter: u8, start: usize) -> io::Result<()> {
     if letter == b'c' {
-        let mut card = io::buffer();
+        let mut card = [0u8; 4096];
         let n = read_bytes(text, start, &mut card);
-        show_card(&card[..n]);
-        return;
+        return show_card(rt, &card[..n]);
     }
     if letter == b'n' {
-        let mut card = io::buffer();
+        let mut card = [0u8; 4096];
         let n = read_runs(text, start, &mut card);
-        show_card(&card[..n]);
-        return;
+        return show_card(rt, &card[..n]);
     }
     if letter == b'j' {
-        print_refusal(card::judge_figures(read_record(text, start)));
-        return;
+        return print_refusal(rt, card::judge_figures(read_record(text, start)));
     }
     if letter == b'w' {
         let size = read_number(text, start);
-        show_written(read_record(text, size.next), size.value);
+        return show_written(rt, read_record(text, size.next), size.value);
     }
+    Ok(())
 }
 
 // Every line: its name up to the colon, then the answer.
-fn run_cases(text: &[u8]) {
+fn run_cases(rt: &impl Print, text: &[u8]) -> io::Result<()> {
     let mut case = no_case();
     while case.end < text.len() {
-        case = next_case(text, case);
-        run_case(text, case.letter, case.start);
+        case = next_case(rt, text, case)?;
+        run_case(rt, text, case.letter, case.start)?;
     }
+    Ok(())
 }
 
-fn main() {
-    let mut input = io::large_buffer();
-    let count = io::read_full(STDIN_FILENO, &mut input);
-    run_cases(&input[..count]);
+fn main(rt: HostRuntime) -> io::Result<()> {
+    let mut input = [0u8; 65536];
+    let count = read_full(&mut rt.stdin(), &mut input)?;
+    run_cases(&rt, &input[..count])
 }

@@ -1,11 +1,14 @@
 // The text of worked cases: numbers, records and cards are read from a line, answers printed on one.
+#![tactic(auto)]
+
 pub mod runs; // numbers that rise by the same step
 
-ghost use Rattle.std.specs.Prelude.{◌<◌, ◌≤◌, length};
+ghost use Rattle.std.specs.Prelude.{◌<◌, ◌≤◌, length, IfOk};
 
 use crate::runs::read_entries;
 use card::{Figures, Verdict};
-use libc::STDOUT_FILENO;
+use std::io;
+use std::io::Read;
 
 // A number of a line, and where the next one may begin.
 #[derive(Clone, Copy)]
@@ -182,9 +185,9 @@ fn next_letter(letter: u8, byte: u8) -> u8 {
 }
 
 // The case after the last one. Its name is printed up to the colon, and before it the line feed that ends the last one.
-pub fn next_case(text: &[u8], last: Case) -> Case
+pub fn next_case(rt: &impl Print, text: &[u8], last: Case) -> io::Result<Case>
     requires { last.end < length text.now }
-    ensures { last.end < result.end }
+    ensures { IfOk result (λ next. last.end < next.end) }
 {
     let mut letter: u8 = 0;
     let mut start = last.start;
@@ -193,27 +196,27 @@ pub fn next_case(text: &[u8], last: Case) -> Case
         let byte = text[at];
         if byte == b'\n' {
             if last.end < at {
-                return Case {
+                return Ok(Case {
                     letter: letter,
                     start: start,
                     end: at,
-                };
+                });
             }
         }
         at += 1;
         if letter == 0 {
-            print_byte(byte);
+            print_byte(rt, byte)?;
         }
         if letter == b':' {
             start = at;
         }
         letter = next_letter(letter, byte);
     }
-    Case {
+    Ok(Case {
         letter: 0,
         start: start,
         end: at,
-    }
+    })
 }
 
 // A byte as a number of 64 bits.
@@ -223,30 +226,45 @@ pub fn wide(byte: u8) -> u64
     byte as u64
 }
 
-pub fn print(text: &[u8]) {
-    io::write_all(STDOUT_FILENO, text);
+pub fn print(rt: &impl Print, text: &[u8]) -> io::Result<()> {
+    rt.write_all(text)
 }
 
 // One byte as it is.
-pub fn print_byte(byte: u8) {
+pub fn print_byte(rt: &impl Print, byte: u8) -> io::Result<()> {
     let one = [byte];
-    io::write_all(STDOUT_FILENO, &one);
+    rt.write_all(&one)
 }
 
 // A space and the number.
-pub fn print_number(number: u64) {
-    io::write_all(STDOUT_FILENO, b" ");
-    io::print_decimal(STDOUT_FILENO, number);
+pub fn print_number(rt: &impl Print, number: u64) -> io::Result<()> {
+    rt.write_all(b" ")?;
+    rt.print(number)
 }
 
 // The same of 32 bits.
-pub fn print_word(number: u32) {
-    print_number(number as u64);
+pub fn print_word(rt: &impl Print, number: u32) -> io::Result<()> {
+    print_number(rt, number as u64)
 }
 
-pub fn print_refusal(verdict: Verdict) {
-    print(b" refused");
-    print_number(verdict.number as u64);
-    print(b" at");
-    print_number(verdict.place as u64);
+pub fn print_refusal(rt: &impl Print, verdict: Verdict) -> io::Result<()> {
+    print(rt, b" refused")?;
+    print_number(rt, verdict.number as u64)?;
+    print(rt, b" at")?;
+    print_number(rt, verdict.place as u64)
+}
+
+// Reads until the room is full or the input ends, and answers how many bytes it put at the start of the room.
+pub fn read_full(input: &mut impl Read, room: &mut [u8]) -> io::Result<usize>
+    ensures { IfOk result (λ n. n ≤ length room.new) }
+{
+    let mut done: usize = 0;
+    while done < room.len() {
+        let count = input.read(&mut room[done..])?;
+        if count == 0 {
+            break;
+        }
+        done += count;
+    }
+    Ok(done)
 }

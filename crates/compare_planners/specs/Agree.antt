@@ -29,12 +29,13 @@ use Rattle.pacing.specs.Laid.{slowest, worst_within}
 use Rattle.pacing.specs.Streams.{overhead, overhead_entry, load, cap_of, cap_some, streams_best}
 use Rattle.plan.specs.declared.Planned.{Planned}
 use Rattle.plan.specs.Plan.{time_on, position_in, entries_of, time_in, worst2_of, over_of, streams_of}
-use Rattle.plan.specs.Legal.{total_zones, some_film, position_below}
+use Rattle.plan.specs.Legal.{total_zones, some_film}
+use Rattle.plan.proofs.Legal.{position_below}
 use Rattle.plan.specs.Ways.{by_none, some_stream}
 use Rattle.plan.specs.Answer.{planned}
 use Rattle.layings.specs.Times.{single_blocks, single_worst}
 use Rattle.try_all.specs.Answer.{Few, tried}
-use Rattle.try_all.specs.Ways.{same_answer}
+use Rattle.try_all.proofs.Ways.{same_answer}
 use Rattle.small_cards.specs.Cards.{Small}
 use Rattle.compare_planners.specs.Compare.{unequal_of, eight, unequal_on}
 

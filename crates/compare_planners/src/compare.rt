@@ -60,7 +60,7 @@ fn compare_card(figures: Figures) -> u32
     requires { Small figures }
     ensures { result ≡ unequal_on one (card_of figures) + unequal_on loop (card_of figures) }
 {
-    let mut out = io::buffer();
+    let mut out = [0u8; 4096];
     let written = write_card(figures, &mut out);
     let length = written.length;
     compare_once(&out[..length]) + compare_loop(&out[..length])

@@ -11,7 +11,7 @@ use Rattle.pacing.specs.Streams.{buffer_of}
 use Rattle.plan.specs.declared.Plan.{Plan}
 use Rattle.plan.specs.Plan.{worst2_of, streams_of, slowest_of, film_of, plan_of}
 use Rattle.plan.specs.Check.{showing_back}
-use Rattle.plan.specs.Promise.{promise}
+use Rattle.plan.proofs.Promise.{promise}
 use Rattle.rules.specs.Supply.{Lawful, Named}
 use Rattle.turns.specs.Orderly.{Orderly}
 use Rattle.turns.specs.ByPlace.{by_place_orderly}

@@ -8,7 +8,8 @@ use Rattle.placement.specs.Showing.{visits_few}
 use Rattle.pacing.specs.Streams.{overhead, cap_visits}
 use Rattle.plan.specs.declared.Plan.{Plan}
 use Rattle.plan.specs.Plan.{showing_in, streams_of, plan_of}
-use Rattle.plan.specs.Legal.{streams_few, buffer_small}
+use Rattle.plan.specs.Legal.{streams_few}
+use Rattle.plan.proofs.Legal.{buffer_small}
 use Rattle.plan.specs.Promise.{buffer_formula}
 use Rattle.rules.specs.Supply.{Lawful}
 use Rattle.turns.specs.Facts.{Sound}

@@ -1,7 +1,7 @@
 -- The numbers that stand in a card one after the other, as values of its figures.
 -- Assumes nothing.
 use Prim.Native.Nat.{ℕ, zero, suc, ◌+◌, ◌*◌}
-use Rattle.std.specs.Prelude.{◌≡◌, refl, List, [], ◌∷◌, ◌++◌, Bool, cond, eqb}
+use Rattle.std.specs.Prelude.{◌≡◌, List, [], ◌∷◌, ◌++◌, Bool, cond, eqb}
 use Rattle.std.proofs.Common.{sym, ◌∙◌}
 use Rattle.std.proofs.Math.Path.{ap}
 use Rattle.std.proofs.Math.Bool.{true, false}
@@ -13,7 +13,7 @@ use Rattle.leb128.specs.declared.Number.TheVariants.{Value, CutOff, Malformed}
 use Rattle.leb128.specs.Number.{number_at}
 use Rattle.card_field.specs.Figure.{value_in}
 use Rattle.fault_claims.specs.Rules.{Figure, Kind, Zones, Positions, Time, Films, Blocks, Bytes, Rate, Hop, Return, Overhead}
-use Rattle.fault_claims.specs.Rules.{zone_figures, length_figures, entry_figures, overhead_figures, film_figures, figures_in_order, Values}
+use Rattle.fault_claims.specs.Rules.{zone_figures, length_figures, entry_figures, overhead_figures, film_figures, Values}
 
 -- ---- the n-th number
 
@@ -78,14 +78,10 @@ module _ (z m : ℕ) where
   counted_lengths zero i n kind all e = (omega arith, (omega arith, counted_overheads kind (suc (suc n)) (omega arith)))
   counted_lengths (suc left) i n kind all e = (omega arith, counted_lengths left (suc i) (suc n) kind (omega arith) (omega arith))
 
-  counted_zones : (left i n kind : ℕ) → i + left ≡ z → n ≡ 2 + 2 * i → Counted z m n (zone_figures left i ++ film_figures kind m)
+  pub counted_zones : (left i n kind : ℕ) → i + left ≡ z → n ≡ 2 + 2 * i → Counted z m n (zone_figures left i ++ film_figures kind m)
   unfolding zone_figures film_figures
   counted_zones zero i n kind all e = (omega arith, counted_lengths m 0 (suc n) kind (omega arith) (omega arith))
   counted_zones (suc left) i n kind all e = (omega arith, (omega arith, counted_zones left (suc i) (suc (suc n)) kind (omega arith) (omega arith)))
-
-pub counted_card : (kind z m : ℕ) → Counted z m 0 (figures_in_order kind z m)
-unfolding figures_in_order
-counted_card kind z m = (refl, (refl, counted_zones z m z 0 2 kind (omega arith) (omega arith)))
 
 -- the values of a card's figures, 0 where there is no number
 abbrev pub read_values : List ℕ → Values

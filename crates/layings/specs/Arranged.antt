@@ -1,11 +1,10 @@
 -- The list of all layings has each laying on the film's positions once, and nothing else.
 -- Assumes nothing.
-use Rattle.std.specs.Prelude.{ℕ, zero, suc, ◌+◌, ◌-◌, ◌≤◌, ◌<◌, ◌≡◌, refl, ◌⊎◌, List, [], ◌∷◌, map, length, get_or, set}
-use Rattle.std.proofs.Common.{sym, ap, ◌∙◌, subst, inl, inr, arith, length-set}
-use Rattle.std.proofs.lemmas.List.{length-map}
+use Rattle.std.specs.Prelude.{ℕ, zero, suc, ◌-◌, ◌≤◌, ◌<◌, ◌≡◌, refl, ◌⊎◌, List, [], ◌∷◌, map, length, get_or, set}
+use Rattle.std.proofs.Common.{sym, ap, ◌∙◌, subst, inl, inr, arith}
 use Rattle.laws.specs.Members.{In, Unique, upto, each, in_at, place_of, unique_at, in_map, of_map}
 use Rattle.laws.specs.Members.{unique_map, upto_length, in_upto, of_upto, unique_upto, in_each, of_each, unique_each}
-use Rattle.layings.specs.Layings.{others, arrangements, film_positions, layings, OnFilm, listed, laid}
+use Rattle.layings.specs.Layings.{others, arrangements, film_positions, layings}
 use Rattle.layings.specs.Numbered.{others_length}
 
 -- ---- an entry overwritten
@@ -76,17 +75,17 @@ unique_others (suc i) (x ∷ xs) l u = unique_set xs i x (omega arith) u.1 u.0
 -- ---- the orders of n different numbers
 
 -- ys is an order of some of xs
-record Order (n : ℕ) (xs ys : List ℕ) : Type 0 where
-  size : length ys ≡ n
-  apart : Unique ys
-  from : (a : ℕ) → In a ys → In a xs
+pub record Order (n : ℕ) (xs ys : List ℕ) : Type 0 where
+  pub size : length ys ≡ n
+  pub apart : Unique ys
+  pub from : (a : ℕ) → In a ys → In a xs
 
 -- those that begin with the i-th of xs
 abbrev begun : ℕ → List ℕ → ℕ → List (List ℕ)
 begun n xs i = map (λ ys. get_or xs i 0 ∷ ys) (arrangements n (others i xs))
 
 -- NONE IS MISSING
-arranged : (n : ℕ) (xs ys : List ℕ) → length xs ≡ n → Order n xs ys → In ys (arrangements n xs)
+pub arranged : (n : ℕ) (xs ys : List ℕ) → length xs ≡ n → Order n xs ys → In ys (arrangements n xs)
 unfolding arrangements
 arranged zero xs [] l o = inl refl
 arranged zero xs (y ∷ ys) l o = absurd (omega (arith, o.size))
@@ -107,7 +106,7 @@ arranged (suc n) xs (y ∷ ys) l o = go (place_of y xs 0 (o.from y (inl refl))) 
         left a h (inr v) = v
 
 -- EACH IS ONE
-ordered : (n : ℕ) (xs ys : List ℕ) → length xs ≡ n → Unique xs → In ys (arrangements n xs) → Order n xs ys
+pub ordered : (n : ℕ) (xs ys : List ℕ) → length xs ≡ n → Unique xs → In ys (arrangements n xs) → Order n xs ys
 unfolding arrangements
 ordered zero xs ys l u (inl e) = rw e (record { size = refl; apart = tt; from = λ a h. absurd h })
 ordered zero xs ys l u (inr h) = absurd h
@@ -134,7 +133,7 @@ ordered (suc n) xs ys l u h = go (of_each (begun n xs) ys (upto 0 (suc n)) h) (�
             back o a (inr p) = (of_others i xs a li u (o.from a p)).0
 
 -- EACH APPEARS ONCE
-once : (n : ℕ) (xs : List ℕ) → length xs ≡ n → Unique xs → Unique (arrangements n xs)
+pub once : (n : ℕ) (xs : List ℕ) → length xs ≡ n → Unique xs → Unique (arrangements n xs)
 unfolding arrangements
 once zero xs l u = (λ h. h, tt)
 once (suc n) xs l u =
@@ -155,52 +154,14 @@ pub positions_length : (P N : ℕ) → length (film_positions P N) ≡ N
 unfolding film_positions
 positions_length P N = upto_length _ N
 
-positions_unique : (P N : ℕ) → Unique (film_positions P N)
+pub positions_unique : (P N : ℕ) → Unique (film_positions P N)
 unfolding film_positions
 positions_unique P N = unique_upto _ N
 
-in_film : (P N p : ℕ) → N ≤ P → P - N ≤ p → p < P → In p (film_positions P N)
+pub in_film : (P N p : ℕ) → N ≤ P → P - N ≤ p → p < P → In p (film_positions P N)
 unfolding film_positions
 in_film P N p np h u = in_upto _ N p (omega arith) (omega arith)
 
-of_film : (P N p : ℕ) → N ≤ P → In p (film_positions P N) → (P - N ≤ p) × (p < P)
+pub of_film : (P N p : ℕ) → N ≤ P → In p (film_positions P N) → (P - N ≤ p) × (p < P)
 unfolding film_positions
 of_film P N p np h = let b = of_upto _ N p h in omega arith
-
--- EVERY LAYING ON THE FILM'S POSITIONS IS IN THE LIST
-pub laying_listed : (P N : ℕ) → N ≤ P → (l : ℕ → ℕ) → OnFilm P N l → In (listed l N) (layings P N)
-unfolding layings
-laying_listed P N np l o =
-    arranged N (film_positions P N) (listed l N) (positions_length P N) (record {
-      size = length-map (upto 0 N) l ∙ upto_length 0 N;
-      apart = unique_map l (upto 0 N) (λ a b p q e. o.laying.apart a b (omega (arith, of_upto 0 N a p)) (omega (arith, of_upto 0 N b q)) e) (unique_upto 0 N);
-      from = λ a h. here a (of_map l a (upto 0 N) h);
-    })
-  where
-    here : (a : ℕ) → (b : ℕ) × In b (upto 0 N) × (a ≡ l b) → In a (film_positions P N)
-    here a (b, h, e) =
-        let u : b < N = omega (arith, of_upto 0 N b h) in
-        in_film P N a np (omega (arith, o.high b u)) (omega (arith, o.laying.into b u))
-
--- AND NOTHING ELSE IS
-pub listed_laying : (P N : ℕ) → N ≤ P → (ys : List ℕ) → In ys (layings P N) → (length ys ≡ N) × OnFilm P N (laid ys)
-unfolding layings
-listed_laying P N np ys h =
-    let o = ordered N (film_positions P N) ys (positions_length P N) (positions_unique P N) h in (
-      o.size,
-      record {
-        laying = record {
-          into = λ b u. (within o b u).1;
-          apart = λ a b u v e. unique_at ys 0 o.apart a b (omega (arith, o.size)) (omega (arith, o.size)) e;
-        };
-        high = λ b u. (within o b u).0;
-      },
-    )
-  where
-    within : Order N (film_positions P N) ys → (b : ℕ) → b < N → (P - N ≤ laid ys b) × (laid ys b < P)
-    within o b u = of_film P N (laid ys b) np (o.from (laid ys b) (in_at ys b 0 (omega (arith, o.size))))
-
--- EACH ONCE
-pub layings_once : (P N : ℕ) → Unique (layings P N)
-unfolding layings
-layings_once P N = once N (film_positions P N) (positions_length P N) (positions_unique P N)

@@ -3,7 +3,7 @@
 use Prim.Native.Nat.{ℕ, zero, suc, ◌+◌, ◌*◌, ◌-◌, ◌/◌, ◌%◌, ◌≤◌, ◌<◌}
 use Rattle.std.specs.Prelude.{◌≡◌, length, get_or, set, take}
 use Rattle.std.proofs.Math.Path.{refl, sym}
-use Rattle.std.proofs.Common.{ap, ap₂, ◌∙◌, arith, add-one, mul-pos, mul-le-mul_right, mod-lt, div-lt_iff_lt-mul, length-set, get_or-take}
+use Rattle.std.proofs.Common.{ap, ◌∙◌, arith, add-one, mul-pos, mul-le-mul_right, mod-lt, div-lt_iff_lt-mul, length-set, get_or-take}
 use Rattle.std.proofs.Math.Logic.{by_cases}
 use mathlib.Core.List.{List, [], ◌∷◌, map}
 use Rattle.std.proofs.Math.Decide.{dec_le}
@@ -11,7 +11,7 @@ use Rattle.std.proofs.Math.Nat.{mul-div_cancel_left}
 use Rattle.std.proofs.lemmas.List.{length-map}
 use Rattle.std.proofs.Math.Seq.{take-nil, take-set-lt}
 use Rattle.numbers.specs.Limits.{max_tried}
-use Rattle.laws.specs.Members.{upto, each, map_at, each_length, each_at}
+use Rattle.laws.specs.Members.{map_at, each_length}
 use Rattle.layings.specs.Layings.{others, arrangements}
 
 unfoldable pub factorial : ℕ → ℕ
@@ -69,17 +69,6 @@ arrangements_length zero xs = refl
 arrangements_length (suc n) xs =
     each_length (λ i. map (λ ys. get_or xs i 0 ∷ ys) (arrangements n (others i xs))) (factorial n)
     (λ i. length-map (arrangements n (others i xs)) (λ ys. get_or xs i 0 ∷ ys) ∙ arrangements_length n (others i xs)) 0 (suc n)
-
-pub arrangement_at : (n r : ℕ) (xs : List ℕ) → r < factorial n → get_or (arrangements n xs) r [] ≡ numbered n r xs
-unfolding arrangements numbered factorial
-arrangement_at zero r xs h = let e : r ≡ 0 = omega arith in rw e
-arrangement_at (suc n) r xs h =
-    let e : 0 + r / factorial n ≡ r / factorial n = omega arith in
-    each_at (λ i. map (λ ys. get_or xs i 0 ∷ ys) (arrangements n (others i xs))) (factorial n)
-    (λ i. length-map (arrangements n (others i xs)) (λ ys. get_or xs i 0 ∷ ys) ∙ arrangements_length n (others i xs)) 0 (suc n) r [] (factorial_pos n) h
-    ∙ rw e (map_at (λ ys. get_or xs (r / factorial n) 0 ∷ ys) (arrangements n (others (r / factorial n) xs)) (r % factorial n) [] []
-    (omega (arith, rest_below n r, arrangements_length n (others (r / factorial n) xs)))
-    ∙ ap (λ ys. get_or xs (r / factorial n) 0 ∷ ys) (arrangement_at n (r % factorial n) (others (r / factorial n) xs) (rest_below n r)))
 
 -- ---- the first n of a longer list
 

@@ -17,7 +17,8 @@ use Rattle.plan.specs.declared.Planned.{Planned}
 use Rattle.placement.specs.Showing.{Showing, visits_of}
 use Rattle.plan.specs.Plan.{showing_in, entries_of, streams_of, plan_of}
 use Rattle.plan.specs.Answer.{plan_fault, fault_after, refusal, answer, planned, positions_after, leads_after, is_plan}
-use Rattle.plan.specs.Check.{showing_back, plan_passes}
+use Rattle.plan.specs.Check.{showing_back}
+use Rattle.plan.proofs.Check.{plan_passes}
 use Rattle.round_trip.specs.RoundTrip.{card_legal}
 use Rattle.plan.specs.Ways.{Outcome, short_positions, short_leads, no_stream_law}
 

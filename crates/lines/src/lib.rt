@@ -1,16 +1,21 @@
 // What the programs that plan a card share: lines of text, put together by value and written in one call, the line of a refusal, the
 // argument `loop` or `pairs`, the plan that it asks for, and the room for its positions.
-ghost use Rattle.std.specs.Prelude.{◌≡◌, true, length};
+#![tactic(auto)]
+
+ghost use Rattle.std.specs.Prelude.{◌≡◌, ◌≤◌, true, length, IfOk};
 ghost use Rattle.card.specs.Card.{Legal};
 ghost use Rattle.placement.specs.Showing.{visits_of};
 ghost use Rattle.plan.specs.Plan.{showing_in};
 ghost use Rattle.plan.specs.Answer.{is_plan};
 
 use card::Verdict;
-use libc::STDOUT_FILENO;
+use itoa::Buffer;
 use numbers::showings::{LOOP, ONCE, PAIRS};
 use plan::Planned;
 use planner::{plan_card, plan_loop_card, plan_pairs_card};
+use std::env::{Env, FillError};
+use std::io;
+use std::io::Read;
 
 // A line as far as it is put together. A byte past its room is dropped; no line of the programs has more than 50.
 #[derive(Clone, Copy)]
@@ -48,9 +53,8 @@ pub fn put_text(line: Line, text: &[u8]) -> Line {
 
 // The number's decimal digits.
 pub fn put_number(line: Line, number: u64) -> Line {
-    let mut digits = [0u8; 20];
-    let count = io::decimal(number, &mut digits);
-    put_text(line, &digits[..count])
+    let mut digits = Buffer::new();
+    put_text(line, digits.format(number).as_bytes())
 }
 
 // One space and the number's decimal digits.
@@ -59,23 +63,24 @@ pub fn put_next(line: Line, number: u64) -> Line {
 }
 
 // Writes the line as it is.
-fn write(line: Line) {
+fn write(rt: &impl Print, line: Line) -> io::Result<()> {
     let bytes = line.bytes;
     let length = line.length;
     if length <= 64 {
-        io::write_all(STDOUT_FILENO, &bytes[..length]);
+        return rt.write_all(&bytes[..length]);
     }
+    Ok(())
 }
 
 // Writes the line and a line feed.
-pub fn print(line: Line) {
-    write(put_byte(line, b'\n'));
+pub fn print(rt: &impl Print, line: Line) -> io::Result<()> {
+    write(rt, put_byte(line, b'\n'))
 }
 
 // The line of a refused card.
-pub fn print_refusal(verdict: Verdict) {
+pub fn print_refusal(rt: &impl Print, verdict: Verdict) -> io::Result<()> {
     let number = put_next(put_text(empty(), b"refused"), verdict.number as u64);
-    print(put_next(put_text(number, b" at"), verdict.place as u64));
+    print(rt, put_next(put_text(number, b" at"), verdict.place as u64))
 }
 
 // Are two strings the same?
@@ -104,10 +109,28 @@ fn showing_of(word: &[u8]) -> u32 {
     ONCE
 }
 
+// Puts the i-th argument at the start of the room, and answers its length; 0 where it is missing or longer than the room.
+fn copy_argument(rt: &impl Env, i: usize, room: &mut [u8]) -> usize
+    ensures { result ≤ length room.new }
+{
+    match rt.arg(i, room) {
+        Ok(length) => length,
+        Err(_) => 0,
+    }
+}
+
+// Has the program an i-th argument? Its name is argument 0.
+fn has_argument(rt: &impl Env, i: usize) -> bool {
+    match rt.arg(i, &mut []) {
+        Err(FillError::NotPresent) => false,
+        _ => true,
+    }
+}
+
 // The showing that the first argument asks for. A longer one than fits is read as none.
-pub fn asked_showing() -> u32 {
+pub fn asked_showing(rt: &impl Env) -> u32 {
     let mut word = [0u8; 8];
-    let length = os::arg(1, &mut word);
+    let length = copy_argument(rt, 1, &mut word);
     showing_of(&word[..length])
 }
 
@@ -120,8 +143,8 @@ fn most_arguments(showing: u32) -> usize {
 }
 
 // Has the program more arguments than it reads?
-pub fn has_more_arguments(showing: u32) -> bool {
-    most_arguments(showing) < os::arg_count()
+pub fn has_more_arguments(rt: &impl Env, showing: u32) -> bool {
+    has_argument(rt, most_arguments(showing))
 }
 
 // Room for the positions of all films, two for each of their half blocks.
@@ -143,4 +166,19 @@ pub fn plan_film(showing: u32, card: &[u8], positions: &mut [u8], leads: &mut [u
         return plan_loop_card(card, positions, leads);
     }
     plan_card(card, positions, leads)
+}
+
+// Reads until the room is full or the input ends, and answers how many bytes it put at the start of the room.
+pub fn read_full(input: &mut impl Read, room: &mut [u8]) -> io::Result<usize>
+    ensures { IfOk result (λ n. n ≤ length room.new) }
+{
+    let mut done: usize = 0;
+    while done < room.len() {
+        let count = input.read(&mut room[done..])?;
+        if count == 0 {
+            break;
+        }
+        done += count;
+    }
+    Ok(done)
 }

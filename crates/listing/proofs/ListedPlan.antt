@@ -21,9 +21,10 @@ use Rattle.plan.specs.declared.Plan.{Plan}
 use Rattle.plan.specs.Plan.{showing_in, start_in, entries_of}
 use Rattle.plan.specs.Disk.{Zoned}
 use Rattle.plan.specs.Films.{entries_start}
-use Rattle.plan.specs.Legal.{legal_zoned, position_below, total_is}
+use Rattle.plan.specs.Legal.{legal_zoned, total_is}
+use Rattle.plan.proofs.Legal.{position_below}
 use Rattle.plan.specs.Answer.{is_plan}
-use Rattle.plan.specs.Check.{checked, checked_legal}
+use Rattle.plan.proofs.Check.{checked, checked_legal}
 
 -- every number through the films stands for a place in one of them
 place_of : (N : ℕ → ℕ) (F v : ℕ) → v < start_of N F → (i : ℕ) × (b : ℕ) × (i < F) × (b < N i) × (start_of N i + b ≡ v)

@@ -11,7 +11,8 @@ use Rattle.placement.specs.Placement.{Laying, Falling, zigzag, worst_time}
 use Rattle.placement.specs.Circle.{round, worst_round}
 use Rattle.placement.specs.Pairs.{both_halves, worst_match}
 use Rattle.placement.specs.Showing.{Showing, one, loop, pairs, visits_of, laying, first_place, other_places, block_time, worst_of}
-use Rattle.placement.specs.Showing.{laying_first, slowest_first, laying_best, after}
+use Rattle.placement.specs.Showing.{laying_first, after}
+use Rattle.placement.proofs.Showing.{slowest_first, laying_best}
 use Rattle.pacing.specs.Film.{Film, Paced, lead, shown}
 use Rattle.pacing.specs.Shown.{round_below, shown_paced, shown_lead}
 use Rattle.pacing.specs.Streams.{load, streams, streams_best}

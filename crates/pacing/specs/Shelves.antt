@@ -13,9 +13,11 @@ use Rattle.laws.specs.Greatest.{greatest_of, greatest_of_above, greatest_of_leas
 use Rattle.numbers.specs.Limits.{name_step}
 use Rattle.numbers.specs.Units.{parts}
 use Rattle.placement.specs.Placement.{Laying, Falling}
-use Rattle.placement.specs.Showing.{Showing, one, loop, pairs, visits_of, block_time, worst_of, after, slowest_first, greatest_twice}
+use Rattle.placement.specs.Showing.{Showing, one, loop, pairs, visits_of, block_time, worst_of, after, greatest_twice}
+use Rattle.placement.proofs.Showing.{slowest_first}
 use Rattle.laws.specs.Starts.{start_of, start_next, start_rises}
-use Rattle.placement.specs.Shelf.{free_for, laying_in, falling_less, film_room, free_next, film_best}
+use Rattle.placement.specs.Shelf.{free_for, laying_in, falling_less}
+use Rattle.placement.proofs.Shelf.{film_room, free_next, film_best}
 use Rattle.pacing.specs.Film.{Film, Paced, lead}
 use Rattle.pacing.specs.Lead.{lead_closed}
 use Rattle.pacing.specs.Shown.{round_below}

@@ -1,16 +1,15 @@
 -- The showings of a film: once through as document 01 has it, document 02's loop, or once through with each block as two halves. What differs
 -- is the laying, the visits of a block and the pairs of blocks that the worst time is taken over; what holds of all stands here once.
 -- Assumes nothing.
-use Rattle.std.specs.Prelude.{ℕ, zero, suc, ◌+◌, ◌*◌, ◌-◌, ◌/◌, ◌≤◌, ◌<◌, ◌≡◌, refl, List, [], ◌∷◌}
-use Rattle.std.proofs.Common.{sym, ap, ◌∙◌, subst}
+use Rattle.std.specs.Prelude.{ℕ, zero, suc, ◌+◌, ◌*◌, ◌-◌, ◌≤◌, ◌<◌, ◌≡◌, refl, List, [], ◌∷◌}
+use Rattle.std.proofs.Common.{ap, ◌∙◌, subst}
 use native.Mathlib.Omega.{arith}
-use Rattle.std.proofs.Math.Nat.{le_antisymm}
-use Rattle.laws.specs.Greatest.{greatest_of, greatest_of_above, greatest_of_least, earliest_of, Earliest, earliest_unique, earliest_is}
-use Rattle.placement.specs.Placement.{zigzag, zigzag_even, Laying, Falling, worst_time}
-use Rattle.placement.specs.Best.{zigzag_laying, zigzag_high, placement_best}
+use Rattle.laws.specs.Greatest.{greatest_of, earliest_of}
+use Rattle.placement.specs.Placement.{zigzag, zigzag_even, Laying, worst_time}
+use Rattle.placement.specs.Best.{zigzag_laying, zigzag_high}
 use Rattle.placement.specs.Circle.{round, ring, worst_round}
-use Rattle.placement.specs.CircleBest.{ring_laying, ring_high, ring_first, circle_best}
-use Rattle.placement.specs.Pairs.{both_halves, worst_match, matching_best, match_is_worst, match_at}
+use Rattle.placement.specs.CircleBest.{ring_laying, ring_high, ring_first}
+use Rattle.placement.specs.Pairs.{both_halves, worst_match}
 
 -- one showing, a film that goes round and round (T7.1), or one showing of half blocks (ticket 11)
 pub data Showing : Type 0 where
@@ -135,28 +134,6 @@ laying_first one P N = ap (zigzag P N) (omega arith) ∙ zigzag_even P N 0 ∙ o
 laying_first loop P N = ring_first P N ∙ omega arith
 laying_first pairs P N = ap (zigzag P (2 * N)) (omega arith) ∙ zigzag_even P (2 * N) 0 ∙ omega arith
 
-module _ (P N : ℕ) (τ : ℕ → ℕ) (falls : Falling P τ) where
-  -- so block 0 of one visit a block is the slowest
-  pub slowest_first : (x : Showing) → visits_of x ≡ 1 → N ≤ P → 0 < N → greatest_of (λ b. τ (laying x P N b)) N ≡ τ (P - N)
-  unfolding Falling
-  slowest_first x e np some =
-      let d : visits_of x * N ≡ N = rw e (omega arith) in
-      le_antisymm
-      (greatest_of_least (λ b. τ (laying x P N b)) N _ (λ b u. falls (P - N) (laying x P N b)
-      (omega (arith, laying_high x P N b (omega arith) (omega arith))) ((laying_lays x P N (omega arith)).into b (omega arith))))
-      (rw (laying_first x P N, d) at (greatest_of_above (λ b. τ (laying x P N b)) N 0 some))
-
--- NO LAYING HAS A SMALLER WORST TIME (P10, T7.4), and no matching of halves (ticket 11)
-pub laying_best : (x : Showing) (P N : ℕ) → visits_of x * N ≤ P → 1 < N → (τ : ℕ → ℕ) → Falling P τ → (l : ℕ → ℕ) → Laying P (visits_of x * N) l
-    → worst_of x τ (laying x P N) N ≤ worst_of x τ l N
-laying_best one P N np two τ falls l lay =
-    let e : 1 * N ≡ N = omega arith in
-    placement_best P N (omega arith) τ falls l (subst (λ (n : ℕ). Laying P n l) e lay)
-laying_best loop P N np two τ falls l lay =
-    let e : 1 * N ≡ N = omega arith in
-    circle_best P N (omega arith) two τ falls l (subst (λ (n : ℕ). Laying P n l) e lay)
-laying_best pairs P N np two τ falls l lay = omega (arith, matching_best P N np τ falls l lay)
-
 -- ---- as a walk over all visits finds it
 
 -- the showing whose blocks are a film's visits: of half blocks, one showing of twice as many
@@ -175,27 +152,3 @@ pub walked_laying : (x : Showing) (P N : ℕ) → laying (walked x) P (visits_of
 walked_laying one P N = let e : 1 * N ≡ N = omega arith in rw e
 walked_laying loop P N = let e : 1 * N ≡ N = omega arith in rw e
 walked_laying pairs P N = refl
-
-module _ (P N : ℕ) (τ : ℕ → ℕ) (falls : Falling P τ) where
-  -- what the walk finds for each visit of a block
-  pub walked_worst_law : (x : Showing) → visits_of x * N ≤ P
-      → visits_of x * worst_of (walked x) τ (laying (walked x) P (visits_of x * N)) (visits_of x * N) ≡ worst_of x τ (laying x P N) N
-  walked_worst_law one np = let e : 1 * N ≡ N = omega arith in rw e (omega arith)
-  walked_worst_law loop np = let e : 1 * N ≡ N = omega arith in rw e (omega arith)
-  walked_worst_law pairs np = ap (λ (p : ℕ). 2 * p) (match_is_worst P N np τ falls)
-
-  -- the block of the visit that it names
-  pub walked_at_law : (x : Showing) → visits_of x * N ≤ P → 0 < N
-      → worst_at (walked x) τ (laying (walked x) P (visits_of x * N)) (visits_of x * N) / visits_of x ≡ worst_at x τ (laying x P N) N
-  unfolding worst_at
-  walked_at_law one np some = let e : 1 * N ≡ N = omega arith in rw e (omega arith)
-  walked_at_law loop np some = let e : 1 * N ≡ N = omega arith in rw e (omega arith)
-  walked_at_law pairs np some =
-      let l = zigzag P (2 * N) in
-      let g = both_halves τ l in
-      let e = earliest_is (pair_time pairs τ l N) N some in
-      let once : Earliest g N (worst_at pairs τ l N) =
-      record { below = e.below; reached = omega (arith, e.reached, greatest_twice g N); first = λ a u. omega (arith, e.first a u, greatest_twice g N) } in
-      let same = earliest_unique (pair_time one τ l (2 * N)) (2 * N - 1) _ _ (earliest_is (pair_time one τ l (2 * N)) (2 * N - 1) (omega arith))
-      (match_at P N np τ falls _ once) in
-      omega (arith, same)

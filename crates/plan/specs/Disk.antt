@@ -4,7 +4,8 @@ use Rattle.std.proofs.Common.{mul-pos, mul-le-mul, mul-le-mul_right, arith}
 use Rattle.laws.specs.Starts.{start_of, start_next, start_rises}
 use Rattle.numbers.specs.Limits.{max_zones, max_positions, max_time, max_films, max_blocks}
 use Rattle.placement.specs.Showing.{Showing, visits_of, visits_few, laying, walked, worst_of, worst_at}
-use Rattle.placement.specs.Shelf.{free_for, laying_in, film_room}
+use Rattle.placement.specs.Shelf.{free_for, laying_in}
+use Rattle.placement.proofs.Shelf.{film_room}
 use Rattle.placement.specs.Zones.{total, time_at}
 use Rattle.plan.specs.Plan.{rows_of}
 

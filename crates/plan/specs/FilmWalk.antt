@@ -6,7 +6,8 @@ use Rattle.laws.specs.Greatest.{greatest_of, greatest_of_least, earliest_le}
 use Rattle.laws.specs.Starts.{start_of, start_none}
 use Rattle.numbers.specs.Limits.{max_positions, max_blocks, max_time}
 use Rattle.placement.specs.Showing.{Showing, one, loop, pairs, visits_of, laying, worst_of, worst_at, pair_time, pairs_of, walked, laying_lays, pairs_few}
-use Rattle.placement.specs.Shelf.{free_for, free_next}
+use Rattle.placement.specs.Shelf.{free_for}
+use Rattle.placement.proofs.Shelf.{free_next}
 use Rattle.placement.specs.Zones.{time_at, zone_of, time_at_zone}
 use Rattle.pacing.specs.Laid.{slowest, worst_within}
 use Rattle.plan.specs.Disk.{OnDisk, length_at, Shelved, OnShelf, shelved_room, shelved_few, visits_on, blocks_on, walked_worst, walked_at}

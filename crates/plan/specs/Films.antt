@@ -13,10 +13,9 @@ use Rattle.words.specs.Words.{Words, with_words}
 use Rattle.words.specs.Laws.{with_words_append}
 use Rattle.laws.specs.Starts.{start_of, start_none, start_next}
 use Rattle.card.specs.declared.Figures.{Figures}
-use Rattle.card.specs.Card.{Legal, length_in, blocks_of}
+use Rattle.card.specs.Card.{length_in, blocks_of}
 use Rattle.placement.specs.Showing.{Showing, visits_of}
 use Rattle.plan.specs.Plan.{start_in, position_in, entries_of, lead_in, row, rows_of, positions_of, leads_of}
-use Rattle.plan.specs.Legal.{position_below, lead_small}
 use Rattle.plan.specs.Answer.{begins}
 use Rattle.plan.specs.Rows.{row_length, row_same, begins_append, begins_at, begins_none}
 
@@ -116,14 +115,3 @@ module _ (x : Showing) (f : Figures) where
       → get_or ws (start_in f i + b) 0 ≡ lead_in x f i b
   unfolding leads_of
   leads_at ws e i b u h = rows_at (lead_in x f) (length_in f) f.films ws e i b u h
-
-  -- of legal figures they are numbers of 32 bits
-  module _ (ok : Legal (visits_of x) f) where
-    pub positions_words : Words (positions_of x f)
-    unfolding positions_of
-    positions_words = rows_words (position_in x f) (λ i. visits_of x * length_in f i) f.films
-        (λ i v u h. omega (arith, position_below x f ok i v u h, ok.total))
-
-    pub leads_words : Words (leads_of x f)
-    unfolding leads_of
-    leads_words = rows_words (lead_in x f) (length_in f) f.films (λ i b u h. omega (arith, lead_small x f ok i b u h))

@@ -1,18 +1,16 @@
 -- The blocks of a shelf by their names, 65,536 × film + block (document 02, ticket 14): which they are, where the lists have them, their sizes.
 -- Assumes nothing.
-use Rattle.std.specs.Prelude.{ℕ, ◌+◌, ◌*◌, ◌-◌, ◌≤◌, ◌<◌, ◌≡◌, true, List, ltb, get_or}
+use Rattle.std.specs.Prelude.{ℕ, ◌+◌, ◌*◌, ◌-◌, ◌<◌, ◌≡◌, true, List, ltb, get_or}
 use Rattle.std.proofs.Common.{ap, ◌∙◌, arith, mul-le-mul_left, ltb-true, lt-ltb}
 use Rattle.laws.specs.Bools.{and_left, and_right, and_both}
 use Rattle.laws.specs.Through.{through_below}
-use Rattle.numbers.specs.Limits.{max_time}
 use Rattle.words.specs.Words.{words_of}
 use Rattle.card.specs.declared.Figures.{Figures}
-use Rattle.card.specs.Card.{Legal, length_in, blocks_of}
+use Rattle.card.specs.Card.{length_in, blocks_of}
 use Rattle.placement.specs.Showing.{Showing, visits_of}
 use Rattle.pacing.specs.Shelf.{film_in, block_in, name_back}
 use Rattle.plan.specs.declared.Plan.{Plan}
 use Rattle.plan.specs.Plan.{showing_in, listed_at, position_in, film_of, lead_of, lead_in}
-use Rattle.plan.specs.Legal.{block_time_law, lead_small}
 use Rattle.plan.specs.Check.{Checked}
 
 -- a names a block of the shelf
@@ -37,24 +35,13 @@ module _ (x : Showing) (f : Figures) (a : ℕ) where
 pub listed_below : (f : Figures) (a : ℕ) → Named f a → listed_at f a < blocks_of f
 listed_below f a n = through_below (length_in f) (film_in a) f.films (block_in a) n.0 n.1
 
--- sizes
-module _ (x : Showing) (f : Figures) (ok : Legal (visits_of x) f) (a : ℕ) (n : Named f a) where
-  pub named_time : (0 < (film_of x f).time a) × ((film_of x f).time a ≤ visits_of x * max_time)
-  named_time = block_time_law x f ok (film_in a) (block_in a) n.0 n.1
-
-  pub named_small : lead_of x f a ≤ max_time - 1
-  named_small = omega (arith, lead_named x f a, lead_small x f ok (film_in a) (block_in a) n.0 n.1)
-
 -- where the lists of a checked plan have it
 module _ (p : Plan) (ps ls : List ℕ) (c : Checked p ps ls) (a : ℕ) (n : Named p.figures a) where
-  abbrev x : Showing
+  abbrev pub x : Showing
   x = showing_in p
 
-  abbrev f : Figures
+  abbrev pub f : Figures
   f = p.figures
-
-  pub lead_listed : get_or (words_of ls) (listed_at f a) 0 ≡ lead_of x f a
-  lead_listed = c.lead_at_law (film_in a) (block_in a) n.0 n.1 ∙ lead_named x f a
 
   -- visit j of it
   pub position_listed : (j : ℕ) → j < visits_of x

@@ -11,13 +11,15 @@
 //
 // A line is printed for each: its name and the answer, which of a planned shelf is streams, buffer, worst2, margin, showing and worstat, or the
 // refusal, then a sum of each list.
+#![tactic(auto)]
+
 use card::Figures;
 use case_text::{
-    is_record, next_case, no_case, print, print_number, print_refusal, read_bytes, read_number,
-    read_record, wide,
+    is_record, next_case, no_case, print, print_number, print_refusal, read_bytes, read_full,
+    read_number, read_record, wide,
 };
-use libc::STDIN_FILENO;
 use plan::{Plan, Planned};
+use std::io;
 
 // Fills a list with a pattern.
 fn fill(list: &mut [u8]) {
@@ -40,20 +42,25 @@ fn sum_of(list: &[u8]) -> u64 {
 }
 
 // The refusal, if there is one, the plan's figures and the sum of each list.
-fn print_answer(planned: Planned, positions: &[u8], leads: &[u8]) {
+fn print_answer(
+    rt: &impl Print,
+    planned: Planned,
+    positions: &[u8],
+    leads: &[u8],
+) -> io::Result<()> {
     let verdict = planned.verdict;
     if verdict.number != 0 {
-        print_refusal(verdict);
+        print_refusal(rt, verdict)?;
     }
     let plan = planned.plan;
-    print_number(plan.streams as u64);
-    print_number(plan.buffer as u64);
-    print_number(plan.worst2 as u64);
-    print_number(plan.margin as u64);
-    print_number(plan.showing as u64);
-    print_number(plan.worstat as u64);
-    print_number(sum_of(positions));
-    print_number(sum_of(leads));
+    print_number(rt, plan.streams as u64)?;
+    print_number(rt, plan.buffer as u64)?;
+    print_number(rt, plan.worst2 as u64)?;
+    print_number(rt, plan.margin as u64)?;
+    print_number(rt, plan.showing as u64)?;
+    print_number(rt, plan.worstat as u64)?;
+    print_number(rt, sum_of(positions))?;
+    print_number(rt, sum_of(leads))
 }
 
 // A plan: streams, buffer, worst2, margin, showing, worstat, and its record.
@@ -76,34 +83,39 @@ fn read_plan(text: &[u8], start: usize) -> Plan {
 }
 
 // Is this the plan of its figures, with its lists?
-fn check(plan: Plan, positions: &[u8], leads: &[u8]) {
+fn check(rt: &impl Print, plan: Plan, positions: &[u8], leads: &[u8]) -> io::Result<()> {
     if plan_check::is_plan(plan, positions, leads, true) {
-        print(b" yes");
-        return;
+        return print(rt, b" yes");
     }
-    print(b" no");
+    print(rt, b" no")
 }
 
 // The same with each byte altered, which then gets its value back.
-fn check_altered(plan: Plan, positions: &mut [u8], leads: &mut [u8]) {
+fn check_altered(
+    rt: &impl Print,
+    plan: Plan,
+    positions: &mut [u8],
+    leads: &mut [u8],
+) -> io::Result<()> {
     let mut at: usize = 0;
     while at < 28 {
         if positions.len() <= at {
-            return;
+            return Ok(());
         }
         if leads.len() <= at {
-            return;
+            return Ok(());
         }
         let position = positions[at];
         positions[at] = 77;
-        check(plan, positions, leads);
+        check(rt, plan, positions, leads)?;
         positions[at] = position;
         let lead = leads[at];
         leads[at] = 77;
-        check(plan, positions, leads);
+        check(rt, plan, positions, leads)?;
         leads[at] = lead;
         at += 1;
     }
+    Ok(())
 }
 
 // Does this letter stand before a record that is planned?
@@ -137,75 +149,101 @@ fn plan_card(letter: u8, card: &[u8], positions: &mut [u8], leads: &mut [u8]) ->
 }
 
 // Plans the card that stands from `start` on.
-fn plan_bytes(text: &[u8], letter: u8, start: usize, positions: &mut [u8], leads: &mut [u8]) {
-    let mut card = io::buffer();
+fn plan_bytes(
+    rt: &impl Print,
+    text: &[u8],
+    letter: u8,
+    start: usize,
+    positions: &mut [u8],
+    leads: &mut [u8],
+) -> io::Result<()> {
+    let mut card = [0u8; 4096];
     let n = read_bytes(text, start, &mut card);
-    print_answer(
-        plan_card(letter, &card[..n], positions, leads),
-        positions,
-        leads,
-    );
+    let planned = plan_card(letter, &card[..n], positions, leads);
+    print_answer(rt, planned, positions, leads)
 }
 
 // Plans the record or the card that stands from `start` on, with lists of a pattern.
-fn plan_film(text: &[u8], letter: u8, start: usize, positions: &mut [u8], leads: &mut [u8]) {
+fn plan_film(
+    rt: &impl Print,
+    text: &[u8],
+    letter: u8,
+    start: usize,
+    positions: &mut [u8],
+    leads: &mut [u8],
+) -> io::Result<()> {
     fill(positions);
     fill(leads);
     if plans_record(letter) {
-        print_answer(
-            plan_record(letter, read_record(text, start), positions, leads),
-            positions,
-            leads,
-        );
-        return;
+        let planned = plan_record(letter, read_record(text, start), positions, leads);
+        return print_answer(rt, planned, positions, leads);
     }
-    plan_bytes(text, letter, start, positions, leads);
+    plan_bytes(rt, text, letter, start, positions, leads)
 }
 
 // Does what the letter says to what stands from `start` on, with these lists.
-fn run_with(text: &[u8], letter: u8, start: usize, positions: &mut [u8], leads: &mut [u8]) {
+fn run_with(
+    rt: &impl Print,
+    text: &[u8],
+    letter: u8,
+    start: usize,
+    positions: &mut [u8],
+    leads: &mut [u8],
+) -> io::Result<()> {
     if letter == b'k' {
-        check(read_plan(text, start), positions, leads);
-        return;
+        return check(rt, read_plan(text, start), positions, leads);
     }
     if letter == b'b' {
-        check_altered(read_plan(text, start), positions, leads);
-        return;
+        return check_altered(rt, read_plan(text, start), positions, leads);
     }
-    plan_film(text, letter, start, positions, leads);
+    plan_film(rt, text, letter, start, positions, leads)
 }
 
 // The same with as many bytes of the lists as the case says.
-fn run_case(text: &[u8], letter: u8, start: usize, positions: &mut [u8], leads: &mut [u8]) {
+fn run_case(
+    rt: &impl Print,
+    text: &[u8],
+    letter: u8,
+    start: usize,
+    positions: &mut [u8],
+    leads: &mut [u8],
+) -> io::Result<()> {
     if letter == 0 {
-        return;
+        return Ok(());
     }
     let size = read_number(text, start);
-    let p = io::count(size.value as isize, positions);
+    let p = (size.value as usize).min(positions.len());
     let other = read_number(text, size.next);
-    let l = io::count(other.value as isize, leads);
+    let l = (other.value as usize).min(leads.len());
     run_with(
+        rt,
         text,
         letter,
         other.next,
         &mut positions[..p],
         &mut leads[..l],
-    );
+    )
 }
 
 // Every line: its name up to the colon, then the answer.
-fn run_cases(text: &[u8], positions: &mut [u8], leads: &mut [u8]) {
+fn run_cases(
+    rt: &impl Print,
+    text: &[u8],
+    positions: &mut [u8],
+    leads: &mut [u8],
+) -> io::Result<()> {
     let mut case = no_case();
     while case.end < text.len() {
-        case = next_case(text, case);
-        run_case(text, case.letter, case.start, positions, leads);
+        case = next_case(rt, text, case)?;
+        run_case(rt, text, case.letter, case.start, positions, leads)?;
     }
+    Ok(())
 }
 
-fn main() {
-    let mut input = io::large_buffer();
-    let count = io::read_full(STDIN_FILENO, &mut input);
-    let mut positions = io::large_buffer();
-    let mut leads = io::large_buffer();
-    run_cases(&input[..count], &mut positions, &mut leads);
+fn main(rt: HostRuntime) -> io::Result<()> {
+    let mut input = [0u8; 65536];
+    let count = read_full(&mut rt.stdin(), &mut input)?;
+    let mut positions = [0u8; 65536];
+    let mut leads = [0u8; 65536];
+    run_cases(&rt, &input[..count], &mut positions, &mut leads)
 }

@@ -14,7 +14,8 @@ use Rattle.placement.specs.Zones.{total, total_turn, total_take}
 use Rattle.placement.specs.Showing.{Showing, one, loop, pairs, visits_of, visits_few}
 use Rattle.pacing.specs.Streams.{cap_visits}
 use Rattle.plan.specs.Plan.{word_of, streams_of, plan_of}
-use Rattle.plan.specs.Legal.{total_is, worst2_small, worst_at_small, margin_less, streams_few, buffer_small}
+use Rattle.plan.specs.Legal.{total_is, streams_few}
+use Rattle.plan.proofs.Legal.{worst2_small, worst_at_small, margin_less, buffer_small}
 use Rattle.fields.specs.Fields.{◌&◌}
 use Rattle.fields.specs.FieldLaws.{AllFit, packed_fit}
 use Rattle.plan_layout.specs.Layout.{plan_fields, plan_values, plan_words}

@@ -1,6 +1,6 @@
 -- What is written is read back, and what is accepted is what would be written.
 -- Assumes nothing.
-use Rattle.std.specs.Prelude.{ℕ, zero, suc, ◌+◌, ◌*◌, ◌≤◌, ◌<◌, ◌≡◌, refl, ◌⊎◌, ◌↔◌, List, ◌++◌, true, length, get_or, set, drop, leb}
+use Rattle.std.specs.Prelude.{ℕ, zero, suc, ◌+◌, ◌*◌, ◌≤◌, ◌<◌, ◌≡◌, refl, ◌⊎◌, List, ◌++◌, true, length, get_or, set, drop, leb}
 use Rattle.std.proofs.Math.Path.{sym}
 use Rattle.std.proofs.Common.{ap, ap₂, ◌∙◌, subst, inl, inr, arith, length-set, le-leb}
 use Rattle.std.proofs.Math.Logic.{by_cases}
@@ -16,7 +16,6 @@ use Rattle.card_field.specs.Ranges.{first, fault_of, time_fault}
 use Rattle.card_table.specs.Table.{table_fault, table_numbers}
 use Rattle.card.specs.Card.{Legal, shelf_fault, film_fault, zone_faults, record_fault, film_numbers, zone_numbers, numbers_of, card_of, write_fault, written_card, buffer_after}
 use Rattle.card.specs.Read.{blank_zones, blank_figures, accepted, refused_card, figures_from, card_end, film_from, zones_from, after_zones, read_card}
-use Rattle.card.specs.CardLaws.{legal_fewer}
 use Rattle.card.specs.ReadLaws.{read_holds}
 use Rattle.card_field.specs.RangeLaws.{first_none, first_clear, kind_range, zones_range, positions_range, time_range, kind_legal, zones_legal, time_legal}
 use Rattle.round_trip.specs.Ahead.{Ahead, ahead_next, field_goes, end_goes, Got, got_goes, still_accepted, accepted_field, end_got, ahead_more}
@@ -299,43 +298,13 @@ card_legal k s y r e n =
     let a = read_card_law k s y (sym (ap (λ (x : CardRead). x.verdict.number) e) ∙ n) in
     subst (λ (x : CardRead). Legal k x.figures) (sym e) (fault_legal k (read_card k s).figures a.wide a.clear)
 
--- THE READER ACCEPTS EXACTLY THE CARDS OF LEGAL FIGURES
-pub reader_legal : (k : ℕ) (s : List ℕ) → Bytes s → ((read_card k s).verdict.number ≡ 0) ↔ ((f : Figures) × Legal k f × (s ≡ card_of f))
-reader_legal k s y = (λ e. found (read_card k s).figures (read_card_law k s y e), accepts)
-  where
-    found : (g : Figures) → AcceptedWith k s g → (f : Figures) × Legal k f × (s ≡ card_of f)
-    found g a = (g, fault_legal k g a.wide a.clear, a.same)
-
-    accepts : (f : Figures) × Legal k f × (s ≡ card_of f) → (read_card k s).verdict.number ≡ 0
-    accepts (f, l, e) = ap (λ (x : List ℕ). (read_card k x).verdict.number) e ∙ ap (λ (r : CardRead). r.verdict.number) (legal_read k f l)
-
--- A CARD THAT IS ACCEPTED FOR MORE POSITIONS A BLOCK IS ACCEPTED FOR FEWER, WITH THE SAME FIGURES
-pub read_fewer : (j k : ℕ) (s : List ℕ) → j ≤ k → Bytes s → (read_card k s).verdict.number ≡ 0 → read_card j s ≡ read_card k s
-read_fewer j k s h y e = by (read_card k s).figures (read_card_law k s y e)
-  where
-    by : (g : Figures) → AcceptedWith k s g → read_card j s ≡ read_card k s
-    by g a = ap (read_card j) a.same ∙ legal_read j g (legal_fewer j k g h (fault_legal k g a.wide a.clear)) ∙ sym a.whole
-
 -- the writer puts the card of figures that are not refused in front of what stood past it
-written : (g : Figures) (out : List ℕ) → record_fault 1 g ≡ 0 → length (card_of g) ≤ length out
+pub written : (g : Figures) (out : List ℕ) → record_fault 1 g ≡ 0 → length (card_of g) ≤ length out
     → (written_card g out ≡ record { verdict = accepted; length = length (card_of g) }) × (buffer_after g out ≡ card_of g ++ drop (length (card_of g)) out)
 unfolding written_card buffer_after write_fault first
 written g out e h =
     let room : leb (length (card_of g)) (length out) ≡ true = le-leb (length (card_of g)) (length out) (omega arith) in
     (rw (e, room), rw (e, room))
-
--- AN ACCEPTED CARD IS WHAT THE WRITER WRITES OF ITS FIGURES
-pub accepted_written : (s : List ℕ) → Bytes s → (read_card 1 s).verdict.number ≡ 0 → (out : List ℕ) → length s ≤ length out
-    → (written_card (read_card 1 s).figures out ≡ record { verdict = accepted; length = length s })
-    × (buffer_after (read_card 1 s).figures out ≡ s ++ drop (length s) out)
-accepted_written s y e out = by (read_card 1 s).figures (read_card_law 1 s y e)
-  where
-    by : (g : Figures) → AcceptedWith 1 s g → length s ≤ length out
-        → (written_card g out ≡ record { verdict = accepted; length = length s }) × (buffer_after g out ≡ s ++ drop (length s) out)
-    by g a =
-        subst (λ (x : List ℕ). length x ≤ length out
-        → (written_card g out ≡ record { verdict = accepted; length = length x }) × (buffer_after g out ≡ x ++ drop (length x) out))
-        (sym a.same) (written g out a.clear)
 
 -- ---- a refused card
 

@@ -3,7 +3,7 @@
 use Rattle.std.specs.Prelude.{ℕ, zero, suc, ◌+◌, ◌≡◌, true, ◌&&◌, map, length, get_or, leb, eqb}
 use Rattle.std.proofs.Common.{ap, ◌∙◌, inl, arith, leb-true, eqb-true}
 use Rattle.laws.specs.Bools.{and_left, and_right}
-use Rattle.laws.specs.Members.{In, upto, each, in_all, of_each, of_map}
+use Rattle.laws.specs.Members.{In, upto, each, of_each, of_map}
 use Rattle.laws.specs.Runs.{all_by, all_at}
 use Rattle.numbers.specs.Limits.{straight_kind, max_zones, max_time, max_films, max_bytes, max_rate, max_tried}
 use Rattle.card.specs.declared.Figures.{Figures}
@@ -16,7 +16,7 @@ use Rattle.card_table.specs.TableFaults.{table_fault_law}
 use Rattle.card.specs.Card.{length_in, shelf_fault, film_fault, zone_faults, unused_zero, record_fault}
 use Rattle.legality.specs.Legality.{fault_legal}
 use Rattle.small_cards.specs.Cards.{small_figures, Small, threes, falling, lengths, small_cards}
-use Rattle.small_cards.specs.Computed.{zones_pass, passes, has_form, all_have_form}
+use Rattle.small_cards.specs.Computed.{zones_pass, passes, has_form}
 
 -- ---- the overheads
 
@@ -28,7 +28,7 @@ moves_clear f k t = table_fault_law f.kind f.table (inl k) (record {
 })
 
 -- every card of the list has them
-listed_moves : (f : Figures) → In f small_cards → (f.kind ≡ straight_kind) × (f.table ≡ straight 1 1)
+pub listed_moves : (f : Figures) → In f small_cards → (f.kind ≡ straight_kind) × (f.table ≡ straight 1 1)
 unfolding small_cards small_figures
 listed_moves f h =
     let z = of_each (λ z. each (threes z) (λ ps. each (falling z 3) (λ ts. map (small_figures z ps ts) (lengths ps)))) f (upto 1 3) h in
@@ -67,7 +67,7 @@ passes_clear f k t e =
     (first_clear (rw (and_left (unused_zero f) _ later)) (zones_clear f (moves_clear f k t) f.zones 0 0 max_time (and_right (unused_zero f) _ later))))
 
 -- what the test says
-form_small : (f : Figures) → f.kind ≡ straight_kind → f.table ≡ straight 1 1 → has_form f ≡ true → Small f
+pub form_small : (f : Figures) → f.kind ≡ straight_kind → f.table ≡ straight 1 1 → has_form f ≡ true → Small f
 unfolding has_form
 form_small f k t e =
     let e₁ = and_right (passes f) _ e in
@@ -99,7 +99,3 @@ form_small f k t e =
         t,
       );
     }
-
--- EACH IS SMALL
-pub listed_small : (f : Figures) → In f small_cards → Small f
-listed_small f h = let m = listed_moves f h in form_small f m.0 m.1 (in_all has_form small_cards all_have_form f h)

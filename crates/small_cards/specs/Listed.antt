@@ -1,24 +1,22 @@
 -- Every small card is in the list.
 -- Assumes nothing.
 use Rattle.std.specs.Prelude.{ℕ, zero, suc, ◌+◌, ◌-◌, ◌≤◌, ◌<◌, ◌≡◌, refl, List, [], ◌∷◌, ◌++◌, map, length, get_or, take}
-use Rattle.std.proofs.Common.{sym, ap, ◌∙◌, subst, inl, arith, length-append, ext_get_or, get_or-take, get_or-append-add, length-take-le}
+use Rattle.std.proofs.Common.{sym, ap, ◌∙◌, inl, arith, length-append, ext_get_or, get_or-take, get_or-append-add, length-take-le}
 use Rattle.std.proofs.Math.Logic.{by_cases}
 use Rattle.std.proofs.Math.Decide.{dec_lt}
 use Rattle.std.proofs.Math.ListN.{get_or-append}
 use Rattle.laws.specs.Members.{In, upto, each, in_map, in_upto, in_each}
-use Rattle.laws.specs.Runs.{sum_by}
-use Rattle.numbers.specs.Limits.{max_zones, min_blocks}
+use Rattle.numbers.specs.Limits.{max_zones}
 use Rattle.card.specs.declared.Figures.{Figures}
-use Rattle.laws.specs.Starts.{start_none, start_next}
-use Rattle.card.specs.Card.{Legal, total_positions, length_in, blocks_of}
+use Rattle.card.specs.Card.{length_in}
 use Rattle.card.specs.CardLaws.{one_film_is}
 use Rattle.card.specs.Read.{blank_zones}
 use Rattle.round_trip.specs.RoundTrip.{blank_at, blank_long}
-use Rattle.small_cards.specs.Cards.{entered, small_figures, Small, threes, falling, lengths, small_cards}
+use Rattle.small_cards.specs.Cards.{entered, small_figures, Small, threes, falling}
 
 -- ---- positions and times
 
-in_threes : (z : ℕ) (xs : List ℕ) → length xs ≡ z → ((i : ℕ) → i < z → (1 ≤ get_or xs i 0) × (get_or xs i 0 ≤ 3)) → In xs (threes z)
+pub in_threes : (z : ℕ) (xs : List ℕ) → length xs ≡ z → ((i : ℕ) → i < z → (1 ≤ get_or xs i 0) × (get_or xs i 0 ≤ 3)) → In xs (threes z)
 unfolding threes
 in_threes zero [] l h = inl refl
 in_threes zero (x ∷ xs) l h = absurd (omega arith)
@@ -27,7 +25,7 @@ in_threes (suc z) (x ∷ xs) l h =
     in_each (λ y. map (λ ys. y ∷ ys) (threes z)) x (x ∷ xs) (upto 1 3) (in_upto 1 3 x (h 0 (omega arith)).0 (omega (arith, (h 0 (omega arith)).1)))
     (in_map (λ ys. x ∷ ys) xs (threes z) (in_threes z xs (omega arith) (λ i u. h (suc i) (omega arith))))
 
-in_falling : (z m : ℕ) (xs : List ℕ) → length xs ≡ z → ((i : ℕ) → i < z → 1 ≤ get_or xs i 0) → (0 < z → get_or xs 0 0 ≤ m)
+pub in_falling : (z m : ℕ) (xs : List ℕ) → length xs ≡ z → ((i : ℕ) → i < z → 1 ≤ get_or xs i 0) → (0 < z → get_or xs 0 0 ≤ m)
     → ((i : ℕ) → suc i < z → get_or xs (suc i) 0 ≤ get_or xs i 0) → In xs (falling z m)
 unfolding falling
 in_falling zero m [] l h top falls = inl refl
@@ -66,7 +64,7 @@ entered_back xs z l u rest =
 -- ---- the card
 
 -- it is made of its zones and its N
-made_of : (f : Figures) → Small f → f ≡ small_figures f.zones (take f.zones f.positions) (take f.zones f.times) (length_in f 0)
+pub made_of : (f : Figures) → Small f → f ≡ small_figures f.zones (take f.zones f.positions) (take f.zones f.times) (length_in f 0)
 unfolding small_figures
 made_of f s =
     let ok = s.legal in
@@ -85,46 +83,3 @@ made_of f s =
       rate = m.2 i;
       table = m.3 i;
     }
-
--- EVERY SMALL CARD IS IN THE LIST
-pub small_listed : (f : Figures) → Small f → In f small_cards
-unfolding small_cards
-small_listed f s =
-    subst (λ (g : Figures). In g small_cards) (sym (made_of f s))
-    (in_each (λ y. each (threes y) (λ us. each (falling y 3) (λ vs. map (small_figures y us vs) (lengths us)))) z (small_figures z ps ts n) (upto 1 3)
-    (in_upto 1 3 z ok.zones.0 (omega (arith, s.zones)))
-    (in_each (λ us. each (falling z 3) (λ vs. map (small_figures z us vs) (lengths us))) ps (small_figures z ps ts n) (threes z)
-    (in_threes z ps (size f.positions ok.wide.0) (λ i u. rw (get_or-take z f.positions i 0 u) (ok.positions i u, s.positions i u)))
-    (in_each (λ vs. map (small_figures z ps vs) (lengths ps)) ts (small_figures z ps ts n) (falling z 3)
-    (in_falling z 3 ts (size f.times ok.wide.1)
-    (λ i u. rw (get_or-take z f.times i 0 u) (ok.times i u).0) (λ u. rw (get_or-take z f.times 0 0 u) (s.times 0 u))
-    (λ i u. let v : i < z = omega arith in rw (get_or-take z f.times (suc i) 0 u, get_or-take z f.times i 0 v) (ok.falling i u)))
-    (in_map (small_figures z ps ts) n (lengths ps) (unfold lengths in in_upto min_blocks _ n some (omega (arith, s.blocks, room)))))))
-  where
-    ok : Legal 1 f
-    ok = s.legal
-
-    z : ℕ
-    z = f.zones
-
-    ps : List ℕ
-    ps = take f.zones f.positions
-
-    ts : List ℕ
-    ts = take f.zones f.times
-
-    size : (xs : List ℕ) → length xs ≡ max_zones → length (take z xs) ≡ z
-    size xs l = length-take-le z xs (omega (arith, ok.zones))
-
-    n : ℕ
-    n = length_in f 0
-
-    some : min_blocks ≤ n
-    some = (ok.blocks 0 (omega (arith, s.film))).0
-
-    -- the blocks of the one film are all
-    alone : n ≡ blocks_of f
-    alone = rw s.film (omega (arith, start_none (length_in f), start_next (length_in f) 0))
-
-    room : n ≤ sum_by (λ (p : ℕ). p) ps
-    room = unfold total_positions in omega (arith, ok.room, alone)

@@ -16,10 +16,12 @@ use Rattle.placement.specs.Showing.{Showing, one, loop, pairs, visits_of, visits
 use Rattle.pacing.specs.Shelf.{film_in, block_in}
 use Rattle.pacing.specs.Streams.{cap_visits}
 use Rattle.plan.specs.Plan.{showing_in, start_in, listed_at, time_on, position_in, entries_of, worst2_of, lead_of, streams_of, plan_of}
-use Rattle.plan.specs.Names.{Named, listed_below, lead_named, lead_listed, named_small}
+use Rattle.plan.specs.Names.{Named, listed_below, lead_named}
+use Rattle.plan.proofs.Names.{lead_listed, named_small}
 use Rattle.plan.specs.Answer.{is_plan}
-use Rattle.plan.specs.Check.{checked, checked_legal}
-use Rattle.plan.specs.Legal.{total_is, legal_zoned, time_small, position_below, position_high, lead_first, half_small, halves_lead, streams_few}
+use Rattle.plan.proofs.Check.{checked, checked_legal}
+use Rattle.plan.specs.Legal.{total_is, legal_zoned, time_small, streams_few}
+use Rattle.plan.proofs.Legal.{position_below, position_high, lead_first, half_small, halves_lead}
 use Rattle.plan.specs.Scratch.{own_leads, leads_by}
 use Rattle.plan.specs.Ways.{plan_worst2}
 use Rattle.turns.specs.Facts.{sound_says}

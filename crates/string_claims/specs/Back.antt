@@ -24,8 +24,8 @@ use Rattle.plan.specs.declared.Plan.{Plan}
 use Rattle.plan.specs.Plan.{showing_in, plan_of}
 use Rattle.plan.specs.Answer.{is_plan}
 use Rattle.plan.specs.Names.{block_names}
-use Rattle.plan.specs.Check.{checked, checked_legal}
-use Rattle.plan.specs.Legal.{buffer_small}
+use Rattle.plan.proofs.Check.{checked, checked_legal}
+use Rattle.plan.proofs.Legal.{buffer_small}
 use Rattle.pacing.specs.Shelf.{name_of, film_in}
 use Rattle.rules.specs.Scheduler.{Slot, Call, join, leave, begin, end}
 use Rattle.rules.specs.Order.{Scheduler, waiting_count, by_place}

@@ -17,8 +17,9 @@ use Rattle.pacing.specs.Shelf.{film_in, block_in}
 use Rattle.plan.specs.declared.Plan.{Plan}
 use Rattle.plan.specs.Plan.{showing_in, plan_of}
 use Rattle.plan.specs.Names.{Named, block_names}
-use Rattle.plan.specs.Check.{checked, checked_legal}
-use Rattle.plan.specs.Legal.{position_below, streams_few}
+use Rattle.plan.proofs.Check.{checked, checked_legal}
+use Rattle.plan.specs.Legal.{streams_few}
+use Rattle.plan.proofs.Legal.{position_below}
 use Rattle.rules.specs.Scheduler.{Entry, begin, free_slot, at, leads}
 use Rattle.rules.specs.Order.{Scheduler}
 use Rattle.turns.specs.Facts.{Good, good_free, Sound}

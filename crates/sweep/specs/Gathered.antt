@@ -13,9 +13,11 @@ use Rattle.placement.specs.Showing.{Showing, one, loop, pairs, visits_of, visits
 use Rattle.pacing.specs.Shelf.{film_in, block_in}
 use Rattle.plan.specs.Plan.{showing_in, listed_at, time_on, position_in, entries_of, first_in, others_in, time_in}
 use Rattle.plan.specs.Answer.{is_plan}
-use Rattle.plan.specs.Check.{checked}
-use Rattle.plan.specs.Legal.{total_is, legal_zoned, position_below}
-use Rattle.plan.specs.Names.{Named, listed_below, named_time, position_listed}
+use Rattle.plan.proofs.Check.{checked}
+use Rattle.plan.specs.Legal.{total_is, legal_zoned}
+use Rattle.plan.proofs.Legal.{position_below}
+use Rattle.plan.specs.Names.{Named, listed_below, position_listed}
+use Rattle.plan.proofs.Names.{named_time}
 use Rattle.desk.specs.declared.Desk.{Desk}
 use Rattle.desk.specs.Shown.{others_by, Gathered, Gathers, InRange}
 use Rattle.desk.specs.Desk.{visits_in, supply_of}

@@ -19,12 +19,12 @@ use Rattle.card.specs.Card.{total_positions, length_in, blocks_of}
 use Rattle.legality.specs.Room.{fault_room}
 use Rattle.placement.specs.Best.{zigzag_laying}
 use Rattle.placement.specs.Showing.{Showing, one, loop, pairs, visits_of, laying, first_place, other_places}
-use Rattle.placement.specs.Shelf.{film_room}
+use Rattle.placement.proofs.Shelf.{film_room}
 use Rattle.pacing.specs.Shelf.{film_in, block_in}
 use Rattle.plan.specs.declared.Plan.{Plan}
 use Rattle.plan.specs.Plan.{showing_in, free_in, position_in}
 use Rattle.plan.specs.Answer.{is_plan}
-use Rattle.plan.specs.Check.{checked}
+use Rattle.plan.proofs.Check.{checked}
 use Rattle.plan.specs.Names.{Named, block_names}
 use Rattle.rules.specs.Supply.{Supply}
 use Rattle.rules.specs.Scheduler.{Slot, Entry, begin, free_slot, at, leads, entries_at, reads, is_fetched, entries_from, entries}

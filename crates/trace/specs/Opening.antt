@@ -7,7 +7,7 @@ use Rattle.legality.specs.Legality.{Wide}
 use Rattle.plan.specs.declared.Plan.{Plan}
 use Rattle.plan.specs.Plan.{showing_in}
 use Rattle.plan.specs.Answer.{is_plan}
-use Rattle.plan.specs.Check.{checked, checked_legal}
+use Rattle.plan.proofs.Check.{checked, checked_legal}
 use Rattle.plan.specs.Scratch.{scratch_short}
 use Rattle.rules.specs.Supply.{Lawful}
 use Rattle.rules.specs.Order.{Scheduler}

@@ -13,7 +13,7 @@ use Rattle.legality.specs.Legality.{Wide, fault_legal}
 use Rattle.placement.specs.Showing.{Showing, visits_of}
 use Rattle.plan.specs.Plan.{entries_of, streams_of, plan_of, positions_of, leads_of}
 use Rattle.plan.specs.Answer.{plan_fault, fault_after, refusal, answer, filled, planned, positions_after, leads_after, judged}
-use Rattle.plan.specs.Check.{plan_passes}
+use Rattle.plan.proofs.Check.{plan_passes}
 use Rattle.round_trip.specs.RoundTrip.{card_legal}
 use Rattle.desk.specs.Desk.{open_desk}
 use Rattle.trace.specs.Answers.{Opens}

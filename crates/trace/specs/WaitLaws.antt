@@ -14,8 +14,8 @@ use Rattle.placement.specs.Showing.{Showing, visits_of}
 use Rattle.plan.specs.declared.Plan.{Plan}
 use Rattle.plan.specs.Plan.{showing_in, worst2_of, plan_of}
 use Rattle.plan.specs.Answer.{is_plan}
-use Rattle.plan.specs.Legal.{margin_less}
-use Rattle.plan.specs.Check.{checked, checked_legal}
+use Rattle.plan.proofs.Legal.{margin_less}
+use Rattle.plan.proofs.Check.{checked, checked_legal}
 use Rattle.rules.specs.Supply.{Lawful}
 use Rattle.rules.specs.Scheduler.{at}
 use Rattle.rules.specs.Calls as C

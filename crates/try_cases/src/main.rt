@@ -6,20 +6,22 @@
 //     NAME: c CARD      of a card's, its bytes in hexadecimal; C as a loop
 //
 // A line is printed for each: its name, the refusal if there is one, worst2, and how many layings have it.
+#![tactic(auto)]
+
 use card::Figures;
 use case_text::{
-    is_record, next_case, no_case, print_number, print_refusal, read_bytes, read_record,
+    is_record, next_case, no_case, print_number, print_refusal, read_bytes, read_full, read_record,
 };
-use libc::STDIN_FILENO;
+use std::io;
 use try_all::{Tried, try_card, try_loop_card, try_loop_record, try_record};
 
-fn print_answer(tried: Tried) {
+fn print_answer(rt: &impl Print, tried: Tried) -> io::Result<()> {
     let verdict = tried.verdict;
     if verdict.number != 0 {
-        print_refusal(verdict);
+        print_refusal(rt, verdict)?;
     }
-    print_number(tried.worst2 as u64);
-    print_number(tried.count as u64);
+    print_number(rt, tried.worst2 as u64)?;
+    print_number(rt, tried.count as u64)
 }
 
 // Tries a record, by `R` as a loop.
@@ -39,35 +41,35 @@ fn try_bytes(letter: u8, card: &[u8]) -> Tried {
 }
 
 // Tries the card that stands from `start` on.
-fn run_card(text: &[u8], letter: u8, start: usize) {
-    let mut card = io::buffer();
+fn run_card(rt: &impl Print, text: &[u8], letter: u8, start: usize) -> io::Result<()> {
+    let mut card = [0u8; 4096];
     let n = read_bytes(text, start, &mut card);
-    print_answer(try_bytes(letter, &card[..n]));
+    print_answer(rt, try_bytes(letter, &card[..n]))
 }
 
 // Tries what stands from `start` on.
-fn run_case(text: &[u8], letter: u8, start: usize) {
+fn run_case(rt: &impl Print, text: &[u8], letter: u8, start: usize) -> io::Result<()> {
     if letter == 0 {
-        return;
+        return Ok(());
     }
     if is_record(letter) {
-        print_answer(try_figures(letter, read_record(text, start)));
-        return;
+        return print_answer(rt, try_figures(letter, read_record(text, start)));
     }
-    run_card(text, letter, start);
+    run_card(rt, text, letter, start)
 }
 
 // Every line: its name up to the colon, then the answer.
-fn run_cases(text: &[u8]) {
+fn run_cases(rt: &impl Print, text: &[u8]) -> io::Result<()> {
     let mut case = no_case();
     while case.end < text.len() {
-        case = next_case(text, case);
-        run_case(text, case.letter, case.start);
+        case = next_case(rt, text, case)?;
+        run_case(rt, text, case.letter, case.start)?;
     }
+    Ok(())
 }
 
-fn main() {
-    let mut input = io::large_buffer();
-    let count = io::read_full(STDIN_FILENO, &mut input);
-    run_cases(&input[..count]);
+fn main(rt: HostRuntime) -> io::Result<()> {
+    let mut input = [0u8; 65536];
+    let count = read_full(&mut rt.stdin(), &mut input)?;
+    run_cases(&rt, &input[..count])
 }

@@ -1,7 +1,7 @@
 -- One step of finding an order by its number: the chosen time changes places with the one that stands first.
 -- Assumes nothing.
 use Prim.Native.Nat.{ℕ, zero, suc, ◌+◌, ◌-◌, ◌/◌, ◌%◌, ◌≤◌, ◌<◌}
-use mathlib.Core.Path.{◌≡◌, refl, sym, ap, ap₂, ◌∙◌}
+use mathlib.Core.Path.{◌≡◌, refl, sym, ap, ◌∙◌}
 use mathlib.Core.List.{List, [], ◌∷◌, ◌++◌, append_assoc, append-nil}
 use native.Mathlib.Omega.{arith}
 use native.Mathlib.Numerals.{add-one}
@@ -13,7 +13,8 @@ use Rattle.placement.specs.Showing.{Showing, visits_of}
 use Rattle.layings.specs.Layings.{others, laid, worst_in}
 use Rattle.layings.specs.Numbered.{factorial, factorial_pos, factorial_down, numbered, pick_below, rest_below, numbered_take}
 use Rattle.layings.specs.Smallest.{Best}
-use Rattle.layings.specs.Times.{worst_same, orders_tried, orders_at}
+use Rattle.layings.specs.Times.{worst_same, orders_tried}
+use Rattle.layings.proofs.Times.{orders_at}
 
 -- the first `next` of the row are the order's, and its others are those of the rest
 pub record Ordering (count number : ℕ) (times row : List ℕ) (rest size next : ℕ) : Type 0 where

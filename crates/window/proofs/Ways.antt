@@ -17,11 +17,11 @@ use Rattle.placement.specs.Placement.{Falling}
 use Rattle.placement.specs.Showing.{Showing, visits_of, laying, walked, walked_single}
 use Rattle.placement.specs.Zones.{time_at}
 use Rattle.pacing.specs.Window.{places_of, window_time, worst_window, window_at}
-use Rattle.pacing.specs.HalfWindows.{walked_window, walked_window_at}
+use Rattle.pacing.proofs.HalfWindows.{walked_window, walked_window_at}
 use Rattle.plan.specs.declared.Plan.{Plan}
 use Rattle.plan.specs.Plan.{showing_in, longest_of}
 use Rattle.plan.specs.Answer.{has_numbers}
-use Rattle.plan.specs.Check.{numbered}
+use Rattle.plan.proofs.Check.{numbered}
 use Rattle.window.specs.declared.Window.{Window}
 use Rattle.worst_row.specs.Rows.{row_time}
 use Rattle.window.specs.Window.{worst_window_of, window_at_of, is_laid, is_outside, window_fault, refusal, window_answer}

@@ -18,8 +18,9 @@ use Rattle.pacing.specs.Window.{places_of, window_time, worst_window, window_at}
 use Rattle.plan.specs.declared.Plan.{Plan}
 use Rattle.plan.specs.Plan.{showing_in, time_on, position_in, longest_of}
 use Rattle.plan.specs.Answer.{has_numbers}
-use Rattle.plan.specs.Check.{numbered}
-use Rattle.plan.specs.Legal.{some_film, block_time_law}
+use Rattle.plan.proofs.Check.{numbered}
+use Rattle.plan.specs.Legal.{some_film}
+use Rattle.plan.proofs.Legal.{block_time_law}
 use Rattle.window.specs.Window.{film_window, film_window_at, window_in, window_at_in, worst_window_of, window_at_of, is_laid}
 
 -- a film of k blocks or more has a place for a window of k

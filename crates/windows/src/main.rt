@@ -1,17 +1,19 @@
 // Reads a card from standard input and prints what rates are guaranteed over windows of 1 to 64 blocks of its films, with the argument `loop`
 // those of the films as loops, with `pairs` those of half blocks.
+#![tactic(auto)]
+
 ghost use Rattle.std.specs.Prelude.{◌≡◌, ◌*◌, ◌/◌, ◌≤◌, ◌<◌, min};
 ghost use Rattle.numbers.specs.Limits.{max_films, max_window};
 ghost use Rattle.numbers.specs.Units.{micros};
 
-use libc::STDIN_FILENO;
 use lines::{
     asked_showing, empty, has_more_arguments, plan_film, position_buffer, print, print_refusal,
-    put_next, put_number, put_text,
+    put_next, put_number, put_text, read_full,
 };
 use numbers::limits::MAX_WINDOW;
 use numbers::units::MICROS;
 use plan::Plan;
+use std::io;
 use window::{longest, worst_window};
 
 // Bytes a second, rounded down; 0 where no time is told.
@@ -25,14 +27,12 @@ fn bytes_a_second(bytes: u32, time: u32) -> u64
 }
 
 // The line of a window: its blocks, the worst time that they take, the earliest place, their bytes, and bytes a second.
-fn print_window(plan: Plan, positions: &[u8], count: u32) {
+fn print_window(rt: &impl Print, plan: Plan, positions: &[u8], count: u32) -> io::Result<()> {
     let window = worst_window(plan, positions, count);
     let rate = bytes_a_second(window.bytes, window.time);
     let start = put_next(put_number(empty(), count as u64), window.time as u64);
-    print(put_next(
-        put_next(put_next(start, window.first as u64), window.bytes as u64),
-        rate,
-    ));
+    let told = put_next(put_next(start, window.first as u64), window.bytes as u64);
+    print(rt, put_next(told, rate))
 }
 
 // The blocks of the longest window, by those of the longest film.
@@ -46,40 +46,39 @@ fn longest_window(blocks: u32) -> u32
 }
 
 // The line of each window of a plan, with its list of positions.
-fn print_windows(plan: Plan, positions: &[u8])
+fn print_windows(rt: &impl Print, plan: Plan, positions: &[u8]) -> io::Result<()>
     requires { plan.figures.films ≤ max_films }
 {
-    print(put_text(empty(), b"blocks time first bytes rate"));
+    print(rt, put_text(empty(), b"blocks time first bytes rate"))?;
     let figures = plan.figures;
     let last = longest_window(longest(&figures.blocks, figures.films));
     let mut count: u32 = 1;
     while count <= last {
-        print_window(plan, positions, count);
+        print_window(rt, plan, positions, count)?;
         count += 1;
     }
+    Ok(())
 }
 
 // The windows of a card, or the refusal.
-fn list(showing: u32, card: &[u8]) {
+fn list(rt: &impl Print, showing: u32, card: &[u8]) -> io::Result<()> {
     let mut positions = position_buffer();
-    let mut leads = io::large_buffer();
+    let mut leads = [0u8; 65536];
     let planned = plan_film(showing, card, &mut positions, &mut leads);
     let verdict = planned.verdict;
     if verdict.number != 0 {
-        print_refusal(verdict);
-        return;
+        return print_refusal(rt, verdict);
     }
-    print_windows(planned.plan, &positions);
+    print_windows(rt, planned.plan, &positions)
 }
 
 // Every refusal of a card is decided within its first 1,520 bytes, so what is read is enough of any input.
-fn main() {
-    let showing = asked_showing();
-    if has_more_arguments(showing) {
-        print(put_text(empty(), b"usage: windows [loop|pairs]"));
-        return;
+fn main(rt: HostRuntime) -> io::Result<()> {
+    let showing = asked_showing(&rt);
+    if has_more_arguments(&rt, showing) {
+        return print(&rt, put_text(empty(), b"usage: windows [loop|pairs]"));
     }
-    let mut input = io::buffer();
-    let count = io::read_full(STDIN_FILENO, &mut input);
-    list(showing, &input[..count]);
+    let mut input = [0u8; 4096];
+    let count = read_full(&mut rt.stdin(), &mut input)?;
+    list(&rt, showing, &input[..count])
 }

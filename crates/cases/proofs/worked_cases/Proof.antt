@@ -1,4 +1,4 @@
-use Rattle.cases.specs.Cases.{cases}
+use Rattle.cases.proofs.Cases.{cases}
 use Rattle.cases.proofs.worked_cases.Statement.{statement}
 use Rattle.cases.proofs.worked_cases.Tie as tie
 

@@ -1,4 +1,4 @@
-use Rattle.fault_claims.specs.CardNamed.{card_fault}
+use Rattle.fault_claims.proofs.CardNamed.{card_fault}
 use Rattle.fault_claims.proofs.first_fault_of_a_card_is_named.Statement.{statement}
 use Rattle.fault_claims.proofs.first_fault_of_a_card_is_named.Tie as tie
 

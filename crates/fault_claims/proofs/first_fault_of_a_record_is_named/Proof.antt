@@ -1,4 +1,4 @@
-use Rattle.fault_claims.specs.RecordNamed.{record_named}
+use Rattle.fault_claims.proofs.RecordNamed.{record_named}
 use Rattle.fault_claims.proofs.first_fault_of_a_record_is_named.Statement.{statement}
 use Rattle.fault_claims.proofs.first_fault_of_a_record_is_named.Tie as tie
 

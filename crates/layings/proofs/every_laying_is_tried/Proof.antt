@@ -1,4 +1,4 @@
-use Rattle.layings.specs.Arranged.{laying_listed, listed_laying, layings_once}
+use Rattle.layings.proofs.Arranged.{laying_listed, listed_laying, layings_once}
 use Rattle.layings.proofs.every_laying_is_tried.Statement.{statement}
 use Rattle.layings.proofs.every_laying_is_tried.Tie as tie
 

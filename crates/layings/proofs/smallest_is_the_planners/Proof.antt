@@ -1,4 +1,4 @@
-use Rattle.layings.specs.Times.{least_is_planned}
+use Rattle.layings.proofs.Times.{least_is_planned}
 use Rattle.layings.proofs.smallest_is_the_planners.Statement.{statement}
 use Rattle.layings.proofs.smallest_is_the_planners.Tie as tie
 

@@ -1,4 +1,4 @@
-use Rattle.maker_claims.specs.Accepted.{accepted_card_law}
+use Rattle.maker_claims.proofs.Accepted.{accepted_card_law}
 use Rattle.maker_claims.proofs.accepted_figures_are_a_cards.Statement.{statement}
 use Rattle.maker_claims.proofs.accepted_figures_are_a_cards.Tie as tie
 

@@ -1,4 +1,4 @@
-use Rattle.maker_claims.specs.Refused.{refused_fault}
+use Rattle.maker_claims.proofs.Refused.{refused_fault}
 use Rattle.maker_claims.proofs.first_fault_is_named.Statement.{statement}
 use Rattle.maker_claims.proofs.first_fault_is_named.Tie as tie
 

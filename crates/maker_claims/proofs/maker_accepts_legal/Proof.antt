@@ -1,4 +1,4 @@
-use Rattle.maker_claims.specs.Accepted.{accepts_legal}
+use Rattle.maker_claims.proofs.Accepted.{accepts_legal}
 use Rattle.maker_claims.proofs.maker_accepts_legal.Statement.{statement}
 use Rattle.maker_claims.proofs.maker_accepts_legal.Tie as tie
 

@@ -1,4 +1,4 @@
-use Rattle.maker_claims.specs.Accepted.{listing_answered}
+use Rattle.maker_claims.proofs.Accepted.{listing_answered}
 use Rattle.maker_claims.proofs.maker_answers_its_figures.Statement.{statement}
 use Rattle.maker_claims.proofs.maker_answers_its_figures.Tie as tie
 

@@ -1,4 +1,4 @@
-use Rattle.maker_claims.specs.Accepted.{refused_blank}
+use Rattle.maker_claims.proofs.Accepted.{refused_blank}
 use Rattle.maker_claims.proofs.refused_text_has_no_figures.Statement.{statement}
 use Rattle.maker_claims.proofs.refused_text_has_no_figures.Tie as tie
 

@@ -1,4 +1,4 @@
-use Rattle.plan.specs.Halves.{no_matching_better, halves_plan}
+use Rattle.plan.proofs.Halves.{no_matching_better, halves_plan}
 use Rattle.plan.proofs.halves_matched_best.Statement.{statement}
 use Rattle.plan.proofs.halves_matched_best.Tie as tie
 

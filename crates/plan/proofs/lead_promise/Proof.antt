@@ -1,4 +1,4 @@
-use Rattle.plan.specs.Promise.{lead_laws, promise}
+use Rattle.plan.proofs.Promise.{lead_laws, promise}
 use Rattle.plan.proofs.lead_promise.Statement.{statement}
 use Rattle.plan.proofs.lead_promise.Tie as tie
 

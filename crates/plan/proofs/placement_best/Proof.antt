@@ -1,6 +1,8 @@
 use mathlib.Core.Path.{refl}
-use Rattle.plan.specs.Legal.{legal_laying, worst2_above}
-use Rattle.plan.specs.Promise.{best_time, best_streams, free_is, before_above, worst2_reached}
+use Rattle.plan.specs.Legal.{worst2_above}
+use Rattle.plan.proofs.Legal.{legal_laying}
+use Rattle.plan.specs.Promise.{worst2_reached}
+use Rattle.plan.proofs.Promise.{best_time, best_streams, free_is, before_above}
 use Rattle.plan.proofs.placement_best.Statement.{statement}
 use Rattle.plan.proofs.placement_best.Tie as tie
 

@@ -1,4 +1,4 @@
-use Rattle.plan.specs.GreatestLaws.{streams_most, most_streams, none_fits, one_fails}
+use Rattle.plan.proofs.GreatestLaws.{streams_most, most_streams, none_fits, one_fails}
 use Rattle.plan.proofs.streams_are_the_most.Statement.{statement}
 use Rattle.plan.proofs.streams_are_the_most.Tie as tie
 

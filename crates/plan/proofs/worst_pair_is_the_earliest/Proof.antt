@@ -1,4 +1,4 @@
-use Rattle.plan.specs.GreatestLaws.{pair_earliest, earliest_pair}
+use Rattle.plan.proofs.GreatestLaws.{pair_earliest, earliest_pair}
 use Rattle.plan.proofs.worst_pair_is_the_earliest.Statement.{statement}
 use Rattle.plan.proofs.worst_pair_is_the_earliest.Tie as tie
 

@@ -3,7 +3,7 @@ use borrow.Author.Rules.{rules}
 use Rattle.card.specs.Read.{figures_from}
 use Rattle.legality.specs.Legality.{Wide}
 use Rattle.plan.specs.Plan.{lent_plan}
-use Rattle.plan.specs.ScratchLaws.{checked_by}
+use Rattle.plan.proofs.ScratchLaws.{checked_by}
 use Rattle.plan_check.proofs.is_plan_of.Statement.{statement}
 use Rattle.plan_check.proofs.is_plan_of.Tie as tie
 

@@ -10,8 +10,10 @@ use Rattle.plan.specs.declared.Plan.{Plan}
 use Rattle.plan.specs.Legal.{legal_zoned, total_zones}
 use Rattle.plan.specs.Plan.{showing_in, lent_plan}
 use Rattle.plan.specs.Answer.{begins, has_numbers, has_positions, has_leads}
-use Rattle.plan.specs.Check.{Numbered, numbered}
-use Rattle.plan.specs.Ways.{plan_worst2, shelved, on_shelf, positions_are, leads_are}
+use Rattle.plan.specs.Check.{Numbered}
+use Rattle.plan.proofs.Check.{numbered}
+use Rattle.plan.specs.Ways.{plan_worst2, shelved, on_shelf, positions_are}
+use Rattle.plan.proofs.Ways.{leads_are}
 use borrow.Author.Rules.{rules}
 use Rattle.plan_check.proofs.is_plan_with.Statement.{statement}
 use Rattle.plan_check.proofs.is_plan_with.Tie as tie

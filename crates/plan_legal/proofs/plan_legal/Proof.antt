@@ -15,7 +15,8 @@ use Rattle.plan.specs.Legal.{legal_zoned, total_zones, some_film, film_two, star
 use Rattle.plan.specs.Plan.{showing_of, entries_of, plan_of, plan_from, positions_of, leads_of}
 use Rattle.plan.specs.Answer.{plan_fault, filled}
 use Rattle.plan.specs.Scratch.{leads_lent, entries_asked, lists_short}
-use Rattle.plan.specs.Ways.{no_stream_law, some_stream, lent_short, lent_long, plan_streams, plan_worst2, shelved, on_shelf, positions_are, leads_are}
+use Rattle.plan.specs.Ways.{no_stream_law, some_stream, plan_streams, plan_worst2, shelved, on_shelf, positions_are}
+use Rattle.plan.proofs.Ways.{lent_short, lent_long, leads_are}
 use Rattle.plan_legal.specs.declared.Made.{Made}
 use borrow.Author.Rules.{rules}
 use Rattle.plan_legal.proofs.plan_legal.Statement.{statement}

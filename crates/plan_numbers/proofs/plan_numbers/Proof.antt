@@ -10,8 +10,10 @@ use Rattle.pacing.specs.Streams.{overhead, streams, cap_is, cap_visits, buffer_o
 use Rattle.placement.specs.Showing.{Showing, visits_of, visits_few}
 use Rattle.card.specs.Read.{figures_from}
 use Rattle.plan.specs.Plan.{showing_of, time_on, entries_of, worst2_of, worst_at_of, margin_of, streams_of, buffer_size, plan_of}
-use Rattle.plan.specs.Legal.{total_is, total_zones, legal_zoned, entries_few, entries_some, worst2_small, time_small, margin_is, streams_few, buffer_small}
-use Rattle.plan.specs.Ways.{on_shelf, shelf_worst}
+use Rattle.plan.specs.Legal.{total_is, total_zones, legal_zoned, entries_few, entries_some, time_small, streams_few}
+use Rattle.plan.proofs.Legal.{worst2_small, margin_is, buffer_small}
+use Rattle.plan.specs.Ways.{on_shelf}
+use Rattle.plan.proofs.Ways.{shelf_worst}
 use borrow.Author.Rules.{rules}
 use Rattle.plan_numbers.proofs.plan_numbers.Statement.{statement}
 use Rattle.plan_numbers.proofs.plan_numbers.Tie as tie

@@ -5,7 +5,7 @@ use Rattle.plan_strings.proofs.plan.Tie as tie
 
 returns : tie.Need-returns
 unfolding showing_of
-returns c = c.before.before.before.before.before.before.plan-showing.ensures
+returns c = c.plan_showing.ensures
 
-pub plan-spec : {M : Type 1} → statement M
-plan-spec = tie.close (tie.spec (λ c κs. search rules) (λ c. search rules) (λ c. search rules) (λ c. search rules) returns)
+pub plan_spec : {M : Type 1} → statement M
+plan_spec = tie.close (tie.spec (λ c κs. search rules) (λ c. search rules) (λ c. search rules) (λ c. search rules) returns)

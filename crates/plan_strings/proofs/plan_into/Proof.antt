@@ -14,46 +14,46 @@ abbrev showing : tie.Start → Showing
 showing c = showing_of c.args.showing
 
 -- where figures were planned and the answer made, and where it began
-abbrev made : tie.After-struct-known → tie.After-plan-legal
+abbrev made : tie.After-struct_known-1 → tie.After-plan_legal-made
 made c = c.before.before.before.before.before.before
 
-abbrev start : tie.After-struct-known → tie.Start
+abbrev start : tie.After-struct_known-1 → tie.Start
 start c = (made c).before.before.before.before.before.before
 
-plan-legal-requires : tie.Need-plan-legal-requires
-plan-legal-requires c κs = c.before.before.before.before.before.requires.1
+plan-legal-requires : tie.Need-plan_legal-made-requires
+plan-legal-requires c κs = c.requires.1
 
-returns : tie.Need-returns
+returns : tie.Need-returns-then-made-eq-TOO_SHORT
 returns c =
-    let k = c.before in
-    let m = (made k).plan-legal.ensures in
-    let s = start k in
-    plan_kept s.args.listed (showing s) (figures s) _ _ _ s.pre.0 _ m.0 _ k.before.verdict-answer.ensures _ _ m.2 m.3 c.if1.true
+    let k = c in
+    let m = (made c.before).plan_legal-made.ensures in
+    let s = start c.before in
+    plan_kept s.args.listed (showing s) (figures s) _ _ _ s.requires.0 _ m.0 _ k.verdict_answer-answer.ensures _ _ m.2 m.3 c.if-made-eq-TOO_SHORT.true
 
-returns-2 : tie.Need-returns-2
+returns-2 : tie.Need-returns-then-made-ne-ACCEPTED
 returns-2 c =
-    let w = c.before.before in
-    let t = w.before.before in
-    let e = t.before.before in
-    let k = e.before in
-    let m = (made k).plan-legal.ensures in
-    let s = start k in
-    plan_cleared s.args.listed (showing s) (figures s) _ _ _ s.pre.0 _ m.0 _ w.refused.ensures.0 _ _ m.2 m.3 e.if1.false
-    t.if2.true _ w.refused.ensures.1
+    let w = c in
+    let t = c in
+    let e = c in
+    let k = c in
+    let m = (made c.before.before.before.before.before.before.before).plan_legal-made.ensures in
+    let s = start c.before.before.before.before.before.before.before in
+    plan_cleared s.args.listed (showing s) (figures s) _ _ _ s.requires.0 _ m.0 _ w.refused.ensures.0 _ _ m.2 m.3 e.if-made-eq-TOO_SHORT.false
+    t.if-made-ne-ACCEPTED.true _ w.refused.ensures.1
 
-returns-3 : tie.Need-returns-3
+returns-3 : tie.Need-returns
 returns-3 c =
-    let w = c.before.before in
-    let t = w.before.before in
-    let e = t.before.before in
-    let k = e.before in
-    let m = (made k).plan-legal.ensures in
-    let s = start k in
-    plan_written s.args.listed (showing s) (figures s) _ _ _ s.pre.0 _ m.0 _ k.before.verdict-answer.ensures _ _ m.2 m.3
-    t.if2.false _ (m.1 t.if2.false) _ w.write-parts.ensures.0
+    let w = c in
+    let t = c in
+    let e = c in
+    let k = c in
+    let m = (made c.before.before.before.before.before.before.before.before).plan_legal-made.ensures in
+    let s = start c.before.before.before.before.before.before.before.before in
+    plan_written s.args.listed (showing s) (figures s) _ _ _ s.requires.0 _ m.0 _ k.verdict_answer-answer.ensures _ _ m.2 m.3
+    t.if-made-ne-ACCEPTED.false _ (m.1 t.if-made-ne-ACCEPTED.false) _ w.write_parts.ensures.0
 
-pub plan-into-spec : {M : Type 1} → statement M
-plan-into-spec =
+pub plan_into_spec : {M : Type 1} → statement M
+plan_into_spec =
     tie.close
     (tie.spec
     plan-legal-requires

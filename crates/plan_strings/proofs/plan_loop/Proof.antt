@@ -5,7 +5,7 @@ use Rattle.plan_strings.proofs.plan_loop.Tie as tie
 
 returns : tie.Need-returns
 unfolding showing_of
-returns c = c.before.before.before.before.before.before.plan-showing.ensures
+returns c = c.plan_showing.ensures
 
-pub plan-loop-spec : {M : Type 1} → statement M
-plan-loop-spec = tie.close (tie.spec (λ c κs. search rules) (λ c. search rules) (λ c. search rules) (λ c. search rules) returns)
+pub plan_loop_spec : {M : Type 1} → statement M
+plan_loop_spec = tie.close (tie.spec (λ c κs. search rules) (λ c. search rules) (λ c. search rules) (λ c. search rules) returns)

@@ -5,7 +5,7 @@ use Rattle.plan_strings.proofs.plan_pairs.Tie as tie
 
 returns : tie.Need-returns
 unfolding showing_of
-returns c = c.before.before.before.before.before.before.plan-showing.ensures
+returns c = c.plan_showing.ensures
 
-pub plan-pairs-spec : {M : Type 1} → statement M
-plan-pairs-spec = tie.close (tie.spec (λ c κs. search rules) (λ c. search rules) (λ c. search rules) (λ c. search rules) returns)
+pub plan_pairs_spec : {M : Type 1} → statement M
+plan_pairs_spec = tie.close (tie.spec (λ c κs. search rules) (λ c. search rules) (λ c. search rules) (λ c. search rules) returns)

@@ -6,7 +6,7 @@ use Rattle.plan_strings.proofs.plan_pairs_scratch.Tie as tie
 
 returns : tie.Need-returns
 unfolding showing_of plan_scratch_answer plan_scratch_string positions_scratch_string
-returns c = c.before.before.before.before.before.before.plan-showing.ensures
+returns c = c.plan_showing.ensures
 
-pub plan-pairs-scratch-spec : {M : Type 1} → statement M
-plan-pairs-scratch-spec = tie.close (tie.spec (λ c κs. search rules) (λ c. search rules) (λ c. search rules) (λ c. search rules) returns)
+pub plan_pairs_scratch_spec : {M : Type 1} → statement M
+plan_pairs_scratch_spec = tie.close (tie.spec (λ c κs. search rules) (λ c. search rules) (λ c. search rules) (λ c. search rules) returns)

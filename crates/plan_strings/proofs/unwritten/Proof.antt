@@ -3,16 +3,16 @@ use borrow.Author.Rules.{rules}
 use Rattle.plan_strings.proofs.unwritten.Statement.{statement}
 use Rattle.plan_strings.proofs.unwritten.Tie as tie
 
-returns : tie.Need-returns
-returns c = λ x. let r = c.before.before.before.before.read-card-of in
-    card_refused _ x r.result _ r.ensures _ c.before.if1.true c.verdict-answer.ensures
+returns : tie.Need-returns-then-verdict-ne-ACCEPTED
+returns c = λ x. let r = c.read_card_of-read in
+    card_refused _ x r.result _ r.ensures _ c.if-verdict-ne-ACCEPTED.true c.verdict_answer.ensures
 
-returns-2 : tie.Need-returns-2
-returns-2 c = λ x. let r = c.before.before.before.before.read-card-of in
-    card_accepted _ x r.result _ r.ensures _ c.before.if1.false c.verdict-answer2.ensures
+returns-2 : tie.Need-returns
+returns-2 c = λ x. let r = c.read_card_of-read in
+    card_accepted _ x r.result _ r.ensures _ c.if-verdict-ne-ACCEPTED.false c.verdict_answer-2.ensures
 
-pub unwritten-spec : {M : Type 1} → statement M
-unwritten-spec =
+pub unwritten_spec : {M : Type 1} → statement M
+unwritten_spec =
     tie.close
     (tie.spec
     (λ c κs. search rules)

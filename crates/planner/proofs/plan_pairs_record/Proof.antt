@@ -11,19 +11,19 @@ use Rattle.planner.proofs.plan_pairs_record.Tie as tie
 wide : (c : tie.Start) → Wide c.args.figures
 wide c = (search rules, search rules, search rules, search rules)
 
-plan-figures-requires : tie.Need-plan-figures-requires
+plan-figures-requires : tie.Need-plan_figures-requires
 unfolding showing_of
-plan-figures-requires c κs = let j = c.before.before.judged-figures-of in
-    let s = c.before.before.before.before.before in
-    judged_legal 2 s.args.figures (wide s) j.result j.ensures
+plan-figures-requires c κs = let j = c.judged_figures_of in
+    let s = c in
+    judged_legal 2 s.args.figures (wide c.before.before.before.before.before) j.result j.ensures
 
 returns : tie.Need-returns
-returns c = let p = c.before.before.before.before in
-    let r = p.before.before.before in
-    let a = r.before.before.before.args in
-    outcome_same true a.positions.now a.leads.now _ _ _ (showing_back pairs) r.judged-figures-of.ensures p.plan-figures.ensures
+returns c = let p = c in
+    let r = c in
+    let a = r.args in
+    outcome_same true a.positions.now a.leads.now _ _ _ (showing_back pairs) r.judged_figures_of.ensures p.plan_figures.ensures
 
-pub plan-pairs-record-spec : {M : Type 1} → statement M
-plan-pairs-record-spec =
+pub plan_pairs_record_spec : {M : Type 1} → statement M
+plan_pairs_record_spec =
     tie.close
     (tie.spec (λ c κs. search rules) plan-figures-requires (λ c. search rules) (λ c. search rules) returns)

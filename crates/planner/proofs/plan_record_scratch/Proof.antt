@@ -12,20 +12,20 @@ use Rattle.planner.proofs.plan_record_scratch.Tie as tie
 wide : (c : tie.Start) → Wide c.args.figures
 wide c = (search rules, search rules, search rules, search rules)
 
-plan-figures-requires : tie.Need-plan-figures-requires
+plan-figures-requires : tie.Need-plan_figures-requires
 unfolding showing_of
-plan-figures-requires c κs = let j = c.before.before.judged-figures in
-    let s = c.before.before.before.before.before in
-    judged_legal 1 s.args.figures (wide s) j.result j.ensures
+plan-figures-requires c κs = let j = c.judged_figures in
+    let s = c in
+    judged_legal 1 s.args.figures (wide c.before.before.before.before.before) j.result j.ensures
 
 returns : tie.Need-returns
 unfolding planned_scratch positions_scratch
-returns c = let p = c.before.before.before.before in
-    let r = p.before.before.before in
-    let a = r.before.before.before.args in
-    outcome_same false a.positions.now a.scratch.now _ _ _ (showing_back one) r.judged-figures.ensures p.plan-figures.ensures
+returns c = let p = c in
+    let r = c in
+    let a = r.args in
+    outcome_same false a.positions.now a.scratch.now _ _ _ (showing_back one) r.judged_figures.ensures p.plan_figures.ensures
 
-pub plan-record-scratch-spec : {M : Type 1} → statement M
-plan-record-scratch-spec =
+pub plan_record_scratch_spec : {M : Type 1} → statement M
+plan_record_scratch_spec =
     tie.close
     (tie.spec (λ c κs. search rules) plan-figures-requires (λ c. search rules) (λ c. search rules) returns)

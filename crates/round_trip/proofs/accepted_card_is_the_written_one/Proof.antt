@@ -1,4 +1,5 @@
-use Rattle.round_trip.specs.RoundTrip.{read_card_law, accepted_written}
+use Rattle.round_trip.specs.RoundTrip.{read_card_law}
+use Rattle.round_trip.proofs.RoundTrip.{accepted_written}
 use Rattle.round_trip.proofs.accepted_card_is_the_written_one.Statement.{statement}
 use Rattle.round_trip.proofs.accepted_card_is_the_written_one.Tie as tie
 

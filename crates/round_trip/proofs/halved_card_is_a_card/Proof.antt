@@ -1,5 +1,5 @@
 use native.Mathlib.Omega.{arith}
-use Rattle.round_trip.specs.RoundTrip.{reader_legal, read_fewer}
+use Rattle.round_trip.proofs.RoundTrip.{reader_legal, read_fewer}
 use Rattle.round_trip.proofs.halved_card_is_a_card.Statement.{statement}
 use Rattle.round_trip.proofs.halved_card_is_a_card.Tie as tie
 

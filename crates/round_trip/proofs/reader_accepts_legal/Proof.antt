@@ -1,4 +1,4 @@
-use Rattle.round_trip.specs.RoundTrip.{reader_legal}
+use Rattle.round_trip.proofs.RoundTrip.{reader_legal}
 use Rattle.round_trip.proofs.reader_accepts_legal.Statement.{statement}
 use Rattle.round_trip.proofs.reader_accepts_legal.Tie as tie
 

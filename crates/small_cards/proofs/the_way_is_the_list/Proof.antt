@@ -1,4 +1,4 @@
-use Rattle.small_cards.specs.Steps.{step_listed, step_last}
+use Rattle.small_cards.proofs.Steps.{step_listed, step_last}
 use Rattle.small_cards.proofs.the_way_is_the_list.Statement.{statement}
 use Rattle.small_cards.proofs.the_way_is_the_list.Tie as tie
 

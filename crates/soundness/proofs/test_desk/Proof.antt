@@ -12,7 +12,7 @@ use Rattle.words.specs.Laws.{words_length}
 use Rattle.legality.specs.Legality as legality
 use Rattle.card.specs.Card.{Legal}
 use Rattle.plan.specs.Answer.{is_plan}
-use Rattle.plan.specs.Check.{checked_legal}
+use Rattle.plan.proofs.Check.{checked_legal}
 use Rattle.plan.specs.Scratch.{leads_by}
 use Rattle.desk.specs.declared.Desk.{Desk}
 use Rattle.desk.specs.Desk.{visits_in}

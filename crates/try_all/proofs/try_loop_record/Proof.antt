@@ -11,11 +11,11 @@ use Rattle.try_all.proofs.try_loop_record.Tie as tie
 wide : (c : tie.Start) → Wide c.args.figures
 wide c = (search rules, search rules, search rules, search rules)
 
-try-figures-requires : tie.Need-try-figures-requires
-try-figures-requires c κs = judged_legal 1 c.before.args.figures (wide c.before) c.judged-figures.result c.judged-figures.ensures
+try-figures-requires : tie.Need-try_figures-requires
+try-figures-requires c κs = judged_legal 1 c.args.figures (wide c.before) c.judged_figures.result c.judged_figures.ensures
 
 returns : tie.Need-returns
-returns c = c.try-figures.ensures ∙ ap₂ tried (ap walked (showing_back loop)) c.before.judged-figures.ensures
+returns c = c.try_figures.ensures ∙ ap₂ tried (ap walked (showing_back loop)) c.judged_figures.ensures
 
-pub try-loop-record-spec : {M : Type 1} → statement M
-try-loop-record-spec = tie.close (tie.spec (λ c κs. search rules) try-figures-requires returns)
+pub try_loop_record_spec : {M : Type 1} → statement M
+try_loop_record_spec = tie.close (tie.spec (λ c κs. search rules) try-figures-requires returns)

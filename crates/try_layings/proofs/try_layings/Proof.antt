@@ -9,7 +9,8 @@ use Rattle.plan.specs.Plan.{showing_of, walk_of}
 use Rattle.layings.specs.Layings.{how_many}
 use Rattle.layings.specs.Numbered.{factorial, factorial_pos, factorial_most}
 use Rattle.layings.specs.Smallest.{Best, best_none}
-use Rattle.layings.specs.Times.{orders_tried, orders_length}
+use Rattle.layings.specs.Times.{orders_tried}
+use Rattle.layings.proofs.Times.{orders_length}
 use Rattle.try_layings.specs.declared.Search.{Search}
 use Rattle.try_layings.proofs.Ordering.{tried_at, best_next}
 use borrow.Author.Rules.{rules}

@@ -113,7 +113,7 @@ returns-3 c =
     let a = (start (shelf d)).args in
     let w = inside d in
     answered a.plan a.positions.now a.count (is-laid (shelf d)) (sym (outside d.before) ∙ d.if-is_outside.false) _ _ _
-    (found_window (showing_in a.t1) a.t1.figures (legal (shelf d)) a.count w.0 w.2 _ _ _ (sum t) r.worst_of_films-worst.ensures)
+    (found_window (showing_in a.plan) a.plan.figures (legal (shelf d)) a.count w.0 w.2 _ _ _ (sum t) r.worst_of_films-worst.ensures)
     c.window_bytes.ensures
 
 pub worst_window_spec : {M : Type 1} → statement M

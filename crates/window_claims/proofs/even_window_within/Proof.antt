@@ -6,5 +6,5 @@ use Rattle.window_claims.proofs.even_window_within.Tie as tie
 returns : tie.Need-returns
 returns c = (even_row, even_worst)
 
-pub even-window-within-spec : {M : Type 1} → statement M
-even-window-within-spec = tie.close (tie.spec returns)
+pub even_window_within_spec : {M : Type 1} → statement M
+even_window_within_spec = tie.close (tie.spec returns)

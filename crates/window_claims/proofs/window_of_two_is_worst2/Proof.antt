@@ -5,5 +5,5 @@ use Rattle.window_claims.proofs.window_of_two_is_worst2.Tie as tie
 returns : tie.Need-returns
 returns c = two_is_worst2
 
-pub window-of-two-is-worst2-spec : {M : Type 1} → statement M
-window-of-two-is-worst2-spec = tie.close (tie.spec returns)
+pub window_of_two_is_worst2_spec : {M : Type 1} → statement M
+window_of_two_is_worst2_spec = tie.close (tie.spec returns)

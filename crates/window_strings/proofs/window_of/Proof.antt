@@ -10,16 +10,16 @@ use borrow.Author.Rules.{rules}
 use Rattle.window_strings.proofs.window_of.Statement.{statement}
 use Rattle.window_strings.proofs.window_of.Tie as tie
 
-returns : tie.Need-returns
+returns : tie.Need-returns-then-plan-ne-PLAN_BYTES
 unfolding window_from
-returns c = let a = c.before.before.before.before.args in
-    rw (ne_eqb (length a.plan.now) plan_size (omega (arith, c.before.if1.true))) c.refused.ensures
+returns c = let a = c.args in
+    rw (ne_eqb (length a.plan.now) plan_size (omega (arith, c.if-plan-ne-PLAN_BYTES.true))) c.refused.ensures
 
-returns-2 : tie.Need-returns-2
+returns-2 : tie.Need-returns
 unfolding window_from
-returns-2 c = let a = c.before.before.before.before.before.args in
-    rw (eq-eqb (length a.plan.now) plan_size (omega (arith, c.before.before.if1.false)))
-    (c.worst-window.ensures ∙ ap (λ (p : Plan). window_answer p a.positions.now a.count) c.before.read-plan.ensures)
+returns-2 c = let a = c.args in
+    rw (eq-eqb (length a.plan.now) plan_size (omega (arith, c.if-plan-ne-PLAN_BYTES.false)))
+    (c.worst_window.ensures ∙ ap (λ (p : Plan). window_answer p a.positions.now a.count) c.read_plan.ensures)
 
-pub window-of-spec : {M : Type 1} → statement M
-window-of-spec = tie.close (tie.spec (λ c κs. search rules) returns (λ c κs. search rules) (λ c κs. search rules) returns-2)
+pub window_of_spec : {M : Type 1} → statement M
+window_of_spec = tie.close (tie.spec (λ c κs. search rules) returns (λ c κs. search rules) (λ c κs. search rules) returns-2)

@@ -8,7 +8,7 @@ use Rattle.window_strings.proofs.worst_window.Tie as tie
 
 returns : tie.Need-returns
 unfolding window_call
-returns c = c.window-answer.ensures ∙ ap (λ (w : Window). window_answer_of w.verdict w.time w.first w.bytes) c.before.window-of.ensures
+returns c = c.window_answer.ensures ∙ ap (λ (w : Window). window_answer_of w.verdict w.time w.first w.bytes) c.window_of-window.ensures
 
-pub worst-window-spec : {M : Type 1} → statement M
-worst-window-spec = tie.close (tie.spec (λ c κs. search rules) (λ c κs. search rules) returns)
+pub worst_window_spec : {M : Type 1} → statement M
+worst_window_spec = tie.close (tie.spec (λ c κs. search rules) (λ c κs. search rules) returns)

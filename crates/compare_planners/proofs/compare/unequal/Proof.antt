@@ -4,13 +4,13 @@ use Rattle.compare_planners.specs.Compare.{unequal_of}
 use Rattle.compare_planners.proofs.compare.unequal.Statement.{statement}
 use Rattle.compare_planners.proofs.compare.unequal.Tie as tie
 
-returns : tie.Need-returns
+returns : tie.Need-returns-then-first-second
 unfolding unequal_of
-returns c = let a = c.before.args in (rw (eq-eqb a.first a.second c.if1.true), omega arith)
+returns c = let a = c.args in (rw (eq-eqb a.first a.second c.if-first-second.true), omega arith)
 
-returns-2 : tie.Need-returns-2
+returns-2 : tie.Need-returns
 unfolding unequal_of
-returns-2 c = let a = c.before.args in (rw (ne_eqb a.first a.second c.if1.false), omega arith)
+returns-2 c = let a = c.args in (rw (ne_eqb a.first a.second c.if-first-second.false), omega arith)
 
-pub unequal-spec : {M : Type 1} → statement M
-unequal-spec = tie.close (tie.spec returns returns-2)
+pub unequal_spec : {M : Type 1} → statement M
+unequal_spec = tie.close (tie.spec returns returns-2)

@@ -3,20 +3,20 @@ use borrow.Author.Rules.{rules}
 use Rattle.mkcard.proofs.make.line_of.Statement.{statement}
 use Rattle.mkcard.proofs.make.line_of.Tie as tie
 
-returns : tie.Need-returns
-returns c = line_end _ _ c.if1.true
+returns : tie.Need-returns-then-s-i
+returns c = line_end _ _ c.if-s-i.true
 
-returns-2 : tie.Need-returns-2
-returns-2 c = line_past _ _ c.before.if1.false c.if2.true
+returns-2 : tie.Need-returns-then-i-ge-WORDS
+returns-2 c = line_past _ _ c.if-s-i.false c.if-i-ge-WORDS.true
 
-mul-result : tie.Need-overflow-mul-result
+mul-result : tie.Need-offset_bounds-s-i
 mul-result c = search rules
 
-element-copy-out-result : tie.Need-element-copy-out-result
+element-copy-out-result : tie.Need-bounds-s-i
 element-copy-out-result c = search rules
 
-returns-3 : tie.Need-returns-3
-returns-3 c = line_word _ _ c.before.before.if1.false c.before.if2.false
+returns-3 : tie.Need-returns
+returns-3 c = line_word _ _ c.if-s-i.false c.if-i-ge-WORDS.false
 
-pub line-of-spec : {M : Type 1} → statement M
-line-of-spec = tie.close (tie.spec returns returns-2 mul-result element-copy-out-result returns-3)
+pub line_of_spec : {M : Type 1} → statement M
+line_of_spec = tie.close (tie.spec returns returns-2 mul-result element-copy-out-result returns-3)

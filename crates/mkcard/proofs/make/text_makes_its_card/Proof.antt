@@ -5,5 +5,5 @@ use Rattle.mkcard.proofs.make.text_makes_its_card.Tie as tie
 returns : tie.Need-returns
 returns c = text_card
 
-pub text-makes-its-card-spec : {M : Type 1} → statement M
-text-makes-its-card-spec = tie.close (tie.spec returns)
+pub text_makes_its_card_spec : {M : Type 1} → statement M
+text_makes_its_card_spec = tie.close (tie.spec returns)

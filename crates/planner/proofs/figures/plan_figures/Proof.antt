@@ -9,7 +9,8 @@ use Rattle.plan.specs.declared.Planned.{Planned}
 use Rattle.plan.specs.Plan.{showing_of, plan_of, positions_of, leads_of}
 use Rattle.plan.specs.Answer.{fault_after, refusal, filled}
 use Rattle.plan.specs.Scratch.{leads_lent}
-use Rattle.plan.specs.Ways.{Lists, Outcome, by_figures, by_refusal, by_none, by_lists}
+use Rattle.plan.specs.Ways.{Lists, Outcome, by_figures, by_none, by_lists}
+use Rattle.plan.proofs.Ways.{by_refusal}
 use borrow.Author.Rules.{rules}
 use Rattle.planner.proofs.figures.plan_figures.Statement.{statement}
 use Rattle.planner.proofs.figures.plan_figures.Tie as tie
@@ -35,38 +36,38 @@ module _ (listed : Bool) (x : Showing) (r : CardRead) (ps ls : List ℕ) (e : r.
     by-made : n ≡ 0 → (a : Planned) → a.verdict ≡ accepted → a.plan ≡ plan_of x r.figures → Outcome listed x r ps ls a qs ms
     by-made z a v d = ((λ i. record { verdict = v i; plan = d i }) ∙ by_none x r ps lent e (sym made ∙ z), lists.0, lists.1)
 
-returns : tie.Need-returns
+returns : tie.Need-returns-then-verdict-ne-ACCEPTED
 returns c =
-    let a = c.before.before.before.before.before.before.args in
-    let o = by_figures a.listed (showing_of a.showing) a.t1 a.positions.now a.leads.now c.before.if1.true in
+    let a = c.args in
+    let o = by_figures a.listed (showing_of a.showing) a.read a.positions.now a.leads.now c.if-verdict-ne-ACCEPTED.true in
     (c.refused.ensures ∙ o.0, o.1, o.2)
 
-plan-legal-requires : tie.Need-plan-legal-requires
-plan-legal-requires c κs = let e = c.before.before.before.before.before.before.before.before in e.before.before.before.before.before.requires e.if1.false
+plan-legal-requires : tie.Need-plan_legal-made-requires
+plan-legal-requires c κs = let e = c in e.requires e.if-verdict-ne-ACCEPTED.false
 
-returns-2 : tie.Need-returns-2
+returns-2 : tie.Need-returns-then-made-ne-ACCEPTED
 returns-2 c =
-    let m = c.before.before.before.before.before.before.before in
-    let e = m.before.before.before.before.before.before.before.before.before in
-    let a = e.before.before.before.before.before.args in
-    let r = m.plan-legal.ensures in
-    let o = by-fault a.listed (showing_of a.showing) a.t1 a.positions.now a.leads.now e.if1.false _ r.0 _ _ r.2 r.3 in
-    let k = o c.before.if2.true in
-    (c.refused2.ensures ∙ k.0, k.1, k.2)
+    let m = c in
+    let e = c in
+    let a = e.args in
+    let r = m.plan_legal-made.ensures in
+    let o = by-fault a.listed (showing_of a.showing) a.read a.positions.now a.leads.now e.if-verdict-ne-ACCEPTED.false _ r.0 _ _ r.2 r.3 in
+    let k = o c.if-made-ne-ACCEPTED.true in
+    (c.refused-then-made-ne-ACCEPTED.ensures ∙ k.0, k.1, k.2)
 
-returns-3 : tie.Need-returns-3
+returns-3 : tie.Need-returns
 returns-3 c =
-    let p = c.planned-with.ensures in
-    let z = c.before.before in
-    let m = z.before.before.before.before.before.before in
-    let e = m.before.before.before.before.before.before.before.before.before in
-    let a = e.before.before.before.before.before.args in
-    let r = m.plan-legal.ensures in
-    by-made a.listed (showing_of a.showing) a.t1 a.positions.now a.leads.now e.if1.false _ r.0 _ _ r.2 r.3
-    z.if2.false _ p.0 (p.1 ∙ r.1 z.if2.false)
+    let p = c.planned_with.ensures in
+    let z = c in
+    let m = c in
+    let e = c in
+    let a = e.args in
+    let r = m.plan_legal-made.ensures in
+    by-made a.listed (showing_of a.showing) a.read a.positions.now a.leads.now e.if-verdict-ne-ACCEPTED.false _ r.0 _ _ r.2 r.3
+    z.if-made-ne-ACCEPTED.false _ p.0 (p.1 ∙ r.1 z.if-made-ne-ACCEPTED.false)
 
-pub plan-figures-spec : {M : Type 1} → statement M
-plan-figures-spec =
+pub plan_figures_spec : {M : Type 1} → statement M
+plan_figures_spec =
     tie.close
     (tie.spec
     (λ c κs. search rules)

@@ -5,8 +5,8 @@ use Rattle.planner.proofs.figures.refused.Tie as tie
 
 returns : tie.Need-returns
 unfolding refusal
-returns c = let a = c.before.args in
-    λ i. record { verdict = record { number = a.number; place = a.place }; plan = c.blank-plan.ensures i }
+returns c = let a = c.args in
+    λ i. record { verdict = record { number = a.number; place = a.place }; plan = c.blank_plan.ensures i }
 
-pub refused-spec : {M : Type 1} → statement M
-refused-spec = tie.close (tie.spec (λ c κs. search rules) returns)
+pub refused_spec : {M : Type 1} → statement M
+refused_spec = tie.close (tie.spec (λ c κs. search rules) returns)

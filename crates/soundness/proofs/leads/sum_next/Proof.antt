@@ -10,7 +10,7 @@ use Rattle.laws.specs.Starts.{start_of}
 use Rattle.words.specs.Words.{words_of}
 use Rattle.numbers.specs.Limits.{max_streams}
 use Rattle.card.specs.Card.{Legal, blocks_of}
-use Rattle.plan.specs.Check.{checked_legal}
+use Rattle.plan.proofs.Check.{checked_legal}
 use Rattle.plan.specs.Disk.{length_at}
 use Rattle.desk.specs.declared.Desk.{Desk}
 use Rattle.desk.specs.Desk.{visits_in}

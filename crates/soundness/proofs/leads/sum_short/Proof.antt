@@ -12,10 +12,11 @@ use Rattle.card.specs.Card.{Legal, total_positions, blocks_of}
 use Rattle.placement.specs.Zones.{total}
 use Rattle.plan.specs.Plan.{showing_of, showing_in, leads_of}
 use Rattle.plan.specs.Answer.{is_plan}
-use Rattle.plan.specs.Check.{checked, checked_legal}
+use Rattle.plan.proofs.Check.{checked, checked_legal}
 use Rattle.plan.specs.Disk.{Zoned, OnShelf}
 use Rattle.plan.specs.Legal.{legal_zoned, total_zones}
-use Rattle.plan.specs.Written.{written_leads, written_rows, read_on}
+use Rattle.plan.specs.Written.{read_on}
+use Rattle.plan.proofs.Written.{written_leads, written_rows}
 use Rattle.desk.specs.declared.Desk.{Desk}
 use Rattle.desk.specs.Desk.{visits_in}
 use Rattle.desk_layout.specs.Layout.{desk_in}

@@ -1,4 +1,3 @@
-use mathlib.Core.Path.{◌≡◌}
 use Rattle.plan.specs.Check.{walks_loop, walks_once}
 use borrow.Author.Rules.{rules}
 use Rattle.try_layings.proofs.worst.count_pairs.Statement.{statement}

@@ -1,0 +1,3 @@
+pub mod Arranged
+pub mod Numbered
+pub mod Times

@@ -1,0 +1,10 @@
+pub mod Check
+pub mod Films
+pub mod GreatestLaws
+pub mod Halves
+pub mod Legal
+pub mod Names
+pub mod Promise
+pub mod ScratchLaws
+pub mod Ways
+pub mod Written

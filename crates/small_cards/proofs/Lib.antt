@@ -1,0 +1,3 @@
+pub mod Form
+pub mod Listed
+pub mod Steps
