@@ -62,6 +62,19 @@ pub fn put_next(line: Line, number: u64) -> Line {
     put_number(put_byte(line, b' '), number)
 }
 
+// What came of printing; a reader that has gone, as `head` does after its lines, is no failure.
+pub fn unless_gone(done: io::Result<()>) -> io::Result<()> {
+    match done {
+        Ok(()) => Ok(()),
+        Err(error) => {
+            if error.kind() == io::ErrorKind::BrokenPipe {
+                return Ok(());
+            }
+            Err(error)
+        }
+    }
+}
+
 // Writes the line as it is.
 fn write(rt: &impl Print, line: Line) -> io::Result<()> {
     let bytes = line.bytes;

@@ -11,7 +11,7 @@ ghost use Rattle.plan.specs.Answer.{is_plan};
 
 use lines::{
     asked_showing, empty, has_more_arguments, plan_film, position_buffer, print, print_refusal,
-    put_next, put_number, put_text, read_full,
+    put_next, put_number, put_text, read_full, unless_gone,
 };
 use numbers::showings::PAIRS;
 use plan::{Plan, blocks_before};
@@ -147,5 +147,5 @@ fn main(rt: HostRuntime) -> io::Result<()> {
     }
     let mut input = [0u8; 4096];
     let count = read_full(&mut rt.stdin(), &mut input)?;
-    list(&rt, showing, &input[..count])
+    unless_gone(list(&rt, showing, &input[..count]))
 }

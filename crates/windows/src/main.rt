@@ -8,7 +8,7 @@ ghost use Rattle.numbers.specs.Units.{micros};
 
 use lines::{
     asked_showing, empty, has_more_arguments, plan_film, position_buffer, print, print_refusal,
-    put_next, put_number, put_text, read_full,
+    put_next, put_number, put_text, read_full, unless_gone,
 };
 use numbers::limits::MAX_WINDOW;
 use numbers::units::MICROS;
@@ -80,5 +80,5 @@ fn main(rt: HostRuntime) -> io::Result<()> {
     }
     let mut input = [0u8; 4096];
     let count = read_full(&mut rt.stdin(), &mut input)?;
-    list(&rt, showing, &input[..count])
+    unless_gone(list(&rt, showing, &input[..count]))
 }
