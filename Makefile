@@ -1,7 +1,7 @@
 # Commands of the repository. `make test` is the gate; `make run` shows the product's main job.
 .PHONY: test edits run programs library build install uninstall cases fuzz bench mutants pictures fmt
 
-VERSION = 0.13.0
+VERSION = 0.12.0
 
 # The programs that are installed, each with a page man/NAME.1.
 PROGRAMS = listing makercard mkcard windows

@@ -1,6 +1,6 @@
 /*
  * The library against plain C doing the same checks, or against an earlier library in its place, which the argument then names: same
- * input, one run, both in turn. Calls by scratch are also measured against the same call by list, and batches against one join. Prints times a call, ratios with their
+ * input, one run, both in turn. Calls by scratch are also measured against the same call by list. Prints times a call, ratios with their
  * quartiles, and stack use. Each repetition compares what the two answered and wrote, byte for byte.
  */
 #define _XOPEN_SOURCE 700
@@ -16,8 +16,8 @@
 
 enum { REPETITIONS = 101, BATCH_NS = 30000, MAX_BATCH = 4096 };
 
-/* The series of a case: a call of both twins, and after them a second call, mostly the same by scratch. */
-enum { LIBRARY_SECOND = TWINS, PLAIN_C_SECOND, SERIES };
+/* The series of a case: a call of both twins, and after them the same call by scratch. */
+enum { LIBRARY_SCRATCH = TWINS, PLAIN_C_SCRATCH, SERIES };
 
 static struct input input, old_input;
 static struct strings strings[SERIES];
@@ -148,18 +148,13 @@ static void compare_ways(const char *name, const filmdisk_answer answers[SERIES]
 {
     static struct strings one, other;
     one = strings[LIBRARY];
-    other = strings[LIBRARY_SECOND];
+    other = strings[LIBRARY_SCRATCH];
     memset(one.leads, 0, sizeof one.leads);
     memset(other.leads, 0, sizeof other.leads);
-    if (same_answer(answers[LIBRARY], answers[LIBRARY_SECOND]) && memcmp(&one, &other, sizeof one) == 0)
+    if (same_answer(answers[LIBRARY], answers[LIBRARY_SCRATCH]) && memcmp(&one, &other, sizeof one) == 0)
         return;
     fprintf(stderr, "bench: %s: another answer or other bytes by scratch\n", name);
     exit(1);
-}
-
-static bool is_batch(call *c)
-{
-    return c == call_batch || c == call_batch_scratch;
 }
 
 /* Calls in a batch: short against the machine's other work; those in place have no more than there are desks. */
@@ -171,11 +166,11 @@ static size_t batch_size(call *c, bool in_place)
     return batch < 1 ? 1 : batch < most ? batch : most;
 }
 
-/* Times every copy in turn; the turns move on with each repetition. With a second call its series are in the same turns. */
-static void repeat(const char *name, call *c, call *second, bool in_place, uint32_t expected)
+/* Times every copy in turn; the turns move on with each repetition. With a call by scratch its series are in the same turns. */
+static void repeat(const char *name, call *c, call *by_scratch, bool in_place, uint32_t expected)
 {
-    call *const calls[] = { c, second };
-    int series_count = second == NULL ? TWINS : SERIES;
+    call *const calls[] = { c, by_scratch };
+    int series_count = by_scratch == NULL ? TWINS : SERIES;
     renew_old_input();
     size_t batch = batch_size(c, in_place);
     filmdisk_answer answers[SERIES];
@@ -187,11 +182,10 @@ static void repeat(const char *name, call *c, call *second, bool in_place, uint3
                 times[series][copy][r] = time_batch(calls[series / TWINS], series, copy, batch, &answers[series]);
             }
             compare(name, LIBRARY, answers, expected);
-            if (second == NULL)
+            if (by_scratch == NULL)
                 continue;
-            compare(name, LIBRARY_SECOND, answers, expected);
-            if (!is_batch(second))
-                compare_ways(name, answers);
+            compare(name, LIBRARY_SCRATCH, answers, expected);
+            compare_ways(name, answers);
         }
     }
 }
@@ -505,8 +499,8 @@ static double measure_ways(const char *name, const struct scratch_film *film, ca
     repeat(name, c, by_scratch, in_place, FILMDISK_ACCEPTED);
     printf("| %s, N %u, %u zones, %u streams |", name, film->blocks, film->zones, film->streams);
     print_time(LIBRARY);
-    double median = print_ratio(LIBRARY_SECOND, LIBRARY);
-    print_twins(LIBRARY_SECOND);
+    double median = print_ratio(LIBRARY_SCRATCH, LIBRARY);
+    print_twins(LIBRARY_SCRATCH);
     return median;
 }
 
@@ -567,62 +561,6 @@ static void measure_scratch(void)
     for (size_t i = 0; i < sizeof films / sizeof films[0]; i++)
         printf("Scratch / list, the greatest at N %u, %u zones, %u streams: %.3f, bar %.1f%s\n", films[i].blocks, films[i].zones,
                films[i].streams, worst[i], films[i].bar, worst[i] > films[i].bar ? ", above it" : "");
-}
-
-/* Have both batches? An earlier library from before 0.13.0 has none. */
-static bool have_batches(void)
-{
-    return twins[PLAIN_C][0].batch != NULL && twins[PLAIN_C][0].batch_scratch != NULL;
-}
-
-/* A batch beside one join, and what their ratio may be at most. */
-struct batch_case {
-    const char *name;
-    uint32_t players; /* slots that play; the others are free, and join */
-    bool leaving; /* and leave again */
-    double bar;
-};
-
-static const char *const way_names[] = { "", " by scratch" };
-
-/* Of so many films with A blocks; gives the ratio to one join of the last slot on the same desk, by list and by scratch. */
-static void measure_batch(const struct batch_case *b, uint32_t films, uint32_t blocks, double ratios[2])
-{
-    static call *const joins[] = { call_join, call_join_scratch }, *const batches[] = { call_batch, call_batch_scratch };
-    make_shelf(&input, FILMDISK_ONCE, films, blocks, 7, FILMDISK_MAX_STREAMS);
-    make_players(&input, FILMDISK_BETWEEN, b->players);
-    make_items(&input, b->players, FILMDISK_MAX_STREAMS - b->players, b->leaving);
-    for (int way = 0; way < 2; way++) {
-        repeat(b->name, joins[way], batches[way], true, FILMDISK_ACCEPTED);
-        printf("| %s%s, %u films, %u blocks, %u playing |", b->name, way_names[way], films, blocks, b->players);
-        print_time(LIBRARY);
-        ratios[way] = print_ratio(LIBRARY_SECOND, LIBRARY);
-        print_twins(LIBRARY_SECOND);
-    }
-}
-
-/* Batches at N 16,384, which have a bar, of 16 films, and of a short film, in which the items' own cost shows. */
-static void measure_batches(void)
-{
-    static const struct batch_case cases[] = { { "forty joins", FILMDISK_MAX_STREAMS - 40, false, 1.2 },
-                                               { "512 items", 0, true, 2.0 } };
-    double ratios[sizeof cases / sizeof cases[0]][2], others[2];
-    if (!have_batches())
-        return;
-    printf("\nBatches (7 zones, 256 streams), each beside one join on the same desk: forty joins; 256 joins and the same slots' leaves\n\n");
-    printf("| Case | One join, ns | Batch / join | over places | Batch, ns | Batch in %s, ns | Library / %s | over places |\n", other_name,
-           other_name);
-    printf("|---|---|---|---|---|---|---|---|\n");
-    for (size_t i = 0; i < sizeof cases / sizeof cases[0]; i++) {
-        measure_batch(&cases[i], 1, FILMDISK_MAX_BLOCKS, ratios[i]);
-        measure_batch(&cases[i], FILMDISK_MAX_FILMS, FILMDISK_MAX_BLOCKS, others);
-        measure_batch(&cases[i], 1, 6, others);
-    }
-    printf("\n");
-    for (size_t i = 0; i < sizeof cases / sizeof cases[0]; i++)
-        for (int way = 0; way < 2; way++)
-            printf("%s / one join%s, N %u: %.3f, bar %.1f%s\n", cases[i].name, way_names[way], FILMDISK_MAX_BLOCKS, ratios[i][way],
-                   cases[i].bar, ratios[i][way] > cases[i].bar ? ", above it" : "");
 }
 
 /* A begin at which so many wait on: one slot plays and holds the floor, the others are free. */
@@ -709,13 +647,6 @@ static void print_stack(const char *name, call *c, uint32_t phase, uint32_t firs
     print_stack_of(name, c, phase, first_free, 0);
 }
 
-static void print_stack_of_batch(const char *name, call *c)
-{
-    make_film(&input, 1000, 64, 256);
-    make_items(&input, 0, FILMDISK_MAX_STREAMS, true);
-    print_stack_on(name, c, FILMDISK_BETWEEN, 0, 0);
-}
-
 static void print_scratch_stacks(void)
 {
     print_stack("plan_scratch", call_plan_scratch, FILMDISK_BETWEEN, 0);
@@ -755,10 +686,6 @@ static void print_stacks(void)
     print_stack("open", call_open, FILMDISK_BETWEEN, 0);
     print_stack("join", call_join, FILMDISK_BETWEEN, 255);
     print_stack("leave", call_leave, FILMDISK_BETWEEN, 256);
-    if (have_batches()) {
-        print_stack_of_batch("batch, 512 items", call_batch);
-        print_stack_of_batch("batch_scratch, 512 items", call_batch_scratch);
-    }
     print_stack("begin", call_begin, FILMDISK_BETWEEN, 256);
     print_stack("end", call_end, FILMDISK_SWEEPING, 256);
     print_stack("window", call_window, FILMDISK_BETWEEN, 0);
@@ -804,7 +731,6 @@ int main(int argc, char **argv)
     measure_measured();
     measure_windows();
     measure_scratch();
-    measure_batches();
     measure_growth();
     print_stacks();
     printf("\n%d rows, %d above 1.1 x %s\n", rows, missed, other_name);

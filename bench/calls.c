@@ -102,18 +102,6 @@ filmdisk_answer call_end_scratch(const struct twin *t, const struct input *in, s
                           in->draws_len);
 }
 
-filmdisk_answer call_batch(const struct twin *t, const struct input *in, struct strings *s, size_t i)
-{
-    return t->batch(s->desks[i], t->desk_len, in->positions, in->positions_len, in->leads, in->list_len, in->items, in->items_len,
-                    s->answers, sizeof s->answers);
-}
-
-filmdisk_answer call_batch_scratch(const struct twin *t, const struct input *in, struct strings *s, size_t i)
-{
-    return t->batch_scratch(s->desks[i], t->desk_len, in->positions, in->positions_len, s->scratch, sizeof s->scratch, in->items,
-                            in->items_len, s->answers, sizeof s->answers);
-}
-
 filmdisk_answer call_window(const struct twin *t, const struct input *in, struct strings *s, size_t i)
 {
     filmdisk_window_answer w = t->window(in->plan, t->plan_len, in->positions, in->positions_len, in->window);

@@ -16,7 +16,6 @@ struct strings {
     uint8_t fetches[FILMDISK_MAX_STREAMS * FILMDISK_FETCH_BYTES];
     uint8_t desks[DESKS][FILMDISK_DESK_BYTES];
     uint8_t scratch[FILMDISK_SCRATCH_BYTES]; /* which no call writes */
-    uint8_t answers[FILMDISK_MAX_ITEMS * FILMDISK_ANSWER_BYTES];
     uint32_t window[3]; /* the time, first block and bytes that were answered */
 };
 
@@ -25,7 +24,6 @@ typedef filmdisk_answer call(const struct twin *t, const struct input *in, struc
 call call_read, call_plan, call_plan_loop, call_plan_pairs, call_open, call_join, call_leave, call_begin, call_end, call_window;
 call call_plan_scratch, call_plan_loop_scratch, call_plan_pairs_scratch, call_open_scratch, call_join_scratch, call_leave_scratch,
     call_begin_scratch, call_end_scratch;
-call call_batch, call_batch_scratch;
 
 /* The last of the used slots: join and leave are tried on it. */
 static inline uint32_t last_slot(const struct input *in)

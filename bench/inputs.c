@@ -205,17 +205,6 @@ void make_low(struct input *in)
     filmdisk_put_word(in->desk, FILMDISK_DESK_HELD, BLOCK_BYTES + (uint32_t)((shares + 1999999) / 2000000));
 }
 
-void make_items(struct input *in, uint32_t first, uint32_t count, bool leaving)
-{
-    uint32_t all = leaving ? 2 * count : count, seed = 3;
-    for (uint32_t i = 0; i < all; i++) {
-        uint32_t block = some_block(in, &seed);
-        filmdisk_put_item(in->items, i, i < count ? FILMDISK_JOIN : FILMDISK_LEAVE, first + i % count,
-                          block & ((1u << FILMDISK_FILM_SHIFT) - 1), block >> FILMDISK_FILM_SHIFT);
-    }
-    in->items_len = (size_t)all * FILMDISK_ITEM_BYTES;
-}
-
 void make_draws(struct input *in, uint32_t draw)
 {
     uint32_t streams = filmdisk_word(in->plan, FILMDISK_PLAN_STREAMS);

@@ -4,8 +4,6 @@
 
 #include "filmdisk.h"
 
-#include <stdbool.h>
-
 /* What is lent to the calls. */
 struct input {
     uint8_t card[FILMDISK_MAX_CARD_BYTES];
@@ -18,8 +16,6 @@ struct input {
     uint8_t desk[FILMDISK_DESK_BYTES];
     uint8_t draws[FILMDISK_MAX_STREAMS * FILMDISK_ENTRY_BYTES];
     size_t draws_len;
-    uint8_t items[FILMDISK_MAX_ITEMS * FILMDISK_ITEM_BYTES];
-    size_t items_len;
     uint32_t window; /* blocks of a window */
     uint32_t films, streams; /* of the plan */
 };
@@ -58,9 +54,6 @@ void make_requests(struct input *in, uint32_t first, uint32_t count);
 
 /* Slot 0, which plays, holds just the floor, so that no request is granted. */
 void make_low(struct input *in);
-
-/* A batch: so many slots from `first` on join at some block of the films, and where `leaving` they leave again in the same order. */
-void make_items(struct input *in, uint32_t first, uint32_t count, bool leaving);
 
 /* The draws of a sweep: each slot draws a little. */
 void make_draws(struct input *in, uint32_t draw);

@@ -17,8 +17,6 @@
                                   const uint8_t *leads, size_t leads_len, uint32_t slot, uint32_t block, uint32_t film); \
     filmdisk_answer prefix##_leave(uint8_t *desk, size_t desk_len, const uint8_t *positions, size_t positions_len, \
                                    const uint8_t *leads, size_t leads_len, uint32_t slot); \
-    filmdisk_answer prefix##_batch(uint8_t *desk, size_t desk_len, const uint8_t *positions, size_t positions_len, const uint8_t *leads, \
-                                   size_t leads_len, const uint8_t *items, size_t items_len, uint8_t *answers, size_t answers_len); \
     filmdisk_answer prefix##_begin(uint8_t *desk, size_t desk_len, const uint8_t *positions, size_t positions_len, \
                                    const uint8_t *leads, size_t leads_len, uint8_t *fetches, size_t fetches_len); \
     filmdisk_answer prefix##_end(uint8_t *desk, size_t desk_len, const uint8_t *positions, size_t positions_len, \
@@ -35,9 +33,6 @@
                                           const uint8_t *scratch, size_t scratch_len, uint32_t slot, uint32_t block, uint32_t film); \
     filmdisk_answer prefix##_leave_scratch(uint8_t *desk, size_t desk_len, const uint8_t *positions, size_t positions_len, \
                                            const uint8_t *scratch, size_t scratch_len, uint32_t slot); \
-    filmdisk_answer prefix##_batch_scratch(uint8_t *desk, size_t desk_len, const uint8_t *positions, size_t positions_len, \
-                                           const uint8_t *scratch, size_t scratch_len, const uint8_t *items, size_t items_len, \
-                                           uint8_t *answers, size_t answers_len); \
     filmdisk_answer prefix##_begin_scratch(uint8_t *desk, size_t desk_len, const uint8_t *positions, size_t positions_len, \
                                            const uint8_t *scratch, size_t scratch_len, uint8_t *fetches, size_t fetches_len); \
     filmdisk_answer prefix##_end_scratch(uint8_t *desk, size_t desk_len, const uint8_t *positions, size_t positions_len, \

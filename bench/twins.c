@@ -9,22 +9,13 @@ DECLARE_TWIN(plain0)
 DECLARE_TWIN(plain1)
 DECLARE_TWIN(plain2)
 
-/* An earlier library, which stands in plain C's place, may have no batch. */
-#define MAY_BATCH(prefix) \
-    extern __typeof__(prefix##_batch) prefix##_batch __attribute__((weak)); \
-    extern __typeof__(prefix##_batch_scratch) prefix##_batch_scratch __attribute__((weak));
-MAY_BATCH(plain0)
-MAY_BATCH(plain1)
-MAY_BATCH(plain2)
-
 #define LISTED(prefix) \
     prefix##_plan, prefix##_plan_loop, prefix##_open, prefix##_join, prefix##_leave, prefix##_begin, prefix##_end, prefix##_window
 #define SCRATCHED(prefix) \
     prefix##_plan_scratch, prefix##_plan_loop_scratch, prefix##_open_scratch, prefix##_join_scratch, prefix##_leave_scratch, \
         prefix##_begin_scratch, prefix##_end_scratch
 #define PAIRED(prefix) prefix##_plan_pairs, prefix##_plan_pairs_scratch
-#define BATCHED(prefix) prefix##_batch, prefix##_batch_scratch
-#define TWIN(prefix) { FILMDISK_PLAN_BYTES, FILMDISK_DESK_BYTES, LISTED(prefix), SCRATCHED(prefix), PAIRED(prefix), BATCHED(prefix) }
+#define TWIN(prefix) { FILMDISK_PLAN_BYTES, FILMDISK_DESK_BYTES, LISTED(prefix), SCRATCHED(prefix), PAIRED(prefix) }
 
 struct twin twins[TWINS][COPIES] = {
     { TWIN(library0), TWIN(library1), TWIN(library2) },

@@ -33,10 +33,6 @@ struct twin {
     /* For half blocks. */
     filmdisk_answer (*plan_pairs)(const uint8_t *, size_t, uint8_t *, size_t, uint8_t *, size_t, uint8_t *, size_t);
     filmdisk_answer (*plan_pairs_scratch)(const uint8_t *, size_t, uint8_t *, size_t, uint8_t *, size_t, uint8_t *, size_t);
-    /* Of several joins and leaves; NULL in an earlier library that has none. */
-    filmdisk_answer (*batch)(uint8_t *, size_t, const uint8_t *, size_t, const uint8_t *, size_t, const uint8_t *, size_t, uint8_t *, size_t);
-    filmdisk_answer (*batch_scratch)(uint8_t *, size_t, const uint8_t *, size_t, const uint8_t *, size_t, const uint8_t *, size_t, uint8_t *,
-                                     size_t);
 };
 
 extern struct twin twins[TWINS][COPIES];

@@ -22,8 +22,6 @@
  * an opening too, judges first of all. All else is as with the plan's own leads, the answer and the desk that is left. No call reads or
  * writes a byte of the scratch, and calls of both ways may be mixed on one desk.
  *
- * Batches: joins and leaves of several slots may be made in one call, filmdisk_batch, which judges plan, lists and desk once for all of them.
- *
  * Refused calls leave all that they were lent as it was, but for two: a plan call that is refused by 1 to 12, 25, 26, 28 or 30 fills a
  * plan string of the right length with zeros, and an opening that is refused by 14 a desk string of the right length.
  *
@@ -45,9 +43,9 @@
 extern "C" {
 #endif
 
-#define FILMDISK_VERSION "0.13.0"
+#define FILMDISK_VERSION "0.12.0"
 #define FILMDISK_VERSION_MAJOR 0
-#define FILMDISK_VERSION_MINOR 13
+#define FILMDISK_VERSION_MINOR 12
 #define FILMDISK_VERSION_PATCH 0
 
 /* Limits. */
@@ -61,7 +59,6 @@ extern "C" {
 #define FILMDISK_MAX_WINDOW 64 /* blocks of a window */
 #define FILMDISK_OVERHEADS 257 /* of a sweep of 0 to 256 visits: blocks, of pairs half blocks */
 #define FILMDISK_SCRATCH_WORDS 512 /* of a scratch in the lead list's place, at least */
-#define FILMDISK_MAX_ITEMS 512 /* of a batch */
 
 /* The words of a plan, one after the other. */
 enum filmdisk_plan_word {
@@ -99,18 +96,12 @@ enum filmdisk_desk_word {
 /* The words of a fetch entry. */
 enum filmdisk_fetch_word { FILMDISK_FETCH_POSITION, FILMDISK_FETCH_SLOT, FILMDISK_FETCH_BLOCK, FILMDISK_FETCH_WORDS };
 
-/* The words of an item of a batch, and of its answer. */
-enum filmdisk_item_word { FILMDISK_ITEM_NUMBER, FILMDISK_ITEM_SLOT, FILMDISK_ITEM_BLOCK, FILMDISK_ITEM_FILM, FILMDISK_ITEM_WORDS };
-enum filmdisk_answer_word { FILMDISK_ANSWER_NUMBER, FILMDISK_ANSWER_PLACE, FILMDISK_ANSWER_WORDS };
-
 /* Sizes in bytes. */
 #define FILMDISK_WORD_BYTES 4
 #define FILMDISK_PLAN_BYTES (FILMDISK_PLAN_WORDS * FILMDISK_WORD_BYTES)       /* 1,648 */
 #define FILMDISK_DESK_BYTES (FILMDISK_DESK_WORDS * FILMDISK_WORD_BYTES)       /* 5,748 */
 #define FILMDISK_ENTRY_BYTES FILMDISK_WORD_BYTES                              /* an entry of positions, leads or draws */
 #define FILMDISK_FETCH_BYTES (FILMDISK_FETCH_WORDS * FILMDISK_WORD_BYTES)     /* an entry of the fetch list */
-#define FILMDISK_ITEM_BYTES (FILMDISK_ITEM_WORDS * FILMDISK_WORD_BYTES)       /* 16, an item of a batch */
-#define FILMDISK_ANSWER_BYTES (FILMDISK_ANSWER_WORDS * FILMDISK_WORD_BYTES)   /* 8, the answer of an item */
 #define FILMDISK_SCRATCH_BYTES (FILMDISK_SCRATCH_WORDS * FILMDISK_WORD_BYTES) /* 2,048, a scratch */
 
 /* Stack in bytes that a call takes below the caller's frame, at most. */
@@ -121,7 +112,6 @@ enum filmdisk_answer_word { FILMDISK_ANSWER_NUMBER, FILMDISK_ANSWER_PLACE, FILMD
 #define FILMDISK_STACK_OPEN 3200
 #define FILMDISK_STACK_JOIN 3400
 #define FILMDISK_STACK_LEAVE 3400
-#define FILMDISK_STACK_BATCH 8600
 #define FILMDISK_STACK_BEGIN 18900
 #define FILMDISK_STACK_DRAW_LIMIT 16
 #define FILMDISK_STACK_END 9700
@@ -131,7 +121,6 @@ enum filmdisk_answer_word { FILMDISK_ANSWER_NUMBER, FILMDISK_ANSWER_PLACE, FILMD
 #define FILMDISK_STACK_OPEN_SCRATCH 3200
 #define FILMDISK_STACK_JOIN_SCRATCH 3400
 #define FILMDISK_STACK_LEAVE_SCRATCH 3400
-#define FILMDISK_STACK_BATCH_SCRATCH 8600
 #define FILMDISK_STACK_BEGIN_SCRATCH 18900
 #define FILMDISK_STACK_END_SCRATCH 9700
 
@@ -152,9 +141,6 @@ enum filmdisk_kind {
 
 /* The phase of a desk. */
 enum filmdisk_phase { FILMDISK_BETWEEN = 0, FILMDISK_SWEEPING = 1 };
-
-/* The number of an item: a join; any other is a leave. */
-enum filmdisk_item { FILMDISK_JOIN = 0, FILMDISK_LEAVE = 1 };
 
 /* Why a call is refused; `place` is 0 where nothing is said of it. */
 enum filmdisk_number {
@@ -225,7 +211,7 @@ static inline const char *filmdisk_meaning(uint32_t number)
         "block bytes, rate, hop or return out of range",
         "bytes left over",
         "not even one stream fits",
-        "lent list or scratch too short, over 512 items, or a plan or desk string of another length where it is only written",
+        "lent list or scratch too short, or a plan or desk string of another length where it is only written",
         "record not sound with these lists, or a plan or desk string of another length where it is read",
         "wrong phase",
         "no such slot",
@@ -385,27 +371,6 @@ static inline filmdisk_fetch filmdisk_fetch_at(const uint8_t *fetches, size_t in
     return fetch;
 }
 
-/* Writes the item `index` of a batch: a join of the slot to a block within a film, or a leave, which reads neither block nor film. */
-static inline void filmdisk_put_item(uint8_t *items, size_t index, uint32_t number, uint32_t slot, uint32_t block, uint32_t film)
-{
-    uint8_t *item = items + FILMDISK_ITEM_BYTES * index;
-    filmdisk_put_word(item, FILMDISK_ITEM_NUMBER, number);
-    filmdisk_put_word(item, FILMDISK_ITEM_SLOT, slot);
-    filmdisk_put_word(item, FILMDISK_ITEM_BLOCK, block);
-    filmdisk_put_word(item, FILMDISK_ITEM_FILM, film);
-}
-
-/* What the item `index` of an accepted batch was answered: 0, or why it is refused; and the place, 0 or the item's slot. */
-static inline uint32_t filmdisk_answer_number(const uint8_t *answers, size_t index)
-{
-    return filmdisk_word(answers + FILMDISK_ANSWER_BYTES * index, FILMDISK_ANSWER_NUMBER);
-}
-
-static inline uint32_t filmdisk_answer_place(const uint8_t *answers, size_t index)
-{
-    return filmdisk_word(answers + FILMDISK_ANSWER_BYTES * index, FILMDISK_ANSWER_PLACE);
-}
-
 /* Plans a card for one showing: writes the plan and the first A entries of both lists. Refusals 1 to 11, 25, 26 and 30, then 13, then 12. */
 filmdisk_answer filmdisk_plan(const uint8_t *card, size_t card_len,
                               uint8_t *plan, size_t plan_len,
@@ -463,18 +428,6 @@ filmdisk_answer filmdisk_leave(uint8_t *desk, size_t desk_len,
                                const uint8_t *positions, size_t positions_len,
                                const uint8_t *leads, size_t leads_len,
                                uint32_t slot);
-
-/*
- * Makes up to FILMDISK_MAX_ITEMS joins and leaves in list order, as so many single calls would: alters the desk in place, and writes the answer
- * of each item. An item that is refused changes nothing, and those after it are made all the same. Of items and answers whole entries count;
- * answers past the items stay. Refusals of the whole call, which then writes nothing: 14, then 13 for too many items or for fewer answers than
- * items. Of an item: 15 with place 0, which in a sweep all are, 16, 17, 31, 18 with its slot. Accepted, the call itself answers 0.
- */
-filmdisk_answer filmdisk_batch(uint8_t *desk, size_t desk_len,
-                               const uint8_t *positions, size_t positions_len,
-                               const uint8_t *leads, size_t leads_len,
-                               const uint8_t *items, size_t items_len,
-                               uint8_t *answers, size_t answers_len);
 
 /*
  * Begins a sweep: alters the phase, kinds and places of the desk in place, writes the answer's `count` fetches, and answers its `bound`.
@@ -546,16 +499,6 @@ filmdisk_answer filmdisk_leave_scratch(uint8_t *desk, size_t desk_len,
                                        const uint8_t *positions, size_t positions_len,
                                        const uint8_t *scratch, size_t scratch_len,
                                        uint32_t slot);
-
-/*
- * Makes up to FILMDISK_MAX_ITEMS joins and leaves in list order: alters the desk in place, and writes the answer of each item. Refusals 13 for
- * the scratch, 14, then 13 for the items and answers.
- */
-filmdisk_answer filmdisk_batch_scratch(uint8_t *desk, size_t desk_len,
-                                       const uint8_t *positions, size_t positions_len,
-                                       const uint8_t *scratch, size_t scratch_len,
-                                       const uint8_t *items, size_t items_len,
-                                       uint8_t *answers, size_t answers_len);
 
 /*
  * Begins a sweep: alters the desk in place, writes the answer's `count` fetches, and answers its `bound`. Refusals 13 for the scratch, 14,

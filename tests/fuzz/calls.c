@@ -1,7 +1,6 @@
 /*
  * Fuzz target: the bytes of an input are read as a card and then as calls on its desk, with damage to strings between them. The films are
- * shown once, are loops, or have each block as two halves; a few bytes may stand for the table of a card of kind 2, or for the items of a
- * batch. Each call is made of
+ * shown once, are loops, or have each block as two halves; a few bytes may stand for the table of a card of kind 2. Each call is made of
  * the library and of its plain C twin (bench/plain.c); answers and strings must be the same. Each is made twice, with the lead list and
  * with a scratch of random bytes in its place, and what comes of the two must be the same where the list is the plan's own; the desk goes
  * on as either left it. The twin is built with coverage, which leads the fuzzer; the library's strings touch pages that may not be touched.
@@ -19,9 +18,9 @@
 
 int LLVMFuzzerTestOneInput(const uint8_t *data, size_t size);
 
-enum lent { CARD, PLAN, POSITIONS, LEADS, DESK, FETCHES, DRAWS, SCRATCH, ITEMS, ANSWERS, STRINGS };
+enum lent { CARD, PLAN, POSITIONS, LEADS, DESK, FETCHES, DRAWS, SCRATCH, STRINGS };
 enum way { BY_LIST, BY_SCRATCH, WAYS };
-enum sort { CALL_PLAN, CALL_PLAN_LOOP, CALL_PLAN_PAIRS, CALL_OPEN, CALL_JOIN, CALL_LEAVE, CALL_BEGIN, CALL_END, CALL_BATCH };
+enum sort { CALL_PLAN, CALL_PLAN_LOOP, CALL_PLAN_PAIRS, CALL_OPEN, CALL_JOIN, CALL_LEAVE, CALL_BEGIN, CALL_END };
 
 struct call {
     enum sort sort;
@@ -40,7 +39,6 @@ struct calls {
     __typeof__(filmdisk_leave) *leave;
     __typeof__(filmdisk_begin) *begin;
     __typeof__(filmdisk_end) *end;
-    __typeof__(filmdisk_batch) *batch;
 };
 
 /* What the library and its twin have alike. */
@@ -52,8 +50,7 @@ struct interface {
 
 #define CALLS(prefix, suffix) \
     {prefix##_plan##suffix, prefix##_plan_loop##suffix, prefix##_plan_pairs##suffix, prefix##_open##suffix, \
-     prefix##_join##suffix, prefix##_leave##suffix,     prefix##_begin##suffix,      prefix##_end##suffix, \
-     prefix##_batch##suffix}
+     prefix##_join##suffix, prefix##_leave##suffix,     prefix##_begin##suffix,      prefix##_end##suffix}
 #define INTERFACE(prefix) {{CALLS(prefix, ), CALLS(prefix, _scratch)}, prefix##_window, prefix##_draw_limit}
 
 static const struct interface library = INTERFACE(filmdisk);
@@ -109,8 +106,6 @@ static filmdisk_answer make(const struct interface *interface, enum way way, con
         return of->join(s[DESK], n[DESK], s[POSITIONS], n[POSITIONS], s[by], n[by], call->slot, call->block, call->film);
     case CALL_LEAVE:
         return of->leave(s[DESK], n[DESK], s[POSITIONS], n[POSITIONS], s[by], n[by], call->slot);
-    case CALL_BATCH:
-        return of->batch(s[DESK], n[DESK], s[POSITIONS], n[POSITIONS], s[by], n[by], s[ITEMS], n[ITEMS], s[ANSWERS], n[ANSWERS]);
     case CALL_BEGIN:
         return of->begin(s[DESK], n[DESK], s[POSITIONS], n[POSITIONS], s[by], n[by], s[FETCHES], n[FETCHES]);
     default:
@@ -518,43 +513,6 @@ static void join_film(void)
     make_both((struct call){CALL_JOIN, slot, block, take_film(DESK)});
 }
 
-/* An item by bytes of its own. */
-static void take_item(size_t index)
-{
-    uint32_t number = take_number(), slot = take_number(), block = take_number();
-    filmdisk_put_item(contents[ITEMS], index, number, slot, block, take_film(DESK));
-}
-
-/* Items by a rule: slots by steps from the first on join, or join and leave in turn, or half of the items join and the others leave. */
-static void rule_items(size_t count, uint32_t rule)
-{
-    uint32_t first = take_number(), step = take(), block = take_number(), film = take_film(DESK);
-    size_t half = rule % 4 == 2 ? (count + 1) / 2 : count;
-    for (size_t i = 0; i < count; i++) {
-        uint32_t at = (uint32_t)(rule % 4 == 1 ? i / 2 : i % half), leaving = rule % 4 == 1 ? i % 2 : i >= half;
-        uint32_t slot = first < FILMDISK_MAX_STREAMS ? (first + at * step) % FILMDISK_MAX_STREAMS : first + at;
-        filmdisk_put_item(contents[ITEMS], i, leaving * (1 + rule), slot, block + (rule & 4) / 4 * at % 4, film);
-    }
-}
-
-/* A batch: some items by a rule, or a few by their own bytes, and one of those by a rule too; the answers have room, or just not. */
-static void batch_items(void)
-{
-    static const size_t counts[] = {40, 256, 511, FILMDISK_MAX_ITEMS, FILMDISK_MAX_ITEMS, FILMDISK_MAX_ITEMS + 1, 600, 0};
-    uint32_t choice = take(), rule = take(), odd = take();
-    size_t count = choice < 160 ? choice % 16 : counts[choice % COUNT(counts)], room = count + (odd % 8 == 1) - (odd % 8 == 2 && count > 0);
-    set_noise(ITEMS, count * FILMDISK_ITEM_BYTES + rule / 16);
-    set_noise(ANSWERS, room * FILMDISK_ANSWER_BYTES + rule / 32);
-    if (rule % 4 == 3 && count <= 16)
-        for (size_t i = 0; i < count; i++)
-            take_item(i);
-    else
-        rule_items(count, rule);
-    if (odd % 4 == 3 && count > 0)
-        take_item(odd / 4 % count);
-    call_both(CALL_BATCH, 0);
-}
-
 static void take_call(void)
 {
     uint32_t all, one, choice = take();
@@ -576,10 +534,6 @@ static void take_call(void)
     }
     if (choice >= 216) {
         set_films(DESK);
-        return;
-    }
-    if (choice >= 204 || choice == 13) {
-        batch_items();
         return;
     }
     switch (choice % 12) {
@@ -658,8 +612,6 @@ int LLVMFuzzerTestOneInput(const uint8_t *data, size_t size)
     calls_made = 0;
     set_noise(FETCHES, 0);
     set_noise(DRAWS, 0);
-    set_noise(ITEMS, 0);
-    set_noise(ANSWERS, 0);
     enum sort planner = take_planner();
     take_card();
     if (has_table)

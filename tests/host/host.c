@@ -19,7 +19,7 @@ const uint32_t bench_pairs[BENCH_NUMBERS] = {
     1, 6, 1, 22270, 1, 20550, 1, 19090, 1, 17810, 1, 16700, 1, 15720, 1, PAIRS_BLOCKS, 262144, 500000, 12670, 15000,
 };
 
-static const char *const names[STRINGS] = {"card", "plan", "positions", "leads", "desk", "fetches", "draws", "scratch", "items", "answers"};
+static const char *const names[STRINGS] = {"card", "plan", "positions", "leads", "desk", "fetches", "draws", "scratch"};
 static guarded strings[STRINGS];
 static uint8_t before[STRINGS][MOST_BYTES];
 static int is_null[STRINGS];
@@ -416,32 +416,6 @@ filmdisk_answer host_leave_scratch(uint32_t slot)
 {
     before_call(1u << DESK);
     return desk_answer(filmdisk_leave_scratch(LENT(DESK), LENT(POSITIONS), LENT(SCRATCH), slot));
-}
-
-/* A batch writes the desk and an answer for each item, and only if accepted. */
-static filmdisk_answer batch_answer(filmdisk_answer answer)
-{
-    after_call();
-    if (answer.number == 0) {
-        check_kept(ANSWERS, length_of(ITEMS) / FILMDISK_ITEM_BYTES * FILMDISK_ANSWER_BYTES);
-        check_others_kept(1u << DESK | 1u << ANSWERS);
-    } else {
-        check_others_kept(0);
-    }
-    check(answer.count == 0 && answer.bound == 0, "count and bound are 0, not %u and %u", answer.count, answer.bound);
-    return answer;
-}
-
-filmdisk_answer host_batch(void)
-{
-    before_call(1u << DESK | 1u << ANSWERS);
-    return batch_answer(filmdisk_batch(LENT(DESK), LENT(POSITIONS), LENT(LEADS), LENT(ITEMS), LENT(ANSWERS)));
-}
-
-filmdisk_answer host_batch_scratch(void)
-{
-    before_call(1u << DESK | 1u << ANSWERS);
-    return batch_answer(filmdisk_batch_scratch(LENT(DESK), LENT(POSITIONS), LENT(SCRATCH), LENT(ITEMS), LENT(ANSWERS)));
 }
 
 filmdisk_answer host_end(void)

@@ -10,7 +10,7 @@
 #include <stdint.h>
 
 /* The strings that calls are lent. */
-enum lent { CARD, PLAN, POSITIONS, LEADS, DESK, FETCHES, DRAWS, SCRATCH, ITEMS, ANSWERS, STRINGS };
+enum lent { CARD, PLAN, POSITIONS, LEADS, DESK, FETCHES, DRAWS, SCRATCH, STRINGS };
 
 /* A test has a name by which it can be run alone. */
 typedef struct test {
@@ -65,7 +65,6 @@ filmdisk_answer host_open(void);
 filmdisk_answer host_join(uint32_t slot, uint32_t block); /* of the first film */
 filmdisk_answer host_join_film(uint32_t slot, uint32_t block, uint32_t film);
 filmdisk_answer host_leave(uint32_t slot);
-filmdisk_answer host_batch(void);
 filmdisk_answer host_begin(void);
 filmdisk_answer host_end(void);
 filmdisk_window_answer host_window(uint32_t blocks);
@@ -78,7 +77,6 @@ filmdisk_answer host_open_scratch(void);
 filmdisk_answer host_join_scratch(uint32_t slot, uint32_t block);
 filmdisk_answer host_join_film_scratch(uint32_t slot, uint32_t block, uint32_t film);
 filmdisk_answer host_leave_scratch(uint32_t slot);
-filmdisk_answer host_batch_scratch(void);
 filmdisk_answer host_begin_scratch(void);
 filmdisk_answer host_end_scratch(void);
 

@@ -40,11 +40,6 @@ static void call_leave(void)
     answer = filmdisk_leave(LENT(DESK), LENT(POSITIONS), LENT(LEADS), 0);
 }
 
-static void call_batch(void)
-{
-    answer = filmdisk_batch(LENT(DESK), LENT(POSITIONS), LENT(LEADS), LENT(ITEMS), LENT(ANSWERS));
-}
-
 static void call_begin(void)
 {
     answer = filmdisk_begin(LENT(DESK), LENT(POSITIONS), LENT(LEADS), LENT(FETCHES));
@@ -83,11 +78,6 @@ static void call_join_scratch(void)
 static void call_leave_scratch(void)
 {
     answer = filmdisk_leave_scratch(LENT(DESK), LENT(POSITIONS), LENT(SCRATCH), 0);
-}
-
-static void call_batch_scratch(void)
-{
-    answer = filmdisk_batch_scratch(LENT(DESK), LENT(POSITIONS), LENT(SCRATCH), LENT(ITEMS), LENT(ANSWERS));
 }
 
 static void call_begin_scratch(void)
@@ -218,35 +208,6 @@ static void stack_of_join_and_leave(void)
     }
 }
 
-/* Items that leave the desk as it was: joins, leaves of slots with others behind them, and items of each refusal. */
-static void lend_items(void)
-{
-    static const uint32_t items[][FILMDISK_ITEM_WORDS] = {
-        {FILMDISK_JOIN, 0, 0, 0}, {FILMDISK_JOIN, 1, 1, 0}, {FILMDISK_JOIN, 1, 0, 0}, {FILMDISK_JOIN, 2, 9999, 0}, {FILMDISK_JOIN, 2, 0, 16},
-        {FILMDISK_JOIN, 256, 0, 0}, {FILMDISK_LEAVE, 0, 0, 0}, {FILMDISK_LEAVE, 0, 0, 0}, {FILMDISK_LEAVE, 1, 0, 0},
-    };
-    lend_noise(ITEMS, FILMDISK_MAX_ITEMS * FILMDISK_ITEM_BYTES);
-    lend_noise(ANSWERS, FILMDISK_MAX_ITEMS * FILMDISK_ANSWER_BYTES);
-    for (size_t i = 0; i < FILMDISK_MAX_ITEMS; i++) {
-        const uint32_t *item = items[i % COUNT(items)];
-        filmdisk_put_item(bytes_of(ITEMS), i, item[0], item[1], item[2], item[3]);
-    }
-}
-
-static void stack_of_batch(void)
-{
-    for (size_t i = 0; i < COUNT(benches); i++) {
-        open_bench(benches[i]);
-        lend_items();
-        expect(host_batch(), 0, 0);
-        expect_stack(call_batch, FILMDISK_STACK_BATCH);
-        open_bench_scratch(scratch_benches[i]);
-        lend_items();
-        expect(host_batch_scratch(), 0, 0);
-        expect_stack(call_batch_scratch, FILMDISK_STACK_BATCH_SCRATCH);
-    }
-}
-
 /* A slot fills and another asks. */
 static void stack_of_begin_and_end(void)
 {
@@ -310,7 +271,6 @@ static const test tests[] = {
     TEST(stack_of_plan_pairs),
     TEST(stack_of_open),
     TEST(stack_of_join_and_leave),
-    TEST(stack_of_batch),
     TEST(stack_of_begin_and_end),
     TEST(stack_of_plans_by_scratch),
     TEST(stack_of_desk_calls_by_scratch),

@@ -151,7 +151,7 @@ module _ (d : Desk) (w : Wide d) (ps ls : List ℕ) where
     is_sound = let p = d.plan in sound_says (supply_of p) (supply_named p) (order_of p) (view_of d) (and_right (is_plan p ps ls) _ s)
 
     -- who does not ask has none
-    pub unplaced : (i : ℕ) → get_or d.kinds i 0 ≢ waiting → get_or d.places i 0 ≡ 0
+    unplaced : (i : ℕ) → get_or d.kinds i 0 ≢ waiting → get_or d.places i 0 ≡ 0
     unfolding view_of by_place
     unplaced i n = (places_say (supply_of d.plan) (slots_in d) d.places is_sound.queue).idle i (λ e. n (sym (kind_in d w i) ∙ e))
 
@@ -163,7 +163,7 @@ module _ (d : Desk) (w : Wide d) (ps ls : List ℕ) where
     sound_movable z m n l = record { named = n; few = plan_streams d.plan ps ls z (sound_plan d ps ls s); inside = l; rest = rest_unplaced }
 
     -- how many ask
-    pub sound_count : asked_count (take d.plan.streams d.kinds) ≡ waiting_count (supply_of d.plan) (slots_in d)
+    sound_count : asked_count (take d.plan.streams d.kinds) ≡ waiting_count (supply_of d.plan) (slots_in d)
     unfolding view_of supply_of
     sound_count =
         let p = supply_of d.plan in

@@ -1,7 +1,7 @@
 -- A join and a leave told as one, a move: which of the two, its slot, and the film and start block of a join.
 -- Assumes nothing.
 use Rattle.std.specs.Prelude.{ℕ, ◌<◌, ◌≡◌, refl, Bool, true, false, cond, List, ltb, eqb}
-use Rattle.std.proofs.Common.{ap, arith, ltb-true, eqb-true}
+use Rattle.std.proofs.Common.{ap, arith, ltb-true}
 use Rattle.numbers.specs.Refusals.{too_short, slot_state, no_such_block, no_such_film}
 use Rattle.numbers.specs.Slots.{free, waiting}
 use Rattle.card.specs.declared.Verdict.{Verdict}
@@ -99,14 +99,3 @@ state_named k F N m e j = go (eqb k free) (ltb m.film F) refl (ltb m.block N) re
     go true true p false q e = absurd (omega arith)
     go true false p b q e = absurd (omega arith)
     go false i p b q e = absurd (omega arith)
-
--- and its slot is free
-pub state_free : (k F N : ℕ) (m : Move) → (state_verdict k F N m).number ≡ 0 → m.joins ≡ true → k ≡ free
-unfolding state_verdict
-state_free k F N m e j = go (eqb k free) refl (rw j at e)
-  where
-    go : (f : Bool) → eqb k free ≡ f
-        → (cond f (cond (ltb m.film F) (cond (ltb m.block N) (verdict 0 0) (verdict no_such_block m.slot)) (verdict no_such_film m.slot))
-        (verdict slot_state m.slot)).number ≡ 0 → k ≡ free
-    go true p e = eqb-true k free p
-    go false p e = absurd (omega arith)

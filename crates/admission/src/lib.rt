@@ -1,7 +1,7 @@
 // The calls open, join and leave. A join and a leave are judged and written as one, a move.
 #![tactic(auto)]
 
-ghost use Rattle.std.specs.Prelude.{◌≡◌, map, ◌≤◌, ◌<◌, length, get_or};
+ghost use Rattle.std.specs.Prelude.{◌≡◌, map, ◌≤◌, ◌<◌, length};
 ghost use Rattle.numbers.specs.Limits.{max_streams};
 ghost use Rattle.card.specs.Card.{length_in};
 ghost use Rattle.rules.specs.Order.{dropped};
@@ -12,13 +12,12 @@ ghost use Rattle.words.specs.Words.{words_of};
 ghost use Rattle.desk_layout.specs.Layout.{desk_in, desk_size};
 ghost use Rattle.admission.specs.Moves.{join_of, leave_of, move_desk, move_scratch, state_verdict, kind_after, next_after};
 ghost use Rattle.admission.specs.Places.{place_after, places_after, Placeless, Nameable, Movable};
-ghost use Rattle.admission.specs.Sound.{sound_verdict};
 
 use card::Verdict;
 use desk::{Answer, Desk, answer_with, blank_desk, fresh_desk, verdict, with_slot};
 use desk_columns::{all_places, asked_in, films_in, kind_in, length_in, phase_in, streams_in};
 use desk_record::string_of;
-use numbers::limits::{MAX_FILMS, MAX_STREAMS, NAME_STEP};
+use numbers::limits::{MAX_FILMS, NAME_STEP};
 use numbers::refusals::{
     ACCEPTED, NO_SUCH_BLOCK, NO_SUCH_FILM, NO_SUCH_SLOT, NOT_SOUND, SLOT_STATE, TOO_SHORT,
     WRONG_PHASE,
@@ -161,17 +160,6 @@ pub fn places_after(desk: &[u8], step: Move) -> [u32; 256]
     places
 }
 
-// The kind of a slot of the desk in a lent string, free where there is none.
-fn kind_of(desk: &[u8], slot: usize) -> u32
-    requires { desk_size ≤ length desk.now }
-    ensures { result ≡ get_or (desk_in (words_of desk.now)).kinds slot 0 }
-{
-    if slot >= MAX_STREAMS as usize {
-        return FREE;
-    }
-    kind_in(desk, slot)
-}
-
 // The blocks of a film of the desk in a lent string, 0 where there is none.
 fn blocks_of(desk: &[u8], film: u32) -> u32
     requires { desk_size ≤ length desk.now }
@@ -206,26 +194,6 @@ fn judge_state(kind: u32, films: u32, blocks: u32, step: Move) -> Verdict
     verdict(ACCEPTED, 0)
 }
 
-// The refusal of a move of a sound desk in a lent string, 15 to 17, 31, 18, or 0.
-pub fn judge_sound(desk: &[u8], step: Move) -> Verdict
-    requires { desk_size ≤ length desk.now }
-    ensures { result ≡ sound_verdict (desk_in (words_of desk.now)) step }
-{
-    if phase_in(desk) != BETWEEN {
-        return verdict(WRONG_PHASE, 0);
-    }
-    let slot = step.slot as usize;
-    if slot >= streams_in(desk) as usize {
-        return verdict(NO_SUCH_SLOT, slot);
-    }
-    judge_state(
-        kind_of(desk, slot),
-        films_in(desk),
-        blocks_of(desk, step.film),
-        step,
-    )
-}
-
 // The refusal of a move of the desk in a lent string, 14 to 17, 31, 18, or 0.
 pub fn judge_move(desk: &[u8], positions: &[u8], leads: &[u8], listed: bool, step: Move) -> Verdict
     requires { desk_size ≤ length desk.now }
@@ -235,7 +203,19 @@ pub fn judge_move(desk: &[u8], positions: &[u8], leads: &[u8], listed: bool, ste
     if !is_sound(desk, positions, leads, listed) {
         return verdict(NOT_SOUND, 0);
     }
-    judge_sound(desk, step)
+    if phase_in(desk) != BETWEEN {
+        return verdict(WRONG_PHASE, 0);
+    }
+    let slot = step.slot as usize;
+    if slot >= streams_in(desk) as usize {
+        return verdict(NO_SUCH_SLOT, slot);
+    }
+    judge_state(
+        kind_in(desk, slot),
+        films_in(desk),
+        blocks_of(desk, step.film),
+        step,
+    )
 }
 
 // A desk after a move; a refused one answers the desk it was given.

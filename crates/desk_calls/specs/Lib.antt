@@ -1,4 +1,3 @@
-pub mod Batches
 pub mod ByLength
 pub mod Calls
 pub mod Inner

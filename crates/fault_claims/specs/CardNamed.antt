@@ -32,11 +32,11 @@ module _ (visits : ℕ) (s : List ℕ) (y : Bytes s) where
   v = read_values s
 
   -- the figures before are good, and the answer is that of those after
-  record Read (before after : List Figure) (at n : ℕ) (x : Verdict) : Type 0 where
-    order : figures_in_order (v Kind) (v Zones) (v Films) ≡ before ++ after
-    inside : at ≤ length s
-    bytes : s ≡ bytes_of (map v before) ++ drop at s
-    good : Each (λ g. Holds (rules visits v g)) before
-    offset : at ≡ offset_of s n
-    counted : Counted (v Zones) (v Films) n after
-    answer : Answers visits v s at after x
+  pub record Read (before after : List Figure) (at n : ℕ) (x : Verdict) : Type 0 where
+    pub order : figures_in_order (v Kind) (v Zones) (v Films) ≡ before ++ after
+    pub inside : at ≤ length s
+    pub bytes : s ≡ bytes_of (map v before) ++ drop at s
+    pub good : Each (λ g. Holds (rules visits v g)) before
+    pub offset : at ≡ offset_of s n
+    pub counted : Counted (v Zones) (v Films) n after
+    pub answer : Answers visits v s at after x

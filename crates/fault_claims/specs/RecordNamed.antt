@@ -19,13 +19,13 @@ module _ (r : Figure → List Rule) where
   rules_of (g ∷ gs) = r g ++ rules_of gs
 
   -- the figure that breaks them first
-  record FirstOf (gs : List Figure) (k : ℕ) : Type 0 where
-    before : List Figure
-    here : Figure
-    after : List Figure
-    order : gs ≡ before ++ (here ∷ after)
-    good : Each (λ g. Holds (r g)) before
-    fault : Breaks (r here) k
+  pub record FirstOf (gs : List Figure) (k : ℕ) : Type 0 where
+    pub before : List Figure
+    pub here : Figure
+    pub after : List Figure
+    pub order : gs ≡ before ++ (here ∷ after)
+    pub good : Each (λ g. Holds (r g)) before
+    pub fault : Breaks (r here) k
 
 -- ---- the judge of a record says what its rules say
 

@@ -10,7 +10,6 @@ ghost use Rattle.desk_calls.specs.Calls.{fetch_string, end_answer, end_string, d
 ghost use Rattle.desk_calls.specs.Calls.{open_scratch_answer, open_scratch_string, join_scratch_answer, join_scratch_string, leave_scratch_answer};
 ghost use Rattle.desk_calls.specs.Calls.{leave_scratch_string, begin_scratch_answer, begin_scratch_string, fetch_scratch_string, end_scratch_answer};
 ghost use Rattle.desk_calls.specs.Calls.{end_scratch_string};
-ghost use Rattle.desk_calls.specs.Batches.{batch_answer, batch_string, answers_string, batch_scratch_answer, batch_scratch_string, answers_scratch_string};
 ghost use Rattle.window_strings.specs.Calls.{window_call};
 
 use layout::{FilmdiskAnswer, FilmdiskWindowAnswer};
@@ -278,37 +277,4 @@ pub extern "C" fn filmdisk_end_scratch(
         × (desk.new ≡ end_scratch_string desk.old positions.now scratch.now draws.now) }
 {
     sweep_strings::scratch::end(desk, positions, scratch, draws)
-}
-
-// Makes up to 512 joins and leaves in list order, each with its answer: 14, then 13; all else is the items' own answer. A refused call writes nothing.
-#[unsafe(no_mangle)]
-pub extern "C" fn filmdisk_batch(
-    desk: &mut [u8],
-    positions: &[u8],
-    leads: &[u8],
-    items: &[u8],
-    answers: &mut [u8],
-) -> FilmdiskAnswer
-    ensures { let D = desk.old in let ps = positions.now in let ls = leads.now in let I = items.now in
-        let A = answers.old in
-        (result ≡ batch_answer D ps ls I A) × (desk.new ≡ batch_string D ps ls I A) × (answers.new ≡ answers_string D ps ls I A) }
-{
-    batch_strings::batch(desk, positions, leads, items, answers)
-}
-
-// The same with a scratch of 512 numbers in place of the lead list: 13, then 14, then 13. The scratch is only read.
-#[unsafe(no_mangle)]
-pub extern "C" fn filmdisk_batch_scratch(
-    desk: &mut [u8],
-    positions: &[u8],
-    scratch: &[u8],
-    items: &[u8],
-    answers: &mut [u8],
-) -> FilmdiskAnswer
-    ensures { let D = desk.old in let ps = positions.now in let s = scratch.now in let I = items.now in
-        let A = answers.old in
-        (result ≡ batch_scratch_answer D ps s I A) × (desk.new ≡ batch_scratch_string D ps s I A)
-        × (answers.new ≡ answers_scratch_string D ps s I A) }
-{
-    batch_strings::batch_scratch(desk, positions, scratch, items, answers)
 }

@@ -75,10 +75,10 @@ unique_others (suc i) (x ∷ xs) l u = unique_set xs i x (omega arith) u.1 u.0
 -- ---- the orders of n different numbers
 
 -- ys is an order of some of xs
-record Order (n : ℕ) (xs ys : List ℕ) : Type 0 where
-  size : length ys ≡ n
-  apart : Unique ys
-  from : (a : ℕ) → In a ys → In a xs
+pub record Order (n : ℕ) (xs ys : List ℕ) : Type 0 where
+  pub size : length ys ≡ n
+  pub apart : Unique ys
+  pub from : (a : ℕ) → In a ys → In a xs
 
 -- those that begin with the i-th of xs
 abbrev begun : ℕ → List ℕ → ℕ → List (List ℕ)

@@ -137,7 +137,7 @@ module _ (D : List ℕ) (h : desk_size ≤ length D) (n m : ℕ) (most : n ≤ m
 -- ---- the places of a desk that was written before
 
 -- numbers of 32 bits
-pub words_small : (s : List ℕ) → Bytes s → Words (words_of s)
+words_small : (s : List ℕ) → Bytes s → Words (words_of s)
 unfolding words_of
 words_small [] y i = omega arith
 words_small (a ∷ []) y i = omega arith
@@ -150,18 +150,18 @@ words_small (a ∷ (b ∷ (c ∷ (d ∷ s)))) y zero = let p : a < 256 = y 0 in
     omega arith
 words_small (a ∷ (b ∷ (c ∷ (d ∷ s)))) y (suc i) = words_small s (λ j. y (suc (suc (suc (suc j))))) i
 
-pub take_small : (n : ℕ) (vs : List ℕ) → Words vs → Words (take n vs)
+take_small : (n : ℕ) (vs : List ℕ) → Words vs → Words (take n vs)
 take_small zero vs y i = omega arith
 take_small (suc n) [] y i = omega arith
 take_small (suc n) (v ∷ vs) y zero = y 0
 take_small (suc n) (v ∷ vs) y (suc i) = take_small n vs (λ j. y (suc j)) i
 
-pub drop_small : (n : ℕ) (vs : List ℕ) → Words vs → Words (drop n vs)
+drop_small : (n : ℕ) (vs : List ℕ) → Words vs → Words (drop n vs)
 drop_small zero vs y = y
 drop_small (suc n) [] y = y
 drop_small (suc n) (v ∷ vs) y = drop_small n vs (λ j. y (suc j))
 
-pub set_small : (vs : List ℕ) (i x : ℕ) → Words vs → x < 4294967296 → Words (set vs i x)
+set_small : (vs : List ℕ) (i x : ℕ) → Words vs → x < 4294967296 → Words (set vs i x)
 set_small [] i x y h j = omega arith
 set_small (v ∷ vs) zero x y h zero = h
 set_small (v ∷ vs) zero x y h (suc j) = y (suc j)

@@ -18,7 +18,7 @@ use Rattle.desk_layout.specs.Parts.{places_over}
 use Rattle.move_strings.proofs.Lowered.{places_in, lowered_in, places_small, places_back}
 
 -- a desk with a slot written has its sizes
-pub slot_sized : (D : List ℕ) → desk_size ≤ length D → (i k x q : ℕ)
+slot_sized : (D : List ℕ) → desk_size ≤ length D → (i k x q : ℕ)
     → (let d = desk_in (words_of D) in DeskSized (with_slot d i k x (set d.places i q)))
 unfolding with_slot
 slot_sized D h i k x q = let d = desk_in (words_of D) in

@@ -9,5 +9,3 @@ pub mod Plans
 pub mod ScratchLaws
 pub mod Unfilled
 pub mod UnfilledLaws
-pub mod Batches
-pub mod BatchLaws

@@ -44,13 +44,13 @@ use Rattle.string_claims.specs.Lists.{entries_in, entries_read, answer_on, strin
 
 -- ---- the same call on the record that the string says
 
-abbrev pub request_of : StringRequest → Request
+abbrev request_of : StringRequest → Request
 request_of (join_slot slot block film) = joins slot block film
 request_of (leave_slot slot) = leaves slot
 request_of (begin_sweep F) = begins (room_in F)
 request_of (end_sweep draws) = ends draws
 
-abbrev pub lent_of : StringCall → Lent
+abbrev lent_of : StringCall → Lent
 lent_of x = record { request = request_of x.request; positions = x.positions; leads = x.leads; listed = x.listed }
 
 move_same : (r : StringRequest) → move_in r ≡ move_of (request_of r)
@@ -143,11 +143,11 @@ module _ (D : List ℕ) (y : Bytes D) (l : length D ≡ desk_size) where
 -- ---- the same list
 
 -- the string says the record's desk, and the books are the same
-pub record InStep (v : Strings) (u : World) : Type 0 where
-  pub desk : said v.desk ≡ u.desk
-  pub book : v.book ≡ u.book
-  pub bytes : Bytes v.desk
-  pub long : length v.desk ≡ desk_size
+record InStep (v : Strings) (u : World) : Type 0 where
+  desk : said v.desk ≡ u.desk
+  book : v.book ≡ u.book
+  bytes : Bytes v.desk
+  long : length v.desk ≡ desk_size
 
 module _ (B : ℕ) where
   turn_in_step : (v : Strings) (u : World) (x : StringCall) → InStep v u → InStep (string_turn B v x) (turn B u (lent_of x))
@@ -165,20 +165,20 @@ module _ (B : ℕ) where
         long = c.long;
       }
 
-  pub list_in_step : (xs : List StringCall) (v : Strings) (u : World) → InStep v u → InStep (strings_from B v xs) (after B u (map lent_of xs))
+  list_in_step : (xs : List StringCall) (v : Strings) (u : World) → InStep v u → InStep (strings_from B v xs) (after B u (map lent_of xs))
   unfolding strings_from after
   list_in_step [] v u s = s
   list_in_step (x ∷ xs) v u s = list_in_step xs (string_turn B v x) (turn B u (lent_of x)) (turn_in_step v u x s)
 
 -- FROM AN ACCEPTED OPENING every list of calls on the desk string is safe, and the string keeps its length
 module _ (P ps ls D : List ℕ) (y : Bytes D) (n : (open_answer P ps ls D).number ≡ 0) where
-  abbrev pub plan : Plan
+  abbrev plan : Plan
   plan = plan_in (words_of P)
 
-  abbrev pub first : List ℕ
+  abbrev first : List ℕ
   first = open_string P ps ls D
 
-  pub opens_in_step : InStep (record { desk = first; book = opened_ledger }) (opened (fresh_desk plan))
+  opens_in_step : InStep (record { desk = first; book = opened_ledger }) (opened (fresh_desk plan))
   opens_in_step =
       let (l, t) = opened_right P ps ls D n in
       let right = open_right P ps ls D l in

@@ -26,7 +26,6 @@ use Rattle.desk.specs.declared.Answer.{Answer}
 use Rattle.desk.specs.declared.Begun.{Begun}
 use Rattle.desk.specs.Desk.{verdict, open_desk}
 use Rattle.desk.specs.Scratch.{open_scratch, plan_leads}
-use Rattle.desk.specs.Batch.{item_count, answer_room}
 use Rattle.desk_layout.specs.Layout.{desk_words, desk_size}
 use Rattle.layout.specs.declared.FilmdiskAnswer.{FilmdiskAnswer}
 use Rattle.layout.specs.Answers.{verdict_answer}
@@ -35,10 +34,8 @@ use Rattle.desk_calls.specs.Calls.{leave_answer, leave_string, end_answer, end_s
 use Rattle.desk_calls.specs.Calls.{leads_of_plan, leads_of_desk, open_scratch_answer, open_scratch_string, join_scratch_answer, join_scratch_string}
 use Rattle.desk_calls.specs.Calls.{leave_scratch_answer, leave_scratch_string, begin_scratch_answer, begin_scratch_string, fetch_scratch_string}
 use Rattle.desk_calls.specs.Calls.{end_scratch_answer, end_scratch_string}
-use Rattle.desk_calls.specs.Batches.{batch_answer, batch_string, answers_string, batch_scratch_answer, batch_scratch_string, answers_scratch_string}
 use Rattle.desk_calls.specs.ByLength.{said_sized, other_answer, other_string}
 use Rattle.trace.specs.ScratchLaws.{same_check, same_fault, short_fault, same_opened, same_join, same_leave, same_end, same_begin, same_fetches}
-use Rattle.trace.specs.ScratchLaws.{same_batch_number, same_batch}
 use Rattle.string_claims.specs.Back.{opened_wide}
 
 -- ---- the planner: a card s, the plan string p, and a scratch t
@@ -102,9 +99,6 @@ module _ (D : List ℕ) where
     pub begins : (F : List ℕ) → (begin_scratch_answer D ps s F ≡ begin_answer D ps ls F) × (begin_scratch_string D ps s F ≡ begin_string D ps ls F)
         × (fetch_scratch_string D ps s F ≡ fetch_string D ps ls F)
     pub ends : (draws : List ℕ) → (end_scratch_answer D ps s draws ≡ end_answer D ps ls draws) × (end_scratch_string D ps s draws ≡ end_string D ps ls draws)
-    -- a batch with the strings I of items and A of answers
-    pub batches : (I A : List ℕ) → (batch_scratch_answer D ps s I A ≡ batch_answer D ps ls I A) × (batch_scratch_string D ps s I A ≡ batch_string D ps ls I A)
-        × (answers_scratch_string D ps s I A ≡ answers_string D ps ls I A)
 
   module _ (ps ls : List ℕ) (full : has_leads (said D).plan ls ≡ true) where
     moves_same : (f g : Answer) → (length D ≡ desk_size → f ≡ g)
@@ -120,14 +114,8 @@ module _ (D : List ℕ) where
         by_cases (ℕ_discrete (length D) desk_size) (λ l. rw (eq-eqb (length D) desk_size l) (same_fetches (said D) ps ls (slim l) full (room_in F) F))
         (λ n. rw (ne_eqb (length D) desk_size n))
 
-    answers_same : (I A : List ℕ) → answers_string D ps (leads_of_desk D) I A ≡ answers_string D ps ls I A
-    unfolding answers_string
-    answers_same I A =
-        by_cases (ℕ_discrete (length D) desk_size) (λ l. rw (eq-eqb (length D) desk_size l) (same_batch (said D) ps ls (slim l) full I A).1)
-        (λ n. rw (ne_eqb (length D) desk_size n))
-
     pub same_strings : (s : List ℕ) → scratch_length ≤ length (words_of s) → EqualStrings ps ls s
-    unfolding join_scratch_answer join_scratch_string leave_scratch_answer leave_scratch_string begin_scratch_answer begin_scratch_string fetch_scratch_string end_scratch_answer end_scratch_string join_answer join_string leave_answer leave_string begin_answer begin_string end_answer end_string batch_scratch_answer batch_scratch_string answers_scratch_string batch_answer batch_string
+    unfolding join_scratch_answer join_scratch_string leave_scratch_answer leave_scratch_string begin_scratch_answer begin_scratch_string fetch_scratch_string end_scratch_answer end_scratch_string join_answer join_string leave_answer leave_string begin_answer begin_string end_answer end_string
     same_strings s long =
         let e = scratch_long s long in
         record {
@@ -139,11 +127,6 @@ module _ (D : List ℕ) where
             fetches_same F,
           );
           ends = λ draws. rw e (moves_same _ _ (λ l. same_end (said D) ps ls (slim l) full draws));
-          batches = λ I A. rw e (
-            same_answer _ _ (λ l. ap (λ (k : ℕ). verdict_answer (verdict k 0)) (same_batch_number (said D) ps ls (slim l) full (item_count I) (answer_room A))),
-            same_string _ _ (λ l. (same_batch (said D) ps ls (slim l) full I A).0),
-            answers_same I A,
-          );
         }
 
   -- or is 13, ahead of all else, and leaves every string
@@ -153,10 +136,9 @@ module _ (D : List ℕ) where
     pub leaves : (slot : ℕ) → (leave_scratch_answer D ps s slot ≡ refused_by too_short) × (leave_scratch_string D ps s slot ≡ D)
     pub begins : (F : List ℕ) → (begin_scratch_answer D ps s F ≡ refused_by too_short) × (begin_scratch_string D ps s F ≡ D) × (fetch_scratch_string D ps s F ≡ F)
     pub ends : (draws : List ℕ) → (end_scratch_answer D ps s draws ≡ refused_by too_short) × (end_scratch_string D ps s draws ≡ D)
-    pub batches : (I A : List ℕ) → (batch_scratch_answer D ps s I A ≡ refused_by too_short) × (batch_scratch_string D ps s I A ≡ D) × (answers_scratch_string D ps s I A ≡ A)
 
   pub short_strings : (ps s : List ℕ) → length (words_of s) < scratch_length → RefusedStrings ps s
-  unfolding open_scratch_answer open_scratch_string join_scratch_answer join_scratch_string leave_scratch_answer leave_scratch_string begin_scratch_answer begin_scratch_string fetch_scratch_string end_scratch_answer end_scratch_string batch_scratch_answer batch_scratch_string answers_scratch_string
+  unfolding open_scratch_answer open_scratch_string join_scratch_answer join_scratch_string leave_scratch_answer leave_scratch_string begin_scratch_answer begin_scratch_string fetch_scratch_string end_scratch_answer end_scratch_string
   short_strings ps s h =
       let e = scratch_short_law s h in
       record {
@@ -165,7 +147,6 @@ module _ (D : List ℕ) where
         leaves = λ slot. rw e (refl, refl);
         begins = λ F. rw e (refl, refl, refl);
         ends = λ draws. rw e (refl, refl);
-        batches = λ I A. rw e (refl, refl, refl);
       }
 
 -- ---- an opening with the plan string P

@@ -1,7 +1,7 @@
 // What the calls leave in their byte strings, as claims about the definitions that their contracts name.
 #![tactic(auto)]
 
-ghost use Rattle.std.specs.Prelude.{◌≡◌, ℕ, ◌*◌, ◌≤◌, ◌<◌, true, cond, List, map, length};
+ghost use Rattle.std.specs.Prelude.{◌≡◌, ℕ, ◌*◌, ◌≤◌, ◌<◌, true, cond, List, length};
 ghost use Rattle.numbers.specs.Limits.{scratch_length};
 ghost use Rattle.numbers.specs.Refusals.{too_short, wrong_window};
 ghost use Rattle.words.specs.Words.{Bytes, words_of};
@@ -13,9 +13,8 @@ ghost use Rattle.placement.specs.Showing.{Showing, visits_of};
 ghost use Rattle.plan.specs.Plan.{longest_of, plan_of};
 ghost use Rattle.plan.specs.Answer.{positions_after, leads_after, has_leads};
 ghost use Rattle.desk.specs.Desk.{fresh_desk, join_desk, leave_desk, end_desk, begin_desk};
-ghost use Rattle.desk.specs.Batch.{item_count, items_in};
-ghost use Rattle.trace.specs.Wait.{IsLeast};
-ghost use Rattle.trace.specs.Batches.{Batch, batch_leaves, SafeAsked, AskedInTime, AskedInOrder};
+ghost use Rattle.trace.specs.Safe.{Safe};
+ghost use Rattle.trace.specs.Wait.{IsLeast, InTime, InAskingOrder};
 ghost use Rattle.plan_layout.specs.Layout.{plan_in, plan_size, zero_bytes};
 ghost use Rattle.desk_layout.specs.Layout.{desk_size};
 ghost use Rattle.window.specs.Window.{is_outside};
@@ -25,14 +24,12 @@ ghost use Rattle.plan_strings.specs.Calls.{plan_scratch_answer, plan_scratch_str
 ghost use Rattle.desk_calls.specs.Calls.{open_answer, open_string, said, join_answer, join_string, leave_answer, leave_string, end_answer, end_string};
 ghost use Rattle.desk_calls.specs.Calls.{room_in, begin_answer, begin_string, fetch_string, draw_limit_of};
 ghost use Rattle.string_claims.specs.Limits.{sweep_bound, ReachesDraws, JudgedBy};
-ghost use Rattle.string_claims.specs.Lists.{strings_after, on_string};
-ghost use Rattle.string_claims.specs.Batches.{StringAsked, batch_answer_on, batch_string_on, answers_on, answers_read, item_call_on, calls_through};
-ghost use Rattle.string_claims.specs.Batches.{string_through, answers_through, asked_strings_after, asked_on_string};
+ghost use Rattle.string_claims.specs.Lists.{StringCall, strings_after, on_string};
 ghost use Rattle.desk_calls.specs.Calls.{refused_by, open_scratch_answer, open_scratch_string};
 ghost use Rattle.string_claims.specs.ScratchLaws.{PlansAs, EqualStrings, RefusedStrings};
 ghost use Rattle.string_claims.specs.Unfilled.{SameFrom};
 
-// A refused join, leave, begin, end or batch leaves every string as it was: desk (D), fetch list (F), answers. The lists and items are only read.
+// A refused join, leave, begin or end leaves every string as it was: desk (D), fetch list (F). The lists are only read.
 pub fn refused_call_keeps_strings()
     ensures joins { (D ps ls : List ℕ) (slot block film : ℕ) → Bytes D → ((join_answer D ps ls slot block film).number ≡ 0 → ⊥)
         → join_string D ps ls slot block film ≡ D }
@@ -40,8 +37,6 @@ pub fn refused_call_keeps_strings()
     ensures begins { (D ps ls F : List ℕ) → Bytes D → ((begin_answer D ps ls F).number ≡ 0 → ⊥) → (begin_string D ps ls F ≡ D)
         × (fetch_string D ps ls F ≡ F) }
     ensures ends { (D ps ls draws : List ℕ) → Bytes D → ((end_answer D ps ls draws).number ≡ 0 → ⊥) → end_string D ps ls draws ≡ D }
-    ensures batches { (D : List ℕ) (b : Batch) → Bytes D → ((batch_answer_on D b).number ≡ 0 → ⊥) → (batch_string_on D b ≡ D)
-        × (answers_on D b ≡ b.answers) }
 {}
 
 // A refused opening leaves zeros in a desk string of the right length; one of another length is refused and never written.
@@ -62,27 +57,22 @@ pub fn accepted_desk_reads_back()
         → said (begin_string D ps ls F) ≡ (begin_desk (said D) ps ls (room_in F)).desk }
     ensures ends { (D ps ls draws : List ℕ) → (end_answer D ps ls draws).number ≡ 0
         → said (end_string D ps ls draws) ≡ (end_desk (said D) ps ls draws).desk }
-    ensures batches { (D : List ℕ) (b : Batch) → Bytes D → (batch_answer_on D b).number ≡ 0
-        → said (batch_string_on D b) ≡ batch_leaves (said D) b }
 {}
 
-// Demand 3 for C: from an accepted opening with the plan string P, of every showing, every list of calls and batches on one desk string, refused
-// ones included, keeps the string's length and is safe as crate trace says it. Desk, book, numbers and bounds are what the strings and these
-// very answers say. An accepted batch counts as its items, made singly in list order: byte for byte the same desk string, and the same book.
+// Demand 3 for C: from an accepted opening with the plan string P, of every showing, every list of calls on one desk string, refused calls
+// included, keeps the string's length and is safe as crate trace says it. Desk, book, numbers and bounds are what the strings and these very
+// answers say.
 pub fn every_list_of_strings_safe()
-    ensures { (P ps ls D : List ℕ) → Bytes D → (open_answer P ps ls D).number ≡ 0 → (xs : List StringAsked)
-        → (let S = open_string P ps ls D in (length (asked_strings_after P S xs).desk ≡ desk_size)
-        × ((asked_strings_after P S xs).desk ≡ (strings_after P S (calls_through S xs)).desk)
-        × SafeAsked (on_string P S) (asked_on_string P S) (plan_in (words_of P)) xs) }
+    ensures { (P ps ls D : List ℕ) → Bytes D → (open_answer P ps ls D).number ≡ 0 → (xs : List StringCall)
+        → (length (strings_after P (open_string P ps ls D) xs).desk ≡ desk_size) × Safe (plan_in (words_of P)) (on_string P (open_string P ps ls D)) xs }
 {}
 
-// Ticket 5 of document 02 for C: in such a list, batches included, requests are in the order of asking, and one that stays is granted at the
-// latest at the first accepted begin after G finished sweeps since it became the eldest.
+// Ticket 5 of document 02 for C: in such a list requests are in the order of asking, and one that stays is granted at the latest at the first
+// accepted begin after G finished sweeps since it became the eldest.
 pub fn string_requests_are_granted_in_time()
-    ensures order { (P ps ls D : List ℕ) → Bytes D → (open_answer P ps ls D).number ≡ 0
-        → AskedInOrder (on_string P (open_string P ps ls D)) (asked_on_string P (open_string P ps ls D)) }
+    ensures order { (P ps ls D : List ℕ) → Bytes D → (open_answer P ps ls D).number ≡ 0 → InAskingOrder (on_string P (open_string P ps ls D)) }
     ensures time { (P ps ls D : List ℕ) → Bytes D → (open_answer P ps ls D).number ≡ 0 → (G : ℕ) → IsLeast (plan_in (words_of P)) G
-        → AskedInTime (on_string P (open_string P ps ls D)) (asked_on_string P (open_string P ps ls D)) G }
+        → InTime (on_string P (open_string P ps ls D)) G }
 {}
 
 // What the plan call of every showing leaves in the plan string and the lists: accepted, the plan of the card's figures; after 1 to 12, 25 and 26
@@ -114,7 +104,7 @@ pub fn planned_strings_have_windows()
 {}
 
 // Bytes that an answer does not fill keep their contents, spare ones too: of both lists past those of N blocks, of the fetch list past the counted
-// entries of 12 bytes, of a batch's answers past those of 8 bytes for its items, of the buffer past the written card. Each keeps its length.
+// entries of 12 bytes, of the buffer past the written card. Each keeps its length.
 pub fn unfilled_entries_stay()
     ensures planner { (x : Showing) (r : CardRead) (ps ls : List ℕ)
         → SameFrom (4 * (visits_of x * blocks_of r.figures)) ps (positions_after x r ps ls) × SameFrom (4 * blocks_of r.figures) ls (leads_after x r ps ls) }
@@ -122,7 +112,6 @@ pub fn unfilled_entries_stay()
         → SameFrom (4 * (visits_of x * blocks_of (read_card (visits_of x) s).figures)) ps (positions_string x s p ps ls)
         × SameFrom (4 * blocks_of (read_card (visits_of x) s).figures) ls (leads_string x s p ps ls) }
     ensures begins { (D ps ls F : List ℕ) → SameFrom (12 * (begin_answer D ps ls F).count) F (fetch_string D ps ls F) }
-    ensures batches { (D : List ℕ) (b : Batch) → SameFrom (8 * item_count b.items) b.answers (answers_on D b) }
     ensures writer { (f : Figures) (out : List ℕ) → SameFrom (written_card f out).length out (buffer_after f out) }
 {}
 
@@ -136,16 +125,8 @@ pub fn end_judges_by_draw_limit()
         → JudgedBy (λ i. draw_limit_of (begin_string D ps ls F) i (begin_answer D ps ls F).bound) draws (end_answer (begin_string D ps ls F) qs ms draws) }
 {}
 
-// Ticket 6 of document 02 for C: a batch is equal to making its items singly in list order, each on the desk string that the last one left. An
-// accepted one leaves their desk string byte for byte, and number and place of their answers are read off the string that is lent for them.
-pub fn batch_strings_equal_singly()
-    ensures { (D : List ℕ) (b : Batch) → Bytes D → Bytes b.items → (batch_answer_on D b).number ≡ 0
-        → (let xs = map (item_call_on b) (items_in b.items) in (batch_string_on D b ≡ string_through D xs)
-        × (answers_read (item_count b.items) (words_of (answers_on D b)) ≡ answers_through D xs)) }
-{}
-
-// A scratch of 512 numbers or more (ticket 10 of document 02): each call and batch answers, and leaves in every string, what it does with the
-// full list of leads. The planner's list has room for N entries, the desk's begins with the film's N leads.
+// A scratch of 512 numbers or more (ticket 10 of document 02): each call answers, and leaves in every string, what it does with the full list of
+// leads. The planner's list has room for N entries, the desk's begins with the film's N leads.
 pub fn scratch_strings_equal_lists()
     ensures plans { (x : Showing) (s p ps t ls : List ℕ) → scratch_length ≤ length (words_of t) → blocks_of (read_card (visits_of x) s).figures ≤ length (words_of ls)
         → PlansAs x s p ps t ls }

@@ -11,5 +11,3 @@ pub mod SlotLaws
 pub mod Wait
 pub mod WaitLaws
 pub mod AskingLaws
-pub mod Batches
-pub mod BatchLaws

@@ -1,18 +1,17 @@
 -- A scratch and the full list of leads (document 02, ticket 10): the same answers, and 13 where it is too short.
 -- Assumes nothing.
 use Prim.Native.Nat.{ℕ, suc, ◌≤◌, ◌<◌}
-use Rattle.std.specs.Prelude.{◌≡◌, Bool, ◌&&◌, ◌||◌, List, [], ◌∷◌, length, eqb}
-use Rattle.std.proofs.Math.Path.{refl, sym, ap}
-use Rattle.std.proofs.Common.{◌∙◌, subst, arith}
-use Rattle.std.proofs.Math.Bool.{true, false, cond}
-use Rattle.std.proofs.Math.Dec.{leb, ltb}
+use Rattle.std.specs.Prelude.{◌≡◌, refl, Bool, cond, ◌&&◌, ◌||◌, List, [], length, eqb}
+use Rattle.std.proofs.Math.Path.{sym, ap}
+use Rattle.std.proofs.Common.{◌∙◌, arith}
+use Rattle.std.proofs.Math.Bool.{true, false}
+use Rattle.std.proofs.Math.Dec.{ltb}
 use borrow.Author.Tests.{lt-ltb, le-ltb}
-use Rattle.numbers.specs.Limits.{scratch_length, max_items}
-use Rattle.numbers.specs.Refusals.{too_short, not_sound, no_stream}
+use Rattle.numbers.specs.Limits.{scratch_length}
+use Rattle.numbers.specs.Refusals.{too_short, no_stream}
 use Rattle.words.specs.Words.{words_of, with_words}
 use Rattle.laws.specs.Bools.{and_right}
 use Rattle.card.specs.declared.Figures.{Figures}
-use Rattle.card.specs.declared.Verdict.{Verdict}
 use Rattle.card.specs.declared.CardRead.{CardRead}
 use Rattle.card.specs.Card.{Legal, blocks_of}
 use Rattle.legality.specs.Legality.{Wide}
@@ -29,7 +28,6 @@ use Rattle.plan.proofs.Ways.{by_plan}
 use Rattle.plan.proofs.Check.{plan_passes}
 use Rattle.rules.specs.Scheduler.{Call, join, leave, begin, end}
 use Rattle.rules.specs.Calls as C
-use Rattle.rules.specs.Sound.{sound}
 use Rattle.desk.specs.declared.Desk.{Desk}
 use Rattle.desk.specs.declared.Answer.{Answer}
 use Rattle.desk.specs.declared.Begun.{Begun}
@@ -37,9 +35,6 @@ use Rattle.desk.specs.Desk.{supply_of, order_of, rules_of, Queue, view_of, desk_
 use Rattle.desk.specs.Desk.{join_desk, leave_desk, end_desk, begin_desk, fetches_of, entry_words, fetch_list_after}
 use Rattle.desk.specs.Records.{answers, not_begun}
 use Rattle.desk.specs.Scratch.{plan_leads, desk_leads, open_scratch, join_scratch, leave_scratch, end_scratch, begin_scratch, fetch_list_scratch}
-use Rattle.desk.specs.Batch.{Item, item_count, items_in, answer_room, item_desk, singly_desk, singly_answers, answer_words, batch_number, batch_desk, batch_answers}
-use Rattle.desk.specs.Batch.{scratch_number, scratch_desk, scratch_answers}
-use Rattle.desk.specs.BatchLaws.{item_plan}
 use Rattle.trace.specs.PlannedLaws.{accepted_told, lists_kept, fault_none, plan_opens}
 use Rattle.trace.specs.SafeLists.{fetches_kept}
 
@@ -133,44 +128,6 @@ module _ (d : Desk) (ps ls : List ℕ) (w : Wide d.plan.figures) (full : has_lea
   unfolding fetch_list_after
   same_fetches room F = ap (λ (a : C.Answer ℕ Queue). with_words F 0 (entry_words a.entries)) (same_answer room begin)
 
-  -- a batch
-  same_item : (t : Item) → item_desk d ps (desk_leads d) t ≡ item_desk d ps ls t
-  unfolding item_desk
-  same_item t = go (eqb t.number 0)
-    where
-      go : (x : Bool) → cond x (join_desk d ps (desk_leads d) t.slot t.block t.film) (leave_desk d ps (desk_leads d) t.slot)
-          ≡ cond x (join_desk d ps ls t.slot t.block t.film) (leave_desk d ps ls t.slot)
-      go true = same_join t.slot t.block t.film
-      go false = same_leave t.slot
-
-same_singly : (ts : List Item) (d : Desk) (ps ls : List ℕ) (p : Plan) → Wide p.figures → has_leads p ls ≡ true → d.plan ≡ p
-    → (singly_desk d ps (plan_leads p) ts ≡ singly_desk d ps ls ts) × (singly_answers d ps (plan_leads p) ts ≡ singly_answers d ps ls ts)
-unfolding singly_desk singly_answers
-same_singly [] d ps ls p w full e = (refl, refl)
-same_singly (t ∷ ts) d ps ls p w full e =
-    let a : item_desk d ps (plan_leads p) t ≡ item_desk d ps ls t =
-    subst (λ (q : Plan). Wide q.figures → has_leads q ls ≡ true → item_desk d ps (plan_leads q) t ≡ item_desk d ps ls t) e (λ u f. same_item d ps ls u f t) w full in
-    let (x, y) = same_singly ts (item_desk d ps ls t).desk ps ls p w full (item_plan d ps ls t ∙ e) in (
-      ap (λ (b : Answer). singly_desk b.desk ps (plan_leads p) ts) a ∙ x,
-      ap (λ (b : Answer). b.verdict ∷ singly_answers b.desk ps (plan_leads p) ts) a ∙ ap (λ (vs : List Verdict). (item_desk d ps ls t).verdict ∷ vs) y,
-    )
-
-module _ (d : Desk) (ps ls : List ℕ) (w : Wide d.plan.figures) (full : has_leads d.plan ls ≡ true) where
-  pub same_batch_number : (k room : ℕ) → batch_number d ps (desk_leads d) k room ≡ batch_number d ps ls k room
-  unfolding batch_number
-  same_batch_number k room =
-      ap (λ (t : Bool). cond (t && sound (supply_of d.plan) (order_of d.plan) (view_of d)) (cond (leb k max_items && leb k room) 0 too_short) not_sound)
-      (same_check d.plan ps ls w full)
-
-  pub same_batch : (I A : List ℕ) → (batch_desk d ps (desk_leads d) I A ≡ batch_desk d ps ls I A) × (batch_answers d ps (desk_leads d) I A ≡ batch_answers d ps ls I A)
-  unfolding batch_desk batch_answers
-  same_batch I A =
-      let n = same_batch_number (item_count I) (answer_room A) in
-      let (x, y) = same_singly (items_in I) d ps ls d.plan w full refl in (
-        (λ i. cond (eqb (n i) 0) (x i) d),
-        (λ i. cond (eqb (n i) 0) (with_words A 0 (answer_words (y i))) A),
-      )
-
 -- every call of the desk is that with a list
 pub record EqualTo (d : Desk) (ps ls s : List ℕ) : Type 0 where
   pub joins : (slot block film : ℕ) → join_scratch d ps s slot block film ≡ join_desk d ps ls slot block film
@@ -178,15 +135,10 @@ pub record EqualTo (d : Desk) (ps ls s : List ℕ) : Type 0 where
   pub begins : (room : ℕ) → begin_scratch d ps s room ≡ begin_desk d ps ls room
   pub fetches : (room : ℕ) (F : List ℕ) → fetch_list_scratch d ps s room F ≡ fetch_list_after d ps ls room F
   pub ends : (draws : List ℕ) → end_scratch d ps s draws ≡ end_desk d ps ls draws
-  -- a batch with the strings I of items and A of answers: its number, and what it leaves
-  pub batches : (I A : List ℕ)
-      → (scratch_number d ps s (item_count I) (answer_room A) ≡ batch_number d ps ls (item_count I) (answer_room A))
-      × (scratch_desk d ps s I A ≡ batch_desk d ps ls I A)
-      × (scratch_answers d ps s I A ≡ batch_answers d ps ls I A)
 
 pub same_desk : (d : Desk) (ps ls s : List ℕ) → Wide d.plan.figures → scratch_length ≤ length (words_of s) → has_leads d.plan ls ≡ true
     → EqualTo d ps ls s
-unfolding join_scratch leave_scratch end_scratch begin_scratch fetch_list_scratch scratch_number scratch_desk scratch_answers
+unfolding join_scratch leave_scratch end_scratch begin_scratch fetch_list_scratch
 same_desk d ps ls s w long full =
     let e = scratch_long s long in
     record {
@@ -195,8 +147,6 @@ same_desk d ps ls s w long full =
       begins = λ room. rw e (same_begin d ps ls w full room);
       fetches = λ room F. rw e (same_fetches d ps ls w full room F);
       ends = λ draws. rw e (same_end d ps ls w full draws);
-      batches = λ I A.
-          let (x, y) = same_batch d ps ls w full I A in rw e (same_batch_number d ps ls w full (item_count I) (answer_room A), x, y);
     }
 
 -- or is 13, ahead of all else, and leaves all
@@ -207,10 +157,9 @@ pub record RefusedFor (d : Desk) (ps s : List ℕ) : Type 0 where
   pub begins : (room : ℕ) → begin_scratch d ps s room ≡ not_begun d too_short
   pub fetches : (room : ℕ) (F : List ℕ) → fetch_list_scratch d ps s room F ≡ F
   pub ends : (draws : List ℕ) → end_scratch d ps s draws ≡ answers d too_short 0
-  pub batches : (I A : List ℕ) → (scratch_number d ps s (item_count I) (answer_room A) ≡ too_short) × (scratch_desk d ps s I A ≡ d) × (scratch_answers d ps s I A ≡ A)
 
 pub short_desk : (d : Desk) (ps s : List ℕ) → length (words_of s) < scratch_length → RefusedFor d ps s
-unfolding open_scratch join_scratch leave_scratch end_scratch begin_scratch fetch_list_scratch scratch_number scratch_desk scratch_answers
+unfolding open_scratch join_scratch leave_scratch end_scratch begin_scratch fetch_list_scratch
 short_desk d ps s h =
     let e = scratch_short_law s h in
     record {
@@ -220,7 +169,6 @@ short_desk d ps s h =
       begins = λ room. rw e;
       fetches = λ room F. rw e;
       ends = λ draws. rw e;
-      batches = λ I A. rw e (refl, refl, refl);
     }
 
 -- ---- what a refused call leaves

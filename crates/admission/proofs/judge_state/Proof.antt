@@ -4,34 +4,34 @@ use Rattle.admission.proofs.States.{joins_taken, joins_none, joins_past, joins_d
 use Rattle.admission.proofs.judge_state.Statement.{statement}
 use Rattle.admission.proofs.judge_state.Tie as tie
 
-returns : tie.Need-returns
-returns c = let t = c.before in
-    c.verdict.ensures ∙ joins_taken _ _ _ _ t.before.if1.true t.if2.true
+returns : tie.Need-returns-then-kind-ne-FREE
+returns c = let t = c in
+    c.verdict.ensures ∙ joins_taken _ _ _ _ t.if-step.true t.if-kind-ne-FREE.true
 
-returns-2 : tie.Need-returns-2
-returns-2 c = let e = c.before.before.before in
-    c.verdict2.ensures ∙ joins_none _ _ _ _ e.before.if1.true e.if2.false c.before.if3.true
+returns-2 : tie.Need-returns-then-step-films
+returns-2 c = let e = c in
+    c.verdict-then-step-films.ensures ∙ joins_none _ _ _ _ e.if-step.true e.if-kind-ne-FREE.false c.if-step-films.true
 
-returns-3 : tie.Need-returns-3
-returns-3 c = let i = c.before.before.before in
-    let e = i.before.before in
-    c.verdict3.ensures ∙ joins_past _ _ _ _ e.before.if1.true e.if2.false i.if3.false c.before.if4.true
+returns-3 : tie.Need-returns-then-step-blocks
+returns-3 c = let i = c in
+    let e = c in
+    c.verdict-then-step-blocks.ensures ∙ joins_past _ _ _ _ e.if-step.true e.if-kind-ne-FREE.false i.if-step-films.false c.if-step-blocks.true
 
-returns-4 : tie.Need-returns-4
-returns-4 c = let i = c.before.before.before in
-    let e = i.before.before in
-    c.verdict4.ensures ∙ joins_done _ _ _ _ e.before.if1.true e.if2.false i.if3.false c.before.if4.false
+returns-4 : tie.Need-returns-then-step
+returns-4 c = let i = c in
+    let e = c in
+    c.verdict-then-step.ensures ∙ joins_done _ _ _ _ e.if-step.true e.if-kind-ne-FREE.false i.if-step-films.false c.if-step-blocks.false
 
-returns-5 : tie.Need-returns-5
-returns-5 c = let t = c.before in
-    c.verdict5.ensures ∙ leaves_vacant _ _ _ _ t.before.if1.false t.if5.true
+returns-5 : tie.Need-returns-then-kind-eq-FREE
+returns-5 c = let t = c in
+    c.verdict-then-kind-eq-FREE.ensures ∙ leaves_vacant _ _ _ _ t.if-step.false t.if-kind-eq-FREE.true
 
-returns-6 : tie.Need-returns-6
-returns-6 c = let t = c.before in
-    c.verdict6.ensures ∙ leaves_done _ _ _ _ t.before.if1.false t.if5.false
+returns-6 : tie.Need-returns
+returns-6 c = let t = c in
+    c.verdict-2.ensures ∙ leaves_done _ _ _ _ t.if-step.false t.if-kind-eq-FREE.false
 
-pub judge-state-spec : {M : Type 1} → statement M
-judge-state-spec =
+pub judge_state_spec : {M : Type 1} → statement M
+judge_state_spec =
     tie.close
     (tie.spec
     (λ c. search rules)

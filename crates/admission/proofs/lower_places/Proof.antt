@@ -15,20 +15,20 @@ record Lowered (q : List ℕ) (streams gone : ℕ) (qs : List ℕ) (i : ℕ) : T
   few : i ≤ streams
   so_far : qs ≡ map_to (λ _. dropped gone) 0 i q
 
-abbrev invariant-loop : tie.invariant-loop
+abbrev invariant-loop : tie.invariant-loop-i
 invariant-loop places₀ streams gone i₀ places i = Lowered places₀ streams gone places i
 
-abbrev decreases-loop : tie.decreases-loop
+abbrev decreases-loop : tie.decreases-loop-i
 decreases-loop places₀ streams gone i₀ places i = streams - i
 
-loop-holds : tie.Need-loop-init invariant-loop decreases-loop
+loop-holds : tie.Need-loop-i-init invariant-loop decreases-loop
 loop-holds c = record { few = omega arith; so_far = sym (map_to_none _ 0 _) }
 
-loop-again : tie.Need-loop-preserved invariant-loop decreases-loop
+loop-again : tie.Need-loop-i-preserved invariant-loop decreases-loop
 loop-again c =
-    let t = c.before.before in
-    let l = t.before.loop in
-    let s = t.before.before in
+    let t = c in
+    let l = t.loop-i in
+    let s = c in
     let q = s.args.places.now in
     let here : get_or l.places l.i 0 ≡ get_or q l.i 0 = ap (λ (x : List ℕ). get_or x l.i 0) l.invariant.so_far ∙ get_d_map_to _ 0 l.i q 0 in
     record {
@@ -39,14 +39,14 @@ loop-again c =
 
 returns : tie.Need-returns invariant-loop decreases-loop
 returns c =
-    let l = c.before.loop in
-    let a = c.before.before.args in
-    let p = c.before.before.requires in
+    let l = c.loop-i in
+    let a = c.args in
+    let p = c.requires in
     let e : l.i ≡ a.streams = omega (arith, l.invariant.few) in
     rw e at l.invariant.so_far ∙ all_lowered a.streams a.gone a.places.now p.2 p.3
 
-pub lower-places-spec : {M : Type 1} → statement M
-lower-places-spec =
+pub lower_places_spec : {M : Type 1} → statement M
+lower_places_spec =
     tie.close
     (tie.spec
     invariant-loop

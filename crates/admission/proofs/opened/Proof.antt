@@ -7,35 +7,35 @@ use Rattle.admission.specs.Answers.{open_unfit, open_done}
 use Rattle.admission.proofs.opened.Statement.{statement}
 use Rattle.admission.proofs.opened.Tie as tie
 
-is-plan-requires : tie.Need-is-plan-requires
+is-plan-requires : tie.Need-is_plan-requires
 is-plan-requires c κs = search rules
 
-blank-desk-requires : tie.Need-blank-desk-requires
+blank-desk-requires : tie.Need-blank_desk-requires
 blank-desk-requires c κs = search rules
 
-answer-with-requires : tie.Need-answer-with-requires
+answer-with-requires : tie.Need-answer_with-requires
 answer-with-requires c κs = search rules
 
-returns : tie.Need-returns
+returns : tie.Need-returns-then-not-is_plan
 returns c =
-    let e = c.before.before in
-    c.answer-with.ensures ∙ ap (λ (d : Desk). answers d 14 0) c.before.blank-desk.ensures
-    ∙ open_unfit _ _ _ (sym e.before.is-plan.ensures ∙ not-true _ e.if1.true)
+    let e = c in
+    c.answer_with.ensures ∙ ap (λ (d : Desk). answers d 14 0) c.blank_desk.ensures
+    ∙ open_unfit _ _ _ (sym e.is_plan.ensures ∙ not-true _ e.if-not-is_plan.true-raw)
 
-fresh-desk-requires : tie.Need-fresh-desk-requires
+fresh-desk-requires : tie.Need-fresh_desk-requires
 fresh-desk-requires c κs = search rules
 
-answer-with-requires-2 : tie.Need-answer-with-requires-2
+answer-with-requires-2 : tie.Need-answer_with-requires-2
 answer-with-requires-2 c κs = search rules
 
-returns-2 : tie.Need-returns-2
+returns-2 : tie.Need-returns
 returns-2 c =
-    let e = c.before.before in
-    c.answer-with2.ensures ∙ ap (λ (d : Desk). answers d 0 0) c.before.fresh-desk.ensures
-    ∙ open_done _ _ _ (sym e.before.is-plan.ensures ∙ not-false _ e.if1.false)
+    let e = c in
+    c.answer_with-2.ensures ∙ ap (λ (d : Desk). answers d 0 0) c.fresh_desk.ensures
+    ∙ open_done _ _ _ (sym e.is_plan.ensures ∙ not-false _ e.if-not-is_plan.false-raw)
 
-pub opened-spec : {M : Type 1} → statement M
-opened-spec =
+pub opened_spec : {M : Type 1} → statement M
+opened_spec =
     tie.close
     (tie.spec
     is-plan-requires

@@ -11,21 +11,21 @@ use Rattle.admission.specs.Places.{place_after}
 use Rattle.admission.proofs.place_after.Statement.{statement}
 use Rattle.admission.proofs.place_after.Tie as tie
 
-asked-in-requires : tie.Need-asked-in-requires
-asked-in-requires c κs = omega (arith, c.streams-in.ensures)
+asked-in-requires : tie.Need-asked_in-asked-requires
+asked-in-requires c κs = omega (arith, c.streams_in.ensures)
 
-returns : tie.Need-returns
+returns : tie.Need-returns-then-step
 unfolding place_after
 returns c =
-    let s = c.before in
-    let t = s.before in
-    let d = desk_in (words_of t.before.before.args.desk.now) in
-    rw t.if1.true (ap (λ (n : ℕ). n + 1) (c.asked_in.ensures.0 ∙ ap (λ (n : ℕ). asked_count (take n d.kinds)) s.streams-in.ensures))
+    let s = c in
+    let t = c in
+    let d = desk_in (words_of t.args.desk.now) in
+    rw t.if-step.true (ap (λ (n : ℕ). n + 1) (c.asked_in-asked.ensures.0 ∙ ap (λ (n : ℕ). asked_count (take n d.kinds)) s.streams_in.ensures))
 
-returns-2 : tie.Need-returns-2
+returns-2 : tie.Need-returns
 unfolding place_after
-returns-2 c = rw c.if1.false
+returns-2 c = rw c.if-step.false
 
-pub place-after-spec : {M : Type 1} → statement M
-place-after-spec =
-    tie.close (tie.spec (λ c κs. search rules) (λ c. search rules) asked-in-requires (λ c. omega (arith, c.asked_in.ensures.1)) returns returns-2)
+pub place_after_spec : {M : Type 1} → statement M
+place_after_spec =
+    tie.close (tie.spec (λ c κs. search rules) (λ c. search rules) asked-in-requires (λ c. omega (arith, c.asked_in-asked.ensures.1)) returns returns-2)

@@ -15,55 +15,55 @@ use Rattle.admission.proofs.places_after.Tie as tie
 
 -- ---- the places, each from a later one
 
-abbrev start : tie.After-place-after → tie.Start
+abbrev start : tie.After-place_after → tie.Start
 start c = c.before.before.before.before
 
-abbrev given : tie.After-place-after → Desk
+abbrev given : tie.After-place_after → Desk
 given c = desk_in (words_of (start c).args.desk.now)
 
 -- ---- what is known there
 
 -- the places that were read, with the slot's new one
-told : (c : tie.After-place-after) → (let i = (start c).args.step.slot in
-    set c.before.all-places.result i c.place_after.result ≡ set (given c).places i (place_after (given c) (start c).args.step))
-told c = ap₂ (λ (q : List ℕ) (x : ℕ). set q (start c).args.step.slot x) c.before.all-places.ensures c.place_after.ensures
+told : (c : tie.After-place_after) → (let i = (start c).args.step.slot in
+    set c.all_places-places.result i c.place_after.result ≡ set (given c).places i (place_after (given c) (start c).args.step))
+told c = ap₂ (λ (q : List ℕ) (x : ℕ). set q (start c).args.step.slot x) c.all_places-places.ensures c.place_after.ensures
 
 -- the one that it had
-had : (c : tie.After-place-after) → (let i = (start c).args.step.slot in get_or c.before.all-places.result i 0 ≡ get_or (given c).places i 0)
-had c = ap (λ (q : List ℕ). get_or q (start c).args.step.slot 0) c.before.all-places.ensures
+had : (c : tie.After-place_after) → (let i = (start c).args.step.slot in get_or c.all_places-places.result i 0 ≡ get_or (given c).places i 0)
+had c = ap (λ (q : List ℕ). get_or q (start c).args.step.slot 0) c.all_places-places.ensures
 
 -- ---- the needs
 
-returns : tie.Need-returns
-returns c = let p = c.before in
-    told p ∙ sym (with_unplaced _ _ _ (sym (had p) ∙ c.if1.true))
+returns : tie.Need-returns-then-gone-eq0
+returns c = let p = c in
+    told c.before ∙ sym (with_unplaced _ _ _ (sym (had c.before) ∙ c.if-gone-eq0.true))
 
-lower-places-requires : tie.Need-lower-places-requires
+lower-places-requires : tie.Need-lower_places-requires
 lower-places-requires c κs =
-    let e = c.before.before in
-    let p = e.before in
-    let s = start p in
-    let m = s.pre.1 in
-    let q = still_placeless (given p) s.args.step _ _ m (wide_in s.args.desk.now s.pre.0).places c.streams-in.ensures (told p) in
-    (q.0, omega (arith, c.streams-in.ensures, m.few), omega (arith, e.if1.false), q.1)
+    let e = c in
+    let p = c in
+    let s = start c.before.before.before in
+    let m = s.requires.1 in
+    let q = still_placeless (given c.before.before.before) s.args.step _ _ m (wide_in s.args.desk.now s.requires.0).places c.streams_in.ensures (told c.before.before.before) in
+    (q.0, omega (arith, c.streams_in.ensures, m.few), omega (arith, e.if-gone-eq0.false), q.1)
 
-returns-2 : tie.Need-returns-2
+returns-2 : tie.Need-returns
 returns-2 c =
-    let e = c.before.before.before in
-    let p = e.before in
-    c.lower-places.ensures
-    ∙ ap₂ (λ (m : ℕ) (q : List ℕ). map (dropped m) q) (had p) (told p)
-    ∙ sym (with_placed _ _ _ (λ z. e.if1.false (had p ∙ z)))
+    let e = c in
+    let p = c in
+    c.lower_places.ensures
+    ∙ ap₂ (λ (m : ℕ) (q : List ℕ). map (dropped m) q) (had c.before.before.before.before) (told c.before.before.before.before)
+    ∙ sym (with_placed _ _ _ (λ z. e.if-gone-eq0.false (had c.before.before.before.before ∙ z)))
 
-pub places-after-spec : {M : Type 1} → statement M
-places-after-spec =
+pub places_after_spec : {M : Type 1} → statement M
+places_after_spec =
     tie.close
     (tie.spec
     (λ c. search rules)
     (λ c κs. search rules)
     (λ c. search rules)
-    (λ c. let m = c.before.before.before.requires.1 in omega (arith, m.few, m.inside))
-    (λ c κs. let p = c.before.before.before.requires in (p.0, p.1.few))
+    (λ c. let m = c.requires.1 in omega (arith, m.few, m.inside))
+    (λ c κs. let p = c.requires in (p.0, p.1.few))
     (λ c. search rules)
     (λ c. let m = (start c).requires.1 in omega (arith, m.few, m.inside))
     returns

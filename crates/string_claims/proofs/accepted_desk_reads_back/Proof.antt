@@ -1,10 +1,9 @@
 use Rattle.string_claims.specs.Back.{open_back, join_back, leave_back, begin_back, end_back}
-use Rattle.string_claims.specs.BatchLaws.{batch_back}
 use Rattle.string_claims.proofs.accepted_desk_reads_back.Statement.{statement}
 use Rattle.string_claims.proofs.accepted_desk_reads_back.Tie as tie
 
 returns : tie.Need-returns
-returns c = (open_back, (join_back, (leave_back, (begin_back, (end_back, batch_back)))))
+returns c = (open_back, (join_back, (leave_back, (begin_back, end_back))))
 
 pub accepted-desk-reads-back-spec : {M : Type 1} → statement M
 accepted-desk-reads-back-spec = tie.close (tie.spec returns)

@@ -1,9 +1,9 @@
-use Rattle.string_claims.specs.BatchLaws.{asked_strings_safe}
+use Rattle.string_claims.specs.ListLaws.{strings_safe}
 use Rattle.string_claims.proofs.every_list_of_strings_safe.Statement.{statement}
 use Rattle.string_claims.proofs.every_list_of_strings_safe.Tie as tie
 
 returns : tie.Need-returns
-returns c = asked_strings_safe
+returns c = strings_safe
 
 pub every-list-of-strings-safe-spec : {M : Type 1} → statement M
 every-list-of-strings-safe-spec = tie.close (tie.spec returns)

@@ -1,9 +1,9 @@
-use Rattle.string_claims.specs.BatchLaws.{asked_strings_ordered, asked_strings_in_time}
+use Rattle.string_claims.specs.ListLaws.{strings_ordered, strings_in_time}
 use Rattle.string_claims.proofs.string_requests_are_granted_in_time.Statement.{statement}
 use Rattle.string_claims.proofs.string_requests_are_granted_in_time.Tie as tie
 
 returns : tie.Need-returns
-returns c = (asked_strings_ordered, asked_strings_in_time)
+returns c = (strings_ordered, strings_in_time)
 
 pub string-requests-are-granted-in-time-spec : {M : Type 1} → statement M
 string-requests-are-granted-in-time-spec = tie.close (tie.spec returns)

@@ -1,10 +1,9 @@
 use Rattle.string_claims.specs.UnfilledLaws.{lists_past, strings_past, fetches_past, card_past}
-use Rattle.string_claims.specs.BatchLaws.{answers_unfilled}
 use Rattle.string_claims.proofs.unfilled_entries_stay.Statement.{statement}
 use Rattle.string_claims.proofs.unfilled_entries_stay.Tie as tie
 
 returns : tie.Need-returns
-returns c = (lists_past, (strings_past, (fetches_past, (answers_unfilled, card_past))))
+returns c = (lists_past, (strings_past, (fetches_past, card_past)))
 
 pub unfilled-entries-stay-spec : {M : Type 1} → statement M
 unfilled-entries-stay-spec = tie.close (tie.spec returns)

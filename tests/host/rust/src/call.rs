@@ -3,7 +3,7 @@
 use film_disk_model::shelf::Rule;
 
 /// The strings of all calls, by name.
-pub type Strings = [Vec<u8>; NAMES.len()];
+pub type Strings = [Vec<u8>; 8];
 pub const CARD: usize = 0;
 pub const PLAN: usize = 1;
 pub const POSITIONS: usize = 2;
@@ -12,11 +12,8 @@ pub const DESK: usize = 4;
 pub const FETCHES: usize = 5;
 pub const DRAWS: usize = 6;
 pub const SCRATCH: usize = 7;
-pub const ITEMS: usize = 8;
-pub const ANSWERS: usize = 9;
-#[rustfmt::skip]
-pub const NAMES: [&str; 10] =
-    ["card", "plan", "positions", "leads", "desk", "fetches", "draws", "scratch", "items", "answers"];
+pub const NAMES: [&str; 8] =
+    ["card", "plan", "positions", "leads", "desk", "fetches", "draws", "scratch"];
 
 /// The way in: with the lead list, or with a scratch in its place.
 #[derive(Clone, Copy, Debug, PartialEq, Eq)]
@@ -41,7 +38,6 @@ pub enum Call {
     Open,
     Join { slot: u32, block: u32, film: u32 },
     Leave { slot: u32 },
-    Batch,
     Begin,
     End,
     Window { blocks: u32 },
@@ -63,13 +59,12 @@ impl Call {
             Call::Open => 3,
             Call::Join { .. } => 4,
             Call::Leave { .. } => 5,
-            Call::Batch => 6,
-            Call::Begin => 7,
-            Call::End => 8,
-            Call::Window { .. } => return 18,
-            Call::DrawLimit { .. } => return 19,
+            Call::Begin => 6,
+            Call::End => 7,
+            Call::Window { .. } => return 16,
+            Call::DrawLimit { .. } => return 17,
         };
-        sort + 9 * (way == Way::Scratch) as usize
+        sort + 8 * (way == Way::Scratch) as usize
     }
 
     /// The strings that the call is lent; the true ones it may write. A scratch it never may.
@@ -81,10 +76,6 @@ impl Call {
             Call::Join { .. } | Call::Leave { .. } => {
                 vec![(DESK, true), (POSITIONS, false), (lent, false)]
             }
-            Call::Batch => {
-                let desk = [(DESK, true), (POSITIONS, false), (lent, false)];
-                desk.into_iter().chain([(ITEMS, false), (ANSWERS, true)]).collect()
-            }
             Call::Begin => vec![(DESK, true), (POSITIONS, false), (lent, false), (FETCHES, true)],
             Call::End => vec![(DESK, true), (POSITIONS, false), (lent, false), (DRAWS, false)],
             Call::Window { .. } => vec![(PLAN, false), (POSITIONS, false)],
@@ -93,14 +84,13 @@ impl Call {
     }
 }
 
-pub const SORTS: [&str; 20] = [
+pub const SORTS: [&str; 18] = [
     "plan",
     "plan_loop",
     "plan_pairs",
     "open",
     "join",
     "leave",
-    "batch",
     "begin",
     "end",
     "plan_scratch",
@@ -109,7 +99,6 @@ pub const SORTS: [&str; 20] = [
     "open_scratch",
     "join_scratch",
     "leave_scratch",
-    "batch_scratch",
     "begin_scratch",
     "end_scratch",
     "window",

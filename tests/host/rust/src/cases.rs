@@ -31,13 +31,13 @@ pub fn noise(rng: &mut Rng, length: usize) -> Vec<u8> {
 }
 
 /// Adds fewer bytes than an entry has.
-pub fn add_spare(rng: &mut Rng, bytes: &mut Vec<u8>, entry: usize) {
+fn add_spare(rng: &mut Rng, bytes: &mut Vec<u8>, entry: usize) {
     let spare = if rng.once_in(2) { 0 } else { rng.below(entry) };
     bytes.extend(noise(rng, spare));
 }
 
 /// Changes one byte.
-pub fn change_byte(rng: &mut Rng, bytes: &mut [u8]) {
+fn change_byte(rng: &mut Rng, bytes: &mut [u8]) {
     if bytes.is_empty() {
         return;
     }
@@ -113,7 +113,7 @@ pub fn long_scratch(rng: &mut Rng) -> Vec<u8> {
 }
 
 /// A scratch; at times it is short, often by a byte or a word.
-pub fn some_scratch(rng: &mut Rng) -> Vec<u8> {
+fn some_scratch(rng: &mut Rng) -> Vec<u8> {
     if !rng.once_in(8) {
         return long_scratch(rng);
     }

@@ -30,10 +30,6 @@ type Beginning =
     unsafe extern "C" fn(Write, usize, Read, usize, Read, usize, Write, usize) -> FilmdiskAnswer;
 type Ending =
     unsafe extern "C" fn(Write, usize, Read, usize, Read, usize, Read, usize) -> FilmdiskAnswer;
-/// The one that is lent five.
-#[rustfmt::skip]
-type Batching =
-    unsafe extern "C" fn(Write, usize, Read, usize, Read, usize, Read, usize, Write, usize) -> FilmdiskAnswer;
 /// Those that are lent a desk and its lists, and take a slot.
 type Joining =
     unsafe extern "C" fn(Write, usize, Read, usize, Read, usize, u32, u32, u32) -> FilmdiskAnswer;
@@ -49,7 +45,6 @@ pub struct Calls {
     pub open: Opening,
     pub join: Joining,
     pub leave: Leaving,
-    pub batch: Batching,
     pub begin: Beginning,
     pub end: Ending,
 }
@@ -78,14 +73,12 @@ macro_rules! calls {
             fn join(desk: Write, desk_len: usize, positions: Read, positions_len: usize, lent: Read, lent_len: usize, slot: u32, block: u32, film: u32) -> FilmdiskAnswer;
             #[link_name = concat!($prefix, "leave", $suffix)]
             fn leave(desk: Write, desk_len: usize, positions: Read, positions_len: usize, lent: Read, lent_len: usize, slot: u32) -> FilmdiskAnswer;
-            #[link_name = concat!($prefix, "batch", $suffix)]
-            fn batch(desk: Write, desk_len: usize, positions: Read, positions_len: usize, lent: Read, lent_len: usize, items: Read, items_len: usize, answers: Write, answers_len: usize) -> FilmdiskAnswer;
             #[link_name = concat!($prefix, "begin", $suffix)]
             fn begin(desk: Write, desk_len: usize, positions: Read, positions_len: usize, lent: Read, lent_len: usize, fetches: Write, fetches_len: usize) -> FilmdiskAnswer;
             #[link_name = concat!($prefix, "end", $suffix)]
             fn end(desk: Write, desk_len: usize, positions: Read, positions_len: usize, lent: Read, lent_len: usize, draws: Read, draws_len: usize) -> FilmdiskAnswer;
         }
-        Calls { plan, plan_loop, plan_pairs, open, join, leave, batch, begin, end }
+        Calls { plan, plan_loop, plan_pairs, open, join, leave, begin, end }
     }};
 }
 

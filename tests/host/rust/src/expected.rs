@@ -1,20 +1,20 @@
 //! The outcome of a call by the model, with docs/LAYOUT.md's lengths and what is left in each string.
 
 use crate::call::{
-    Answer, Call, Outcome, Strings, Way, ANSWERS, CARD, DESK, DRAWS, FETCHES, ITEMS, LEADS, PLAN,
-    POSITIONS, SCRATCH,
+    Answer, Call, Outcome, Strings, Way, CARD, DESK, DRAWS, FETCHES, LEADS, PLAN, POSITIONS,
+    SCRATCH,
 };
 use crate::layout::{
-    answer_bytes, bytes_of, desk_bytes, fetch_bytes, plan_bytes, read_answers, read_desk,
-    read_items, read_plan, words_of, DESK_BYTES, ENTRY_BYTES, FETCH_BYTES, PLAN_BYTES,
+    bytes_of, desk_bytes, fetch_bytes, plan_bytes, read_desk, read_plan, words_of, DESK_BYTES,
+    ENTRY_BYTES, FETCH_BYTES, PLAN_BYTES,
 };
 use film_disk_model::desk::SLOTS;
 use film_disk_model::scratch::judge_scratch;
 use film_disk_model::shelf::desk::draw_limit;
 use film_disk_model::shelf::scratch::full_leads;
 use film_disk_model::shelf::{
-    self, answer, answer_scratch, batch, batch_scratch, open, open_scratch, plan_card,
-    plan_card_scratch, read_card, window, Plan, Rule,
+    self, answer, answer_scratch, open, open_scratch, plan_card, plan_card_scratch, read_card,
+    window, Plan, Rule,
 };
 use film_disk_model::{cause, fill_lent, Refusal, Window};
 
@@ -101,15 +101,15 @@ fn expected_open(way: Way, strings: &Strings) -> Outcome {
     }
 }
 
-/// The call as the model knows it, a batch apart: whole entries of the lent lists count.
+/// The call as the model knows it: whole entries of the lent lists count.
 pub fn model_call(call: Call, strings: &Strings) -> shelf::Call {
     match call {
         Call::Join { slot, block, film } => shelf::Call::Join { slot, block, film },
         Call::Leave { slot } => shelf::Call::Leave { slot },
         Call::Begin => shelf::Call::Begin { fetch_list: strings[FETCHES].len() / FETCH_BYTES },
         Call::End => shelf::Call::End { draws: words_of(&strings[DRAWS]) },
-        Call::Plan(_) | Call::Open | Call::Batch | Call::Window { .. } | Call::DrawLimit { .. } => {
-            unreachable!("no single call that alters a desk")
+        Call::Plan(_) | Call::Open | Call::Window { .. } | Call::DrawLimit { .. } => {
+            unreachable!("no call that alters a desk")
         }
     }
 }
@@ -133,30 +133,6 @@ fn expected_desk_call(call: Call, way: Way, strings: &Strings) -> Outcome {
     fill_lent(&mut after[FETCHES], &fetch_bytes(&answer.entries));
     let shelf::Answer { number, place, count, bound, .. } = answer;
     Outcome { answer: Answer { number, place, count, bound, ..Answer::default() }, strings: after }
-}
-
-/// A batch: refused, it writes nothing; accepted, the desk and an answer for each whole item.
-fn expected_batch(way: Way, strings: &Strings) -> Outcome {
-    if let Some(outcome) = refused_scratch(way, strings) {
-        return outcome;
-    }
-    if strings[DESK].len() != DESK_BYTES {
-        return refused(strings, Refusal { number: cause::NOT_SOUND, place: 0 });
-    }
-    let mut desk = read_desk(&strings[DESK]);
-    let (positions, lent) = (words_of(&strings[POSITIONS]), words_of(&strings[way.string()]));
-    let (items, mut told) = (read_items(&strings[ITEMS]), read_answers(&strings[ANSWERS]));
-    let verdict = match way {
-        Way::List => batch(&mut desk, &positions, &lent, &items, &mut told),
-        Way::Scratch => batch_scratch(&mut desk, &positions, &lent, &items, &mut told),
-    };
-    if let Err(refusal) = verdict {
-        return refused(strings, refusal);
-    }
-    let mut after = strings.clone();
-    fill_lent(&mut after[DESK], &desk_bytes(&desk));
-    fill_lent(&mut after[ANSWERS], &answer_bytes(&told));
-    accepted(after)
 }
 
 /// A window writes nothing.
@@ -189,7 +165,6 @@ pub fn expected(call: Call, way: Way, strings: &Strings) -> Outcome {
         Call::Open => expected_open(way, strings),
         Call::Window { blocks } => expected_window(strings, blocks),
         Call::DrawLimit { slot, bound } => expected_limit(strings, slot, bound),
-        Call::Batch => expected_batch(way, strings),
         _ => expected_desk_call(call, way, strings),
     }
 }
@@ -216,7 +191,7 @@ pub fn is_same_by_scratch(call: Call, strings: &Strings) -> bool {
             Err(_) => return true,
         },
         Call::Open if strings[PLAN].len() == PLAN_BYTES => begins(read_plan(&strings[PLAN])),
-        Call::Join { .. } | Call::Leave { .. } | Call::Batch | Call::Begin | Call::End
+        Call::Join { .. } | Call::Leave { .. } | Call::Begin | Call::End
             if strings[DESK].len() == DESK_BYTES =>
         {
             begins(read_desk(&strings[DESK]).plan)

@@ -4,15 +4,13 @@
 use crate::lists::List;
 use crate::trial::Trial;
 use crate::windows::film_windows;
-use film_disk_model::batch::JOIN;
 use film_disk_model::bench::{bench_rising, figures_of};
-use film_disk_model::desk::ASKED;
 use film_disk_model::rng::desks::Draw;
 use film_disk_model::rng::shelf::desks::fair_draws;
 use film_disk_model::rng::shelf::{some_lengths, sweep_need};
 use film_disk_model::shelf::desk::most_fetches;
 use film_disk_model::shelf::plan::{most_streams, plan_of};
-use film_disk_model::shelf::{Call, Figures, Item, Planned, Rule, Step};
+use film_disk_model::shelf::{Call, Figures, Planned, Rule, Step};
 use film_disk_model::Rng;
 
 const BLOCKS: [u32; 14] = [2, 3, 4, 5, 6, 7, 8, 9, 63, 64, 65, 256, 16_383, 16_384];
@@ -79,40 +77,17 @@ fn step(planned: &Planned, call: Call) -> Step {
 }
 
 /// A screen joins about the end of a film, one film after the other.
-fn join_of(planned: &Planned, slot: u32) -> Item {
+fn join_of(planned: &Planned, slot: u32) -> Call {
     let figures = &planned.plan.figures;
     let film = slot % figures.films;
     let blocks = figures.blocks[film as usize];
-    Item { number: JOIN, slot, block: (blocks - 2 + slot) % blocks, film }
-}
-
-/// Screens join one by one, or all in one batch.
-fn join_all(
-    rng: &mut Rng,
-    trial: &mut Trial,
-    list: &mut List,
-    planned: &Planned,
-) -> Result<(), String> {
-    let screens = 0..SCREENS.min(planned.plan.streams);
-    let joins: Vec<Item> = screens.map(|slot| join_of(planned, slot)).collect();
-    if rng.once_in(2) {
-        list.batch(rng, trial, &joins, joins.len(), usize::MAX)?;
-    } else {
-        for join in &joins {
-            list.call(rng, trial, &step(planned, join.call()), usize::MAX)?;
-        }
-    }
-    match joins.iter().find(|join| list.rules.kinds[join.slot as usize] != ASKED) {
-        Some(join) => Err(format!("refused: {join:?}")),
-        None => Ok(()),
-    }
+    Call::Join { slot, block: (blocks - 2 + slot) % blocks, film }
 }
 
 /// Screens join and draw what they may.
 fn play(rng: &mut Rng, trial: &mut Trial, planned: &Planned) -> Result<(), String> {
     let blocks = planned.plan.figures.all_blocks() as u32;
     let mut list = List::open(rng, trial, planned)?;
-    join_all(rng, trial, &mut list, planned)?;
     let mut call = |list: &mut List, rng: &mut Rng, call| {
         let got = list.call(rng, trial, &step(planned, call), usize::MAX)?;
         match got.answer.number {
@@ -120,6 +95,9 @@ fn play(rng: &mut Rng, trial: &mut Trial, planned: &Planned) -> Result<(), Strin
             number => Err(format!("refused {number}")),
         }
     };
+    for slot in 0..SCREENS.min(planned.plan.streams) {
+        call(&mut list, rng, join_of(planned, slot))?;
+    }
     let sweeps = if blocks <= SHORT { 12 * blocks } else { 8 };
     for _ in 0..sweeps {
         let fetch_list = most_fetches(&list.rules);

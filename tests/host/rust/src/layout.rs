@@ -1,15 +1,13 @@
 //! docs/LAYOUT.md: the model's records as byte strings, and back.
 
-use film_disk_model::shelf::{Desk, Figures, Item, Plan, MAX_FILMS};
-use film_disk_model::{Entry, ItemAnswer, SLOTS};
+use film_disk_model::shelf::{Desk, Figures, Plan, MAX_FILMS};
+use film_disk_model::{Entry, SLOTS};
 
 pub const PLAN_BYTES: usize = 1648;
 pub const DESK_BYTES: usize = 5748;
 pub const ENTRY_BYTES: usize = 4;
 pub const FETCH_BYTES: usize = 12;
 pub const SCRATCH_BYTES: usize = 2048;
-pub const ITEM_BYTES: usize = 16;
-pub const ANSWER_BYTES: usize = 8;
 
 /// Words of 32 bits, lowest byte first.
 pub fn bytes_of(words: &[u32]) -> Vec<u8> {
@@ -111,32 +109,4 @@ pub fn read_fetches(bytes: &[u8], count: u32) -> Vec<Entry> {
     let words = words_of(bytes);
     let entries = words.chunks_exact(3).take(count as usize);
     entries.map(|e| Entry { position: e[0], slot: e[1], block: e[2] }).collect()
-}
-
-pub fn item_bytes(items: &[Item]) -> Vec<u8> {
-    let words: Vec<u32> =
-        items.iter().flat_map(|item| [item.number, item.slot, item.block, item.film]).collect();
-    bytes_of(&words)
-}
-
-/// The whole items of a string.
-pub fn read_items(bytes: &[u8]) -> Vec<Item> {
-    let words = words_of(bytes);
-    let items = words.chunks_exact(4);
-    items.map(|i| Item { number: i[0], slot: i[1], block: i[2], film: i[3] }).collect()
-}
-
-/// A place of an item's answer is its slot, which fits a word.
-pub fn answer_bytes(answers: &[ItemAnswer]) -> Vec<u8> {
-    let place = |place: u64| u32::try_from(place).expect("a slot fits a word");
-    let words: Vec<u32> =
-        answers.iter().flat_map(|answer| [answer.number, place(answer.place)]).collect();
-    bytes_of(&words)
-}
-
-/// The whole answers that a string has, or has room for.
-pub fn read_answers(bytes: &[u8]) -> Vec<ItemAnswer> {
-    let words = words_of(bytes);
-    let answers = words.chunks_exact(2);
-    answers.map(|a| ItemAnswer { number: a[0], place: a[1] as u64 }).collect()
 }

@@ -1,8 +1,8 @@
 //! A static library, called over guarded strings.
 
 use crate::call::{
-    Answer, Call, Outcome, Strings, Way, ANSWERS, CARD, DESK, DRAWS, FETCHES, ITEMS, NAMES, PLAN,
-    POSITIONS, SCRATCH,
+    Answer, Call, Outcome, Strings, Way, CARD, DESK, DRAWS, FETCHES, NAMES, PLAN, POSITIONS,
+    SCRATCH,
 };
 use crate::entries::{Calls, Entries, FilmdiskAnswer, FilmdiskWindowAnswer};
 use film_disk_model::shelf::Rule;
@@ -53,8 +53,8 @@ pub struct Lending {
 /// The library with room for each string. One at a time: the strings are its own.
 pub struct Library {
     entries: Entries,
-    lent: [Guarded; NAMES.len()],
-    pointers: [*mut u8; NAMES.len()],
+    lent: [Guarded; 8],
+    pointers: [*mut u8; 8],
 }
 
 /// What is said if the library touches a byte that it was not lent.
@@ -83,7 +83,7 @@ impl Library {
             unsafe { guarded_make(&mut string, MOST_BYTES) };
             string
         });
-        Library { entries, lent, pointers: [std::ptr::null_mut(); NAMES.len()] }
+        Library { entries, lent, pointers: [std::ptr::null_mut(); 8] }
     }
 
     fn lend(&mut self, which: usize, bytes: &[u8], is_written: bool, lending: Lending) {
@@ -137,7 +137,6 @@ impl Library {
             Call::Open => (e.open)(p(PLAN), n(PLAN), p(POSITIONS), n(POSITIONS), p(lent), n(lent), p(DESK), n(DESK)).into(),
             Call::Join { slot, block, film } => (e.join)(p(DESK), n(DESK), p(POSITIONS), n(POSITIONS), p(lent), n(lent), slot, block, film).into(),
             Call::Leave { slot } => (e.leave)(p(DESK), n(DESK), p(POSITIONS), n(POSITIONS), p(lent), n(lent), slot).into(),
-            Call::Batch => (e.batch)(p(DESK), n(DESK), p(POSITIONS), n(POSITIONS), p(lent), n(lent), p(ITEMS), n(ITEMS), p(ANSWERS), n(ANSWERS)).into(),
             Call::Begin => (e.begin)(p(DESK), n(DESK), p(POSITIONS), n(POSITIONS), p(lent), n(lent), p(FETCHES), n(FETCHES)).into(),
             Call::End => (e.end)(p(DESK), n(DESK), p(POSITIONS), n(POSITIONS), p(lent), n(lent), p(DRAWS), n(DRAWS)).into(),
             Call::Window { blocks } => (self.entries.window)(p(PLAN), n(PLAN), p(POSITIONS), n(POSITIONS), blocks).into(),

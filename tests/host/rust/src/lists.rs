@@ -1,25 +1,18 @@
 //! Long lists of calls from an accepted opening: the library's desk goes from call to call as bytes, and the book's claim, the order of
 //! the requests and their waits are checked after each. Each call is made with the lead list and with a scratch, and the desk goes on as one of the two left it: by lists
-//! alone, by scratch alone, or by either in turn. Batches among them count as the calls that they stand for.
+//! alone, by scratch alone, or by either in turn.
 
-use crate::batches::batch_strings;
 use crate::call::{
-    Call, Outcome, Strings, Way, ANSWERS, CARD, DESK, FETCHES, ITEMS, LEADS, PLAN, POSITIONS,
-    SCRATCH,
+    Call, Outcome, Strings, Way, CARD, DESK, FETCHES, LEADS, PLAN, POSITIONS, SCRATCH,
 };
 use crate::cases::{long_scratch, noise, some_plan, step_strings};
 use crate::expected::model_call;
-use crate::layout::{
-    bytes_of, read_answers, read_desk, read_fetches, read_items, DESK_BYTES, ENTRY_BYTES,
-    PLAN_BYTES,
-};
+use crate::layout::{bytes_of, read_desk, read_fetches, DESK_BYTES, ENTRY_BYTES, PLAN_BYTES};
 use crate::trial::Trial;
-use film_disk_model::batch::ITEMS as MOST_ITEMS;
 use film_disk_model::rng::desks::{full_house, temper, Temper};
-use film_disk_model::rng::shelf::batches::some_items;
 use film_disk_model::rng::shelf::desks::next_step;
 use film_disk_model::shelf::book::most_sweeps;
-use film_disk_model::shelf::{card_bytes, Desk, Item, Planned, Rule, Step};
+use film_disk_model::shelf::{card_bytes, Desk, Planned, Rule, Step};
 use film_disk_model::{check_claim, Book, Queue, Rng};
 
 /// The ways in of a list's calls: one, or both at random.
@@ -121,43 +114,6 @@ impl<'a> List<'a> {
         Ok(got)
     }
 
-    /// Makes a batch with so much room for answers; once in `damaged` times a list that it is lent is spoiled.
-    pub fn batch(
-        &mut self,
-        rng: &mut Rng,
-        trial: &mut Trial,
-        items: &[Item],
-        room: usize,
-        damaged: usize,
-    ) -> Result<Outcome, String> {
-        let lists = (&self.planned.positions[..], &self.planned.leads[..]);
-        let before = batch_strings(rng, self.desk.clone(), lists, items, room, damaged);
-        let way = rng.pick(self.ways);
-        let got = trial.both(rng, Call::Batch, way, &before).and_then(|(got, _)| {
-            self.count(&before, &got)?;
-            Ok(got)
-        });
-        self.number += 1;
-        got.map_err(|words| format!("call {} of the list: {words}", self.number))
-    }
-
-    /// An accepted batch counts as its calls: book and queue are fed them one by one, and the claims checked after each.
-    fn count(&mut self, before: &Strings, got: &Outcome) -> Result<(), String> {
-        let items = if got.answer.number == 0 { read_items(&before[ITEMS]) } else { vec![] };
-        for (item, told) in items.iter().zip(read_answers(&got.strings[ANSWERS])) {
-            self.rules = item.after(&self.rules);
-            let fed = item.call().without_film();
-            self.book.feed(&fed, told.number == 0, &[])?;
-            check_claim(&self.book, &self.rules, &self.rules, None)?;
-            self.queue.feed(&fed, told.number == 0, &self.rules)?;
-        }
-        self.desk = got.strings[DESK].clone();
-        match read_desk(&self.desk) == self.rules {
-            true => Ok(()),
-            false => Err("the batch left another desk than its calls".to_string()),
-        }
-    }
-
     /// The most times that an occupied slot of a loop has got its whole film; 0 for any other.
     pub fn rounds(&self) -> u128 {
         if self.planned.plan.showing != Rule::Loop.word() {
@@ -188,13 +144,6 @@ fn run_list(rng: &mut Rng, trial: &mut Trial, temper: &Temper) -> Result<(), Str
     let mut list = List::open(rng, trial, &planned)?;
     let most = if planned.leads.len() > 256 { 20 } else { rng.pick(&[10, 40, 150, 400]) };
     for _ in 0..most {
-        if rng.once_in(8) {
-            let few = rng.pick(&[0, 1, 3, 12, 40]);
-            let count = if rng.once_in(30) { MOST_ITEMS + rng.below(2) } else { few };
-            let items = some_items(rng, &list.rules, count, 6);
-            let room = rng.pick(&[count, count, count + 2, count.saturating_sub(1)]);
-            list.batch(rng, trial, &items, room, 40)?;
-        }
         let step = next_step(rng, &planned, &list.rules, temper);
         list.call(rng, trial, &step, 40)?;
     }

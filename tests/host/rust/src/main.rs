@@ -7,7 +7,6 @@
 //! alone with its seed and count 1. Any other count has the films at the borders before them, count 0 these alone. Exit status 0
 //! only if all passed.
 
-mod batches;
 mod call;
 mod cases;
 mod entries;
@@ -19,7 +18,6 @@ mod lists;
 mod trial;
 mod windows;
 
-use batches::{batch_case, fair_batch_case, house_batch_case};
 use call::Way;
 use cases::{
     desk_case, edge_case, join_case, limit_case, open_case, overhead_case, place_case, plan_case,
@@ -33,15 +31,15 @@ use std::process::ExitCode;
 use trial::Trial;
 use windows::window_case;
 
-/// A run of so many cases or more must meet every number of every call, worst pairs everywhere, loops gone round, requests that wait,
-/// shelves, and batches of every size.
+/// A run of so many cases or more must meet every number of every call, worst pairs everywhere, loops gone round, requests that wait, and
+/// shelves.
 const MANY_CASES: u64 = 5000;
 /// As many failures are shown.
 const SHOWN: u64 = 10;
 
 fn run_case(trial: &mut Trial, seed: u64) -> Result<(), String> {
     let mut rng = Rng::new(seed);
-    let (call, strings) = match rng.below(32) {
+    let (call, strings) = match rng.below(28) {
         0..=2 => plan_case(&mut rng),
         3 => open_case(&mut rng),
         4 | 5 => desk_case(&mut rng),
@@ -57,10 +55,7 @@ fn run_case(trial: &mut Trial, seed: u64) -> Result<(), String> {
         22 => shelf_case(&mut rng),
         23 | 24 => slot_film_case(&mut rng),
         25 => join_case(&mut rng),
-        26 => batch_case(&mut rng),
-        27 | 28 => fair_batch_case(&mut rng),
-        29 => house_batch_case(&mut rng),
-        30 => return house_case(&mut rng, trial),
+        26 => return house_case(&mut rng, trial),
         _ => return list_case(&mut rng, trial),
     };
     trial.both(&mut rng, call, Way::List, &strings).map(|_| ())

@@ -1,15 +1,14 @@
 //! A call made of the library and of the model, or of an earlier library in its place, and the tally of what was answered.
 
-use crate::call::{Call, Outcome, Strings, Way, ANSWERS, DESK, ITEMS, LEADS, NAMES, PLAN, SORTS};
+use crate::call::{Call, Outcome, Strings, Way, DESK, LEADS, NAMES, PLAN, SORTS};
 use crate::entries::{EARLIER, PRESENT};
 use crate::expected::{expected, is_for_pairs, is_same_by_scratch};
-use crate::layout::{read_answers, read_desk, read_items, read_plan, DESK_BYTES};
+use crate::layout::{read_desk, read_plan};
 use crate::library::{Lending, Library};
-use film_disk_model::batch::{ITEMS as MOST_ITEMS, JOIN};
-use film_disk_model::desk::{BETWEEN, TAIL};
+use film_disk_model::desk::TAIL;
 use film_disk_model::shelf::desk::is_fetched;
 use film_disk_model::shelf::plan::film_and_block;
-use film_disk_model::shelf::{Plan, Rule};
+use film_disk_model::shelf::Plan;
 use film_disk_model::{Rng, SLOTS};
 
 /// Numbers of answers, 0 to 31.
@@ -56,26 +55,6 @@ const SHELVES_MET: [&str; 13] = [
     "a window in a later film",
     "a window that one of the films is too short for",
 ];
-/// Batches, refused and accepted.
-const BATCHES_MET: [&str; 15] = [
-    "refused for one item too many",
-    "refused for answers that are one short",
-    "refused for a desk of another length",
-    "of 0 items",
-    "of 1 item",
-    "of 40 items",
-    "of 512 items",
-    "with answers past the items",
-    "in a sweep",
-    "in which 256 slots join and leave",
-    "in which a slot leaves and comes back",
-    "with joins to several films",
-    "of a loop",
-    "of pairs",
-    "with spare bytes behind the items",
-];
-/// Numbers that an item of a batch answers.
-const ITEM_NUMBERS: [usize; 6] = [0, 15, 16, 17, 18, 31];
 /// Calls made in both ways.
 const ALIKE: [&str; 2] = ["with another list or a short scratch", "alike"];
 
@@ -105,10 +84,6 @@ pub struct Trial {
     pairs: [u64; PAIRS_MET.len()],
     /// For each of these, how often it came of an accepted call.
     shelves: [u64; SHELVES_MET.len()],
-    /// For each of these, how often a batch was so.
-    batches: [u64; BATCHES_MET.len()],
-    /// How often an item of an accepted batch answered each number.
-    items: [u64; NUMBERS],
     /// Calls that answered the same by list and by scratch, and those where the list was not the film's or the scratch short.
     alike: [u64; ALIKE.len()],
 }
@@ -162,7 +137,6 @@ fn pairs_met(call: Call, wanted: &Outcome) -> Vec<usize> {
         Call::Open => vec![4],
         Call::Join { .. } => vec![5],
         Call::Leave { .. } => vec![6],
-        Call::Batch => vec![],
         Call::Begin if wanted.answer.count == 256 => vec![7, 8],
         Call::Begin => vec![7],
         Call::End => vec![9],
@@ -212,55 +186,8 @@ fn shelves_met(call: Call, before: &Strings, wanted: &Outcome) -> Vec<usize> {
             let short = figures.lengths().iter().any(|&length| length < blocks);
             [later.then_some(11), short.then_some(12)].into_iter().flatten().collect()
         }
-        Call::Open | Call::Leave { .. } | Call::Batch | Call::DrawLimit { .. } => vec![],
+        Call::Open | Call::Leave { .. } | Call::DrawLimit { .. } => vec![],
     }
-}
-
-/// What a batch was, as places of `BATCHES_MET`.
-fn batch_met(before: &Strings, wanted: &Outcome) -> Vec<usize> {
-    let (items, room) = (read_items(&before[ITEMS]), read_answers(&before[ANSWERS]).len());
-    let number = wanted.answer.number;
-    let is_refused = |met: usize, cause: u32, so: bool| (number == cause && so).then_some(met);
-    if number != 0 {
-        let many = items.len() == MOST_ITEMS + 1 && room >= items.len();
-        let short = items.len() <= MOST_ITEMS && room + 1 == items.len();
-        let other = before[DESK].len() != DESK_BYTES;
-        let met = [is_refused(0, 13, many), is_refused(1, 13, short), is_refused(2, 14, other)];
-        return met.into_iter().flatten().collect();
-    }
-    let told = read_answers(&wanted.strings[ANSWERS]);
-    let desk = read_desk(&before[DESK]);
-    let made: Vec<_> = items.iter().zip(told).filter(|(_, told)| told.number == 0).collect();
-    let slots = |joining: bool| {
-        let mut slots: Vec<u32> = made
-            .iter()
-            .filter(|(item, _)| (item.number == JOIN) == joining)
-            .map(|(item, _)| item.slot)
-            .collect();
-        slots.sort();
-        slots.dedup();
-        slots
-    };
-    let comes_back = made.iter().enumerate().any(|(at, (item, _))| {
-        item.number == JOIN
-            && made[..at].iter().any(|(other, _)| other.number != JOIN && other.slot == item.slot)
-    });
-    let mut joined = made.iter().filter(|(item, _)| item.number == JOIN).map(|(item, _)| item.film);
-    let first = joined.next();
-    [
-        [0, 1, 40, 512].iter().position(|&count| count == items.len()).map(|at| 3 + at),
-        (room > items.len()).then_some(7),
-        (desk.phase != BETWEEN && !items.is_empty()).then_some(8),
-        (slots(true).len() == SLOTS && slots(false).len() == SLOTS).then_some(9),
-        comes_back.then_some(10),
-        joined.any(|film| Some(film) != first).then_some(11),
-        (desk.plan.showing == Rule::Loop.word()).then_some(12),
-        (desk.plan.showing == Rule::Pairs.word()).then_some(13),
-        (before[ITEMS].len() % 16 != 0).then_some(14),
-    ]
-    .into_iter()
-    .flatten()
-    .collect()
 }
 
 /// The call and the lengths of what it was lent.
@@ -293,8 +220,6 @@ impl Trial {
             wait: 0,
             pairs: [0; PAIRS_MET.len()],
             shelves: [0; SHELVES_MET.len()],
-            batches: [0; BATCHES_MET.len()],
-            items: [0; NUMBERS],
             alike: [0; ALIKE.len()],
         }
     }
@@ -347,9 +272,6 @@ impl Trial {
     fn note(&mut self, call: Call, way: Way, before: &Strings, wanted: &Outcome) {
         let number = wanted.answer.number;
         self.tally[call.sort(way)][number as usize] += 1;
-        if call == Call::Batch {
-            batch_met(before, wanted).into_iter().for_each(|met| self.batches[met] += 1);
-        }
         if number != 0 {
             return;
         }
@@ -372,11 +294,6 @@ impl Trial {
                 let (asked, left) = (waiting(before), waiting(&wanted.strings));
                 self.requests[requests_left(asked, left)] += 1;
                 self.crowd = self.crowd.max(asked);
-            }
-            Call::Batch => {
-                let told = read_answers(&wanted.strings[ANSWERS]).into_iter();
-                let count = read_items(&before[ITEMS]).len();
-                told.take(count).for_each(|told| self.items[told.number as usize] += 1);
             }
             Call::DrawLimit { .. } => self.limits[limit_size(wanted.answer.limit)] += 1,
             _ => {}
@@ -423,16 +340,13 @@ impl Trial {
         println!("requests: {} at once; the eldest waited {} sweeps", self.crowd, self.wait);
         println!("pairs: {}", tallied(&PAIRS_MET, &self.pairs));
         println!("shelves: {}", tallied(&SHELVES_MET, &self.shelves));
-        println!("batches: {}", tallied(&BATCHES_MET, &self.batches));
-        let items = ITEM_NUMBERS.map(|number| format!("{number} x {}", self.items[number]));
-        println!("items of batches: numbers {}", items.join(", "));
         println!("by list and by scratch: {}", tallied(&ALIKE, &self.alike));
         println!("loops: a slot went round {} times", self.rounds);
     }
 
     /// The numbers that each sort of call can answer and that no call was answered; places where no
     /// worst pair or window was; a kind of card; a size of a draw limit; requests, of which all slots may be and one has to wait a
-    /// sweep; what was not met of pairs, of shelves and of batches; and loops, if none went round often enough.
+    /// sweep; what was not met of pairs and of shelves; and loops, if none went round often enough.
     pub fn missing(&self) -> Vec<String> {
         let plan: Vec<usize> = (0..=13).chain([25, 26, 30]).collect();
         let pairs: Vec<usize> = (0..=8).chain(10..=13).chain([25, 26, 28, 30]).collect();
@@ -443,7 +357,6 @@ impl Trial {
             &[0, 13, 14],
             &[0, 14, 15, 16, 17, 18, 31],
             &[0, 14, 15, 16, 17],
-            &[0, 13, 14],
             &[0, 13, 14, 15],
             &[0, 14, 15, 19, 20, 21],
             &plan,
@@ -452,7 +365,6 @@ impl Trial {
             &[0, 13, 14],
             &[0, 13, 14, 15, 16, 17, 18, 31],
             &[0, 13, 14, 15, 16, 17],
-            &[0, 13, 14],
             &[0, 13, 14, 15],
             &[0, 13, 14, 15, 19, 20, 21],
             &[0, 14, 27],
@@ -484,12 +396,6 @@ impl Trial {
         }
         for (what, _) in SHELVES_MET.iter().zip(self.shelves).filter(|&(_, count)| count == 0) {
             missing.push(format!("{what} of a shelf"));
-        }
-        for (what, _) in BATCHES_MET.iter().zip(self.batches).filter(|&(_, count)| count == 0) {
-            missing.push(format!("a batch {what}"));
-        }
-        for number in ITEM_NUMBERS.into_iter().filter(|&number| self.items[number] == 0) {
-            missing.push(format!("an item of a batch that answers {number}"));
         }
         for (what, _) in REQUESTS.iter().zip(self.requests).filter(|&(_, count)| count == 0) {
             missing.push(format!("a begin with requests, {what}"));
