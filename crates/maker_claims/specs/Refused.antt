@@ -51,14 +51,14 @@ judged_off turns switch heads block next k e = go (heading_fits turns switch hea
 
 -- ---- the rows before the one at fault
 
-record RowsFault (s : List ℕ) (at : ℕ) (zs : List Row) (k line : ℕ) : Type 0 where
-  rows : List Row
-  stop : ℕ
-  text : drop at s ≡ row_lines rows ++ drop stop s
-  inside : stop < length s
-  follow : FollowOn (following zs) rows
-  counted : line ≡ length rows + length zs + 2
-  fault : row_at (following (turned rows zs)) s stop ≡ row.Refused k
+pub record RowsFault (s : List ℕ) (at : ℕ) (zs : List Row) (k line : ℕ) : Type 0 where
+  pub rows : List Row
+  pub stop : ℕ
+  pub text : drop at s ≡ row_lines rows ++ drop stop s
+  pub inside : stop < length s
+  pub follow : FollowOn (following zs) rows
+  pub counted : line ≡ length rows + length zs + 2
+  pub fault : row_at (following (turned rows zs)) s stop ≡ row.Refused k
 
 pub fault_here : (s : List ℕ) (at : ℕ) (zs : List Row) (k line : ℕ) → at < length s → line ≡ length zs + 2 → row_at (following zs) s at ≡ row.Refused k
     → RowsFault s at zs k line

@@ -10,7 +10,6 @@ use lib.Dec.{leb}
 use borrow.Author.Tests.{leb-true}
 use Rattle.numbers.specs.Refusals.{too_short}
 use Rattle.card.specs.declared.Figures.{Figures}
-use Rattle.card_field.specs.Ranges.{first}
 use Rattle.card_field.specs.RangeLaws.{first_none}
 use Rattle.card.specs.Card.{record_fault, card_of, write_fault, written_by, written_card}
 

@@ -1,7 +1,7 @@
 -- The reader judges the card of the words, which lies at the front of the buffer.
-use Rattle.std.proofs.Common.{◌≡◌, ◌≤◌, ◌∙◌, List, ℕ, sym, ap, arith, length, take, length-take-le}
+use Rattle.std.proofs.Common.{◌∙◌, List, ℕ, sym, ap, arith, take, length-take-le}
 use Rattle.card.specs.Read.{read_card}
-use Rattle.mkcard.specs.Scan.{card_of_words, numbers_in, line_of}
+use Rattle.mkcard.specs.Scan.{numbers_in, line_of}
 use Rattle.mkcard.proofs.WordWays.{card_long, card_taken, card_fits, made_card, made_none}
 use Rattle.mkcard.proofs.make.make_card.Goals as goal
 

@@ -14,10 +14,10 @@ loop-i-preserved c =
     let l = c.loop-i in
     let a = c.args in
     elim c.if-card-i-lt128.branch [
-      then-card-i-lt128 w ↦
-        omega (arith, l.invariant, w.count-is, before_more a.card.now a.place l.i (omega arith) (omega arith) true (lt-ltb _ _ w.if-card-i-lt128.true))
-    | else-card-i-lt128 w ↦
-        omega (arith, l.invariant, w.count-is, before_more a.card.now a.place l.i (omega arith) (omega arith) false (le-ltb _ _ w.if-card-i-lt128.false))
+      | then-card-i-lt128 w ↦
+          omega (arith, l.invariant, w.count-is, before_more a.card.now a.place l.i (omega arith) (omega arith) true (lt-ltb _ _ w.if-card-i-lt128.true))
+      | else-card-i-lt128 w ↦
+          omega (arith, l.invariant, w.count-is, before_more a.card.now a.place l.i (omega arith) (omega arith) false (le-ltb _ _ w.if-card-i-lt128.false))
     ]
 
 pub returns : goal.returns
