@@ -28,7 +28,7 @@ use Rattle.desk.specs.declared.Desk.{Desk}
 use Rattle.desk.specs.Desk.{visits_in, supply_of, order_of, Queue, desk_of, answer_of, fetches_of, begin_desk, entries_of, entry_words, fetch_list_after}
 use Rattle.desk.specs.Entries.{entries_in, entries_in_law}
 use Rattle.trace.specs.Answers.{blank_entry, NeedsBlock, place_of}
-use Rattle.trace.specs.FetchLaws.{begin_fetched}
+use Rattle.trace.proofs.FetchLaws.{begin_fetched}
 use Rattle.trace.specs.SlotLaws.{kind_at, next_at_law}
 use Rattle.scheduler.specs.Count.{begin_few}
 use Rattle.layout.specs.declared.FilmdiskAnswer.{FilmdiskAnswer}

@@ -29,7 +29,7 @@ use Rattle.desk.specs.View.{Wide, view_of_desk}
 use Rattle.desk.specs.Slots.{length_in_law, kind_in}
 use Rattle.draws.specs.Draws.{kind_limit}
 use Rattle.trace.specs.Answers.{draw_at, may_draw, LowestAbove}
-use Rattle.trace.specs.DrawLaws.{limit_lowest}
+use Rattle.trace.proofs.DrawLaws.{limit_lowest}
 use Rattle.layout.specs.declared.FilmdiskAnswer.{FilmdiskAnswer}
 use Rattle.layout.specs.Answers.{verdict_answer}
 use Rattle.desk_layout.specs.Layout.{desk_size}

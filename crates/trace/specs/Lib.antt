@@ -10,4 +10,3 @@ pub mod ScratchLaws
 pub mod SlotLaws
 pub mod Wait
 pub mod WaitLaws
-pub mod AskingLaws

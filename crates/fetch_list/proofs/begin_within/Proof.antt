@@ -19,11 +19,11 @@ begin-requires c κs = search rules
 
 returns : tie.Need-returns
 returns c =
-    let s = c.before.before.before in
+    let s = c in
     let b = c.begin.ensures in
-    let f = begin_few s.args.desk (wide s) (slim s) s.args.positions.now s.args.leads.now s.args.room in
+    let f = begin_few s.args.desk (wide c.before.before.before) (slim c.before.before.before) s.args.positions.now s.args.leads.now s.args.room in
     let k = ap (λ (x : Begun). x.fetches.count) b in
     (b, omega arith, omega arith)
 
-pub begin-within-spec : {M : Type 1} → statement M
-begin-within-spec = tie.close (tie.spec begin-requires returns)
+pub begin_within_spec : {M : Type 1} → statement M
+begin_within_spec = tie.close (tie.spec begin-requires returns)

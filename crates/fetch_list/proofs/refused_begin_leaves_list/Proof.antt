@@ -5,5 +5,5 @@ use Rattle.fetch_list.proofs.refused_begin_leaves_list.Tie as tie
 returns : tie.Need-returns
 returns c = list_kept
 
-pub refused-begin-leaves-list-spec : {M : Type 1} → statement M
-refused-begin-leaves-list-spec = tie.close (tie.spec returns)
+pub refused_begin_leaves_list_spec : {M : Type 1} → statement M
+refused_begin_leaves_list_spec = tie.close (tie.spec returns)

@@ -1,4 +1,4 @@
-use Rattle.string_claims.specs.ListLaws.{strings_safe}
+use Rattle.string_claims.proofs.ListLaws.{strings_safe}
 use Rattle.string_claims.proofs.every_list_of_strings_safe.Statement.{statement}
 use Rattle.string_claims.proofs.every_list_of_strings_safe.Tie as tie
 

@@ -1,4 +1,4 @@
-use Rattle.string_claims.specs.ListLaws.{strings_ordered, strings_in_time}
+use Rattle.string_claims.proofs.ListLaws.{strings_ordered, strings_in_time}
 use Rattle.string_claims.proofs.string_requests_are_granted_in_time.Statement.{statement}
 use Rattle.string_claims.proofs.string_requests_are_granted_in_time.Tie as tie
 

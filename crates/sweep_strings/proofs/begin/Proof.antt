@@ -3,7 +3,7 @@ use Rattle.sweep_strings.proofs.begin.Statement.{statement}
 use Rattle.sweep_strings.proofs.begin.Tie as tie
 
 returns : tie.Need-returns
-returns c = c.before.before.before.before.begin-by.ensures
+returns c = c.begin_by.ensures
 
-pub begin-spec : {M : Type 1} → statement M
-begin-spec = tie.close (tie.spec (λ c κs. search rules) (λ c. search rules) (λ c. search rules) returns)
+pub begin_spec : {M : Type 1} → statement M
+begin_spec = tie.close (tie.spec (λ c κs. search rules) (λ c. search rules) (λ c. search rules) returns)

@@ -3,14 +3,14 @@ use Rattle.sweep_strings.proofs.Sweeps.{begin_other}
 use Rattle.sweep_strings.proofs.begin_by.Statement.{statement}
 use Rattle.sweep_strings.proofs.begin_by.Tie as tie
 
-returns : tie.Need-returns
-returns c = begin_other _ _ _ _ c.before.if1.true _ c.number-answer.ensures
+returns : tie.Need-returns-then-desk-ne-DESK_BYTES
+returns c = begin_other _ _ _ _ c.if-desk-ne-DESK_BYTES.true _ c.number_answer.ensures
 
-returns-2 : tie.Need-returns-2
-returns-2 c = c.before.before.before.before.begin-desk.ensures
+returns-2 : tie.Need-returns
+returns-2 c = c.begin_desk.ensures
 
-pub begin-by-spec : {M : Type 1} → statement M
-begin-by-spec =
+pub begin_by_spec : {M : Type 1} → statement M
+begin_by_spec =
     tie.close
     (tie.spec
     (λ c κs. search rules)

@@ -14,10 +14,10 @@ use Rattle.sweep_strings.proofs.Sweeps.{begun_by, begin_left, begin_room, begin_
 use Rattle.sweep_strings.proofs.begin_desk.Statement.{statement}
 use Rattle.sweep_strings.proofs.begin_desk.Tie as tie
 
-abbrev known : tie.After-judge-begin → tie.After-slice-known
-known c = c.before.before.before.before.before.before.before
+abbrev known : tie.After-judge_begin-swept → tie.After-slice_known-1
+known c = c.before.before.before.before.before
 
-abbrev start : tie.After-judge-begin → tie.Start
+abbrev start : tie.After-judge_begin-swept → tie.Start
 start c = (known c).before
 
 -- the lead list that it goes by
@@ -25,41 +25,41 @@ abbrev leads : tie.Start → List ℕ
 leads s = let a = s.args in desk_by a.listed a.desk.now a.leads.now
 
 -- what the begin on the desk in the string changes
-swept : (c : tie.After-judge-begin) → (let s = start c in
+swept : (c : tie.After-judge_begin-swept) → (let s = start c in
     let a = s.args in
-    c.judge-begin.result ≡ swept_of (begin_desk (desk_in (words_of a.desk.now)) a.positions.now (leads s) (room_in a.fetches.now)))
+    c.judge_begin-swept.result ≡ swept_of (begin_desk (desk_in (words_of a.desk.now)) a.positions.now (leads s) (room_in a.fetches.now)))
 unfolding room_in said
 swept c =
     let s = start c in
     let a = s.args in
-    c.judge-begin.ensures ∙ ap (λ (k : ℕ). swept_of (begin_desk (desk_in (words_of a.desk.now)) a.positions.now (leads s) (k / 3)))
-    c.before.before.entries.ensures
+    c.judge_begin-swept.ensures ∙ ap (λ (k : ℕ). swept_of (begin_desk (desk_in (words_of a.desk.now)) a.positions.now (leads s) (k / 3)))
+    c.entries-room.ensures
 
-judged : (c : tie.After-judge-begin) → (let s = start c in
+judged : (c : tie.After-judge_begin-swept) → (let s = start c in
     let a = s.args in
-    Judged (begun_by a.positions.now (leads s) (room_in a.fetches.now)) a.desk.now c.judge-begin.result.verdict)
+    Judged (begun_by a.positions.now (leads s) (room_in a.fetches.now)) a.desk.now c.judge_begin-swept.result.verdict)
 unfolding swept_of
 judged c = record {
   right = (start c).requires;
   verdict = ap (λ (s : Swept). s.verdict) (swept c);
-  bytes = (known c).slice-known.given;
+  bytes = (known c).slice_known-1.given;
 }
 
-returns : tie.Need-returns
-returns c = let j = c.before.before.before.before in begin_left _ _ _ _ _ (judged j) (swept j) c.before.if1.true _ c.verdict-answer.ensures
+returns : tie.Need-returns-then-judged-ne-ACCEPTED
+returns c = let j = c in begin_left _ _ _ _ _ (judged c.before.before.before.before) (swept c.before.before.before.before) c.if-judged-ne-ACCEPTED.true _ c.verdict_answer.ensures
 
-write-begun-requires : tie.Need-write-begun-requires
-write-begun-requires c κs = let e = c.before.before in let j = e.before.before.before in begin_room _ _ _ _ _ (judged j) (swept j)
+write-begun-requires : tie.Need-write_begun-requires
+write-begun-requires c κs = let e = c in let j = c in begin_room _ _ _ _ _ (judged c.before.before.before.before.before) (swept c.before.before.before.before.before)
 
-returns-2 : tie.Need-returns-2
+returns-2 : tie.Need-returns
 returns-2 c =
-    let w = c.before.before.before.before in
-    let e = w.before.before.before in
-    let j = e.before.before.before in
-    begin_put _ _ _ _ _ (judged j) (swept j) e.if1.false _ _ _ w.write-begun.ensures
+    let w = c in
+    let e = c in
+    let j = c in
+    begin_put _ _ _ _ _ (judged c.before.before.before.before.before.before.before.before.before.before) (swept c.before.before.before.before.before.before.before.before.before.before) e.if-judged-ne-ACCEPTED.false _ _ _ w.write_begun.ensures
 
-pub begin-desk-spec : {M : Type 1} → statement M
-begin-desk-spec =
+pub begin_desk_spec : {M : Type 1} → statement M
+begin_desk_spec =
     tie.close
     (tie.spec
     (λ c κs. search rules)

@@ -3,7 +3,7 @@ use Rattle.sweep_strings.proofs.end.Statement.{statement}
 use Rattle.sweep_strings.proofs.end.Tie as tie
 
 returns : tie.Need-returns
-returns c = c.before.before.end_by.ensures
+returns c = c.end_by.ensures
 
-pub end-spec : {M : Type 1} → statement M
-end-spec = tie.close (tie.spec (λ c κs. search rules) (λ c. search rules) returns)
+pub end_spec : {M : Type 1} → statement M
+end_spec = tie.close (tie.spec (λ c κs. search rules) (λ c. search rules) returns)

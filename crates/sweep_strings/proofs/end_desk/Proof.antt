@@ -14,38 +14,38 @@ use Rattle.sweep_strings.proofs.end_desk.Tie as tie
 
 -- ---- the places, each from a later one
 
-abbrev known : tie.After-judge-end → tie.After-slice-known
-known c = c.before.before.before.before.before
+abbrev known : tie.After-judge_end-judged → tie.After-slice_known-1
+known c = c.before.before.before.before
 
-abbrev start : tie.After-judge-end → tie.Start
+abbrev start : tie.After-judge_end-judged → tie.Start
 start c = (known c).before
 
-abbrev accepted : tie.After-all-held → tie.Else1
-accepted c = c.before.before.before.before.before.before
+abbrev accepted : tie.After-all_held-held → tie.Else-judged-ne-ACCEPTED
+accepted c = c.before.before.before
 
-abbrev read : tie.After-held → tie.After-all-held
-read c = c.before.before.before.before
+abbrev read : tie.After-held-1 → tie.After-all_held-held
+read c = c.before.before.before
 
 -- ---- what is known there
 
-judged : (c : tie.After-judge-end) → (let a = (start c).args in
+judged : (c : tie.After-judge_end-judged) → (let a = (start c).args in
     let ls = desk_by a.listed a.desk.now a.leads.now in
-    Judged (λ (d : Desk). end_desk d a.positions.now ls a.draws.now) a.desk.now c.judge-end.result)
+    Judged (λ (d : Desk). end_desk d a.positions.now ls a.draws.now) a.desk.now c.judge_end-judged.result)
 unfolding said
-judged c = record { right = (start c).requires; verdict = c.judge-end.ensures; bytes = (known c).slice-known.given }
+judged c = record { right = (start c).requires; verdict = c.judge_end-judged.ensures; bytes = (known c).slice_known-1.given }
 
 -- what the slots' end is told
-told : (c : tie.After-all-held) → (let a = (start (accepted c).before.before).args in
-    let n = c.before.before in
-    Ends (desk_in (words_of a.desk.now)) n.before.before.all_kinds.result n.all-next.result c.all_held.result (words_of a.draws.now))
+told : (c : tie.After-all_held-held) → (let a = (start (accepted c).before.before).args in
+    let n = c in
+    Ends (desk_in (words_of a.desk.now)) n.all_kinds-kinds.result n.all_next-next.result c.all_held-held.result (words_of a.draws.now))
 told c =
     let e = accepted c in
-    let n = c.before.before in
-    let t = end_told _ _ _ _ _ (judged e.before.before) e.if1.left in
+    let n = c in
+    let t = end_told _ _ _ _ _ (judged e.before.before) e.if-judged-ne-ACCEPTED.false in
     record {
-      kinds = n.before.before.all_kinds.ensures;
-      next = n.all-next.ensures;
-      held = c.all_held.ensures;
+      kinds = n.all_kinds-kinds.ensures;
+      next = n.all_next-next.ensures;
+      held = c.all_held-held.ensures;
       wide = t.wide;
       ready = t.ready;
       drawn = t.drawn;
@@ -53,21 +53,21 @@ told c =
 
 -- ---- the needs
 
-returns : tie.Need-returns
-returns c = end_left _ _ _ _ _ (judged c.before.before.before) c.before.if1.true _ c.verdict-answer.ensures
+returns : tie.Need-returns-then-judged-ne-ACCEPTED
+returns c = end_left _ _ _ _ _ (judged c.before.before.before) c.if-judged-ne-ACCEPTED.true _ c.verdict_answer.ensures
 
-end-slots-requires : tie.Need-end-slots-requires
+end-slots-requires : tie.Need-end_slots-requires
 end-slots-requires c κs = let h = read c in (omega (arith, (start (accepted h).before.before).requires), told h)
 
-returns-2 : tie.Need-returns-2
+returns-2 : tie.Need-returns
 returns-2 c =
-    let p = c.before.before.before in
-    let s = p.before.before.before.before.before in
-    let e = accepted (read s.before) in
-    end_put _ _ _ _ _ (judged e.before.before) e.if1.left _ _ _ _ _ c.verdict-answer2.ensures s.end-slots.ensures p.put-slots.ensures
+    let p = c in
+    let s = c in
+    let e = accepted (read c.before.before.before.before.before.before.before.before.before) in
+    end_put _ _ _ _ _ (judged e.before.before) e.if-judged-ne-ACCEPTED.false _ _ _ _ _ c.verdict_answer-2.ensures s.end_slots.ensures p.put_slots.ensures
 
-pub end-desk-spec : {M : Type 1} → statement M
-end-desk-spec =
+pub end_desk_spec : {M : Type 1} → statement M
+end_desk_spec =
     tie.close
     (tie.spec
     (λ c κs. search rules)

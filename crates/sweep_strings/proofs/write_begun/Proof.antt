@@ -4,27 +4,27 @@ use Rattle.sweep_strings.proofs.Written.{kinds_then_places}
 use Rattle.sweep_strings.proofs.write_begun.Statement.{statement}
 use Rattle.sweep_strings.proofs.write_begun.Tie as tie
 
-abbrev known : tie.After-write-entries → tie.After-slice-known
-known c = c.before.before.before.before.before.before.before.before
+abbrev known : tie.After-write_entries → tie.After-slice_known-1
+known c = c.before.before.before.before.before.before.before
 
-put-places-requires : tie.Need-put-places-requires
+put-places-requires : tie.Need-put_places-requires
 put-places-requires c κs = search rules
 
 returns : tie.Need-returns
 returns c =
-    let q = c.before.before.before in
-    let k = q.before.before.before.before.before.before in
-    let w = k.before.before.before.before.before.before in
-    let s = (known w).before in
-    let places = q.put-places.ensures in
-    let kinds = k.put-kinds.ensures in (
+    let q = c in
+    let k = c in
+    let w = c in
+    let s = (known c.before.before.before.before.before.before.before.before.before.before.before.before.before).before in
+    let places = q.put_places.ensures in
+    let kinds = k.put_kinds.ensures in (
       refl,
-      kinds_then_places s.args.desk.now _ _ _ (known w).slice-known.given s.pre.1 places.1 places.0 _ _ kinds.1 kinds.0,
+      kinds_then_places s.args.desk.now _ _ _ (known c.before.before.before.before.before.before.before.before.before.before.before.before.before).slice_known-1.given s.requires.1 places.1 places.0 _ _ kinds.1 kinds.0,
       w.write_entries.ensures,
     )
 
-pub write-begun-spec : {M : Type 1} → statement M
-write-begun-spec =
+pub write_begun_spec : {M : Type 1} → statement M
+write_begun_spec =
     tie.close
     (tie.spec
     (λ c. search rules)

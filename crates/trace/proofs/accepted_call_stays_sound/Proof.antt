@@ -1,4 +1,4 @@
-use Rattle.trace.specs.Opening.{accepted_sound}
+use Rattle.trace.proofs.Opening.{accepted_sound}
 use Rattle.trace.proofs.accepted_call_stays_sound.Statement.{statement}
 use Rattle.trace.proofs.accepted_call_stays_sound.Tie as tie
 

@@ -1,4 +1,4 @@
-use Rattle.trace.specs.Opening.{opening_safe}
+use Rattle.trace.proofs.Opening.{opening_safe}
 use Rattle.trace.proofs.every_list_safe.Statement.{statement}
 use Rattle.trace.proofs.every_list_safe.Tie as tie
 

@@ -1,4 +1,4 @@
-use Rattle.trace.specs.FetchLaws.{begin_fetched}
+use Rattle.trace.proofs.FetchLaws.{begin_fetched}
 use Rattle.trace.proofs.fetches_are_whole.Statement.{statement}
 use Rattle.trace.proofs.fetches_are_whole.Tie as tie
 

@@ -1,4 +1,4 @@
-use Rattle.trace.specs.AskingLaws.{opening_ordered}
+use Rattle.trace.proofs.AskingLaws.{opening_ordered}
 use Rattle.trace.proofs.places_follow_the_asking.Statement.{statement}
 use Rattle.trace.proofs.places_follow_the_asking.Tie as tie
 

@@ -1,4 +1,4 @@
-use Rattle.trace.specs.DrawLaws.{limit_lowest, held_lowest}
+use Rattle.trace.proofs.DrawLaws.{limit_lowest, held_lowest}
 use Rattle.trace.proofs.refused_draw_is_the_lowest.Statement.{statement}
 use Rattle.trace.proofs.refused_draw_is_the_lowest.Tie as tie
 

@@ -1,4 +1,4 @@
-use Rattle.trace.specs.WaitLaws.{opening_in_time}
+use Rattle.trace.proofs.WaitLaws.{opening_in_time}
 use Rattle.trace.proofs.request_is_granted_in_time.Statement.{statement}
 use Rattle.trace.proofs.request_is_granted_in_time.Tie as tie
 

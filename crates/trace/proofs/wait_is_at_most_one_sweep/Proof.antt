@@ -1,4 +1,4 @@
-use Rattle.trace.specs.WaitLaws.{planned_least, opened_least}
+use Rattle.trace.proofs.WaitLaws.{planned_least, opened_least}
 use Rattle.trace.proofs.wait_is_at_most_one_sweep.Statement.{statement}
 use Rattle.trace.proofs.wait_is_at_most_one_sweep.Tie as tie
 

@@ -4,16 +4,16 @@ use Rattle.desk_calls.specs.Calls.{open_scratch_answer, open_scratch_string}
 use Rattle.open_strings.proofs.scratch.open.Statement.{statement}
 use Rattle.open_strings.proofs.scratch.open.Tie as tie
 
-returns : tie.Need-returns
+returns : tie.Need-returns-then-is_short
 unfolding open_scratch_answer open_scratch_string
-returns c = let e = c.before in rw (sym e.before.is-short.ensures ∙ e.if1.true) (c.number-answer.ensures, refl)
+returns c = let e = c in rw (sym e.is_short.ensures ∙ e.if-is_short.true) (c.number_answer.ensures, refl)
 
-returns-2 : tie.Need-returns-2
+returns-2 : tie.Need-returns
 unfolding open_scratch_answer open_scratch_string
 returns-2 c =
-    let m = c.before.before in
-    let e = m.before.before in
-    rw (sym e.before.is-short.ensures ∙ e.if1.false) m.open_by.ensures
+    let m = c in
+    let e = c in
+    rw (sym e.is_short.ensures ∙ e.if-is_short.false) m.open_by.ensures
 
 pub open_spec : {M : Type 1} → statement M
 open_spec =

@@ -4,19 +4,19 @@ use Rattle.desk_calls.specs.Calls.{begin_scratch_answer, begin_scratch_string, f
 use Rattle.sweep_strings.proofs.scratch.begin.Statement.{statement}
 use Rattle.sweep_strings.proofs.scratch.begin.Tie as tie
 
-returns : tie.Need-returns
+returns : tie.Need-returns-then-is_short
 unfolding begin_scratch_answer begin_scratch_string fetch_scratch_string
-returns c = let e = c.before in rw (sym e.before.is-short.ensures ∙ e.if1.true) (c.number-answer.ensures, refl, refl)
+returns c = let e = c in rw (sym e.is_short.ensures ∙ e.if-is_short.true) (c.number_answer.ensures, refl, refl)
 
-returns-2 : tie.Need-returns-2
+returns-2 : tie.Need-returns
 unfolding begin_scratch_answer begin_scratch_string fetch_scratch_string
 returns-2 c =
-    let m = c.before.before.before.before in
-    let e = m.before.before.before in
-    rw (sym e.before.is-short.ensures ∙ e.if1.false) m.begin-by.ensures
+    let m = c in
+    let e = c in
+    rw (sym e.is_short.ensures ∙ e.if-is_short.false) m.begin_by.ensures
 
-pub begin-spec : {M : Type 1} → statement M
-begin-spec =
+pub begin_spec : {M : Type 1} → statement M
+begin_spec =
     tie.close
     (tie.spec
     (λ c κs. search rules)

@@ -4,19 +4,19 @@ use Rattle.desk_calls.specs.Calls.{end_scratch_answer, end_scratch_string}
 use Rattle.sweep_strings.proofs.scratch.end.Statement.{statement}
 use Rattle.sweep_strings.proofs.scratch.end.Tie as tie
 
-returns : tie.Need-returns
+returns : tie.Need-returns-then-is_short
 unfolding end_scratch_answer end_scratch_string
-returns c = let e = c.before in rw (sym e.before.is-short.ensures ∙ e.if1.true) (c.number-answer.ensures, refl)
+returns c = let e = c in rw (sym e.is_short.ensures ∙ e.if-is_short.true) (c.number_answer.ensures, refl)
 
-returns-2 : tie.Need-returns-2
+returns-2 : tie.Need-returns
 unfolding end_scratch_answer end_scratch_string
 returns-2 c =
-    let m = c.before.before in
-    let e = m.before.before in
-    rw (sym e.before.is-short.ensures ∙ e.if1.false) m.end_by.ensures
+    let m = c in
+    let e = c in
+    rw (sym e.is_short.ensures ∙ e.if-is_short.false) m.end_by.ensures
 
-pub end-spec : {M : Type 1} → statement M
-end-spec =
+pub end_spec : {M : Type 1} → statement M
+end_spec =
     tie.close
     (tie.spec
     (λ c κs. search rules)

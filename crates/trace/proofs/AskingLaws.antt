@@ -10,22 +10,24 @@ use Rattle.legality.specs.Legality.{Wide}
 use Rattle.plan.specs.declared.Plan.{Plan}
 use Rattle.plan.specs.Answer.{is_plan}
 use Rattle.rules.specs.Supply.{Lawful}
-use Rattle.rules.specs.Calls as C
 use Rattle.rules.specs.Calls.{Given, is_accepted}
 use Rattle.turns.specs.Facts.{sound_says}
 use Rattle.turns.specs.ByPlace.{queue_places}
 use Rattle.turns.specs.Ranks.{place_held}
 use Rattle.turns.specs.Answers.{after_append}
-use Rattle.safety.specs.Claim as K
 use Rattle.safety.specs.Asking.{asked_before}
 use Rattle.desk.specs.Desk.{supply_of, order_of, rules_of, desk_of, open_desk}
 use Rattle.desk.specs.Promise.{supply_named}
 use Rattle.trace.specs.Safe.{Seen, on_record}
-use Rattle.trace.specs.SafeLists.{seen_as, accepted_zero, given_of, on_rules, accepted_same, numbered_by_rules, seen_same}
+use Rattle.trace.specs.SafeLists.{seen_as, accepted_zero, given_of, on_rules, numbered_by_rules}
+use Rattle.trace.proofs.SafeLists.{accepted_same, seen_same}
 use Rattle.trace.specs.SlotLaws.{kind_at}
 use Rattle.trace.specs.Opening.{checked_lawful, opened_checked}
 use Rattle.trace.specs.Wait.{place_at, InAskingOrder}
-use Rattle.trace.specs.WaitLaws.{stays_as, renumbered, stays_back, strict, state_after, stays_ruled}
+use Rattle.trace.specs.WaitLaws.{renumbered, strict, state_after}
+use Rattle.trace.proofs.WaitLaws.{stays_as, stays_back, stays_ruled}
+use Rattle.rules.specs.Calls as C
+use Rattle.safety.specs.Claim as K
 
 -- calls of another type, seen as these
 pub ordered_as : {X Y : Type 0} (g : X → Y) (v : Seen Y) → InAskingOrder v → InAskingOrder (seen_as g v)
