@@ -23,6 +23,7 @@ use Rattle.plan.specs.Plan.{plan_of, blank_plan, positions_of, leads_of}
 use Rattle.plan.specs.Answer.{fault_after, refusal, answer, filled, planned, positions_after, leads_after}
 use Rattle.plan.specs.Scratch.{leads_lent}
 use Rattle.plan.specs.Ways as plan
+use Rattle.plan.proofs.Ways as plan_laws
 use Rattle.plan_layout.specs.Layout.{plan_words, plan_size}
 use Rattle.layout.specs.declared.FilmdiskAnswer.{FilmdiskAnswer}
 use Rattle.layout.specs.Answers.{verdict_answer}
@@ -125,12 +126,12 @@ module _ (listed : Bool) (x : Showing) (f : Figures) (p ps ls : List ℕ) (l : l
     -- 13 leaves the plan string
     pub plan_kept : n ≡ too_short → ReadCall listed x card p ps ls r p qs ms
     unfolding refusal
-    plan_kept k = planning (refusal n 0) (plan.by_refusal x card ps lent n refl made (λ z. omega arith)) refl p (filled_short p l (refusal n 0) k)
+    plan_kept k = planning (refusal n 0) (plan_laws.by_refusal x card ps lent n refl made (λ z. omega arith)) refl p (filled_short p l (refusal n 0) k)
 
     -- after 12 it is all zero
     pub plan_cleared : n ≢ too_short → n ≢ 0 → (q : List ℕ) → q ≡ with_words p 0 (plan_words blank_plan) → ReadCall listed x card p ps ls r q qs ms
     unfolding refusal
-    plan_cleared k h q w = planning (refusal n 0) (plan.by_refusal x card ps lent n refl made h) refl q (filled_plan p l (refusal n 0) k q w)
+    plan_cleared k h q w = planning (refusal n 0) (plan_laws.by_refusal x card ps lent n refl made h) refl q (filled_plan p l (refusal n 0) k q w)
 
     pub plan_written : n ≡ 0 → (m : Plan) → m ≡ plan_of x f → (q : List ℕ) → q ≡ with_words p 0 (plan_words m) → ReadCall listed x card p ps ls r q qs ms
     plan_written z m e q w =

@@ -12,16 +12,16 @@ use Rattle.move_strings.proofs.join.Tie as tie
 returns : tie.Need-returns
 unfolding join_answer join_string move_answer move_string
 returns c =
-    let m = c.before.before in
-    let a = m.before.before.before.before.before.before.args in
+    let m = c in
+    let a = m.args in
     let D = a.desk.now in
     let ps = a.positions.now in
     let ls = a.leads.now in
-    let step = m.before.join-of.ensures in
+    let step = m.join_of.ensures in
     let same = join_is (said D) ps ls a.slot a.block a.film in (
-      m.make-move.ensures.0 ∙ ap (move_answer D ps ls) step ∙ ap (λ (x : Answer). answer_by D (verdict_answer x.verdict)) same,
-      m.make-move.ensures.1 ∙ ap (move_string D ps ls) step ∙ ap (λ (x : Answer). string_by D x.desk) same,
+      m.make_move.ensures.0 ∙ ap (move_answer D ps ls) step ∙ ap (λ (x : Answer). answer_by D (verdict_answer x.verdict)) same,
+      m.make_move.ensures.1 ∙ ap (move_string D ps ls) step ∙ ap (λ (x : Answer). string_by D x.desk) same,
     )
 
-pub join-spec : {M : Type 1} → statement M
-join-spec = tie.close (tie.spec (λ c κs. search rules) (λ c κs. search rules) (λ c. search rules) returns)
+pub join_spec : {M : Type 1} → statement M
+join_spec = tie.close (tie.spec (λ c κs. search rules) (λ c κs. search rules) (λ c. search rules) returns)

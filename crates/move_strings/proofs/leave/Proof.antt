@@ -12,15 +12,15 @@ use Rattle.move_strings.proofs.leave.Tie as tie
 returns : tie.Need-returns
 unfolding leave_answer leave_string move_answer move_string
 returns c =
-    let m = c.before.before in
-    let a = m.before.before.before.before.before.before.args in
+    let m = c in
+    let a = m.args in
     let D = a.desk.now in
     let ps = a.positions.now in
     let ls = a.leads.now in
-    let step = m.before.leave-of.ensures in
+    let step = m.leave_of.ensures in
     let same = leave_is (said D) ps ls a.slot in (
-      m.make-move.ensures.0 ∙ ap (move_answer D ps ls) step ∙ ap (λ (x : Answer). answer_by D (verdict_answer x.verdict)) same,
-      m.make-move.ensures.1 ∙ ap (move_string D ps ls) step ∙ ap (λ (x : Answer). string_by D x.desk) same,
+      m.make_move.ensures.0 ∙ ap (move_answer D ps ls) step ∙ ap (λ (x : Answer). answer_by D (verdict_answer x.verdict)) same,
+      m.make_move.ensures.1 ∙ ap (move_string D ps ls) step ∙ ap (λ (x : Answer). string_by D x.desk) same,
     )
 
 pub leave_spec : {M : Type 1} → statement M

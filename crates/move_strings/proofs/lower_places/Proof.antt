@@ -9,63 +9,63 @@ use Rattle.move_strings.proofs.Lowered.{Lowered, lower_start, lower_long, lower_
 use Rattle.move_strings.proofs.lower_places.Statement.{statement}
 use Rattle.move_strings.proofs.lower_places.Tie as tie
 
-abbrev invariant-loop : tie.invariant-loop
+abbrev invariant-loop : tie.invariant-loop-i
 invariant-loop desk₀ streams gone i₀ desk i = Lowered desk₀ streams gone desk i
 
-abbrev decreases-loop : tie.decreases-loop
+abbrev decreases-loop : tie.decreases-loop-i
 decreases-loop desk₀ streams gone i₀ desk i = streams - i
 
 -- ---- the places, each from a later one
 
-abbrev start : tie.At-loop invariant-loop decreases-loop → tie.Start invariant-loop decreases-loop
+abbrev start : tie.At-loop-i invariant-loop decreases-loop → tie.Start invariant-loop decreases-loop
 start c = c.before.before
 
-abbrev turn : tie.After-place-in invariant-loop decreases-loop → tie.At-loop invariant-loop decreases-loop
-turn c = c.before.before.before
+abbrev turn : tie.After-place_in-place invariant-loop decreases-loop → tie.At-loop-i invariant-loop decreases-loop
+turn c = c.before.before
 
 -- ---- what is known there
 
 -- the string is as long as it was
-long : (c : tie.At-loop invariant-loop decreases-loop) → length c.loop.desk ≡ length (start c).args.desk.now
+long : (c : tie.At-loop-i invariant-loop decreases-loop) → length c.loop-i.desk ≡ length (start c).args.desk.now
 long c = let s = start c in
-    lower_long s.args.desk.now s.pre.0 s.args.streams s.args.gone s.pre.1 s.pre.2 c.loop.desk c.loop.i c.loop.invariant
+    lower_long s.args.desk.now s.requires.0 s.args.streams s.args.gone s.requires.1 s.requires.2 c.loop-i.desk c.loop-i.i c.loop-i.invariant
 
 -- ---- the needs
 
-loop-holds : tie.Need-loop-init invariant-loop decreases-loop
-loop-holds c = let s = c.before in
+loop-holds : tie.Need-loop-i-init invariant-loop decreases-loop
+loop-holds c = let s = c in
     lower_start s.args.desk.now s.requires.0 s.args.streams s.args.gone s.requires.1 s.requires.2
 
-place-in-requires : tie.Need-place-in-requires invariant-loop decreases-loop
-place-in-requires c κs = let l = c.before.before in
-    (omega (arith, (start l).requires.1), omega (arith, long l, (start l).requires.0))
+place-in-requires : tie.Need-place_in-place-requires invariant-loop decreases-loop
+place-in-requires c κs = let l = c in
+    (omega (arith, (start c.before).requires.1), omega (arith, long c.before, (start c.before).requires.0))
 
-put-word-requires : tie.Need-put-word-requires invariant-loop decreases-loop
+put-word-requires : tie.Need-put_word-requires invariant-loop decreases-loop
 put-word-requires c κs = let l = turn c.before.before in
-    omega (arith, words_length l.loop.desk, long l, (start l).pre.0, (start l).pre.1)
+    omega (arith, words_length l.loop-i.desk, long l, (start l).requires.0, (start l).requires.1)
 
-loop-again : tie.Need-loop-preserved invariant-loop decreases-loop
+loop-again : tie.Need-loop-i-preserved invariant-loop decreases-loop
 loop-again c =
-    let w = c.before.before in
-    let v = w.before in
-    let r = v.before.before in
-    let l = turn r in
+    let w = c in
+    let v = c in
+    let r = c in
+    let l = turn c.before.before.before.before.before in
     let s = start l in
-    lower_more s.args.desk.now s.pre.0 s.args.streams s.args.gone s.pre.1 s.pre.2 l.loop.desk l.loop.i l.loop.inv
-    _ _ (omega arith) (v.lowered.ensures ∙ ap (dropped s.args.gone) r.place_in.ensures) w.put_word.ensures
+    lower_more s.args.desk.now s.requires.0 s.args.streams s.args.gone s.requires.1 s.requires.2 l.loop-i.desk l.loop-i.i l.loop-i.invariant
+    _ _ (omega arith) (v.lowered.ensures ∙ ap (dropped s.args.gone) r.place_in-place.ensures) w.put_word.ensures
 
-same_length : tie.Need-same-length invariant-loop decreases-loop
+same_length : tie.Need-shape_of-desk invariant-loop decreases-loop
 same_length c = long c.before
 
 returns : tie.Need-returns invariant-loop decreases-loop
 returns c =
-    let l = c.before in
-    let s = start l in
-    lower_end s.args.desk.now s.pre.0 s.args.streams s.args.gone s.pre.1 s.pre.2 l.loop.desk l.loop.i l.loop.invariant
-    l.before.slice-known.given s.pre.3 (omega (arith, l.loop.invariant.few))
+    let l = c in
+    let s = start c.before in
+    lower_end s.args.desk.now s.requires.0 s.args.streams s.args.gone s.requires.1 s.requires.2 l.loop-i.desk l.loop-i.i l.loop-i.invariant
+    l.slice_known-1.given s.requires.3 (omega (arith, l.loop-i.invariant.few))
 
-pub lower-places-spec : {M : Type 1} → statement M
-lower-places-spec =
+pub lower_places_spec : {M : Type 1} → statement M
+lower_places_spec =
     tie.close
     (tie.spec
     invariant-loop

@@ -18,80 +18,80 @@ use Rattle.move_strings.proofs.write_move.Tie as tie
 
 -- ---- the places, each from a later one
 
-abbrev placed : tie.After-put-slot → tie.After-place-after
+abbrev placed : tie.After-put_slot → tie.After-place_after-place
 placed c = c.before.before
 
-abbrev had : tie.After-put-slot → tie.After-place-in
+abbrev had : tie.After-put_slot → tie.After-place_in-gone
 had c = (placed c).before.before
 
-abbrev counted : tie.After-put-slot → tie.After-streams-in
+abbrev counted : tie.After-put_slot → tie.After-streams_in-streams
 counted c = (had c).before.before
 
-abbrev named : tie.After-put-slot → tie.After-next-after
+abbrev named : tie.After-put_slot → tie.After-next_after-next
 named c = (counted c).before.before
 
-abbrev known : tie.After-put-slot → tie.After-slice-known
+abbrev known : tie.After-put_slot → tie.After-slice_known-1
 known c = (named c).before.before.before
 
-abbrev start : tie.After-put-slot → tie.Start
+abbrev start : tie.After-put_slot → tie.Start
 start c = (known c).before
 
-abbrev given : tie.After-put-slot → Desk
+abbrev given : tie.After-put_slot → Desk
 given c = desk_in (words_of (start c).args.desk.now)
 
 -- ---- what is known there
 
 -- the slot with its kind, its next block and these places
-told : (c : tie.After-put-slot) {qs : List ℕ} → (let s = (start c).args.step in let d = given c in
-    qs ≡ places_after d s → desk_words (with_slot d s.slot (named c).before.kind-after.result (named c).next-after.result qs)
+told : (c : tie.After-put_slot) {qs : List ℕ} → (let s = (start c).args.step in let d = given c in
+    qs ≡ places_after d s → desk_words (with_slot d s.slot (named c).kind_after-kind.result (named c).next_after-next.result qs)
     ≡ desk_words (with_slot d s.slot (kind_after s) (next_after s) (places_after d s)))
 told c e =
     let n = named c in
-    λ t. desk_words (with_slot (given c) (start c).args.step.slot (n.before.kind-after.ensures t) (n.next-after.ensures t) (e t))
+    λ t. desk_words (with_slot (given c) (start c).args.step.slot (n.kind_after-kind.ensures t) (n.next_after-next.ensures t) (e t))
 
-small : (c : tie.After-put-slot) → (placed c).place_after.result < 4294967296
+small : (c : tie.After-put_slot) → (placed c).place_after-place.result < 4294967296
 small c = search rules
 
 -- ---- the needs
 
-returns : tie.Need-returns
+returns : tie.Need-returns-then-gone-eq0
 returns c =
-    let p = c.before.before.before in
-    let d = given p in
-    p.put-slot.ensures
-    ∙ ap (with_words (start p).args.desk.now 0) (told p
-    (ap (set d.places _) (placed p).place_after.ensures ∙ sym (with_unplaced d.places _ _ (sym (had p).place_in.ensures ∙ c.if1.true))))
+    let p = c in
+    let d = given c.before.before.before in
+    p.put_slot.ensures
+    ∙ ap (with_words (start c.before.before.before).args.desk.now 0) (told c.before.before.before
+    (ap (set d.places _) (placed c.before.before.before).place_after-place.ensures ∙ sym (with_unplaced d.places _ _ (sym (had c.before.before.before).place_in-gone.ensures ∙ c.if-gone-eq0.true))))
 
-lower-places-requires : tie.Need-lower-places-requires
+lower-places-requires : tie.Need-lower_places-requires
 lower-places-requires c κs =
-    let p = c.before.before.before.before in
-    let s = start p in
+    let p = c in
+    let s = start c.before.before.before.before in
     let D = s.args.desk.now in
-    let m = s.pre.1 in
-    let read = slot_read D _ (known p).slice-known.given s.pre.0 _ _ _ _ p.put-slot.ensures (small p) in
-    let q = still_placeless (given p) s.args.step _ _ m (wide_in D s.pre.0).places (counted p).streams-in.ensures
-    (read ∙ ap (set (given p).places _) (placed p).place_after.ensures) in (
-      omega (arith, slot_long D _ (known p).slice-known.given s.pre.0 _ _ _ _ p.put-slot.ensures),
-      omega (arith, (counted p).streams-in.ensures, m.few),
-      omega (arith, c.before.if1.false),
+    let m = s.requires.1 in
+    let read = slot_read D _ (known c.before.before.before.before).slice_known-1.given s.requires.0 _ _ _ _ p.put_slot.ensures (small c.before.before.before.before) in
+    let q = still_placeless (given c.before.before.before.before) s.args.step _ _ m (wide_in D s.requires.0).places (counted c.before.before.before.before).streams_in-streams.ensures
+    (read ∙ ap (set (given c.before.before.before.before).places _) (placed c.before.before.before.before).place_after-place.ensures) in (
+      omega (arith, slot_long D _ (known c.before.before.before.before).slice_known-1.given s.requires.0 _ _ _ _ p.put_slot.ensures),
+      omega (arith, (counted c.before.before.before.before).streams_in-streams.ensures, m.few),
+      omega (arith, c.if-gone-eq0.false),
       q.1,
     )
 
-returns-2 : tie.Need-returns-2
+returns-2 : tie.Need-returns
 returns-2 c =
-    let l = c.before.before in
-    let e = l.before.before in
-    let p = e.before.before.before in
-    let s = start p in
+    let l = c in
+    let e = c in
+    let p = c in
+    let s = start c.before.before.before.before.before.before.before in
     let D = s.args.desk.now in
-    let d = given p in
-    slot_then_lowered D _ (known p).slice-known.given s.pre.0 _ _ _ _ p.put-slot.ensures _ _ (small p) l.lower-places.ensures
-    ∙ ap (with_words D 0) (told p
-    (ap₂ (λ (m x : ℕ). map (dropped m) (set d.places s.args.step.slot x)) (had p).place_in.ensures (placed p).place_after.ensures
-    ∙ sym (with_placed d.places _ _ (λ z. e.if1.false ((had p).place_in.ensures ∙ z)))))
+    let d = given c.before.before.before.before.before.before.before in
+    slot_then_lowered D _ (known c.before.before.before.before.before.before.before).slice_known-1.given s.requires.0 _ _ _ _ p.put_slot.ensures _ _ (small c.before.before.before.before.before.before.before) l.lower_places.ensures
+    ∙ ap (with_words D 0) (told c.before.before.before.before.before.before.before
+    (ap₂ (λ (m x : ℕ). map (dropped m) (set d.places s.args.step.slot x)) (had c.before.before.before.before.before.before.before).place_in-gone.ensures (placed c.before.before.before.before.before.before.before).place_after-place.ensures
+    ∙ sym (with_placed d.places _ _ (λ z. e.if-gone-eq0.false ((had c.before.before.before.before.before.before.before).place_in-gone.ensures ∙ z)))))
 
-pub write-move-spec : {M : Type 1} → statement M
-write-move-spec =
+pub write_move_spec : {M : Type 1} → statement M
+write_move_spec =
     tie.close
     (tie.spec
     (λ c. search rules)

@@ -1,5 +1,5 @@
 -- The card of the figures is in the buffer, and both planners are compared on it.
-use Rattle.std.proofs.Common.{◌+◌, ◌∙◌, sym, ap, arith, length, length-take-le, replicate}
+use Rattle.std.proofs.Common.{◌+◌, ◌∙◌, sym, ap, arith, length-take-le, replicate}
 use mathlib.Core.Path.{ap₂}
 use Rattle.placement.specs.Showing.{one, loop}
 use Rattle.compare_planners.specs.Compare.{unequal_on}

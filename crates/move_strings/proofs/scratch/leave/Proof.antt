@@ -9,24 +9,24 @@ use Rattle.desk_calls.specs.Calls.{leave_scratch_answer, leave_scratch_string}
 use Rattle.move_strings.proofs.scratch.leave.Statement.{statement}
 use Rattle.move_strings.proofs.scratch.leave.Tie as tie
 
-returns : tie.Need-returns
+returns : tie.Need-returns-then-is_short
 unfolding leave_scratch_answer leave_scratch_string
-returns c = let e = c.before in rw (sym e.before.is-short.ensures ∙ e.if1.true) (c.number-answer.ensures, refl)
+returns c = let e = c in rw (sym e.is_short.ensures ∙ e.if-is_short.true) (c.number_answer.ensures, refl)
 
-returns-2 : tie.Need-returns-2
+returns-2 : tie.Need-returns
 unfolding leave_scratch_answer leave_scratch_string leave_answer leave_string move_answer move_string
 returns-2 c =
-    let m = c.before.before in
-    let e = m.before.before.before in
-    let a = e.before.before.before.before.before.args in
+    let m = c in
+    let e = c in
+    let a = e.args in
     let D = a.desk.now in
     let ps = a.positions.now in
     let ls = leads_of_desk D in
-    let step = m.before.leave-of.ensures in
+    let step = m.leave_of.ensures in
     let same = leave_is (said D) ps ls a.slot in
-    rw (sym e.before.is-short.ensures ∙ e.if1.false) (
-      m.make-move.ensures.0 ∙ ap (move_answer D ps ls) step ∙ ap (λ (x : Answer). answer_by D (verdict_answer x.verdict)) same,
-      m.make-move.ensures.1 ∙ ap (move_string D ps ls) step ∙ ap (λ (x : Answer). string_by D x.desk) same,
+    rw (sym e.is_short.ensures ∙ e.if-is_short.false) (
+      m.make_move.ensures.0 ∙ ap (move_answer D ps ls) step ∙ ap (λ (x : Answer). answer_by D (verdict_answer x.verdict)) same,
+      m.make_move.ensures.1 ∙ ap (move_string D ps ls) step ∙ ap (λ (x : Answer). string_by D x.desk) same,
     )
 
 pub leave_spec : {M : Type 1} → statement M
