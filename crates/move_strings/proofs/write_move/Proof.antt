@@ -22,13 +22,13 @@ abbrev placed : tie.After-put_slot → tie.After-place_after-place
 placed c = c.before.before
 
 abbrev had : tie.After-put_slot → tie.After-place_in-gone
-had c = (placed c).before.before
+had c = (placed c).before
 
 abbrev counted : tie.After-put_slot → tie.After-streams_in-streams
-counted c = (had c).before.before
+counted c = (had c).before
 
 abbrev named : tie.After-put_slot → tie.After-next_after-next
-named c = (counted c).before.before
+named c = (counted c).before
 
 abbrev known : tie.After-put_slot → tie.After-slice_known-1
 known c = (named c).before.before.before
