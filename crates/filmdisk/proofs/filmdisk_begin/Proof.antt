@@ -5,14 +5,14 @@ use Rattle.filmdisk.proofs.filmdisk_begin.Tie as tie
 begin-requires : tie.Need-begin-requires
 begin-requires c κs = search rules
 
-same_length : tie.Need-same-length
+same_length : tie.Need-shape_of-desk
 same_length c = search rules
 
-same-length-2 : tie.Need-same-length-2
+same-length-2 : tie.Need-shape_of-fetches
 same-length-2 c = search rules
 
 returns : tie.Need-returns
-returns c = c.before.before.before.before.begin.ensures
+returns c = c.begin.ensures
 
-pub filmdisk-begin-spec : {M : Type 1} → statement M
-filmdisk-begin-spec = tie.close (tie.spec begin-requires same_length same-length-2 returns)
+pub filmdisk_begin_spec : {M : Type 1} → statement M
+filmdisk_begin_spec = tie.close (tie.spec begin-requires same_length same-length-2 returns)

@@ -5,11 +5,11 @@ use Rattle.filmdisk.proofs.filmdisk_end.Tie as tie
 end-requires : tie.Need-end-requires
 end-requires c κs = search rules
 
-same_length : tie.Need-same-length
+same_length : tie.Need-shape_of-desk
 same_length c = search rules
 
 returns : tie.Need-returns
-returns c = c.before.before.end.ensures
+returns c = c.end.ensures
 
-pub filmdisk-end-spec : {M : Type 1} → statement M
-filmdisk-end-spec = tie.close (tie.spec end-requires same_length returns)
+pub filmdisk_end_spec : {M : Type 1} → statement M
+filmdisk_end_spec = tie.close (tie.spec end-requires same_length returns)

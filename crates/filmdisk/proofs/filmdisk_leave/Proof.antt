@@ -5,11 +5,11 @@ use Rattle.filmdisk.proofs.filmdisk_leave.Tie as tie
 leave-requires : tie.Need-leave-requires
 leave-requires c κs = search rules
 
-same_length : tie.Need-same-length
+same_length : tie.Need-shape_of-desk
 same_length c = search rules
 
 returns : tie.Need-returns
-returns c = c.before.before.leave.ensures
+returns c = c.leave.ensures
 
-pub filmdisk-leave-spec : {M : Type 1} → statement M
-filmdisk-leave-spec = tie.close (tie.spec leave-requires same_length returns)
+pub filmdisk_leave_spec : {M : Type 1} → statement M
+filmdisk_leave_spec = tie.close (tie.spec leave-requires same_length returns)

@@ -2,20 +2,20 @@ use borrow.Author.Rules.{rules}
 use Rattle.filmdisk.proofs.filmdisk_plan_loop.Statement.{statement}
 use Rattle.filmdisk.proofs.filmdisk_plan_loop.Tie as tie
 
-plan-loop-requires : tie.Need-plan-loop-requires
+plan-loop-requires : tie.Need-plan_loop-requires
 plan-loop-requires c κs = search rules
 
-same_length : tie.Need-same-length
+same_length : tie.Need-shape_of-plan
 same_length c = search rules
 
-same-length-2 : tie.Need-same-length-2
+same-length-2 : tie.Need-shape_of-positions
 same-length-2 c = search rules
 
-same-length-3 : tie.Need-same-length-3
+same-length-3 : tie.Need-shape_of-leads
 same-length-3 c = search rules
 
 returns : tie.Need-returns
-returns c = c.before.before.before.before.before.before.plan-loop.ensures
+returns c = c.plan_loop.ensures
 
-pub filmdisk-plan-loop-spec : {M : Type 1} → statement M
-filmdisk-plan-loop-spec = tie.close (tie.spec plan-loop-requires same_length same-length-2 same-length-3 returns)
+pub filmdisk_plan_loop_spec : {M : Type 1} → statement M
+filmdisk_plan_loop_spec = tie.close (tie.spec plan-loop-requires same_length same-length-2 same-length-3 returns)

@@ -10,5 +10,5 @@ returns c = (
   λ D ps ls F z qs ms draws k. judged_by (begin_string D ps ls F) _ (begun_sweep D ps ls F z) qs ms draws k,
 )
 
-pub end-judges-by-draw-limit-spec : {M : Type 1} → statement M
-end-judges-by-draw-limit-spec = tie.close (tie.spec returns)
+pub end_judges_by_draw_limit_spec : {M : Type 1} → statement M
+end_judges_by_draw_limit_spec = tie.close (tie.spec returns)

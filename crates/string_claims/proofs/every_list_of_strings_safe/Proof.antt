@@ -5,5 +5,5 @@ use Rattle.string_claims.proofs.every_list_of_strings_safe.Tie as tie
 returns : tie.Need-returns
 returns c = strings_safe
 
-pub every-list-of-strings-safe-spec : {M : Type 1} → statement M
-every-list-of-strings-safe-spec = tie.close (tie.spec returns)
+pub every_list_of_strings_safe_spec : {M : Type 1} → statement M
+every_list_of_strings_safe_spec = tie.close (tie.spec returns)

@@ -5,5 +5,5 @@ use Rattle.string_claims.proofs.plan_call_leaves.Tie as tie
 returns : tie.Need-returns
 returns c = (plan_told, (plan_cleared, (plan_kept, (other_kept, lists_kept))))
 
-pub plan-call-leaves-spec : {M : Type 1} → statement M
-plan-call-leaves-spec = tie.close (tie.spec returns)
+pub plan_call_leaves_spec : {M : Type 1} → statement M
+plan_call_leaves_spec = tie.close (tie.spec returns)

@@ -5,5 +5,5 @@ use Rattle.string_claims.proofs.planned_strings_open.Tie as tie
 returns : tie.Need-returns
 returns c = strings_open
 
-pub planned-strings-open-spec : {M : Type 1} → statement M
-planned-strings-open-spec = tie.close (tie.spec returns)
+pub planned_strings_open_spec : {M : Type 1} → statement M
+planned_strings_open_spec = tie.close (tie.spec returns)

@@ -5,5 +5,5 @@ use Rattle.string_claims.proofs.refused_opening_clears.Tie as tie
 returns : tie.Need-returns
 returns c = (open_cleared, open_other)
 
-pub refused-opening-clears-spec : {M : Type 1} → statement M
-refused-opening-clears-spec = tie.close (tie.spec returns)
+pub refused_opening_clears_spec : {M : Type 1} → statement M
+refused_opening_clears_spec = tie.close (tie.spec returns)

@@ -5,5 +5,5 @@ use Rattle.string_claims.proofs.scratch_strings_equal_lists.Tie as tie
 returns : tie.Need-returns
 returns c = (same_plans, (same_opens, same_strings))
 
-pub scratch-strings-equal-lists-spec : {M : Type 1} → statement M
-scratch-strings-equal-lists-spec = tie.close (tie.spec returns)
+pub scratch_strings_equal_lists_spec : {M : Type 1} → statement M
+scratch_strings_equal_lists_spec = tie.close (tie.spec returns)

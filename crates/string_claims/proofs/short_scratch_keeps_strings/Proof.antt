@@ -5,5 +5,5 @@ use Rattle.string_claims.proofs.short_scratch_keeps_strings.Tie as tie
 returns : tie.Need-returns
 returns c = (short_plans, short_strings)
 
-pub short-scratch-keeps-strings-spec : {M : Type 1} → statement M
-short-scratch-keeps-strings-spec = tie.close (tie.spec returns)
+pub short_scratch_keeps_strings_spec : {M : Type 1} → statement M
+short_scratch_keeps_strings_spec = tie.close (tie.spec returns)

@@ -5,5 +5,5 @@ use Rattle.string_claims.proofs.unfilled_entries_stay.Tie as tie
 returns : tie.Need-returns
 returns c = (lists_past, (strings_past, (fetches_past, card_past)))
 
-pub unfilled-entries-stay-spec : {M : Type 1} → statement M
-unfilled-entries-stay-spec = tie.close (tie.spec returns)
+pub unfilled_entries_stay_spec : {M : Type 1} → statement M
+unfilled_entries_stay_spec = tie.close (tie.spec returns)
