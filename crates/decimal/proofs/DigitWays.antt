@@ -1,9 +1,9 @@
 -- Each way that the reading of digits can take, and what they say of a number.
 -- Assumes nothing.
-use Prim.Native.Nat.{ℕ, zero, suc, ◌+◌, ◌-◌, ◌*◌, ◌≤◌, ◌<◌}
+use Prim.Native.Nat.{ℕ, suc, ◌+◌, ◌-◌, ◌*◌, ◌≤◌, ◌<◌}
 use mathlib.Core.Path.{◌≡◌, refl, sym, ap, ◌∙◌}
 use mathlib.Core.List.{List, [], ◌∷◌}
-use mathlib.Core.Bool.{Bool, true, false, cond, not}
+use mathlib.Core.Bool.{Bool, true, false, not}
 use native.Mathlib.Omega.{arith}
 use native.Mathlib.Decide.{dec_lt}
 use native.Mathlib.Numerals.{add-one}
@@ -13,7 +13,6 @@ use lib.Dec.{eqb}
 use borrow.Author.Tests.{eq-eqb, ne_eqb}
 use Rattle.numbers.specs.Limits.{no_number}
 use Rattle.decimal.specs.declared.Digits.{Digits}
-use Rattle.decimal.specs.declared.Decimal.{Decimal}
 use Rattle.decimal.specs.declared.Decimal.TheVariants.{Number, Other}
 use Rattle.decimal.specs.Decimal.{is_digit, digits_in, value_from, is_number, number_of, number_at, capped, grown, capped_number, digits_at}
 use Rattle.decimal.specs.DecimalLaws.{digit_range, capped_small, capped_great, capped_most, capped_from, grown_capped, digits_next, digits_end}

@@ -1,15 +1,13 @@
 -- Laws of numbers in decimal: what is written is read back, what is read is what would be written, and what a cap changes.
 -- Assumes nothing.
-use Rattle.std.specs.Prelude.{ℕ, zero, suc, ◌+◌, ◌-◌, ◌*◌, ◌/◌, ◌%◌, ◌≤◌, ◌<◌, ◌≡◌, List, [], ◌∷◌, ◌++◌, Bool, true, false, cond, not, ◌&&◌, length, get_or, drop, leb, ltb, eqb}
+use Rattle.std.specs.Prelude.{ℕ, zero, suc, ◌+◌, ◌-◌, ◌*◌, ◌/◌, ◌%◌, ◌≤◌, ◌<◌, ◌≡◌, List, [], ◌∷◌, ◌++◌, Bool, true, false, cond, not, length, get_or, drop, leb, ltb, eqb}
 use Rattle.std.proofs.Math.Path.{refl}
-use Rattle.std.proofs.Common.{sym, ap, ap₂, ◌∙◌, append_assoc, length-append, length-drop, drop-drop, ltb-true, ltb-false, leb-true, lt-ltb, le-ltb, le-leb, ne_eqb}
+use Rattle.std.proofs.Common.{sym, ap, ap₂, ◌∙◌, append_assoc, drop-drop, ltb-true, ltb-false, leb-true, lt-ltb, le-ltb, le-leb, ne_eqb}
 use native.Mathlib.Omega.{arith}
 use Rattle.std.proofs.Math.Decide.{dec_lt}
-use Rattle.std.proofs.Math.Seq.{drop-append_seam}
 use Rattle.std.proofs.lemmas.Bool.{lt-leb, eqb-false}
 use Rattle.laws.specs.Bools.{and_left, and_right, and_both, clash}
 use Rattle.numbers.specs.Limits.{no_number}
-use Rattle.decimal.specs.declared.Decimal.{Decimal}
 use Rattle.decimal.specs.declared.Decimal.TheVariants.{Number, Other}
 use Rattle.decimal.specs.Decimal.{is_digit, decimal_from, decimal, digits_in, value_from, is_number, number_of, number_at, capped, grown}
 

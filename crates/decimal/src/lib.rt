@@ -50,19 +50,15 @@ fn read_digits(text: &[u8], start: usize) -> Digits
     ensures { result ≡ digits_at text.now start }
 {
     let mut value: u64 = 0;
-    let mut at = start;
-    while at < text.len() {
-        let byte = text[at];
+    let mut next = start;
+    for &byte in text.iter().skip(start) {
         if !is_digit(byte) {
             break;
         }
         value = grow(value, byte);
-        at += 1;
+        next += 1;
     }
-    Digits {
-        value: value,
-        next: at,
-    }
+    Digits { value, next }
 }
 
 // The number without leading zeros at an offset.

@@ -50,46 +50,45 @@ back_next (suc k) p g v q =
     let less : suc k - 1 ≡ k = omega arith in
     ap₂ (λ (x n : ℕ). x ∷ back_by n g) (q ∙ ap g less) less
 
--- i entries are written, `left` are still to write: g at left - 1, left - 2, .. 0
-pub record Building (n : ℕ) (g : ℕ → ℕ) (ps : List ℕ) (left i : ℕ) : Type 0 where
-  pub sum : i + left ≡ n
+-- i entries are written, the others are still to write: g at n - 1 - i, n - 2 - i, .. 0
+pub record Building (n : ℕ) (g : ℕ → ℕ) (ps : List ℕ) (i : ℕ) : Type 0 where
   pub wide : length ps ≡ max_zones
-  pub whole : take i ps ++ (back_by left g ++ drop (i + left) ps) ≡ padded (back_by n g)
+  pub whole : take i ps ++ (back_by (n - i) g ++ drop n ps) ≡ padded (back_by n g)
 
-pub build_start : (n : ℕ) (g : ℕ → ℕ) (ps : List ℕ) → ps ≡ blank_zones → Building n g ps n 0
+pub build_start : (n : ℕ) (g : ℕ → ℕ) (ps : List ℕ) → ps ≡ blank_zones → Building n g ps 0
 unfolding padded blank_zones
-build_start n g ps e =
-    let none : 0 + n ≡ n = omega arith in
-    record { sum = none; wide = ap length e; whole = rw (none, e, back_long n g) }
+build_start n g ps e = let all : n - 0 ≡ n = omega arith in record { wide = ap length e; whole = rw (all, e, back_long n g) }
 
-module _ (n : ℕ) (g : ℕ → ℕ) (ps : List ℕ) (left i : ℕ) (b : Building n g ps left i) where
-  pub build_more : 0 < left → n ≤ max_zones → (v : ℕ) → v ≡ g (left - 1) → Building n g (set ps i v) (left - 1) (i + 1)
+module _ (n : ℕ) (g : ℕ → ℕ) (ps : List ℕ) (i : ℕ) (b : Building n g ps i) where
+  pub build_more : i < n → n ≤ max_zones → (v : ℕ) → v ≡ g (n - 1 - i) → Building n g (set ps i v) (i + 1)
   build_more h m v e = record {
-    sum = omega (arith, b.sum);
     wide = length-set ps i v ∙ b.wide;
-    whole = rw (first, after) (rw (later, rest)
-        (append_assoc (take i ps) (v ∷ []) (back_by (left - 1) g ++ drop (i + left) ps) ∙ ap (λ (x : List ℕ). take i ps ++ (x ++ drop (i + left) ps)) front)
-        ∙ b.whole);
+    whole = rw (first, later, rest)
+        (append_assoc (take i ps) (v ∷ []) (back_by (n - suc i) g ++ drop n ps) ∙ ap (λ (x : List ℕ). take i ps ++ (x ++ drop n ps)) front)
+        ∙ b.whole;
   }
     where
       first : i + 1 ≡ suc i
       first = omega arith
 
-      after : suc i + (left - 1) ≡ i + left
-      after = omega arith
-
       later : take (suc i) (set ps i v) ≡ take i ps ++ (v ∷ [])
-      later = take-suc-set ps i v (omega (arith, b.wide, b.sum))
+      later = take-suc-set ps i v (omega (arith, b.wide))
 
-      rest : drop (i + left) (set ps i v) ≡ drop (i + left) ps
-      rest = drop-set-lt (i + left) ps i v (omega arith)
+      rest : drop n (set ps i v) ≡ drop n ps
+      rest = drop-set-lt n ps i v h
 
-      front : v ∷ back_by (left - 1) g ≡ back_by left g
-      front = back_next left h g v e
+      less : n - suc i ≡ n - i - 1
+      less = omega arith
 
-  pub build_end : left ≡ 0 → ps ≡ padded (back_by n g)
+      place : n - 1 - i ≡ n - i - 1
+      place = omega arith
+
+      front : v ∷ back_by (n - suc i) g ≡ back_by (n - i) g
+      front = ap (λ (k : ℕ). v ∷ back_by k g) less ∙ back_next (n - i) (omega arith) g v (e ∙ ap g place)
+
+  pub build_end : i ≡ n → ps ≡ padded (back_by n g)
   unfolding back_by
   build_end e =
-      let all : take i ps ++ drop (i + 0) ps ≡ padded (back_by n g) = rw e at b.whole in
-      let far : i + 0 ≡ i = omega arith in
-      sym (take-append-drop i ps) ∙ rw far at all
+      let none : n - i ≡ 0 = omega arith in
+      let all : take i ps ++ drop n ps ≡ padded (back_by n g) = rw none at b.whole in
+      sym (take-append-drop n ps) ∙ ap (λ (k : ℕ). take k ps ++ drop n ps) (sym e) ∙ all

@@ -15,7 +15,6 @@ use Rattle.card.specs.declared.Figures.{Figures}
 use Rattle.card_field.specs.declared.Rule.TheVariants as rule
 use Rattle.card_field.specs.Ranges.{first, below, above, outside, fault_of}
 use Rattle.card_field.specs.RangeLaws.{first_none}
-use Rattle.card_table.specs.Table.{straight, table_fault}
 use Rattle.card.specs.Card.{one_film, shelf_fault, record_fault, film_fault}
 use Rattle.card.specs.Read.{blank_zones}
 use Rattle.tracks.specs.Tracks.{positions_in, time_in, narrowed}

@@ -51,15 +51,13 @@ pub fn zones_of(drive: Drive, rows: Rows) -> Zones
         positions: no_zones(),
         times: no_zones(),
     };
-    let mut left = rows.count as usize;
-    let mut i: usize = 0;
-    while 0 < left {
-        left -= 1;
-        let cylinders = rows.cylinders[left];
-        let track = rows.tracks[left];
+    let count = rows.count as usize;
+    for i in 0..count {
+        let row = count - 1 - i;
+        let cylinders = rows.cylinders[row];
+        let track = rows.tracks[row];
         zones.positions[i] = tracks::positions(drive.heads, drive.block, cylinders, track);
         zones.times[i] = tracks::time(drive.turns, drive.switch, drive.block, track);
-        i += 1;
     }
     zones
 }
