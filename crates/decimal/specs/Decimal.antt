@@ -1,9 +1,6 @@
 -- Numbers in decimal: how they are read in a text, and how they are written without leading zeros (document 02: T1.4, T1.11).
-use Rattle.std.specs.Prelude.{ℕ, zero, suc, ◌+◌, ◌-◌, ◌*◌, ◌/◌, ◌%◌, List, [], ◌∷◌, ◌++◌, Bool, true, false, cond, not, ◌&&◌, length, drop, leb, ltb, eqb}
+use Rattle.std.specs.Prelude.{ℕ, zero, suc, ◌+◌, ◌-◌, ◌*◌, ◌/◌, ◌%◌, List, [], ◌∷◌, ◌++◌, Bool, true, false, cond, not, ◌&&◌, Option, Some, None, length, drop, leb, ltb, eqb}
 use Rattle.numbers.specs.Limits.{no_number}
-use Rattle.decimal.specs.declared.Digits.{Digits}
-use Rattle.decimal.specs.declared.Decimal.{Decimal}
-use Rattle.decimal.specs.declared.Decimal.TheVariants.{Number, Other}
 
 -- 0 to 9
 unfoldable pub is_digit : ℕ → Bool
@@ -43,12 +40,12 @@ is_number [] = false
 is_number (d ∷ []) = true
 is_number (d ∷ (e ∷ ds)) = not (eqb d 48)
 
--- the number that digits at an offset make
-unfoldable pub number_of : ℕ → List ℕ → Decimal
-number_of at ds = cond (is_number ds) (Number (value_from 0 ds) (at + length ds)) Other
+-- the number that digits at an offset make, and the offset after it
+unfoldable pub number_of : ℕ → List ℕ → Option (ℕ × ℕ)
+number_of at ds = cond (is_number ds) (Some (value_from 0 ds, at + length ds)) None
 
--- THE NUMBER AT AN OFFSET of the text s, of any length
-unfoldable pub number_at : List ℕ → ℕ → Decimal
+-- THE NUMBER AT AN OFFSET of the text s, of any length, and the offset after it
+unfoldable pub number_at : List ℕ → ℕ → Option (ℕ × ℕ)
 number_at s at = number_of at (digits_in (drop at s))
 
 -- ---- values of 32 bits
@@ -61,10 +58,10 @@ capped n = cond (ltb n no_number) n no_number
 unfoldable pub grown : ℕ → ℕ → ℕ
 grown v b = cond (is_digit b) (capped (v * 10 + (b - 48))) no_number
 
-unfoldable pub capped_number : Decimal → Decimal
-capped_number (Number v next) = Number (capped v) next
-capped_number Other = Other
+unfoldable pub capped_number : Option (ℕ × ℕ) → Option (ℕ × ℕ)
+capped_number (Some (v, next)) = Some (capped v, next)
+capped_number None = None
 
 -- the digits at an offset: their value, and the offset after them
-unfoldable pub digits_at : List ℕ → ℕ → Digits
-digits_at s at = record { value = capped (value_from 0 (digits_in (drop at s))); next = at + length (digits_in (drop at s)) }
+unfoldable pub digits_at : List ℕ → ℕ → ℕ × ℕ
+digits_at s at = (capped (value_from 0 (digits_in (drop at s))), at + length (digits_in (drop at s)))

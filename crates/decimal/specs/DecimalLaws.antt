@@ -1,14 +1,14 @@
 -- Laws of numbers in decimal: what is written is read back, what is read is what would be written, and what a cap changes.
 -- Assumes nothing.
-use Rattle.std.specs.Prelude.{ℕ, zero, suc, ◌+◌, ◌-◌, ◌*◌, ◌/◌, ◌%◌, ◌≤◌, ◌<◌, ◌≡◌, List, [], ◌∷◌, ◌++◌, Bool, true, false, cond, not, length, get_or, drop, leb, ltb, eqb}
+use Rattle.std.specs.Prelude.{ℕ, zero, suc, ◌+◌, ◌-◌, ◌*◌, ◌/◌, ◌%◌, ◌≤◌, ◌<◌, ◌≡◌, List, [], ◌∷◌, ◌++◌, Bool, true, false, cond, not, length, get_or, drop, min, leb, ltb, eqb, Option, Some, None}
 use Rattle.std.proofs.Math.Path.{refl}
 use Rattle.std.proofs.Common.{sym, ap, ap₂, ◌∙◌, append_assoc, drop-drop, ltb-true, ltb-false, leb-true, lt-ltb, le-ltb, le-leb, ne_eqb}
 use native.Mathlib.Omega.{arith}
 use Rattle.std.proofs.Math.Decide.{dec_lt}
+use Rattle.std.proofs.lemmas.Option.{same_Some, none-some}
 use Rattle.std.proofs.lemmas.Bool.{lt-leb, eqb-false}
 use Rattle.laws.specs.Bools.{and_left, and_right, and_both, clash}
 use Rattle.numbers.specs.Limits.{no_number}
-use Rattle.decimal.specs.declared.Decimal.TheVariants.{Number, Other}
 use Rattle.decimal.specs.Decimal.{is_digit, decimal_from, decimal, digits_in, value_from, is_number, number_of, number_at, capped, grown}
 
 -- ---- digits
@@ -34,6 +34,14 @@ digits_append : (xs ys : List ℕ) → AllDigits xs → AllDigits ys → AllDigi
 digits_append [] ys p q = q
 digits_append (x ∷ xs) ys (d, p) q = (d, digits_append xs ys p q)
 
+-- the answer of a number v and the offset after it
+abbrev pub found : ℕ → ℕ → Option (ℕ × ℕ)
+found v next = Some (v, next)
+
+-- equal answers have equal numbers and offsets
+pub same_number : (d e : ℕ × ℕ) → Some d ≡ Some e → (d.0 ≡ e.0) × (d.1 ≡ e.1)
+same_number d e q = let same = same_Some d e q in (ap (λ (x : ℕ × ℕ). x.0) same, ap (λ (x : ℕ × ℕ). x.1) same)
+
 -- ---- values of 32 bits
 
 pub capped_small : (v : ℕ) → v < no_number → capped v ≡ v
@@ -43,6 +51,9 @@ capped_small v h = rw (lt-ltb v no_number h)
 pub capped_great : (v : ℕ) → no_number ≤ v → capped v ≡ no_number
 unfolding capped
 capped_great v h = rw (le-ltb v no_number h)
+
+pub capped_min : (v : ℕ) → min v no_number ≡ capped v
+capped_min v = elim (dec_lt v no_number) [ yes h ↦ omega (arith, capped_small v h) | no h ↦ omega (arith, capped_great v (omega arith)) ]
 
 pub capped_most : (v : ℕ) → capped v ≤ no_number
 capped_most v = elim (dec_lt v no_number) [ yes h ↦ omega (arith, capped_small v h) | no h ↦ omega (arith, capped_great v (omega arith)) ]
@@ -166,7 +177,7 @@ written (suc k) v h = go (ltb v 10) refl (written k (v / 10))
 
 -- WHAT IS WRITTEN IS READ BACK, before a byte that is no digit
 pub decimal_read : (s : List ℕ) (at v b : ℕ) (rest : List ℕ) → is_digit b ≡ false → drop at s ≡ decimal v ++ (b ∷ rest)
-    → number_at s at ≡ Number v (at + length (decimal v))
+    → number_at s at ≡ Some (v, at + length (decimal v))
 unfolding number_at number_of decimal
 decimal_read s at v b rest e d =
     let w = written v v (omega arith) in
@@ -245,7 +256,7 @@ number_decimal (d ∷ (f ∷ ds)) (q, p) e =
         ∙ ap (λ (x : ℕ). x ∷ (f ∷ ds)) same
 
 -- WHAT IS READ IS WHAT WOULD BE WRITTEN
-pub read_decimal : (s : List ℕ) (at v next : ℕ) → number_at s at ≡ Number v next → (at < next) × (drop at s ≡ decimal v ++ drop next s)
+pub read_decimal : (s : List ℕ) (at v next : ℕ) → number_at s at ≡ Some (v, next) → (at < next) × (drop at s ≡ decimal v ++ drop next s)
 unfolding number_at number_of
 read_decimal s at v next e = go (is_number (digits_in (drop at s))) refl e
   where
@@ -256,13 +267,12 @@ read_decimal s at v next e = go (is_number (digits_in (drop at s))) refl e
     some [] h = unfold is_number in clash h refl
     some (x ∷ xs) h = omega arith
 
-    go : (t : Bool) → is_number ds ≡ t → cond t (Number (value_from 0 ds) (at + length ds)) Other ≡ Number v next
+    go : (t : Bool) → is_number ds ≡ t → cond {A = Option (ℕ × ℕ)} t (Some (value_from 0 ds, at + length ds)) None ≡ Some (v, next)
         → (at < next) × (drop at s ≡ decimal v ++ drop next s)
     go true h e =
-        let value : value_from 0 ds ≡ v = cc in
-        let after : at + length ds ≡ next = cc in
+        let (value, after) = same_number _ _ e in
         let far : drop (length ds) (drop at s) ≡ drop next s = drop-drop (length ds) at s ∙ ap (λ (n : ℕ). drop n s) after in (
           omega (arith, some ds h),
           digits_rest (drop at s) ∙ ap₂ (λ (x y : List ℕ). x ++ y) (sym (number_decimal ds (digits_all (drop at s)) h) ∙ ap decimal value) far,
         )
-    go false h e = absurd (let z : ◌≡◌ {A = ℕ} 0 1 = cc in omega arith)
+    go false h e = absurd (none-some (v, next) e)

@@ -6,28 +6,11 @@ ghost use Rattle.decimal.specs.Decimal.{is_digit, grown, digits_at, number_at, c
 
 use numbers::limits::NO_NUMBER;
 
-// The value of digits, and the offset after them.
-#[derive(Clone, Copy)]
-pub struct Digits {
-    pub value: u64,
-    pub next: usize,
-}
-
-// A number without leading zeros and the offset after it, or anything else.
-#[derive(Clone, Copy)]
-pub enum Decimal {
-    Number(u64, usize),
-    Other,
-}
-
 // Is the byte a decimal digit?
 pub fn is_digit(byte: u8) -> bool
     ensures { result ≡ is_digit byte }
 {
-    if byte < b'0' {
-        return false;
-    }
-    byte <= b'9'
+    byte.is_ascii_digit()
 }
 
 // The value of digits with a byte more; a byte that is no digit makes no number.
@@ -42,11 +25,11 @@ pub fn grow(value: u64, byte: u8) -> u64
     }
     // Ten times the value by shifts: a product of 64 bits has no place in a library crate.
     let next = (value << 3) + (value << 1) + (byte - b'0') as u64;
-    if next < NO_NUMBER { next } else { NO_NUMBER }
+    next.min(NO_NUMBER)
 }
 
-// The digits from an offset on.
-fn read_digits(text: &[u8], start: usize) -> Digits
+// The digits from an offset on: their value, and the offset after them.
+fn read_digits(text: &[u8], start: usize) -> (u64, usize)
     ensures { result ≡ digits_at text.now start }
 {
     let mut value: u64 = 0;
@@ -58,23 +41,23 @@ fn read_digits(text: &[u8], start: usize) -> Digits
         value = grow(value, byte);
         next += 1;
     }
-    Digits { value, next }
+    (value, next)
 }
 
-// The number without leading zeros at an offset.
-pub fn read_number(text: &[u8], start: usize) -> Decimal
+// The number without leading zeros at an offset, and the offset after it.
+pub fn read_number(text: &[u8], start: usize) -> Option<(u64, usize)>
     ensures { result ≡ capped_number (number_at text.now start) }
 {
-    let digits = read_digits(text, start);
-    let count = digits.next - start;
+    let (value, next) = read_digits(text, start);
+    let count = next - start;
     if count == 0 {
-        return Decimal::Other;
+        return None;
     }
     if count == 1 {
-        return Decimal::Number(digits.value, digits.next);
+        return Some((value, next));
     }
     if text[start] == b'0' {
-        return Decimal::Other;
+        return None;
     }
-    Decimal::Number(digits.value, digits.next)
+    Some((value, next))
 }

@@ -1,7 +1,7 @@
 -- Each way that the answer to a text can take.
 -- Assumes nothing.
 use Prim.Native.Nat.{ℕ, zero, suc, ◌*◌, ◌≤◌, ◌<◌}
-use mathlib.Core.Path.{◌≡◌, refl, sym, ap, ap₂, ◌∙◌}
+use mathlib.Core.Path.{◌≡◌, refl, sym, ap, ap₂, ◌∙◌, subst}
 use mathlib.Core.List.{List, [], ◌∷◌, ◌++◌, map}
 use mathlib.Core.Bool.{Bool, true, false, cond}
 use native.Mathlib.Omega.{arith}
@@ -10,7 +10,8 @@ use borrow.Author.Tests.{le-leb, lt-leb}
 use Rattle.numbers.specs.Limits.{straight_kind, max_zones, max_bytes, max_rate}
 use Rattle.numbers.specs.Units.{sector_bytes}
 use Rattle.numbers.specs.Refusals.{line_form, wrong_heading, wrong_zones}
-use Rattle.decimal.specs.declared.Decimal.TheVariants.{Number}
+use Rattle.std.specs.Prelude.{Some, Result, Ok, Err}
+use Rattle.decimal.specs.DecimalLaws.{found}
 use Rattle.card.specs.declared.Figures.{Figures}
 use Rattle.card_field.specs.declared.Rule.TheVariants as rule
 use Rattle.card_field.specs.Ranges.{first, below, above, outside, fault_of}
@@ -18,16 +19,15 @@ use Rattle.card_field.specs.RangeLaws.{first_none}
 use Rattle.card.specs.Card.{one_film, shelf_fault, record_fault, film_fault}
 use Rattle.card.specs.Read.{blank_zones}
 use Rattle.tracks.specs.Tracks.{positions_in, time_in, narrowed}
-use Rattle.maker.specs.declared.Drive.{Drive}
+use Rattle.maker_lines.specs.declared.Drive.{Drive}
 use Rattle.maker_rows.specs.declared.Rows.{Rows}
-use Rattle.maker_lines.specs.declared.Heading.{Heading}
-use Rattle.maker_lines.specs.declared.Heading.TheVariants as heading
-use Rattle.maker_lines.specs.Lines.{space, line_feed, word_at, heading_fits, judged_heading, heading_in}
+use Rattle.maker_rows.specs.declared.RefusedRow.{RefusedRow}
+use Rattle.maker_lines.specs.Lines.{Heading, space, line_feed, word_at, heading_fits, judged_heading, heading_in}
 use Rattle.maker_rows.specs.Rows.{Row, cylinders_of, Listed, Zones, Refused, rows_from}
 use Rattle.maker_rows.specs.Kept.{back_by, Kept, Holds}
 use Rattle.maker.specs.Fitting.{move_in, Fitting}
 use Rattle.maker.specs.Maker.{padded, filled, positions_of, time_of, figures_of, refused_text}
-use Rattle.maker.specs.Maker.{answered, judged_figures, on_rows, heading_fault, on_heading, read_maker}
+use Rattle.maker.specs.Maker.{answered, judged_figures, on_rows, on_heading, read_maker}
 use Rattle.maker_lines.proofs.LineWays.{HeadingFacts, heading_facts}
 use Rattle.maker_rows.proofs.RowWays.{then_from}
 use Rattle.maker.proofs.MoveWays.{table_same, moves_kept}
@@ -35,15 +35,26 @@ use Rattle.maker.proofs.NarrowWays.{Narrow, accepted_film, accepted_same, judged
 
 -- ---- line one
 
-judged_numbers : (turns switch heads block next : ℕ) {t w h b n : ℕ} → judged_heading turns switch heads block next ≡ heading.Numbers t w h b n
-    → (heading_fits turns switch heads block ≡ true) × (turns ≡ t) × (switch ≡ w) × (heads ≡ h) × (block ≡ b) × (next ≡ n)
+judged_numbers : (turns switch heads block next : ℕ) {d : Drive} {n : ℕ} → judged_heading turns switch heads block next ≡ Ok (d, n)
+    → (heading_fits turns switch heads block ≡ true) × (turns ≡ d.turns) × (switch ≡ d.switch) × (heads ≡ d.heads) × (block ≡ d.block) × (next ≡ n)
 unfolding judged_heading
-judged_numbers turns switch heads block next {t} {w} {h} {b} {n} e = go (heading_fits turns switch heads block) refl e
+judged_numbers turns switch heads block next {d} {n} e = go (heading_fits turns switch heads block) refl e
   where
-    go : (x : Bool) → heading_fits turns switch heads block ≡ x
-        → cond x (heading.Numbers turns switch heads block next) (heading.Refused wrong_heading) ≡ heading.Numbers t w h b n
-        → (heading_fits turns switch heads block ≡ true) × (turns ≡ t) × (switch ≡ w) × (heads ≡ h) × (block ≡ b) × (next ≡ n)
-    go true q e = (q, cc, cc, cc, cc, cc)
+    drive : Drive
+    drive = record { turns = turns; switch = switch; heads = heads; block = block }
+
+    go : (x : Bool) → heading_fits turns switch heads block ≡ x → cond {A = Heading} x (Ok (drive, next)) (Err wrong_heading) ≡ Ok (d, n)
+        → (heading_fits turns switch heads block ≡ true) × (turns ≡ d.turns) × (switch ≡ d.switch) × (heads ≡ d.heads) × (block ≡ d.block) × (next ≡ n)
+    go true q e =
+        let same : ◌≡◌ {A = Drive × ℕ} (drive, next) (d, n) = cc in
+        let of : drive ≡ d = ap (λ (x : Drive × ℕ). x.0) same in (
+          q,
+          ap (λ (x : Drive). x.turns) of,
+          ap (λ (x : Drive). x.switch) of,
+          ap (λ (x : Drive). x.heads) of,
+          ap (λ (x : Drive). x.block) of,
+          ap (λ (x : Drive × ℕ). x.1) same,
+        )
     go false q e = absurd (let z : ◌≡◌ {A = ℕ} 0 1 = cc in omega arith)
 
 facts_of : {turns switch heads block t w h b : ℕ} → HeadingFacts turns switch heads block → turns ≡ t → switch ≡ w → heads ≡ h → block ≡ b
@@ -56,20 +67,19 @@ facts_of f p q r u = record {
 }
 
 -- what line one was read from
-pub record HeadingWords (s : List ℕ) (turns switch heads block next : ℕ) : Type 0 where
+pub record HeadingWords (s : List ℕ) (d : Drive) (next : ℕ) : Type 0 where
   pub at₁ : ℕ
   pub at₂ : ℕ
   pub at₃ : ℕ
-  pub one : word_at space s 0 ≡ Number turns at₁
-  pub two : word_at space s at₁ ≡ Number switch at₂
-  pub three : word_at space s at₂ ≡ Number heads at₃
-  pub four : word_at line_feed s at₃ ≡ Number block next
-  pub facts : HeadingFacts turns switch heads block
+  pub one : word_at space s 0 ≡ Some (d.turns, at₁)
+  pub two : word_at space s at₁ ≡ Some (d.switch, at₂)
+  pub three : word_at space s at₂ ≡ Some (d.heads, at₃)
+  pub four : word_at line_feed s at₃ ≡ Some (d.block, next)
+  pub facts : HeadingFacts d.turns d.switch d.heads d.block
 
-pub heading_words : (s : List ℕ) (turns switch heads block next : ℕ) → heading_in s ≡ heading.Numbers turns switch heads block next
-    → HeadingWords s turns switch heads block next
+pub heading_words : (s : List ℕ) (d : Drive) (next : ℕ) → heading_in s ≡ Ok (d, next) → HeadingWords s d next
 unfolding heading_in
-heading_words s turns switch heads block next e =
+heading_words s d next e =
     let one = then_from (word_at space s 0) _ _ bad e in
     let two = then_from (word_at space s one.1) _ _ bad one.3 in
     let three = then_from (word_at space s two.1) _ _ bad two.3 in
@@ -80,26 +90,25 @@ heading_words s turns switch heads block next e =
       at₁ = one.1;
       at₂ = two.1;
       at₃ = three.1;
-      one = one.2 ∙ ap (λ (x : ℕ). Number x one.1) judged.1;
-      two = two.2 ∙ ap (λ (x : ℕ). Number x two.1) judged.2;
-      three = three.2 ∙ ap (λ (x : ℕ). Number x three.1) judged.3;
-      four = four.2 ∙ ap₂ Number judged.4 judged.5;
+      one = one.2 ∙ ap (λ (x : ℕ). found x one.1) judged.1;
+      two = two.2 ∙ ap (λ (x : ℕ). found x two.1) judged.2;
+      three = three.2 ∙ ap (λ (x : ℕ). found x three.1) judged.3;
+      four = four.2 ∙ ap₂ found judged.4 judged.5;
       facts = facts_of facts judged.1 judged.2 judged.3 judged.4;
     }
   where
-    bad : heading.Refused line_form ≡ heading.Numbers turns switch heads block next → ⊥
+    bad : ◌≡◌ {A = Heading} (Err line_form) (Ok (d, next)) → ⊥
     bad e = let z : ◌≡◌ {A = ℕ} 0 1 = cc in omega arith
 
 -- ---- the rows that the code keeps
 
-module _ (r : Rows) where
-  holds_zones : (L : Listed) → Holds r L → r.number ≡ 0 → (zs : List Row) × (L ≡ Zones zs) × Kept r zs
-  holds_zones (Zones zs) h e = (zs, refl, h.1)
-  holds_zones (Refused k line) h e = absurd (omega (arith, h.0, h.1))
+holds_zones : (r : Rows) (L : Listed) → Holds (Ok r) L → (zs : List Row) × (L ≡ Zones zs) × Kept r zs
+holds_zones r (Zones zs) h = (zs, refl, h)
+holds_zones r (Refused k line) h = absurd h
 
-  holds_refused : (L : Listed) → Holds r L → (r.number ≡ 0 → ⊥) → L ≡ Refused r.number r.line
-  holds_refused (Zones zs) h n = absurd (n h.0)
-  holds_refused (Refused k line) h n = ap₂ Refused (sym h.1) (sym h.2)
+holds_refused : (f : RefusedRow) (L : Listed) → Holds (Err f) L → L ≡ Refused f.number f.line
+holds_refused f (Zones zs) h = absurd h
+holds_refused f (Refused k line) h = ap₂ Refused (sym h.1) (sym h.2)
 
 -- ---- the figures
 
@@ -207,50 +216,44 @@ figures_alike d r zs k m n c hop ret ps ts p t =
 -- ---- the answer
 
 module _ (s : List ℕ) (n c hop ret : ℕ) (H : Heading) (read : H ≡ heading_in s) where
-  pub answer_heading : {k : ℕ} → H ≡ heading.Refused k → refused_text (heading_fault H) 1 ≡ read_maker s n c hop ret
-  unfolding read_maker on_heading heading_fault
-  answer_heading e = ap (λ (x : ℕ). refused_text x 1) (ap heading_fault e) ∙ ap (on_heading s n c hop ret) (sym e ∙ read)
+  pub answer_heading : {k : ℕ} → H ≡ Err k → refused_text k 1 ≡ read_maker s n c hop ret
+  unfolding read_maker on_heading
+  answer_heading e = ap (on_heading s n c hop ret) (sym e ∙ read)
 
-  module _ {turns switch heads block next : ℕ} (e : H ≡ heading.Numbers turns switch heads block next) (r : Rows)
-      (rows : Holds r (rows_from (length s) s next [])) where
+  module _ {d : Drive} {next : ℕ} (e : H ≡ Ok (d, next)) where
     -- what is left are the rows
-    answer_is : (L : Listed) → rows_from (length s) s next [] ≡ L
-        → on_rows (record { turns = turns; switch = switch; heads = heads; block = block }) n c hop ret L ≡ read_maker s n c hop ret
+    answer_is : (L : Listed) → rows_from (length s) s next [] ≡ L → on_rows d n c hop ret L ≡ read_maker s n c hop ret
     unfolding read_maker on_heading
-    answer_is L q = ap (on_rows (record { turns = turns; switch = switch; heads = heads; block = block }) n c hop ret) (sym q)
-        ∙ ap (on_heading s n c hop ret) (sym e ∙ read)
+    answer_is L q = ap (on_rows d n c hop ret) (sym q) ∙ ap (on_heading s n c hop ret) (sym e ∙ read)
 
-    pub answer_row : (r.number ≡ 0 → ⊥) → refused_text r.number r.line ≡ read_maker s n c hop ret
-    unfolding on_rows
-    answer_row k = answer_is (Refused r.number r.line) (holds_refused r _ rows k)
-
-    module _ (good : r.number ≡ 0) where
-      pub answer_many : max_zones < r.count → refused_text wrong_zones 0 ≡ read_maker s n c hop ret
-      unfolding on_rows figures_of filled
-      answer_many h =
-          let z = holds_zones r (rows_from (length s) s next []) rows good in
-          many_judged (figures_of (record { turns = turns; switch = switch; heads = heads; block = block }) z.0 n c hop ret) refl
-          (omega (arith, z.2.count)) ∙ answer_is (Zones z.0) z.1
-
-      pub drive_fits : r.count ≤ max_zones → Fitting (record { turns = turns; switch = switch; heads = heads; block = block }) r
-      drive_fits h =
-          let z = holds_zones r (rows_from (length s) s next []) rows good in
-          let f = (heading_words s turns switch heads block next (sym read ∙ e)).facts in
-          record {
-            turns = f.turns_in;
-            switch = f.switch_in.1;
-            heads = f.heads_in.1;
-            block = f.block_in_law;
-            few = h;
-            rows = λ k l. z.2.fits k (omega (arith, z.2.count)) (omega arith);
-          }
-
-      pub answer_figures : r.count ≤ max_zones → (ps ts : List ℕ)
-          → ps ≡ padded (back_by r.count (λ k. narrowed (positions_in heads block (get_or r.cylinders k 0) (get_or r.tracks k 0))))
-          → ts ≡ padded (back_by r.count (λ k. narrowed (time_in turns switch block (get_or r.tracks k 0))))
-          → judged_figures (filled r.count ps ts block n c (move_in hop) (move_in ret)) ≡ read_maker s n c hop ret
+    module _ (R : Result Rows RefusedRow) (rows : Holds R (rows_from (length s) s next [])) where
+      pub answer_row : {f : RefusedRow} → R ≡ Err f → refused_text f.number f.line ≡ read_maker s n c hop ret
       unfolding on_rows
-      answer_figures h ps ts p t =
-          let z = holds_zones r (rows_from (length s) s next []) rows good in
-          figures_alike (record { turns = turns; switch = switch; heads = heads; block = block }) r z.0 z.2 h n c hop ret ps ts p t
-          ∙ answer_is (Zones z.0) z.1
+      answer_row {f} q = answer_is (Refused f.number f.line) (holds_refused f _ (subst (λ (x : Result Rows RefusedRow). Holds x (rows_from (length s) s next [])) q rows))
+
+      module _ {r : Rows} (good : R ≡ Ok r) where
+        zones : (zs : List Row) × (rows_from (length s) s next [] ≡ Zones zs) × Kept r zs
+        zones = holds_zones r _ (subst (λ (x : Result Rows RefusedRow). Holds x (rows_from (length s) s next [])) good rows)
+
+        pub answer_many : max_zones < r.count → refused_text wrong_zones 0 ≡ read_maker s n c hop ret
+        unfolding on_rows figures_of filled
+        answer_many h = many_judged (figures_of d zones.0 n c hop ret) refl (omega (arith, zones.2.count)) ∙ answer_is (Zones zones.0) zones.1
+
+        pub drive_fits : r.count ≤ max_zones → Fitting d r
+        drive_fits h =
+            let f = (heading_words s d next (sym read ∙ e)).facts in
+            record {
+              turns = f.turns_in;
+              switch = f.switch_in.1;
+              heads = f.heads_in.1;
+              block = f.block_in_law;
+              few = h;
+              rows = λ k l. zones.2.fits k (omega (arith, zones.2.count)) (omega arith);
+            }
+
+        pub answer_figures : r.count ≤ max_zones → (ps ts : List ℕ)
+            → ps ≡ padded (back_by r.count (λ k. narrowed (positions_in d.heads d.block (get_or r.cylinders k 0) (get_or r.tracks k 0))))
+            → ts ≡ padded (back_by r.count (λ k. narrowed (time_in d.turns d.switch d.block (get_or r.tracks k 0))))
+            → judged_figures (filled r.count ps ts d.block n c (move_in hop) (move_in ret)) ≡ read_maker s n c hop ret
+        unfolding on_rows
+        answer_figures h ps ts p t = figures_alike d r zones.0 zones.2 h n c hop ret ps ts p t ∙ answer_is (Zones zones.0) zones.1

@@ -2,7 +2,7 @@
 use Rattle.std.specs.Prelude.{ℕ, ◌+◌, ◌≤◌, ◌<◌, cond, get_or, ltb}
 use Rattle.numbers.specs.Limits.{max_zones, max_move, max_turns, max_switch, max_heads, max_block, max_cylinder, max_track}
 use Rattle.maker_rows.specs.declared.Rows.{Rows}
-use Rattle.maker.specs.declared.Drive.{Drive}
+use Rattle.maker_lines.specs.declared.Drive.{Drive}
 
 -- the ranges that keep positions and times of all rows in 64 bits
 pub record Fitting (d : Drive) (r : Rows) : Type 0 where

@@ -1,5 +1,5 @@
 -- The answer to a maker's text (document 02, ticket 1): the figures that a card with its numbers would give, or a refusal's number and line.
-use Rattle.std.specs.Prelude.{ℕ, zero, suc, ◌*◌, List, [], ◌++◌, map, length, drop}
+use Rattle.std.specs.Prelude.{ℕ, zero, suc, ◌*◌, List, [], ◌++◌, map, length, drop, Ok, Err}
 use Rattle.numbers.specs.Limits.{straight_kind}
 use Rattle.numbers.specs.Units.{sector_bytes}
 use Rattle.card.specs.declared.Figures.{Figures}
@@ -7,11 +7,9 @@ use Rattle.card_table.specs.Table.{straight}
 use Rattle.card.specs.Card.{one_film, record_fault}
 use Rattle.card.specs.Read.{blank_zones, blank_figures, accepted}
 use Rattle.tracks.specs.Tracks.{positions_in, time_in}
-use Rattle.maker.specs.declared.Drive.{Drive}
+use Rattle.maker_lines.specs.declared.Drive.{Drive}
 use Rattle.maker.specs.declared.MakerRead.{MakerRead}
-use Rattle.maker_lines.specs.declared.Heading.{Heading}
-use Rattle.maker_lines.specs.declared.Heading.TheVariants as heading
-use Rattle.maker_lines.specs.Lines.{heading_in}
+use Rattle.maker_lines.specs.Lines.{Heading, heading_in}
 use Rattle.maker_rows.specs.Rows.{Row, cylinders_of, Listed, Zones, Refused, rows_from}
 
 -- ---- the figures
@@ -66,15 +64,9 @@ unfoldable pub on_rows : Drive → ℕ → ℕ → ℕ → ℕ → Listed → Ma
 on_rows d n c hop ret (Refused k line) = refused_text k line
 on_rows d n c hop ret (Zones zs) = judged_figures (figures_of d zs n c hop ret)
 
--- the number of a line one that is refused
-unfoldable pub heading_fault : Heading → ℕ
-heading_fault (heading.Refused k) = k
-heading_fault (heading.Numbers turns switch heads block next) = 0
-
 unfoldable pub on_heading : List ℕ → ℕ → ℕ → ℕ → ℕ → Heading → MakerRead
-on_heading s n c hop ret (heading.Refused k) = refused_text k 1
-on_heading s n c hop ret (heading.Numbers turns switch heads block next) =
-    on_rows (record { turns = turns; switch = switch; heads = heads; block = block }) n c hop ret (rows_from (length s) s next [])
+on_heading s n c hop ret (Err k) = refused_text k 1
+on_heading s n c hop ret (Ok (d, next)) = on_rows d n c hop ret (rows_from (length s) s next [])
 
 -- THE ANSWER TO A TEXT s with N, c, hop and return beside it: line by line, then its figures
 unfoldable pub read_maker : List ℕ → ℕ → ℕ → ℕ → ℕ → MakerRead

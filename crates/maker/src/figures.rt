@@ -8,9 +8,10 @@ ghost use Rattle.maker_rows.specs.Kept.{back_by};
 ghost use Rattle.maker.specs.Fitting.{move_in, Fitting};
 ghost use Rattle.maker.specs.Maker.{refused_text, filled, padded, judged_figures};
 
-use crate::{Drive, MakerRead};
+use crate::MakerRead;
 use card::{Figures, Verdict, one_film};
 use card_table::fill_straight;
+use maker_lines::Drive;
 use maker_rows::Rows;
 use numbers::limits::{MAX_MOVE, STRAIGHT};
 use numbers::units::SECTOR_BYTES;
@@ -99,12 +100,12 @@ pub fn figures_of(
     Figures {
         kind: STRAIGHT,
         zones: count,
-        positions: positions,
-        times: times,
+        positions,
+        times,
         films: 1,
         blocks: one_film(blocks),
         bytes: SECTOR_BYTES * block,
-        rate: rate,
+        rate,
         table: table_of(hop, back),
     }
 }
@@ -132,7 +133,7 @@ pub fn refused_text(number: u32, line: usize) -> MakerRead
 {
     MakerRead {
         verdict: Verdict {
-            number: number,
+            number,
             place: line,
         },
         figures: no_figures(),
@@ -147,8 +148,5 @@ pub fn answer(figures: Figures) -> MakerRead
     if verdict.number != 0 {
         return refused_text(verdict.number, 0);
     }
-    MakerRead {
-        verdict: verdict,
-        figures: figures,
-    }
+    MakerRead { verdict, figures }
 }

@@ -1,5 +1,5 @@
 -- Laws of what specs/Accepted defines.
-use Rattle.std.specs.Prelude.{ℕ, zero, suc, ◌+◌, ◌-◌, ◌<◌, ◌↔◌, ◌⊎◌, length}
+use Rattle.std.specs.Prelude.{ℕ, zero, suc, ◌-◌, ◌<◌, ◌↔◌, ◌⊎◌, length, Ok, Err}
 use Rattle.std.proofs.Math.Path.{◌≡◌, refl, ap, subst}
 use Rattle.std.proofs.Common.{sym, ◌∙◌, inl}
 use Rattle.std.proofs.Math.Logic.{inr}
@@ -10,11 +10,10 @@ use Rattle.card.specs.Card.{Legal, record_fault, judge_record, card_of}
 use Rattle.card.specs.Read.{accepted, blank_figures, read_card}
 use Rattle.legality.specs.Legality.{legal_fault}
 use Rattle.round_trip.specs.RoundTrip.{legal_read}
-use Rattle.maker.specs.declared.Drive.{Drive}
+use Rattle.maker_lines.specs.declared.Drive.{Drive}
 use Rattle.maker.specs.declared.MakerRead.{MakerRead}
-use Rattle.maker_lines.specs.declared.Heading.{Heading}
-use Rattle.maker_lines.specs.Lines.{heading_in}
-use Rattle.maker_rows.specs.Rows.{Row, following, Listed, Zones, Refused, on_row, rows_from}
+use Rattle.maker_lines.specs.Lines.{Heading, heading_in}
+use Rattle.maker_rows.specs.Rows.{Row, following, Listed, Zones, Refused, rows_from}
 use Rattle.maker.specs.Maker.{figures_of, refused_text, answered, judged_figures, on_rows, on_heading, read_maker}
 use Rattle.maker_lines.proofs.LineWays.{HeadingFacts}
 use Rattle.maker_rows.proofs.RowWays.{rows_fuel}
@@ -22,8 +21,6 @@ use Rattle.maker.proofs.MakerWays.{heading_words}
 use Rattle.maker_claims.specs.Listing.{heading_line, row_lines, text_of, innermost_first, Listing}
 use Rattle.maker_claims.proofs.Spelling.{heading_spelled, heading_spelling, rows_spelled, rows_spelling}
 use Rattle.maker_claims.specs.Accepted.{Refuses, heading_number, rows_number, Accepts, figures_legal, judged_fits}
-use Rattle.maker_lines.specs.declared.Heading.TheVariants as heading
-use Rattle.maker_lines.specs.declared.RowRead.TheVariants as row
 
 module _ (s : List ℕ) (n c hop ret : ℕ) where
   refuses : (k line : ℕ) → 0 < k → read_maker s n c hop ret ≡ refused_text k line → Refuses s n c hop ret
@@ -33,7 +30,7 @@ module _ (s : List ℕ) (n c hop ret : ℕ) where
   pub answer_ways : Accepts s n c hop ret ⊎ Refuses s n c hop ret
   answer_ways = on (heading_in s) refl
     where
-      judged : (d : Drive) (next : ℕ) (zs : List Row) → heading_in s ≡ heading.Numbers d.turns d.switch d.heads d.block next
+      judged : (d : Drive) (next : ℕ) (zs : List Row) → heading_in s ≡ Ok (d, next)
           → rows_from (length s) s next [] ≡ Zones zs
           → read_maker s n c hop ret ≡ judged_figures (figures_of d zs n c hop ret) → (k : ℕ) → record_fault 1 (figures_of d zs n c hop ret) ≡ k
           → Accepts s n c hop ret ⊎ Refuses s n c hop ret
@@ -41,16 +38,15 @@ module _ (s : List ℕ) (n c hop ret : ℕ) where
           inl (record { drive = d; next = next; zs = zs; heading_read_law = p; rows_read = q; fault = f; answer = e ∙ (unfold judged_figures answered in rw f) })
       judged d next zs p q e (suc k) f = inr (record { number = k; line = 0; answer = e ∙ (unfold judged_figures answered in rw f) })
 
-      rows : (d : Drive) (next : ℕ) → heading_in s ≡ heading.Numbers d.turns d.switch d.heads d.block next → (L : Listed)
+      rows : (d : Drive) (next : ℕ) → heading_in s ≡ Ok (d, next) → (L : Listed)
           → rows_from (length s) s next [] ≡ L
           → read_maker s n c hop ret ≡ on_rows d n c hop ret L → Accepts s n c hop ret ⊎ Refuses s n c hop ret
       rows d next p (Zones zs) q e = judged d next zs p q (e ∙ (unfold on_rows in refl)) (record_fault 1 (figures_of d zs n c hop ret)) refl
       rows d next p (Refused k line) q e = inr (refuses k line (rows_number (length s) s next [] k line q) (e ∙ (unfold on_rows in refl)))
 
       on : (h : Heading) → heading_in s ≡ h → Accepts s n c hop ret ⊎ Refuses s n c hop ret
-      on (heading.Refused k) e = inr (refuses k 1 (heading_number s k e) (unfold read_maker on_heading in rw e))
-      on (heading.Numbers turns switch heads block next) e =
-          let d : Drive = record { turns = turns; switch = switch; heads = heads; block = block } in
+      on (Err k) e = inr (refuses k 1 (heading_number s k e) (unfold read_maker on_heading in rw e))
+      on (Ok (d, next)) e =
           rows d next e (rows_from (length s) s next []) refl (unfold read_maker on_heading in rw e)
 
   -- ---- the claims
@@ -67,12 +63,12 @@ module _ (s : List ℕ) (n c hop ret : ℕ) where
       go (inr r) = absurd (let z = number_of r.answer in omega arith)
       go (inl a) =
           let d = a.drive in
-          let f = (heading_words s d.turns d.switch d.heads d.block a.next a.heading_read_law).facts in
+          let f = (heading_words s d a.next a.heading_read_law).facts in
           let sp = rows_spelling (length s) s a.next [] a.zs (omega arith) a.rows_read in (
             d,
             sp.rows,
             record {
-              text = heading_spelling s d.turns d.switch d.heads d.block a.next a.heading_read_law
+              text = heading_spelling s d a.next a.heading_read_law
                   ∙ ap (λ (x : List ℕ). heading_line d ++ x) sp.text;
               drive = record { turns = f.turns_in; switch = f.switch_in; heads = f.heads_in; block = f.block_in_law };
               follow = sp.follow;
@@ -88,7 +84,7 @@ module _ (s : List ℕ) (n c hop ret : ℕ) where
       let h = heading_spelled s d.turns d.switch d.heads d.block (row_lines rows) l.text in
       let f : HeadingFacts d.turns d.switch d.heads d.block =
       record { turns_in = l.drive.turns; switch_in = l.drive.switch; heads_in = l.drive.heads; block_in_law = l.drive.block } in
-      let read : heading_in s ≡ heading.Numbers d.turns d.switch d.heads d.block h.0 = h.1 ∙ judged_fits d h.0 f in
+      let read : heading_in s ≡ Ok (d, h.0) = h.1 ∙ judged_fits d h.0 f in
       let rows_read = rows_fuel s (length s) (length s - h.0) h.0 [] (omega arith) (omega arith) ∙ rows_spelled rows s h.0 [] h.2 l.follow in
       rw (read, rows_read, legal_fault 1 (figures_of d (innermost_first rows) n c hop ret) l.legal)
 

@@ -1,18 +1,15 @@
 -- Laws of what specs/Spelling defines.
-use Rattle.std.specs.Prelude.{ℕ, zero, suc, ◌+◌, ◌-◌, ◌≤◌, ◌<◌, ◌≡◌, refl, List, [], ◌∷◌, ◌++◌, Bool, true, false, cond, length, drop, ltb}
+use Rattle.std.specs.Prelude.{ℕ, zero, suc, ◌+◌, ◌-◌, ◌≤◌, ◌<◌, ◌≡◌, refl, List, [], ◌∷◌, ◌++◌, Bool, true, false, cond, length, drop, ltb, Some, Ok, Err}
 use Rattle.std.proofs.Common.{sym, ap, ◌∙◌, arith, length-drop, ltb-true, ltb-false}
-use Rattle.decimal.specs.declared.Decimal.TheVariants.{Number}
 use Rattle.decimal.specs.Decimal.{decimal}
-use Rattle.maker_lines.specs.declared.RowRead.{RowRead}
-use Rattle.maker_lines.specs.Lines.{space, line_feed, word_at, then_word, judged_heading, judged_row, heading_in, row_at}
-use Rattle.maker_rows.specs.Rows.{Row, following, Listed, Zones, Refused, on_row, rows_from}
+use Rattle.maker_lines.specs.Lines.{RowRead, space, line_feed, word_at, then_word, judged_heading, judged_row, heading_in, row_at}
+use Rattle.maker_lines.specs.declared.Drive.{Drive}
+use Rattle.maker_rows.specs.Rows.{Row, following, Listed, Zones, on_row, rows_from}
 use Rattle.maker_lines.proofs.LineWays.{RowFacts}
 use Rattle.maker_rows.proofs.RowWays.{row_words, rows_end, rows_more, row_after}
 use Rattle.maker.proofs.MakerWays.{heading_words}
 use Rattle.maker_claims.specs.Listing.{line_of, row_line, row_lines, FollowOn, turned}
 use Rattle.maker_claims.specs.Spelling.{space_ends, feed_ends, word_spelled, line_last, line_next, word_spelling, row_inside, judged_fits, Spelled, spelled_none}
-use Rattle.maker_lines.specs.declared.Heading.TheVariants as heading
-use Rattle.maker_lines.specs.declared.RowRead.TheVariants as row
 
 -- three numbers on a line are judged as a row
 pub row_spelled : (start : ℕ) (s : List ℕ) (at from last track : ℕ) (rest : List ℕ) → drop at s ≡ line_of (from ∷ last ∷ track ∷ []) ++ rest
@@ -25,8 +22,8 @@ row_spelled start s at from last track rest e =
     (three.0, rw (one.1, two.1, three.1), three.2)
 
 -- three numbers that are read are written so
-pub three_spelling : (s : List ℕ) (at from at₁ last at₂ track next : ℕ) → word_at space s at ≡ Number from at₁ → word_at space s at₁ ≡ Number last at₂
-    → word_at line_feed s at₂ ≡ Number track next
+pub three_spelling : (s : List ℕ) (at from at₁ last at₂ track next : ℕ) → word_at space s at ≡ Some (from, at₁) → word_at space s at₁ ≡ Some (last, at₂)
+    → word_at line_feed s at₂ ≡ Some (track, next)
     → drop at s ≡ line_of (from ∷ last ∷ track ∷ []) ++ drop next s
 three_spelling s at from at₁ last at₂ track next one two three =
     word_spelling space s at from at₁ one
@@ -37,7 +34,7 @@ three_spelling s at from at₁ last at₂ track next one two three =
     ∙ sym (line_next from last (track ∷ []) (drop next s))
 
 -- a row that is read is written so
-pub row_spelling : (start : ℕ) (s : List ℕ) (at last track next : ℕ) → row_at start s at ≡ row.Zone last track next
+pub row_spelling : (start : ℕ) (s : List ℕ) (at last track next : ℕ) → row_at start s at ≡ Ok (last, track, next)
     → drop at s ≡ line_of (start ∷ last ∷ track ∷ []) ++ drop next s
 row_spelling start s at last track next e =
     let w = row_words start s at last track next e in
@@ -55,19 +52,19 @@ heading_spelled s turns switch heads block rest e =
     (four.0, rw (one.1, two.1, three.1, four.1), four.2)
 
 -- four numbers that are read are written so
-pub four_spelling : (s : List ℕ) (turns at₁ switch at₂ heads at₃ block next : ℕ) → word_at space s 0 ≡ Number turns at₁ → word_at space s at₁ ≡ Number switch at₂
-    → word_at space s at₂ ≡ Number heads at₃
-    → word_at line_feed s at₃ ≡ Number block next → s ≡ line_of (turns ∷ switch ∷ heads ∷ block ∷ []) ++ drop next s
+pub four_spelling : (s : List ℕ) (turns at₁ switch at₂ heads at₃ block next : ℕ) → word_at space s 0 ≡ Some (turns, at₁) → word_at space s at₁ ≡ Some (switch, at₂)
+    → word_at space s at₂ ≡ Some (heads, at₃)
+    → word_at line_feed s at₃ ≡ Some (block, next) → s ≡ line_of (turns ∷ switch ∷ heads ∷ block ∷ []) ++ drop next s
 four_spelling s turns at₁ switch at₂ heads at₃ block next one two three four =
     word_spelling space s 0 turns at₁ one
     ∙ ap (λ (x : List ℕ). decimal turns ++ (space ∷ x)) (three_spelling s at₁ switch at₂ heads at₃ block next two three four)
     ∙ sym (line_next turns switch (heads ∷ block ∷ []) (drop next s))
 
-pub heading_spelling : (s : List ℕ) (turns switch heads block next : ℕ) → heading_in s ≡ heading.Numbers turns switch heads block next
-    → s ≡ line_of (turns ∷ switch ∷ heads ∷ block ∷ []) ++ drop next s
-heading_spelling s turns switch heads block next e =
-    let w = heading_words s turns switch heads block next e in
-    four_spelling s turns w.at₁ switch w.at₂ heads w.at₃ block next w.one w.two w.three w.four
+pub heading_spelling : (s : List ℕ) (d : Drive) (next : ℕ) → heading_in s ≡ Ok (d, next)
+    → s ≡ line_of (d.turns ∷ d.switch ∷ d.heads ∷ d.block ∷ []) ++ drop next s
+heading_spelling s d next e =
+    let w = heading_words s d next e in
+    four_spelling s d.turns w.at₁ d.switch w.at₂ d.heads w.at₃ d.block next w.one w.two w.three w.four
 
 -- ROWS AS THEY ARE WRITTEN ARE READ
 pub rows_spelled : (rows : List Row) (s : List ℕ) (at : ℕ) (zs : List Row) → drop at s ≡ row_lines rows → FollowOn (following zs) rows
@@ -84,7 +81,7 @@ rows_spelled (z ∷ rows) s at zs e (f, later) =
     ∙ ap (λ (n : ℕ). rows_from (length s - sp.0) s sp.0 (record { first = n; last = z.last; track = z.track } ∷ zs)) (sym f.follows)
     ∙ rows_spelled rows s sp.0 (z ∷ zs) sp.2 later
 
-spelled_more : (s : List ℕ) (at : ℕ) (zs zs' : List Row) (last track next : ℕ) → row_at (following zs) s at ≡ row.Zone last track next
+spelled_more : (s : List ℕ) (at : ℕ) (zs zs' : List Row) (last track next : ℕ) → row_at (following zs) s at ≡ Ok (last, track, next)
     → Spelled s next (record { first = following zs; last = last; track = track } ∷ zs) zs' → Spelled s at zs zs'
 unfolding row_lines row_line turned following
 spelled_more s at zs zs' last track next e w =
@@ -109,8 +106,8 @@ rows_spelling (suc left) s at zs zs' h e = go (ltb at (length s)) refl e (λ nex
     more last track next = rows_from left s next (record { first = following zs; last = last; track = track } ∷ zs)
 
     on : (r : RowRead) → row_at (following zs) s at ≡ r → at < length s → on_row (length zs + 2) r more ≡ Zones zs' → Later → Spelled s at zs zs'
-    on (row.Refused k) q t e later = absurd (let z : ◌≡◌ {A = ℕ} 0 1 = cc in omega arith)
-    on (row.Zone last track next) q t e later =
+    on (Err k) q t e later = absurd (let z : ◌≡◌ {A = ℕ} 0 1 = cc in omega arith)
+    on (Ok (last, track, next)) q t e later =
         let far = row_after (following zs) s at last track next q in
         spelled_more s at zs zs' last track next q (later next (record { first = following zs; last = last; track = track }) (omega arith) e)
 

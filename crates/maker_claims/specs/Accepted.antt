@@ -1,6 +1,6 @@
 -- A maker's text is accepted exactly where it is a legal listing, and the answer are its figures.
 -- Assumes nothing.
-use Rattle.std.specs.Prelude.{ℕ, zero, suc, ◌+◌, ◌-◌, ◌≤◌, ◌<◌, Bool, length, drop, ltb}
+use Rattle.std.specs.Prelude.{ℕ, zero, suc, ◌+◌, ◌≤◌, ◌<◌, Bool, length, drop, ltb, Ok, Err}
 use Rattle.std.proofs.Math.Path.{◌≡◌, refl, ap}
 use mathlib.Core.List.{List, [], ◌∷◌, map}
 use Rattle.std.proofs.Math.Bool.{true, false, cond}
@@ -13,21 +13,17 @@ use Rattle.card.specs.Read.{accepted, blank_zones}
 use Rattle.card.specs.CardLaws.{fault_zones, length_one_film}
 use Rattle.card_table.specs.TableLaws.{straight_long}
 use Rattle.legality.specs.Legality.{Wide, fault_legal}
-use Rattle.maker.specs.declared.Drive.{Drive}
-use Rattle.maker_lines.specs.declared.Heading.{Heading}
-use Rattle.maker_lines.specs.declared.RowRead.{RowRead}
-use Rattle.maker_lines.specs.Lines.{heading_fits, judged_heading, heading_in, row_at}
+use Rattle.maker_lines.specs.declared.Drive.{Drive}
+use Rattle.maker_lines.specs.Lines.{Heading, RowRead, heading_fits, judged_heading, heading_in, row_at}
 use Rattle.maker_rows.specs.Rows.{Row, following, Listed, Zones, Refused, on_row, rows_from}
 use Rattle.maker.specs.Maker.{padded, filled, positions_of, time_of, figures_of, refused_text, read_maker}
 use Rattle.maker_lines.proofs.LineWays.{HeadingFacts, facts_heading}
 use Rattle.maker_rows.proofs.RowWays.{then_each, row_number}
-use Rattle.maker_lines.specs.declared.Heading.TheVariants as heading
-use Rattle.maker_lines.specs.declared.RowRead.TheVariants as row
 
 -- ---- a refusal has a number
 
 abbrev Numbered : Heading → Type 0
-Numbered h = (k : ℕ) → h ≡ heading.Refused k → 0 < k
+Numbered h = (k : ℕ) → h ≡ Err k → 0 < k
 
 pub heading_number : (s : List ℕ) → Numbered (heading_in s)
 unfolding heading_in
@@ -38,13 +34,13 @@ heading_number s =
     then_each Numbered _ _ _ form (λ block next.
     range turns switch heads block next))))
   where
-    form : Numbered (heading.Refused line_form)
+    form : Numbered (Err line_form)
     form k e = let same : line_form ≡ k = cc in omega arith
 
     range : (turns switch heads block next : ℕ) → Numbered (judged_heading turns switch heads block next)
     range turns switch heads block next k e = go (heading_fits turns switch heads block) (unfold judged_heading in e)
       where
-        go : (b : Bool) → cond b (heading.Numbers turns switch heads block next) (heading.Refused wrong_heading) ≡ heading.Refused k → 0 < k
+        go : (b : Bool) → cond {A = Heading} b (Ok (record { turns = turns; switch = switch; heads = heads; block = block }, next)) (Err wrong_heading) ≡ Err k → 0 < k
         go true e = absurd (let z : ◌≡◌ {A = ℕ} 0 1 = cc in omega arith)
         go false e = let same : wrong_heading ≡ k = cc in omega arith
 
@@ -60,8 +56,8 @@ rows_number (suc left) s at zs k line e = go (ltb at (length s)) e (λ next z. r
     more last track next = rows_from left s next (record { first = following zs; last = last; track = track } ∷ zs)
 
     on : (r : RowRead) → row_at (following zs) s at ≡ r → on_row (length zs + 2) r more ≡ Refused k line → Later → 0 < k
-    on (row.Refused j) q e later = let same : j ≡ k = cc in omega (arith, row_number (following zs) s at j q)
-    on (row.Zone last track next) q e later = later next (record { first = following zs; last = last; track = track }) e
+    on (Err j) q e later = let same : j ≡ k = cc in omega (arith, row_number (following zs) s at j q)
+    on (Ok (last, track, next)) q e later = later next (record { first = following zs; last = last; track = track }) e
 
     go : (t : Bool) → cond t (on_row (length zs + 2) (row_at (following zs) s at) more) (Zones zs) ≡ Refused k line → Later → 0 < k
     go true e later = on (row_at (following zs) s at) refl e later
@@ -96,7 +92,7 @@ module _ (d : Drive) (zs : List Row) (n c hop ret : ℕ) where
 
 -- line one in range
 pub judged_fits : (d : Drive) (next : ℕ) → HeadingFacts d.turns d.switch d.heads d.block
-    → judged_heading d.turns d.switch d.heads d.block next ≡ heading.Numbers d.turns d.switch d.heads d.block next
+    → judged_heading d.turns d.switch d.heads d.block next ≡ Ok (d, next)
 unfolding judged_heading
 judged_fits d next f = rw (facts_heading d.turns d.switch d.heads d.block f)
 
@@ -107,7 +103,7 @@ pub record Accepts (s : List ℕ) (n c hop ret : ℕ) : Type 0 where
   pub drive : Drive
   pub next : ℕ
   pub zs : List Row
-  pub heading_read_law : heading_in s ≡ heading.Numbers drive.turns drive.switch drive.heads drive.block next
+  pub heading_read_law : heading_in s ≡ Ok (drive, next)
   pub rows_read : rows_from (length s) s next [] ≡ Zones zs
   pub fault : record_fault 1 (figures_of drive zs n c hop ret) ≡ 0
   pub answer : read_maker s n c hop ret ≡ record { verdict = accepted; figures = figures_of drive zs n c hop ret }

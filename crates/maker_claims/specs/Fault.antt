@@ -2,7 +2,7 @@
 use Rattle.std.specs.Prelude.{ℕ, ◌+◌, ◌≡◌, ◌⊎◌, List, [], ◌++◌, length}
 use Rattle.numbers.specs.Refusals.{line_form, wrong_heading, wrong_row}
 use Rattle.card.specs.Card.{record_fault}
-use Rattle.maker.specs.declared.Drive.{Drive}
+use Rattle.maker_lines.specs.declared.Drive.{Drive}
 use Rattle.maker_rows.specs.Rows.{Row, following}
 use Rattle.maker.specs.Maker.{figures_of}
 use Rattle.maker_claims.specs.Listing.{heading_line, row_line, text_of, DriveInRange, RowInRange, FollowOn, innermost_first}

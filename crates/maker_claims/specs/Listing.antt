@@ -3,7 +3,7 @@ use Rattle.std.specs.Prelude.{ℕ, ◌+◌, ◌≤◌, ◌≡◌, List, [], ◌�
 use Rattle.numbers.specs.Limits.{max_turns, max_switch, max_heads, max_block, max_cylinder, max_track}
 use Rattle.decimal.specs.Decimal.{decimal}
 use Rattle.card.specs.Card.{Legal}
-use Rattle.maker.specs.declared.Drive.{Drive}
+use Rattle.maker_lines.specs.declared.Drive.{Drive}
 use Rattle.maker_lines.specs.Lines.{space, line_feed}
 use Rattle.maker_rows.specs.Rows.{Row}
 use Rattle.maker.specs.Maker.{figures_of}

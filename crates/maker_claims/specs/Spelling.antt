@@ -1,18 +1,15 @@
 -- Lines as they are written are read as their numbers, and lines that are read are written so.
 -- Assumes nothing.
-use Rattle.std.specs.Prelude.{ℕ, suc, ◌+◌, ◌-◌, ◌≤◌, ◌<◌, ◌≡◌, List, [], ◌∷◌, ◌++◌, false, length, get_or, drop, ltb}
+use Rattle.std.specs.Prelude.{ℕ, suc, ◌+◌, ◌≤◌, ◌<◌, ◌≡◌, List, [], ◌∷◌, ◌++◌, false, length, get_or, drop, Some, Ok}
 use Rattle.std.proofs.Common.{sym, ap, ap₂, ◌∙◌, append_assoc, arith, length-drop, drop_of_length-le, drop-cons, drop-drop, get_or-drop, lt-ltb, eq-eqb}
 use Rattle.std.proofs.Math.Seq.{drop-append_seam}
-use Rattle.decimal.specs.declared.Decimal.TheVariants.{Number}
 use Rattle.decimal.specs.Decimal.{is_digit, decimal}
 use Rattle.decimal.specs.DecimalLaws.{digit_below, decimal_read, read_decimal}
 use Rattle.maker_lines.specs.Lines.{space, line_feed, ended_by, word_at, judged_row, row_at}
 use Rattle.maker_rows.specs.Rows.{Row, following, Zones}
 use Rattle.maker_lines.proofs.LineWays.{RowFacts, facts_row}
 use Rattle.maker_rows.proofs.RowWays.{word_number, row_words}
-use Rattle.maker_claims.specs.Listing.{line_of, row_line, row_lines, FollowOn, turned}
-use Rattle.maker_lines.specs.declared.Heading.TheVariants as heading
-use Rattle.maker_lines.specs.declared.RowRead.TheVariants as row
+use Rattle.maker_claims.specs.Listing.{line_of, row_lines, FollowOn, turned}
 
 -- ---- a number and the byte after it
 
@@ -34,7 +31,7 @@ byte_there s at b rest e =
 
 -- a number that is written is read, and what follows it is left
 pub word_spelled : (end : ℕ) → is_digit end ≡ false → (s : List ℕ) (at v : ℕ) (rest : List ℕ) → drop at s ≡ decimal v ++ (end ∷ rest)
-    → (next : ℕ) × (word_at end s at ≡ Number v next) × (drop next s ≡ rest)
+    → (next : ℕ) × (word_at end s at ≡ Some (v, next)) × (drop next s ≡ rest)
 unfolding word_at ended_by
 word_spelled end none s at v rest e =
     let past : drop (at + length (decimal v)) s ≡ end ∷ rest = sym (drop-drop (length (decimal v)) at s) ∙ ap (drop (length (decimal v))) e
@@ -47,7 +44,7 @@ word_spelled end none s at v rest e =
     )
 
 -- a number that is read is written so
-pub word_spelling : (end : ℕ) (s : List ℕ) (at v next : ℕ) → word_at end s at ≡ Number v next → drop at s ≡ decimal v ++ (end ∷ drop next s)
+pub word_spelling : (end : ℕ) (s : List ℕ) (at v next : ℕ) → word_at end s at ≡ Some (v, next) → drop at s ≡ decimal v ++ (end ∷ drop next s)
 word_spelling end s at v next e =
     let w = word_number end s at v next e in
     let m = w.0 in
@@ -68,14 +65,14 @@ line_next v w vs rest = append_assoc (decimal v) (space ∷ line_of (w ∷ vs)) 
 -- ---- the rows
 
 -- a row that is read starts in the text
-pub row_inside : (start : ℕ) (s : List ℕ) (at last track next : ℕ) → row_at start s at ≡ row.Zone last track next → at < length s
+pub row_inside : (start : ℕ) (s : List ℕ) (at last track next : ℕ) → row_at start s at ≡ Ok (last, track, next) → at < length s
 row_inside start s at last track next e =
     let w = row_words start s at last track next e in
     let m = word_number space s at start w.at₁ w.one in
     omega (arith, (read_decimal s at start m.0 m.1).0, m.2)
 
 -- a row in range is a zone
-pub judged_fits : (start from last track next : ℕ) → RowFacts start from last track → judged_row start from last track next ≡ row.Zone last track next
+pub judged_fits : (start from last track next : ℕ) → RowFacts start from last track → judged_row start from last track next ≡ Ok (last, track, next)
 unfolding judged_row
 judged_fits start from last track next f = rw (facts_row start from last track f)
 

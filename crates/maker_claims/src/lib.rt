@@ -4,7 +4,7 @@
 ghost use Rattle.std.specs.Prelude.{◌≡◌, ◌↔◌, List, ℕ, suc};
 ghost use Rattle.card.specs.Card.{Legal, judge_record, card_of};
 ghost use Rattle.card.specs.Read.{accepted, blank_figures, read_card};
-ghost use Rattle.maker.specs.declared.Drive.{Drive};
+ghost use Rattle.maker_lines.specs.declared.Drive.{Drive};
 ghost use Rattle.maker_rows.specs.Rows.{Row};
 ghost use Rattle.maker.specs.Maker.{figures_of, read_maker};
 ghost use Rattle.maker_claims.specs.Fault.{Fault};

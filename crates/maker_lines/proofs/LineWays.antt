@@ -12,51 +12,45 @@ use borrow.Author.Tests.{leb-true, eqb-true, lt-ltb, le-ltb, le-leb, lt-leb, eq-
 use Rattle.laws.specs.Bools.{and_left, and_right, and_both, clash}
 use Rattle.numbers.specs.Limits.{no_number, max_turns, max_switch, max_heads, max_block, max_cylinder, max_track}
 use Rattle.numbers.specs.Refusals.{line_form, wrong_heading, wrong_row}
-use Rattle.decimal.specs.declared.Decimal.{Decimal}
-use Rattle.decimal.specs.declared.Decimal.TheVariants.{Number, Other}
+use Rattle.std.specs.Prelude.{Option, Some, None, Ok, Err}
+use Rattle.std.proofs.lemmas.Option.{none-some}
 use Rattle.decimal.specs.Decimal.{number_at, capped, capped_number}
-use Rattle.decimal.specs.DecimalLaws.{capped_small, capped_great}
-use Rattle.maker_lines.specs.declared.Heading.{Heading}
-use Rattle.maker_lines.specs.declared.Heading.TheVariants as heading
-use Rattle.maker_lines.specs.declared.RowRead.{RowRead}
-use Rattle.maker_lines.specs.declared.RowRead.TheVariants as row
-use Rattle.maker_lines.specs.declared.Three.{Three}
-use Rattle.maker_lines.specs.declared.Three.TheVariants as three
-use Rattle.maker_lines.specs.Lines.{space, line_feed, ended_by, word_at, then_word, within, heading_fits}
-use Rattle.maker_lines.specs.Lines.{row_fits, judged_heading, judged_row, then_three, three_read, heading_in, row_at}
+use Rattle.decimal.specs.DecimalLaws.{found, same_number, capped_small, capped_great}
+use Rattle.maker_lines.specs.Lines.{space, ended_by, word_at, then_word, within, heading_fits}
+use Rattle.maker_lines.specs.Lines.{Heading, RowRead, row_fits, judged_heading, judged_row, then_three, three_read, heading_in, row_at}
 
 -- ---- a number and the byte after it
 
 -- what a capped number was
-uncapped : (G : Decimal) {v next : ℕ} → capped_number G ≡ Number v next → (w : ℕ) × (G ≡ Number w next) × (capped w ≡ v)
+uncapped : (G : Option (ℕ × ℕ)) {v next : ℕ} → capped_number G ≡ Some (v, next) → (w : ℕ) × (G ≡ Some (w, next)) × (capped w ≡ v)
 unfolding capped_number
-uncapped (Number w m) {v} {next} e = let after : m ≡ next = cc in let value : capped w ≡ v = cc in (w, ap (Number w) after, value)
-uncapped Other e = absurd (let z : ◌≡◌ {A = ℕ} 0 1 = cc in omega arith)
+uncapped (Some (w, m)) {v} {next} e = let (value, after) = same_number _ _ e in (w, ap (λ (x : ℕ). found w x) after, value)
+uncapped None {v} {next} e = absurd (none-some (v, next) e)
 
-uncapped_other : (G : Decimal) → capped_number G ≡ Other → G ≡ Other
+uncapped_other : (G : Option (ℕ × ℕ)) → capped_number G ≡ None → G ≡ None
 unfolding capped_number
-uncapped_other (Number w m) e = absurd (let z : ◌≡◌ {A = ℕ} 0 1 = cc in omega arith)
-uncapped_other Other e = refl
+uncapped_other (Some d) e = absurd (none-some _ (sym e))
+uncapped_other None e = refl
 
-module _ (end : ℕ) (s : List ℕ) (at : ℕ) {F : Decimal} (read : F ≡ capped_number (number_at s at)) where
-  pub word_none : F ≡ Other → Other ≡ capped_number (word_at end s at)
+module _ (end : ℕ) (s : List ℕ) (at : ℕ) {F : Option (ℕ × ℕ)} (read : F ≡ capped_number (number_at s at)) where
+  pub word_none : F ≡ None → None ≡ capped_number (word_at end s at)
   unfolding word_at ended_by capped_number
   word_none e = rw (uncapped_other (number_at s at) (sym read ∙ e))
 
-  module _ {v next : ℕ} (e : F ≡ Number v next) where
-    pub word_out : length s ≤ next → Other ≡ capped_number (word_at end s at)
+  module _ {v next : ℕ} (e : F ≡ Some (v, next)) where
+    pub word_out : length s ≤ next → None ≡ capped_number (word_at end s at)
     unfolding word_at ended_by capped_number
     word_out h = let g = uncapped (number_at s at) (sym read ∙ e) in rw (g.1, le-ltb next (length s) h)
 
-    pub word_wrong : next < length s → (get_or s next 0 ≡ end → ⊥) → Other ≡ capped_number (word_at end s at)
+    pub word_wrong : next < length s → (get_or s next 0 ≡ end → ⊥) → None ≡ capped_number (word_at end s at)
     unfolding word_at ended_by capped_number
     word_wrong h n = let g = uncapped (number_at s at) (sym read ∙ e) in rw (g.1, lt-ltb next (length s) h, ne_eqb (get_or s next 0) end n)
 
-    pub word_right : next < length s → get_or s next 0 ≡ end → Number v (next + 1) ≡ capped_number (word_at end s at)
+    pub word_right : next < length s → get_or s next 0 ≡ end → found v (next + 1) ≡ capped_number (word_at end s at)
     unfolding word_at ended_by capped_number
     word_right h n =
         let g = uncapped (number_at s at) (sym read ∙ e) in
-        rw (g.1, lt-ltb next (length s) h, eq-eqb (get_or s next 0) end n) (ap (λ (x : ℕ). Number x (next + 1)) (sym g.2))
+        rw (g.1, lt-ltb next (length s) h, eq-eqb (get_or s next 0) end n) (ap (λ (x : ℕ). found x (next + 1)) (sym g.2))
 
 -- ---- ranges
 
@@ -77,50 +71,51 @@ unfolding within
 within_some most v h = rw (le-leb 1 v h)
 
 module _ (turns switch heads block next : ℕ) where
-  pub heading_turns : within max_turns turns ≡ false → heading.Refused wrong_heading ≡ judged_heading turns switch heads block next
+  pub heading_turns : within max_turns turns ≡ false → Err wrong_heading ≡ judged_heading turns switch heads block next
   unfolding judged_heading heading_fits
   heading_turns e = rw e
 
   module _ (a : within max_turns turns ≡ true) where
-    pub heading_switch : within max_switch switch ≡ false → heading.Refused wrong_heading ≡ judged_heading turns switch heads block next
+    pub heading_switch : within max_switch switch ≡ false → Err wrong_heading ≡ judged_heading turns switch heads block next
     unfolding judged_heading heading_fits
     heading_switch e = rw (a, e)
 
     module _ (b : within max_switch switch ≡ true) where
-      pub heading_heads : within max_heads heads ≡ false → heading.Refused wrong_heading ≡ judged_heading turns switch heads block next
+      pub heading_heads : within max_heads heads ≡ false → Err wrong_heading ≡ judged_heading turns switch heads block next
       unfolding judged_heading heading_fits
       heading_heads e = rw (a, b, e)
 
       module _ (c : within max_heads heads ≡ true) where
-        pub heading_block : within max_block block ≡ false → heading.Refused wrong_heading ≡ judged_heading turns switch heads block next
+        pub heading_block : within max_block block ≡ false → Err wrong_heading ≡ judged_heading turns switch heads block next
         unfolding judged_heading heading_fits
         heading_block e = rw (a, b, c, e)
 
-        pub heading_fits_law : within max_block block ≡ true → heading.Numbers turns switch heads block next ≡ judged_heading turns switch heads block next
+        pub heading_fits_law : within max_block block ≡ true → ◌≡◌ {A = Heading}
+            (Ok (record { turns = turns; switch = switch; heads = heads; block = block }, next)) (judged_heading turns switch heads block next)
         unfolding judged_heading heading_fits
         heading_fits_law e = rw (a, b, c, e)
 
 module _ (first from last track next : ℕ) where
-  pub row_gap : (from ≡ first → ⊥) → row.Refused wrong_row ≡ judged_row first from last track next
+  pub row_gap : (from ≡ first → ⊥) → Err wrong_row ≡ judged_row first from last track next
   unfolding judged_row row_fits
   row_gap n = rw (ne_eqb from first n)
 
   module _ (a : from ≡ first) where
-    pub row_falls : last < from → row.Refused wrong_row ≡ judged_row first from last track next
+    pub row_falls : last < from → Err wrong_row ≡ judged_row first from last track next
     unfolding judged_row row_fits
     row_falls h = rw (eq-eqb from first a, lt-leb from last h)
 
     module _ (b : from ≤ last) where
-      pub row_far : max_cylinder < last → row.Refused wrong_row ≡ judged_row first from last track next
+      pub row_far : max_cylinder < last → Err wrong_row ≡ judged_row first from last track next
       unfolding judged_row row_fits
       row_far h = rw (eq-eqb from first a, le-leb from last b, lt-leb last max_cylinder h)
 
       module _ (c : last ≤ max_cylinder) where
-        pub row_track : within max_track track ≡ false → row.Refused wrong_row ≡ judged_row first from last track next
+        pub row_track : within max_track track ≡ false → Err wrong_row ≡ judged_row first from last track next
         unfolding judged_row row_fits
         row_track e = rw (eq-eqb from first a, le-leb from last b, le-leb last max_cylinder c, e)
 
-        pub row_fits_law : within max_track track ≡ true → row.Zone last track next ≡ judged_row first from last track next
+        pub row_fits_law : within max_track track ≡ true → ◌≡◌ {A = RowRead} (Ok (last, track, next)) (judged_row first from last track next)
         unfolding judged_row row_fits
         row_fits_law e = rw (eq-eqb from first a, le-leb from last b, le-leb last max_cylinder c, e)
 
@@ -239,53 +234,53 @@ module _ (first from last track next : ℕ) (small : first < no_number) where
 -- ---- one number after the other
 
 module _ {A : Type 0} where
-  module _ {F G : Decimal} (same : F ≡ G) (other : A) (go : ℕ → ℕ → A) where
-    pub word_stops : F ≡ Other → other ≡ then_word G other go
+  module _ {F G : Option (ℕ × ℕ)} (same : F ≡ G) (other : A) (go : ℕ → ℕ → A) where
+    pub word_stops : F ≡ None → other ≡ then_word G other go
     unfolding then_word
-    word_stops e = ap (λ (x : Decimal). then_word x other go) (sym e ∙ same)
+    word_stops e = ap (λ (x : Option (ℕ × ℕ)). then_word x other go) (sym e ∙ same)
 
-    pub word_goes : {v next : ℕ} → F ≡ Number v next → go v next ≡ then_word G other go
+    pub word_goes : {v next : ℕ} → F ≡ Some (v, next) → go v next ≡ then_word G other go
     unfolding then_word
-    word_goes e = ap (λ (x : Decimal). then_word x other go) (sym e ∙ same)
+    word_goes e = ap (λ (x : Option (ℕ × ℕ)). then_word x other go) (sym e ∙ same)
 
   -- with capped numbers
-  pub then_capped : (G : Decimal) (other : A) (go go' : ℕ → ℕ → A) → ((v next : ℕ) → go (capped v) next ≡ go' v next)
+  pub then_capped : (G : Option (ℕ × ℕ)) (other : A) (go go' : ℕ → ℕ → A) → ((v next : ℕ) → go (capped v) next ≡ go' v next)
       → then_word (capped_number G) other go ≡ then_word G other go'
   unfolding then_word capped_number
-  then_capped (Number v next) other go go' h = h v next
-  then_capped Other other go go' h = refl
+  then_capped (Some (v, next)) other go go' h = h v next
+  then_capped None other go go' h = refl
 
 -- ---- three numbers
 
-unfoldable on_three : {A : Type 0} → Three → A → (ℕ → ℕ → ℕ → ℕ → A) → A
-on_three three.Other other go = other
-on_three (three.Numbers a b c next) other go = go a b c next
+unfoldable on_three : {A : Type 0} → Option (ℕ × ℕ × ℕ × ℕ) → A → (ℕ → ℕ → ℕ → ℕ → A) → A
+on_three None other go = other
+on_three (Some (a, b, c, next)) other go = go a b c next
 
-then_into : {A B : Type 0} (f : A → B) (G : Decimal) (other : A) (go : ℕ → ℕ → A) (other' : B) (go' : ℕ → ℕ → B)
+then_into : {A B : Type 0} (f : A → B) (G : Option (ℕ × ℕ)) (other : A) (go : ℕ → ℕ → A) (other' : B) (go' : ℕ → ℕ → B)
     → f other ≡ other' → ((v next : ℕ) → f (go v next) ≡ go' v next) → f (then_word G other go) ≡ then_word G other' go'
 unfolding then_word
-then_into f (Number v next) other go other' go' e h = h v next
-then_into f Other other go other' go' e h = e
+then_into f (Some (v, next)) other go other' go' e h = h v next
+then_into f None other go other' go' e h = e
 
 -- a line's capped words
-abbrev pub cap_word : List ℕ → ℕ → ℕ → Decimal
+abbrev pub cap_word : List ℕ → ℕ → ℕ → Option (ℕ × ℕ)
 cap_word s end at = capped_number (word_at end s at)
 
 module _ {A : Type 0} (s : List ℕ) (at : ℕ) (other : A) (go : ℕ → ℕ → ℕ → ℕ → A) where
   three_then : on_three (three_read s at) other go ≡ then_three (cap_word s) at other go
   unfolding on_three three_read
   three_then =
-      let f : Three → A = λ x. on_three x other go in
+      let f : Option (ℕ × ℕ × ℕ × ℕ) → A = λ x. on_three x other go in
       then_into f _ _ _ _ _ refl (λ a at₁. then_into f _ _ _ _ _ refl (λ b at₂. then_into f _ _ _ _ _ refl (λ c next. refl)))
 
-  module _ {F : Three} (same : F ≡ three_read s at) where
-    pub three_stops : F ≡ three.Other → other ≡ then_three (cap_word s) at other go
+  module _ {F : Option (ℕ × ℕ × ℕ × ℕ)} (same : F ≡ three_read s at) where
+    pub three_stops : F ≡ None → other ≡ then_three (cap_word s) at other go
     unfolding on_three
-    three_stops e = ap (λ (x : Three). on_three x other go) (sym e ∙ same) ∙ three_then
+    three_stops e = ap (λ (x : Option (ℕ × ℕ × ℕ × ℕ)). on_three x other go) (sym e ∙ same) ∙ three_then
 
-    pub three_goes : {a b c next : ℕ} → F ≡ three.Numbers a b c next → go a b c next ≡ then_three (cap_word s) at other go
+    pub three_goes : {a b c next : ℕ} → F ≡ Some (a, b, c, next) → go a b c next ≡ then_three (cap_word s) at other go
     unfolding on_three
-    three_goes e = ap (λ (x : Three). on_three x other go) (sym e ∙ same) ∙ three_then
+    three_goes e = ap (λ (x : Option (ℕ × ℕ × ℕ × ℕ)). on_three x other go) (sym e ∙ same) ∙ three_then
 
   -- a cap changes nothing of what goes on alike
   three_capped : (go' : ℕ → ℕ → ℕ → ℕ → A) → ((a b c next : ℕ) → go (capped a) (capped b) (capped c) next ≡ go' a b c next)
@@ -295,15 +290,15 @@ module _ {A : Type 0} (s : List ℕ) (at : ℕ) (other : A) (go : ℕ → ℕ �
 -- a line of capped numbers, as the code reads it
 unfoldable pub heading_read : List ℕ → Heading
 heading_read s =
-    then_word (cap_word s space 0) (heading.Refused line_form) (λ turns at.
-    then_three (cap_word s) at (heading.Refused line_form) (λ switch heads block next. judged_heading turns switch heads block next))
+    then_word (cap_word s space 0) (Err line_form) (λ turns at.
+    then_three (cap_word s) at (Err line_form) (λ switch heads block next. judged_heading turns switch heads block next))
 
 pub heading_read_law : (s : List ℕ) → heading_read s ≡ heading_in s
 unfolding heading_read heading_in
 heading_read_law s = then_capped _ _ _ _ (λ turns at. three_capped s at _ _ _ (λ switch heads block next. heading_capped turns switch heads block next))
 
 unfoldable pub row_read : ℕ → List ℕ → ℕ → RowRead
-row_read first s at = then_three (cap_word s) at (row.Refused line_form) (λ from last track next. judged_row first from last track next)
+row_read first s at = then_three (cap_word s) at (Err line_form) (λ from last track next. judged_row first from last track next)
 
 pub row_read_law : (first : ℕ) → first < no_number → (s : List ℕ) (at : ℕ) → row_read first s at ≡ row_at first s at
 unfolding row_read row_at

@@ -5,145 +5,119 @@ ghost use Rattle.std.specs.Prelude.{◌≡◌};
 ghost use Rattle.decimal.specs.Decimal.{capped_number};
 ghost use Rattle.maker_lines.specs.Lines.{word_at, within, judged_heading, judged_row, three_read, heading_in, row_at};
 
-use decimal::Decimal;
 use numbers::limits::{MAX_BLOCK, MAX_CYLINDER, MAX_HEADS, MAX_SWITCH, MAX_TRACK, MAX_TURNS};
 use numbers::refusals::{LINE_FORM, WRONG_HEADING, WRONG_ROW};
 
-// Line one, or the refusal's number.
+// Line one: turns a minute, track switch time, heads, sectors in a block.
 #[derive(Clone, Copy)]
-pub enum Heading {
-    // Turns a minute, track switch time, heads, sectors in a block; the offset after the line.
-    Numbers(u32, u32, u32, u32, usize),
-    Refused(u32),
-}
-
-// A row, or the refusal's number.
-#[derive(Clone, Copy)]
-pub enum RowRead {
-    // The last cylinder and the sectors a track; the offset after the line.
-    Zone(u32, u32, usize),
-    Refused(u32),
-}
-
-// Three numbers and the offset after their line, or anything else.
-#[derive(Clone, Copy)]
-pub enum Three {
-    Numbers(u64, u64, u64, usize),
-    Other,
+pub struct Drive {
+    pub turns: u32,
+    pub switch: u32,
+    pub heads: u32,
+    pub block: u32,
 }
 
 // The number at an offset that ends with the given byte, and the offset after that one.
-fn read_word(text: &[u8], at: usize, end: u8) -> Decimal
+fn read_word(text: &[u8], at: usize, end: u8) -> Option<(u64, usize)>
     ensures { result ≡ capped_number (word_at end text.now at) }
 {
-    let number = decimal::read_number(text, at);
-    let Decimal::Number(value, next) = number else {
-        return Decimal::Other;
-    };
+    let (value, next) = decimal::read_number(text, at)?;
     if text.len() <= next {
-        return Decimal::Other;
+        return None;
     }
     if text[next] != end {
-        return Decimal::Other;
+        return None;
     }
-    Decimal::Number(value, next + 1)
+    Some((value, next + 1))
 }
 
 // Is the number from 1 to the most?
 fn is_within(most: u32, v: u64) -> bool
     ensures { result ≡ within most v }
 {
-    if v < 1 {
-        return false;
-    }
-    v <= most as u64
+    1 <= v && v <= most as u64
 }
 
 // The ranges of line one.
-fn judge_heading(turns: u64, switch: u64, heads: u64, block: u64, next: usize) -> Heading
+fn judge_heading(
+    turns: u64,
+    switch: u64,
+    heads: u64,
+    block: u64,
+    next: usize,
+) -> Result<(Drive, usize), u32>
     ensures { result ≡ judged_heading turns switch heads block next }
 {
     if !is_within(MAX_TURNS, turns) {
-        return Heading::Refused(WRONG_HEADING);
+        return Err(WRONG_HEADING);
     }
     if !is_within(MAX_SWITCH, switch) {
-        return Heading::Refused(WRONG_HEADING);
+        return Err(WRONG_HEADING);
     }
     if !is_within(MAX_HEADS, heads) {
-        return Heading::Refused(WRONG_HEADING);
+        return Err(WRONG_HEADING);
     }
     if !is_within(MAX_BLOCK, block) {
-        return Heading::Refused(WRONG_HEADING);
+        return Err(WRONG_HEADING);
     }
-    Heading::Numbers(
-        turns as u32,
-        switch as u32,
-        heads as u32,
-        block as u32,
-        next,
-    )
+    let drive = Drive {
+        turns: turns as u32,
+        switch: switch as u32,
+        heads: heads as u32,
+        block: block as u32,
+    };
+    Ok((drive, next))
 }
 
 // The ranges of a row that has to start at the cylinder `first`.
-fn judge_row(first: u32, from: u64, last: u64, track: u64, next: usize) -> RowRead
+fn judge_row(
+    first: u32,
+    from: u64,
+    last: u64,
+    track: u64,
+    next: usize,
+) -> Result<(u32, u32, usize), u32>
     ensures { result ≡ judged_row first from last track next }
 {
     if from != first as u64 {
-        return RowRead::Refused(WRONG_ROW);
+        return Err(WRONG_ROW);
     }
     if last < from {
-        return RowRead::Refused(WRONG_ROW);
+        return Err(WRONG_ROW);
     }
     if (MAX_CYLINDER as u64) < last {
-        return RowRead::Refused(WRONG_ROW);
+        return Err(WRONG_ROW);
     }
     if !is_within(MAX_TRACK, track) {
-        return RowRead::Refused(WRONG_ROW);
+        return Err(WRONG_ROW);
     }
-    RowRead::Zone(last as u32, track as u32, next)
+    Ok((last as u32, track as u32, next))
 }
 
-// Three numbers up to the end of a line.
-fn read_three(text: &[u8], at: usize) -> Three
+// Three numbers up to the end of a line, and the offset after it.
+fn read_three(text: &[u8], at: usize) -> Option<(u64, u64, u64, usize)>
     ensures { result ≡ three_read text.now at }
 {
-    let one = read_word(text, at, b' ');
-    let Decimal::Number(first, after) = one else {
-        return Three::Other;
-    };
-    let two = read_word(text, after, b' ');
-    let Decimal::Number(second, last) = two else {
-        return Three::Other;
-    };
-    let three = read_word(text, last, b'\n');
-    let Decimal::Number(third, next) = three else {
-        return Three::Other;
-    };
-    Three::Numbers(first, second, third, next)
+    let (first, after) = read_word(text, at, b' ')?;
+    let (second, last) = read_word(text, after, b' ')?;
+    let (third, next) = read_word(text, last, b'\n')?;
+    Some((first, second, third, next))
 }
 
-// Line one: four numbers.
-pub fn read_heading(text: &[u8]) -> Heading
+// Line one: four numbers; and the offset after it. Or the refusal's number.
+pub fn read_heading(text: &[u8]) -> Result<(Drive, usize), u32>
     ensures { result ≡ heading_in text.now }
 {
-    let one = read_word(text, 0, b' ');
-    let Decimal::Number(turns, at) = one else {
-        return Heading::Refused(LINE_FORM);
-    };
-    let three = read_three(text, at);
-    let Three::Numbers(switch, heads, block, next) = three else {
-        return Heading::Refused(LINE_FORM);
-    };
+    let (turns, at) = read_word(text, 0, b' ').ok_or(LINE_FORM)?;
+    let (switch, heads, block, next) = read_three(text, at).ok_or(LINE_FORM)?;
     judge_heading(turns, switch, heads, block, next)
 }
 
-// The row at an offset, which has to start at the cylinder `first`: three numbers.
-pub fn read_row(text: &[u8], at: usize, first: u32) -> RowRead
+// The row at an offset, which has to start at the cylinder `first`: its last cylinder, its sectors a track, and the offset after the line. Or the
+// refusal's number.
+pub fn read_row(text: &[u8], at: usize, first: u32) -> Result<(u32, u32, usize), u32>
     ensures { result ≡ row_at first text.now at }
 {
-    let three = read_three(text, at);
-    let Three::Numbers(from, last, track, next) = three else {
-        return RowRead::Refused(LINE_FORM);
-    };
+    let (from, last, track, next) = read_three(text, at).ok_or(LINE_FORM)?;
     judge_row(first, from, last, track, next)
 }

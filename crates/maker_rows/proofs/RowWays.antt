@@ -13,85 +13,83 @@ use borrow.Author.Tests.{ltb-true, eqb-true, lt-ltb, le-ltb}
 use Rattle.laws.specs.Bools.{and_left, and_right}
 use Rattle.numbers.specs.Limits.{max_zones, max_cylinder, max_track}
 use Rattle.numbers.specs.Refusals.{line_form, wrong_row}
-use Rattle.decimal.specs.declared.Decimal.{Decimal}
-use Rattle.decimal.specs.declared.Decimal.TheVariants.{Number, Other}
+use Rattle.std.specs.Prelude.{Option, Some, None, Ok, Err}
 use Rattle.decimal.specs.Decimal.{number_at}
-use Rattle.decimal.specs.DecimalLaws.{read_decimal}
+use Rattle.decimal.specs.DecimalLaws.{found, same_number, read_decimal}
 use Rattle.card.specs.Read.{blank_zones}
 use Rattle.maker_rows.specs.declared.Rows.{Rows}
-use Rattle.maker_lines.specs.declared.RowRead.{RowRead}
-use Rattle.maker_lines.specs.declared.RowRead.TheVariants as row
-use Rattle.maker_lines.specs.Lines.{space, line_feed, ended_by, word_at, then_word, row_fits, judged_row, row_at}
-use Rattle.maker_rows.specs.Rows.{Row, cylinders_of, following, Listed, Zones, Refused, row_fault, on_row, rows_from}
+use Rattle.maker_lines.specs.Lines.{RowRead, space, line_feed, ended_by, word_at, then_word, row_fits, judged_row, row_at}
+use Rattle.maker_rows.specs.Rows.{Row, cylinders_of, following, Listed, Zones, Refused, on_row, rows_from}
 use Rattle.maker_rows.specs.Kept.{no_rows, kept_row, back_by, Kept, Holds}
 use Rattle.maker_lines.proofs.LineWays.{RowFacts, row_facts}
 
 -- ---- one row
 
 -- a word of a line lies in the text, and its number before its end
-pub word_number : (end : ℕ) (s : List ℕ) (at v next : ℕ) → word_at end s at ≡ Number v next
-    → (m : ℕ) × (number_at s at ≡ Number v m) × (m < length s) × (get_or s m 0 ≡ end) × (next ≡ m + 1)
+pub word_number : (end : ℕ) (s : List ℕ) (at v next : ℕ) → word_at end s at ≡ Some (v, next)
+    → (m : ℕ) × (number_at s at ≡ Some (v, m)) × (m < length s) × (get_or s m 0 ≡ end) × (next ≡ m + 1)
 unfolding word_at ended_by
 word_number end s at v next e = go (number_at s at) refl e
   where
-    on : (w m : ℕ) → number_at s at ≡ Number w m → (t : Bool) → (ltb m (length s) && eqb (get_or s m 0) end) ≡ t → cond t (Number w (m + 1)) Other ≡ Number v next
-        → (m : ℕ) × (number_at s at ≡ Number v m) × (m < length s) × (get_or s m 0 ≡ end) × (next ≡ m + 1)
+    on : (w m : ℕ) → number_at s at ≡ Some (w, m) → (t : Bool) → (ltb m (length s) && eqb (get_or s m 0) end) ≡ t → cond {A = Option (ℕ × ℕ)} t (Some (w, m + 1)) None ≡ Some (v, next)
+        → (m : ℕ) × (number_at s at ≡ Some (v, m)) × (m < length s) × (get_or s m 0 ≡ end) × (next ≡ m + 1)
     on w m q true t e =
-        let value : w ≡ v = cc in
-        let after : m + 1 ≡ next = cc in (
+        let (value, after) = same_number _ _ e in (
           m,
-          q ∙ ap (λ (x : ℕ). Number x m) value,
+          q ∙ ap (λ (x : ℕ). found x m) value,
           ltb-true m (length s) (and_left (ltb m (length s)) _ t),
           eqb-true (get_or s m 0) end (and_right (ltb m (length s)) _ t),
           sym after,
         )
     on w m q false t e = absurd (let z : ◌≡◌ {A = ℕ} 0 1 = cc in omega arith)
 
-    go : (G : Decimal) → number_at s at ≡ G → ended_by end s G ≡ Number v next
-        → (m : ℕ) × (number_at s at ≡ Number v m) × (m < length s) × (get_or s m 0 ≡ end) × (next ≡ m + 1)
-    go (Number w m) q e = on w m q (ltb m (length s) && eqb (get_or s m 0) end) refl e
-    go Other q e = absurd (let z : ◌≡◌ {A = ℕ} 0 1 = cc in omega arith)
+    go : (G : Option (ℕ × ℕ)) → number_at s at ≡ G → ended_by end s G ≡ Some (v, next)
+        → (m : ℕ) × (number_at s at ≡ Some (v, m)) × (m < length s) × (get_or s m 0 ≡ end) × (next ≡ m + 1)
+    go (Some (w, m)) q e = on w m q (ltb m (length s) && eqb (get_or s m 0) end) refl e
+    go None q e = absurd (let z : ◌≡◌ {A = ℕ} 0 1 = cc in omega arith)
 
-pub word_after : (end : ℕ) (s : List ℕ) (at v next : ℕ) → word_at end s at ≡ Number v next → at < next
+pub word_after : (end : ℕ) (s : List ℕ) (at v next : ℕ) → word_at end s at ≡ Some (v, next) → at < next
 word_after end s at v next e = let w = word_number end s at v next e in omega (arith, (read_decimal s at v w.0 w.1).0, w.4)
 
 -- ---- one number after the other
 
 module _ {A : Type 0} where
   -- what holds of either answer holds of it
-  pub then_each : (P : A → Type 0) (G : Decimal) (other : A) (go : ℕ → ℕ → A) → P other → ((v next : ℕ) → P (go v next)) → P (then_word G other go)
+  pub then_each : (P : A → Type 0) (G : Option (ℕ × ℕ)) (other : A) (go : ℕ → ℕ → A) → P other → ((v next : ℕ) → P (go v next)) → P (then_word G other go)
   unfolding then_word
-  then_each P (Number v next) other go p q = q v next
-  then_each P Other other go p q = p
+  then_each P (Some (v, next)) other go p q = q v next
+  then_each P None other go p q = p
 
   -- an answer that is not the other one came from a number
-  pub then_from : (G : Decimal) (other : A) (go : ℕ → ℕ → A) {x : A} → (other ≡ x → ⊥) → then_word G other go ≡ x
-      → (v : ℕ) × (next : ℕ) × (G ≡ Number v next) × (go v next ≡ x)
+  pub then_from : (G : Option (ℕ × ℕ)) (other : A) (go : ℕ → ℕ → A) {x : A} → (other ≡ x → ⊥) → then_word G other go ≡ x
+      → (v : ℕ) × (next : ℕ) × (G ≡ Some (v, next)) × (go v next ≡ x)
   unfolding then_word
-  then_from (Number v next) other go n e = (v, next, refl, e)
-  then_from Other other go n e = absurd (n e)
+  then_from (Some (v, next)) other go n e = (v, next, refl, e)
+  then_from None other go n e = absurd (n e)
 
 -- what a row was read from
 pub record RowWords (first : ℕ) (s : List ℕ) (at last track next : ℕ) : Type 0 where
   pub at₁ : ℕ
   pub at₂ : ℕ
-  pub one : word_at space s at ≡ Number first at₁
-  pub two : word_at space s at₁ ≡ Number last at₂
-  pub three : word_at line_feed s at₂ ≡ Number track next
+  pub one : word_at space s at ≡ Some (first, at₁)
+  pub two : word_at space s at₁ ≡ Some (last, at₂)
+  pub three : word_at line_feed s at₂ ≡ Some (track, next)
   pub facts : RowFacts first first last track
 
 -- what a judged row says of its numbers
-judged_zone : (first from last track next : ℕ) {l t n : ℕ} → judged_row first from last track next ≡ row.Zone l t n
+judged_zone : (first from last track next : ℕ) {l t n : ℕ} → judged_row first from last track next ≡ Ok (l, t, n)
     → (row_fits first from last track ≡ true) × (last ≡ l) × (track ≡ t) × (next ≡ n)
 unfolding judged_row
 judged_zone first from last track next {l} {t} {n} e = go (row_fits first from last track) refl e
   where
-    go : (b : Bool) → row_fits first from last track ≡ b → cond b (row.Zone last track next) (row.Refused wrong_row) ≡ row.Zone l t n
+    go : (b : Bool) → row_fits first from last track ≡ b → cond {A = RowRead} b (Ok (last, track, next)) (Err wrong_row) ≡ Ok (l, t, n)
         → (row_fits first from last track ≡ true) × (last ≡ l) × (track ≡ t) × (next ≡ n)
-    go true q e = (q, cc, cc, cc)
+    go true q e =
+        let same : ◌≡◌ {A = ℕ × ℕ × ℕ} (last, track, next) (l, t, n) = cc in
+        (q, ap (λ (x : ℕ × ℕ × ℕ). x.0) same, ap (λ (x : ℕ × ℕ × ℕ). x.1) same, ap (λ (x : ℕ × ℕ × ℕ). x.2) same)
     go false q e = absurd (let z : ◌≡◌ {A = ℕ} 0 1 = cc in omega arith)
 
-pub row_words : (first : ℕ) (s : List ℕ) (at last track next : ℕ) → row_at first s at ≡ row.Zone last track next → RowWords first s at last track next
+pub row_words : (first : ℕ) (s : List ℕ) (at last track next : ℕ) → row_at first s at ≡ Ok (last, track, next) → RowWords first s at last track next
 unfolding row_at
 row_words first s at last track next e =
     let one = then_from (word_at space s at) _ _ bad e in
@@ -102,9 +100,9 @@ row_words first s at last track next e =
     record {
       at₁ = one.1;
       at₂ = two.1;
-      one = one.2 ∙ ap (λ (x : ℕ). Number x one.1) facts.follows;
-      two = two.2 ∙ ap (λ (x : ℕ). Number x two.1) judged.1;
-      three = three.2 ∙ ap₂ Number judged.2 judged.3;
+      one = one.2 ∙ ap (λ (x : ℕ). found x one.1) facts.follows;
+      two = two.2 ∙ ap (λ (x : ℕ). found x two.1) judged.1;
+      three = three.2 ∙ ap₂ found judged.2 judged.3;
       facts = record {
         follows = refl;
         rises = omega (arith, facts.follows, facts.rises, judged.1);
@@ -113,22 +111,22 @@ row_words first s at last track next e =
       };
     }
   where
-    bad : row.Refused line_form ≡ row.Zone last track next → ⊥
+    bad : ◌≡◌ {A = RowRead} (Err line_form) (Ok (last, track, next)) → ⊥
     bad e = let z : ◌≡◌ {A = ℕ} 0 1 = cc in omega arith
 
 -- a refused row has a number
 abbrev Numbered : RowRead → Type 0
-Numbered r = (k : ℕ) → r ≡ row.Refused k → 0 < k
+Numbered r = (k : ℕ) → r ≡ Err k → 0 < k
 
 judged_numbered : (first from last track next : ℕ) → Numbered (judged_row first from last track next)
 unfolding judged_row
 judged_numbered first from last track next k e = go (row_fits first from last track) e
   where
-    go : (b : Bool) → cond b (row.Zone last track next) (row.Refused wrong_row) ≡ row.Refused k → 0 < k
+    go : (b : Bool) → cond {A = RowRead} b (Ok (last, track, next)) (Err wrong_row) ≡ Err k → 0 < k
     go true e = absurd (let z : ◌≡◌ {A = ℕ} 0 1 = cc in omega arith)
     go false e = let same : wrong_row ≡ k = cc in omega arith
 
-pub row_number : (first : ℕ) (s : List ℕ) (at k : ℕ) → row_at first s at ≡ row.Refused k → 0 < k
+pub row_number : (first : ℕ) (s : List ℕ) (at k : ℕ) → row_at first s at ≡ Err k → 0 < k
 unfolding row_at
 row_number first s at =
     then_each Numbered _ _ _ form (λ from at₁.
@@ -136,11 +134,11 @@ row_number first s at =
     then_each Numbered _ _ _ form (λ track next.
     judged_numbered first from last track next)))
   where
-    form : Numbered (row.Refused line_form)
+    form : Numbered (Err line_form)
     form k e = let same : line_form ≡ k = cc in omega arith
 
 -- a row was read before its end
-pub row_after : (first : ℕ) (s : List ℕ) (at last track next : ℕ) → row_at first s at ≡ row.Zone last track next → at < next
+pub row_after : (first : ℕ) (s : List ℕ) (at last track next : ℕ) → row_at first s at ≡ Ok (last, track, next) → at < next
 row_after first s at last track next e =
     let w = row_words first s at last track next e in
     omega (arith, word_after _ _ _ _ _ w.one, word_after _ _ _ _ _ w.two, word_after _ _ _ _ _ w.three)
@@ -162,8 +160,8 @@ rows_fuel s (suc k) (suc l) at zs h m = go (ltb at (length s)) refl (λ next zs'
     Later = (next : ℕ) (zs' : List Row) → length s - next ≤ k → length s - next ≤ l → rows_from k s next zs' ≡ rows_from l s next zs'
 
     on : (r : RowRead) → row_at (following zs) s at ≡ r → at < length s → Later → on_row (length zs + 2) r (more k) ≡ on_row (length zs + 2) r (more l)
-    on (row.Refused n) q t later = refl
-    on (row.Zone last track next) q t later =
+    on (Err n) q t later = refl
+    on (Ok (last, track, next)) q t later =
         let far = row_after (following zs) s at last track next q in
         later next (record { first = following zs; last = last; track = track } ∷ zs) (omega arith) (omega arith)
 
@@ -179,14 +177,14 @@ module _ (s : List ℕ) (at : ℕ) (zs : List Row) where
   rows_end h zero = refl
   rows_end h (suc left) = rw (le-ltb at (length s) h)
 
-  pub rows_stop : (k : ℕ) → at < length s → row_at (following zs) s at ≡ row.Refused k → rows_from (length s - at) s at zs ≡ Refused k (length zs + 2)
+  pub rows_stop : (k : ℕ) → at < length s → row_at (following zs) s at ≡ Err k → rows_from (length s - at) s at zs ≡ Refused k (length zs + 2)
   rows_stop k h e = go (length s - at) refl
     where
       go : (left : ℕ) → length s - at ≡ left → rows_from left s at zs ≡ Refused k (length zs + 2)
       go zero q = absurd (omega arith)
       go (suc left) q = unfold rows_from on_row in rw (lt-ltb at (length s) h, e)
 
-  pub rows_more : (last track next : ℕ) → at < length s → row_at (following zs) s at ≡ row.Zone last track next
+  pub rows_more : (last track next : ℕ) → at < length s → row_at (following zs) s at ≡ Ok (last, track, next)
       → rows_from (length s - at) s at zs ≡ rows_from (length s - next) s next (record { first = following zs; last = last; track = track } ∷ zs)
   rows_more last track next h e = go (length s - at) refl
     where
@@ -200,26 +198,18 @@ module _ (s : List ℕ) (at : ℕ) (zs : List Row) where
 -- ---- what the arrays keep
 
 pub kept_full : (r : Rows) (c t : ℕ) → max_zones ≤ r.count
-    → ◌≡◌ {A = Rows} (record { number = r.number; line = r.line; count = r.count + 1; cylinders = r.cylinders; tracks = r.tracks }) (kept_row r c t)
+    → ◌≡◌ {A = Rows} (record { count = r.count + 1; cylinders = r.cylinders; tracks = r.tracks }) (kept_row r c t)
 unfolding kept_row
 kept_full r c t h = rw (le-ltb r.count max_zones h)
 
 pub kept_room : (r : Rows) (c t : ℕ) → r.count < max_zones
     → ◌≡◌ {A = Rows} (record {
-      number = r.number;
-      line = r.line;
       count = r.count + 1;
       cylinders = set r.cylinders r.count c;
       tracks = set r.tracks r.count t;
     }) (kept_row r c t)
 unfolding kept_row
 kept_room r c t h = rw (lt-ltb r.count max_zones h)
-
-kept_number : (r : Rows) (c t : ℕ) → (kept_row r c t).number ≡ r.number
-kept_number r c t = elim (dec_lt r.count max_zones) [
-  | yes h ↦ ap (λ (x : Rows). x.number) (sym (kept_room r c t h))
-  | no h ↦ ap (λ (x : Rows). x.number) (sym (kept_full r c t (omega arith)))
-]
 
 pub kept_none : Kept no_rows []
 unfolding no_rows blank_zones back_by
@@ -281,7 +271,6 @@ kept_more r zs z k h t = go (dec_lt r.count max_zones)
 -- the rows before `at` are read, and kept
 pub record Reading (s : List ℕ) (start : ℕ) (r : Rows) (first at : ℕ) : Type 0 where
   pub zs : List Row
-  pub good : r.number ≡ 0
   pub kept : Kept r zs
   pub next : first ≡ following zs
   pub few : length zs ≤ following zs
@@ -292,7 +281,6 @@ pub reading_start : (s : List ℕ) (start : ℕ) (r : Rows) → r ≡ no_rows �
 unfolding following
 reading_start s start r e = record {
   zs = [];
-  good = ap (λ (x : Rows). x.number) e ∙ (unfold no_rows in refl);
   kept = rw e kept_none;
   next = refl;
   few = omega arith;
@@ -305,7 +293,7 @@ module _ (s : List ℕ) (start : ℕ) (r : Rows) (first at : ℕ) (l : Reading s
   row_is : {x : RowRead} → R ≡ x → row_at (following l.zs) s at ≡ x
   row_is e = ap (λ (n : ℕ). row_at n s at) (sym l.next) ∙ sym read ∙ e
 
-  module _ {last track next : ℕ} (zone : R ≡ row.Zone last track next) where
+  module _ {last track next : ℕ} (zone : R ≡ Ok (last, track, next)) where
     pub zone_facts : (first ≤ last) × (last ≤ max_cylinder) × (r.count ≤ first)
     zone_facts = let f = (row_words first s at last track next (sym read ∙ zone)).facts in (f.rises, f.near, omega (arith, l.kept.count, l.few, l.next))
 
@@ -319,7 +307,6 @@ module _ (s : List ℕ) (start : ℕ) (r : Rows) (first at : ℕ) (l : Reading s
         let same : last - first + 1 ≡ cylinders_of z = omega (arith, l.next) in
         record {
           zs = z ∷ l.zs;
-          good = ap (λ (x : Rows). x.number) e ∙ kept_number r (last - first + 1) track ∙ l.good;
           kept = rw (e, same) (kept_more r l.zs z l.kept (omega (arith, f.near)) f.tracks);
           next = refl;
           few = omega (arith, l.few, l.next, f.rises);
@@ -330,12 +317,11 @@ module _ (s : List ℕ) (start : ℕ) (r : Rows) (first at : ℕ) (l : Reading s
         z : Row
         z = record { first = following l.zs; last = last; track = track }
 
-  pub reading_stop : at < length s → {k : ℕ} → R ≡ row.Refused k → (r' : Rows) → (r'.number ≡ row_fault R) × (r'.line ≡ r.count + 2)
-      → Holds r' (rows_from (length s) s start [])
-  unfolding row_fault
-  reading_stop h {k} e r' (number, line) =
-      let r = row_is e in
-      subst (Holds r') (sym (rows_stop s at l.zs k h r) ∙ l.whole) (row_number _ s at k r, number ∙ ap row_fault e, omega (arith, line, l.kept.count))
+  pub reading_stop : at < length s → {k : ℕ} → R ≡ Err k → Holds (Err (record { number = k; line = r.count + 2 })) (rows_from (length s) s start [])
+  reading_stop h {k} e =
+      let w = row_is e in
+      subst (Holds (Err (record { number = k; line = r.count + 2 }))) (sym (rows_stop s at l.zs k h w) ∙ l.whole) (row_number _ s at k w, refl, omega (arith, l.kept.count))
 
-pub reading_end : (s : List ℕ) (start : ℕ) (r : Rows) (first at : ℕ) → Reading s start r first at → length s ≤ at → Holds r (rows_from (length s) s start [])
-reading_end s start r first at l h = subst (Holds r) (sym (rows_end s at l.zs h (length s - at)) ∙ l.whole) (l.good, l.kept)
+pub reading_end : (s : List ℕ) (start : ℕ) (r : Rows) (first at : ℕ) → Reading s start r first at → length s ≤ at
+    → Holds (Ok r) (rows_from (length s) s start [])
+reading_end s start r first at l h = subst (Holds (Ok r)) (sym (rows_end s at l.zs h (length s - at)) ∙ l.whole) l.kept

@@ -1,19 +1,20 @@
 -- What the code keeps of the rows: their cylinders and tracks in two arrays of 64, outermost first, and their count.
-use Rattle.std.specs.Prelude.{ℕ, zero, suc, ◌+◌, ◌≤◌, ◌<◌, ◌≡◌, List, [], ◌∷◌, map, cond, length, get_or, set, ltb}
+use Rattle.std.specs.Prelude.{ℕ, zero, suc, ◌+◌, ◌≤◌, ◌<◌, ◌≡◌, List, [], ◌∷◌, map, cond, length, get_or, set, ltb, Result, Ok, Err}
 use Rattle.numbers.specs.Limits.{max_zones, max_cylinder, max_track}
 use Rattle.card.specs.Read.{blank_zones}
 use Rattle.maker_rows.specs.declared.Rows.{Rows}
+use Rattle.maker_rows.specs.declared.RefusedRow.{RefusedRow}
 use Rattle.maker_rows.specs.Rows.{Row, cylinders_of, Listed, Zones, Refused}
 
 unfoldable pub no_rows : Rows
-no_rows = record { number = 0; line = 0; count = 0; cylinders = blank_zones; tracks = blank_zones }
+no_rows = record { count = 0; cylinders = blank_zones; tracks = blank_zones }
 
 -- one row more
 unfoldable pub kept_row : Rows → ℕ → ℕ → Rows
 kept_row r c t =
     cond (ltb r.count max_zones)
-    (record { number = r.number; line = r.line; count = r.count + 1; cylinders = set r.cylinders r.count c; tracks = set r.tracks r.count t })
-    (record { number = r.number; line = r.line; count = r.count + 1; cylinders = r.cylinders; tracks = r.tracks })
+    (record { count = r.count + 1; cylinders = set r.cylinders r.count c; tracks = set r.tracks r.count t })
+    (record { count = r.count + 1; cylinders = r.cylinders; tracks = r.tracks })
 
 -- g at n - 1, n - 2, .. 0
 unfoldable pub back_by : ℕ → (ℕ → ℕ) → List ℕ
@@ -30,6 +31,8 @@ pub record Kept (r : Rows) (zs : List Row) : Type 0 where
       → (get_or r.cylinders k 0 ≤ max_cylinder + 1) × (0 < get_or r.tracks k 0) × (get_or r.tracks k 0 ≤ max_track)
 
 -- the code's rows say what the text's are
-abbrev pub Holds : Rows → Listed → Type 0
-Holds r (Zones zs) = (r.number ≡ 0) × Kept r zs
-Holds r (Refused k line) = (0 < k) × (r.number ≡ k) × (r.line ≡ line)
+abbrev pub Holds : Result Rows RefusedRow → Listed → Type 0
+Holds (Ok r) (Zones zs) = Kept r zs
+Holds (Err f) (Refused k line) = (0 < k) × (f.number ≡ k) × (f.line ≡ line)
+Holds (Ok r) (Refused k line) = ⊥
+Holds (Err f) (Zones zs) = ⊥

@@ -1,8 +1,6 @@
 -- The rows of a maker's text, outermost zone first, to its end (document 02: T1.3, T1.8, T1.12 to T1.14).
-use Rattle.std.specs.Prelude.{ℕ, zero, suc, ◌+◌, ◌-◌, List, [], ◌∷◌, cond, length, ltb}
-use Rattle.maker_lines.specs.declared.RowRead.{RowRead}
-use Rattle.maker_lines.specs.declared.RowRead.TheVariants as row
-use Rattle.maker_lines.specs.Lines.{row_at}
+use Rattle.std.specs.Prelude.{ℕ, zero, suc, ◌+◌, ◌-◌, List, [], ◌∷◌, cond, length, ltb, Ok, Err}
+use Rattle.maker_lines.specs.Lines.{RowRead, row_at}
 
 -- a row: first cylinder, last cylinder, sectors a track
 pub record Row : Type 0 where
@@ -23,15 +21,10 @@ pub data Listed : Type 0 where
   Zones : List Row → Listed
   Refused : ℕ → ℕ → Listed
 
--- the number of a row that is refused
-unfoldable pub row_fault : RowRead → ℕ
-row_fault (row.Refused k) = k
-row_fault (row.Zone last track next) = 0
-
 -- a refused row is the answer, with its line; after another, go goes on with its numbers and the offset after it
 unfoldable pub on_row : ℕ → RowRead → (ℕ → ℕ → ℕ → Listed) → Listed
-on_row line (row.Refused k) go = Refused k line
-on_row line (row.Zone last track next) go = go last track next
+on_row line (Err k) go = Refused k line
+on_row line (Ok (last, track, next)) go = go last track next
 
 -- at most `left` more rows of the text s, from an offset on; zs are the rows before, the last one first. Line one is line 1
 unfoldable pub rows_from : ℕ → List ℕ → ℕ → List Row → Listed

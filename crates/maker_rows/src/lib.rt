@@ -3,18 +3,22 @@
 
 ghost use Rattle.std.specs.Prelude.{◌≡◌, [], ◌+◌, ◌<◌, length};
 ghost use Rattle.numbers.specs.Limits.{no_number};
-ghost use Rattle.maker_rows.specs.Rows.{row_fault, rows_from};
+ghost use Rattle.maker_rows.specs.Rows.{rows_from};
 ghost use Rattle.maker_rows.specs.Kept.{no_rows, kept_row, Holds};
 
-use maker_lines::{RowRead, read_row};
+use maker_lines::read_row;
 use numbers::limits::MAX_ZONES;
 
-// The rows that are read, or a refusal.
+// A refused row: the refusal's number, and its line.
 #[derive(Clone, Copy)]
-pub struct Rows {
-    // The refusal's number and its line; 0 and 0 where there is none.
+pub struct RefusedRow {
     pub number: u32,
     pub line: usize,
+}
+
+// The rows that are read.
+#[derive(Clone, Copy)]
+pub struct Rows {
     // How many rows there are.
     pub count: u32,
     // Cylinders and sectors a track of the first 64 rows, outermost first.
@@ -27,8 +31,6 @@ fn no_rows() -> Rows
 {
     let none = [0u32; 64];
     Rows {
-        number: 0,
-        line: 0,
         count: 0,
         cylinders: none,
         tracks: none,
@@ -51,41 +53,26 @@ fn keep_row(rows: Rows, cylinders: u32, track: u32) -> Rows
     next
 }
 
-// The number of a refused row. (A zone has none; no caller hands one over.)
-fn number_of(read: RowRead) -> u32
-    ensures { result ≡ row_fault read }
-{
-    match read {
-        RowRead::Refused(number) => number,
-        RowRead::Zone(_, _, _) => 0,
-    }
-}
-
-// The refusal of the row after those that are read. Line one is line 1, so the line of a row is two more than the rows before it.
-fn refused_rows(rows: Rows, number: u32) -> Rows
-    ensures { (result.number ≡ number) × (result.line ≡ rows.count + 2) }
-{
-    let mut next = rows;
-    next.number = number;
-    next.line = rows.count as usize + 2;
-    next
-}
-
-// The rows from an offset on.
-pub fn read_rows(text: &[u8], start: usize) -> Rows
+// The rows from an offset on. Line one is line 1, so the line of a row is two more than the rows before it.
+pub fn read_rows(text: &[u8], start: usize) -> Result<Rows, RefusedRow>
     ensures { Holds result (rows_from (length text.now) text.now start []) }
 {
     let mut rows = no_rows();
     let mut first: u32 = 0;
     let mut at = start;
     while at < text.len() {
-        let read = read_row(text, at, first);
-        let RowRead::Zone(last, track, next) = read else {
-            return refused_rows(rows, number_of(read));
+        let (last, track, next) = match read_row(text, at, first) {
+            Ok(row) => row,
+            Err(number) => {
+                return Err(RefusedRow {
+                    number,
+                    line: rows.count as usize + 2,
+                });
+            }
         };
         rows = keep_row(rows, last - first + 1, track);
         first = last + 1;
         at = next;
     }
-    rows
+    Ok(rows)
 }

@@ -4,7 +4,6 @@
 ghost use Rattle.std.specs.Prelude.{◌≡◌, ◌≤◌, length, IfOk};
 
 use card::{Figures, Verdict};
-use decimal::Decimal;
 use numbers::limits::NO_NUMBER;
 use numbers::refusals::{
     BLOCKS_ABOVE_POSITIONS, HALF_DEAD_TIME, LINE_FORM, RISING_TIME, WRONG_BLOCKS, WRONG_HEADING,
@@ -78,8 +77,7 @@ fn no_argument() -> Argument {
 fn read_argument(rt: &impl Env, i: usize) -> Argument {
     let mut word = [0u8; 4096];
     let length = copy_argument(rt, i, &mut word);
-    let read = decimal::read_number(&word[..length], 0);
-    let Decimal::Number(value, next) = read else {
+    let Some((value, next)) = decimal::read_number(&word[..length], 0) else {
         return no_argument();
     };
     if next != length {
