@@ -4,7 +4,7 @@ use Prim.Native.Nat.{ℕ, zero, suc, ◌+◌, ◌-◌, ◌≤◌, ◌<◌}
 use mathlib.Core.Path.{◌≡◌, refl, sym, ap, ap₂, ◌∙◌}
 use mathlib.Core.List.{List, [], ◌∷◌, ◌++◌, append_assoc}
 use native.Mathlib.Omega.{arith}
-use lib.ListN.{length, set, take, drop, length-set, take-append-drop}
+use lib.ListN.{length, replicate, set, take, drop, length-set, take-append-drop}
 use lib.Seq.{take-suc-set, drop-set-lt}
 use Rattle.numbers.specs.Limits.{max_zones}
 use Rattle.card.specs.declared.Figures.{Figures}
@@ -55,7 +55,7 @@ pub record Building (n : ℕ) (g : ℕ → ℕ) (ps : List ℕ) (i : ℕ) : Type
   pub wide : length ps ≡ max_zones
   pub whole : take i ps ++ (back_by (n - i) g ++ drop n ps) ≡ padded (back_by n g)
 
-pub build_start : (n : ℕ) (g : ℕ → ℕ) (ps : List ℕ) → ps ≡ blank_zones → Building n g ps 0
+pub build_start : (n : ℕ) (g : ℕ → ℕ) (ps : List ℕ) → ps ≡ replicate max_zones 0 → Building n g ps 0
 unfolding padded blank_zones
 build_start n g ps e = let all : n - 0 ≡ n = omega arith in record { wide = ap length e; whole = rw (all, e, back_long n g) }
 

@@ -1,11 +1,10 @@
 -- A hop or a return past its range is refused, and so is 0: with it in their place the judge answers the same.
 -- Assumes nothing.
 use Prim.Native.Nat.{ℕ, ◌≤◌, ◌<◌}
-use mathlib.Core.Path.{◌≡◌, refl, sym, ap₂, ◌∙◌}
+use mathlib.Core.Path.{◌≡◌, sym, ap₂, ◌∙◌}
 use mathlib.Core.Bool.{true}
 use native.Mathlib.Omega.{arith}
 use native.Mathlib.Decide.{dec_le}
-use lib.ListN.{length}
 use borrow.Author.Tests.{le-leb, lt-leb, lt-ltb, le-ltb}
 use Rattle.numbers.specs.Limits.{straight_kind, max_move, table_length}
 use Rattle.card_field.specs.declared.Rule.TheVariants.{Measure}
@@ -14,7 +13,6 @@ use Rattle.card_field.specs.RangeLaws.{first_none, measure_range}
 use Rattle.card_table.specs.Table.{straight, is_line, straight_fault, table_fault}
 use Rattle.card_table.specs.TableLaws.{straight_at, at_line}
 use Rattle.card_table.specs.TableFaults.{straight_back, straight_hop}
-use Rattle.card.specs.Read.{blank_table}
 use Rattle.maker.specs.Fitting.{move_in}
 
 -- ---- one of both
@@ -40,10 +38,6 @@ move_fault v = elim (dec_le v max_move) [
     great h = unfold fault_of outside below above first in rw (le-leb 1 v (omega arith), lt-leb v max_move h)
 
 -- ---- their table
-
-pub blank_long : length blank_table ≡ table_length
-unfolding blank_table
-blank_long = refl
 
 -- it is refused by hop and return alone
 moves_fault : (hop ret : ℕ) → straight_fault (straight hop ret) ≡ first (fault_of Measure max_move hop) (first (fault_of Measure max_move ret) 0)

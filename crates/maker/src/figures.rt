@@ -1,8 +1,8 @@
 // The zones of the rows, innermost first, and the record of figures.
-ghost use Rattle.std.specs.Prelude.{◌≡◌, ◌≤◌, ◌<◌, get_or};
+ghost use Rattle.std.specs.Prelude.{◌≡◌, ◌≤◌, ◌<◌, get_or, replicate};
 ghost use Rattle.numbers.specs.Limits.{max_block};
 ghost use Rattle.card_table.specs.Table.{straight};
-ghost use Rattle.card.specs.Read.{blank_figures, blank_zones, blank_films, blank_table};
+ghost use Rattle.card.specs.Read.{blank_figures};
 ghost use Rattle.tracks.specs.Tracks.{positions_in, time_in, narrowed};
 ghost use Rattle.maker_rows.specs.Kept.{back_by};
 ghost use Rattle.maker.specs.Fitting.{move_in, Fitting};
@@ -23,22 +23,11 @@ pub struct Zones {
     pub times: [u32; 64],
 }
 
-fn no_zones() -> [u32; 64]
-    ensures { result ≡ blank_zones }
+// An array of zeros.
+fn zeros<const N: usize>() -> [u32; N]
+    ensures { result ≡ replicate N 0 }
 {
-    [0u32; 64]
-}
-
-fn no_films() -> [u32; 16]
-    ensures { result ≡ blank_films }
-{
-    [0u32; 16]
-}
-
-fn no_table() -> [u32; 257]
-    ensures { result ≡ blank_table }
-{
-    [0u32; 257]
+    [0; N]
 }
 
 // The zones of the rows: the last row is the innermost zone.
@@ -49,8 +38,8 @@ pub fn zones_of(drive: Drive, rows: Rows) -> Zones
         × (result.times ≡ padded (back_by rows.count (λ k. narrowed (time_in drive.turns drive.switch drive.block (get_or rows.tracks k 0))))) }
 {
     let mut zones = Zones {
-        positions: no_zones(),
-        times: no_zones(),
+        positions: zeros(),
+        times: zeros(),
     };
     let count = rows.count as usize;
     for i in 0..count {
@@ -77,7 +66,7 @@ fn move_in(v: u32) -> u32
 fn table_of(hop: u32, back: u32) -> [u32; 257]
     ensures { result ≡ straight (move_in hop) (move_in back) }
 {
-    let mut table = no_table();
+    let mut table = zeros();
     fill_straight(&mut table, move_in(hop), move_in(back));
     table
 }
@@ -117,13 +106,13 @@ fn no_figures() -> Figures
     Figures {
         kind: 0,
         zones: 0,
-        positions: no_zones(),
-        times: no_zones(),
+        positions: zeros(),
+        times: zeros(),
         films: 0,
-        blocks: no_films(),
+        blocks: zeros(),
         bytes: 0,
         rate: 0,
-        table: no_table(),
+        table: zeros(),
     }
 }
 

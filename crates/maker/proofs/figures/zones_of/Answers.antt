@@ -3,7 +3,7 @@ use Rattle.maker.proofs.FigureWays.{build_start, build_more, build_end}
 use Rattle.maker.proofs.figures.zones_of.Goals as goal
 
 pub loop-i-init : goal.loop-i-init
-loop-i-init c = record { places = build_start _ _ _ c.no_zones.ensures; speeds = build_start _ _ _ c.no_zones-2.ensures }
+loop-i-init c = record { places = build_start _ _ _ c.zeros.ensures; speeds = build_start _ _ _ c.zeros-2.ensures }
 
 pub loop-i-preserved : goal.loop-i-preserved
 loop-i-preserved c =
