@@ -11,6 +11,7 @@ use lib.ListN.{length, get_or, set, take, drop, length-append, length-take, drop
 use lib.Seq.{drop-cons, get_or-take, take-append_seam, set_split}
 use lib.Dec.{ltb}
 use borrow.Author.Tests.{lt-ltb, le-ltb, eq-eqb, ne_eqb, ltb-true, ltb-false}
+use Rattle.std.specs.List.{filter}
 use Rattle.laws.specs.Overwrite.{overwrite, overwrite_more, overwrite_front, overwrite_length}
 use Rattle.numbers.specs.Limits.{no_number}
 use Rattle.decimal.specs.Decimal.{capped, grown}
@@ -209,21 +210,17 @@ module _ (s : Scan) where
 
 -- ---- the numbers before a place
 
-module _ (card : List ℕ) (place i : ℕ) where
-  pub before_more : i < length card → i < place → (t : Bool) → ltb (get_or card i 0) 128 ≡ t
-      → numbers_in (drop i (take place card)) ≡ cond t 1 0 + numbers_in (drop (i + 1) (take place card))
-  unfolding numbers_in
-  before_more h k t e =
-      let l : i < length (take place card) = omega (arith, length-take place card) in
-      rw (add-one, drop-cons (take place card) i 0 l, get_or-take place card i 0 k, e)
+pub numbers_counted : (bs : List ℕ) → length (filter (λ b. ltb b 128) bs) ≡ numbers_in bs
+unfolding numbers_in
+numbers_counted [] = refl
+numbers_counted (b ∷ bs) = next (ltb b 128) (numbers_counted bs)
+  where
+    rest : List ℕ
+    rest = filter (λ b. ltb b 128) bs
 
-  pub before_done : length card ≤ i → numbers_in (drop i (take place card)) ≡ 0
-  unfolding numbers_in
-  before_done h = rw (drop_of_length-le (take place card) {i = i} (omega (arith, length-take place card)))
-
-  pub before_place : place ≤ i → numbers_in (drop i (take place card)) ≡ 0
-  unfolding numbers_in
-  before_place h = rw (drop_of_length-le (take place card) {i = i} (omega (arith, length-take place card)))
+    next : (t : Bool) → length rest ≡ numbers_in bs → length (cond t (b ∷ rest) rest) ≡ cond t 1 0 + numbers_in bs
+    next true e = omega arith
+    next false e = omega arith
 
 -- ---- the card in the buffer
 

@@ -37,13 +37,11 @@ fn write_words(s: Scan, out: &mut [u8]) -> usize
     ensures { (result ≡ length (card_of_words s)) × (out.new ≡ overwrite out.old 0 (card_of_words s)) }
 {
     let mut at: usize = 0;
-    let mut i: usize = 0;
-    while i < WORDS {
+    for i in 0..WORDS {
         if s.count <= i {
             return at;
         }
         at = write_word(out, at, s.values[i]);
-        i += 1;
     }
     at
 }
@@ -52,18 +50,7 @@ fn write_words(s: Scan, out: &mut [u8]) -> usize
 fn numbers_before(card: &[u8], place: usize) -> usize
     ensures { result ≡ numbers_in (take place card.now) }
 {
-    let mut count: usize = 0;
-    let mut i: usize = 0;
-    while i < card.len() {
-        if place <= i {
-            return count;
-        }
-        if card[i] < 128 {
-            count += 1;
-        }
-        i += 1;
-    }
-    count
+    card.iter().take(place).filter(|&&byte| byte < 128).count()
 }
 
 // The line of a word; past the words, where the text ends.
@@ -91,7 +78,7 @@ pub fn make_card(s: Scan, out: &mut [u8]) -> Made
         return Made {
             number: 0,
             line: 0,
-            length: length,
+            length,
         };
     }
     let word = numbers_before(&out[..length], verdict.place);
