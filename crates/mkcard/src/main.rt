@@ -37,19 +37,18 @@ fn cause(number: u32) -> &'static str {
 // Writes the card of the words, or says why there is none.
 fn answer(out: &impl Print, err: &impl Print, s: Scan) -> io::Result<()> {
     let mut card = [0u8; 4096];
-    let made = make_card(s, &mut card);
-    if made.number != 0 {
-        let why = cause(made.number);
-        return println!(err;
-            "mkcard: refused {} at line {}: {why}",
-            made.number, made.line
-        );
+    match make_card(s, &mut card) {
+        Ok(length) => {
+            if out.write_all(&card[..length]).is_err() {
+                return println!(err; "mkcard: cannot write the card");
+            }
+            Ok(())
+        }
+        Err(refusal) => {
+            let why = cause(refusal.number);
+            println!(err; "mkcard: refused {} at line {}: {why}", refusal.number, refusal.line)
+        }
     }
-    let length = made.length;
-    if out.write_all(&card[..length]).is_err() {
-        return println!(err; "mkcard: cannot write the card");
-    }
-    Ok(())
 }
 
 // Reads the whole text, piece by piece.

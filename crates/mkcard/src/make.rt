@@ -10,12 +10,11 @@ use crate::scan::{Scan, WORDS};
 use leb128::write_number;
 use numbers::limits::NO_NUMBER;
 
-// The refusal's number and the line of the text, or 0 and the length of the card.
+// A refusal: its number, and the line of the text.
 #[derive(Clone, Copy)]
-pub struct Made {
+pub struct Refusal {
     pub number: u32,
     pub line: u64,
-    pub length: usize,
 }
 
 // Writes the number of a word from an offset on and answers the offset after it.
@@ -66,8 +65,8 @@ fn line_of(s: Scan, i: usize) -> u64
     s.lines[i]
 }
 
-// Writes the card of the words and has the reader judge it.
-pub fn make_card(s: Scan, out: &mut [u8]) -> Made
+// Writes the card of the words, has the reader judge it, and answers its length.
+pub fn make_card(s: Scan, out: &mut [u8]) -> Result<usize, Refusal>
     requires { most_bytes ≤ length out.old }
     ensures { (result ≡ made s) × (out.new ≡ overwrite out.old 0 (card_of_words s)) }
 {
@@ -75,18 +74,13 @@ pub fn make_card(s: Scan, out: &mut [u8]) -> Made
     let read = card_reader::read_card(&out[..length]);
     let verdict = read.verdict;
     if verdict.number == 0 {
-        return Made {
-            number: 0,
-            line: 0,
-            length,
-        };
+        return Ok(length);
     }
     let word = numbers_before(&out[..length], verdict.place);
-    Made {
+    Err(Refusal {
         number: verdict.number,
         line: line_of(s, word),
-        length: 0,
-    }
+    })
 }
 
 // A text of at most 407 numbers of 32 bits in decimal, a line for each, makes the bytes of these numbers: of figures in the card's order, their card.
