@@ -46,7 +46,10 @@ fn answer(out: &impl Print, err: &impl Print, s: Scan) -> io::Result<()> {
         }
         Err(refusal) => {
             let why = cause(refusal.number);
-            println!(err; "mkcard: refused {} at line {}: {why}", refusal.number, refusal.line)
+            println!(err;
+                "mkcard: refused {} at line {}: {why}",
+                refusal.number, refusal.line
+            )
         }
     }
 }
