@@ -13,62 +13,30 @@
 
 use card::Figures;
 use case_text::runs::read_runs;
-use case_text::{
-    next_case, no_case, print, print_number, print_refusal, print_word, read_bytes, read_full,
-    read_number, read_record, wide,
-};
+use case_text::{next_case, no_case, print_refusal, read_bytes, read_number, read_record};
+use program_input::read_full;
 use std::io;
-
-// Whether the first bytes of two strings are the same.
-fn same(a: &[u8], b: &[u8], n: usize) -> bool {
-    let mut i: usize = 0;
-    while i < n {
-        if a.len() <= i {
-            return false;
-        }
-        if b.len() <= i {
-            return false;
-        }
-        if a[i] != b[i] {
-            return false;
-        }
-        i += 1;
-    }
-    true
-}
 
 // The number of films, and N of each.
 fn show_films(rt: &impl Print, films: u32, blocks: &[u32; 16]) -> io::Result<()> {
-    print_word(rt, films)?;
-    let mut i: usize = 0;
-    while i < 16 {
-        if films as usize <= i {
-            break;
-        }
-        print_word(rt, blocks[i])?;
-        i += 1;
+    print!(rt; " {films}")?;
+    for count in blocks.iter().take(films as usize) {
+        print!(rt; " {count}")?;
     }
     Ok(())
 }
 
 // An accepted card's figures, and whether it is the card that the writer makes of them.
 fn show_accepted(rt: &impl Print, f: Figures, bytes: &[u8]) -> io::Result<()> {
-    print(rt, b" accepted")?;
-    print_word(rt, f.kind)?;
-    print_word(rt, f.zones)?;
+    print!(rt; " accepted {} {}", f.kind, f.zones)?;
     show_films(rt, f.films, &f.blocks)?;
-    print_word(rt, f.bytes)?;
-    print_word(rt, f.rate)?;
-    print_word(rt, f.table[0])?;
-    print_word(rt, f.table[1])?;
-    print_word(rt, f.table[256])?;
+    let (first, second, last) = (f.table[0], f.table[1], f.table[256]);
+    print!(rt; " {} {} {first} {second} {last}", f.bytes, f.rate)?;
     let mut buffer = [0u8; 4096];
     let w = card_writer::write_card(f, &mut buffer);
-    print_number(rt, w.length as u64)?;
-    if w.length == bytes.len() {
-        if same(&buffer, bytes, w.length) {
-            return print(rt, b" same");
-        }
+    print!(rt; " {}", w.length)?;
+    if buffer.get(..w.length) == Some(bytes) {
+        print!(rt; " same")?;
     }
     Ok(())
 }
@@ -88,32 +56,30 @@ fn show_written(rt: &impl Print, f: Figures, size: u32) -> io::Result<()> {
     let mut buffer = [0u8; 4096];
     let n = (size as usize).min(buffer.len());
     let w = card_writer::write_card(f, &mut buffer[..n]);
-    print(rt, b" length")?;
-    print_number(rt, w.length as u64)?;
-    print_number(rt, wide(buffer[0]))?;
+    print!(rt; " length {} {}", w.length, buffer[0])?;
     print_refusal(rt, w.verdict)
 }
 
 // Does what the letter says to what stands from `start` on.
-fn run_case(rt: &impl Print, text: &[u8], letter: u8, start: usize) -> io::Result<()> {
-    if letter == b'c' {
-        let mut card = [0u8; 4096];
-        let n = read_bytes(text, start, &mut card);
-        return show_card(rt, &card[..n]);
+fn run_case(rt: &impl Print, text: &[u8], letter: Option<u8>, start: usize) -> io::Result<()> {
+    match letter {
+        Some(b'c') => {
+            let mut card = [0u8; 4096];
+            let n = read_bytes(text, start, &mut card);
+            show_card(rt, &card[..n])
+        }
+        Some(b'n') => {
+            let mut card = [0u8; 4096];
+            let n = read_runs(text, start, &mut card);
+            show_card(rt, &card[..n])
+        }
+        Some(b'j') => print_refusal(rt, card::judge_figures(read_record(text, start))),
+        Some(b'w') => {
+            let size = read_number(text, start);
+            show_written(rt, read_record(text, size.next), size.value)
+        }
+        _ => Ok(()),
     }
-    if letter == b'n' {
-        let mut card = [0u8; 4096];
-        let n = read_runs(text, start, &mut card);
-        return show_card(rt, &card[..n]);
-    }
-    if letter == b'j' {
-        return print_refusal(rt, card::judge_figures(read_record(text, start)));
-    }
-    if letter == b'w' {
-        let size = read_number(text, start);
-        return show_written(rt, read_record(text, size.next), size.value);
-    }
-    Ok(())
 }
 
 // Every line: its name up to the colon, then the answer.

@@ -1,9 +1,8 @@
 // Runs of numbers: `V` is V, `V*N` is N times V, and `V+S*N` is V, V + S, .., N numbers in all, cut to 32 bits.
 ghost use Rattle.std.specs.Prelude.{◌≤◌, length};
 
-use crate::{Entry, digit, past_spaces, read_number};
+use crate::{Entry, past_spaces, read_number};
 use leb128::{number_length, write_number};
-use std::num::wrapping_add_u32;
 
 // A run, and where the next one may begin.
 #[derive(Clone, Copy)]
@@ -16,14 +15,12 @@ pub struct Run {
 
 // The number after a mark; without the mark the other value.
 fn after_mark(text: &[u8], start: usize, mark: u8, other: u32) -> Entry {
-    if start < text.len() {
-        if text[start] == mark {
-            return read_number(text, start + 1);
-        }
-    }
-    Entry {
-        value: other,
-        next: start,
+    match text.get(start) {
+        Some(&byte) if byte == mark => read_number(text, start + 1),
+        _ => Entry {
+            value: other,
+            next: start,
+        },
     }
 }
 
@@ -39,36 +36,30 @@ fn read_run(text: &[u8], start: usize) -> Run {
     }
 }
 
-// Puts a run into numbers from an entry on, while there is room, and answers the entry after it.
-fn fill_run(entries: &mut [u32], start: usize, run: Run) -> usize {
+// Puts a run at the front of numbers, while there is room, and answers how many it put.
+fn fill_run(entries: &mut [u32], run: Run) -> usize
+    ensures { result ≤ length entries.new }
+{
+    let count = entries.len().min(run.times as usize);
     let mut value = run.value;
-    let mut k = start;
-    let mut i: u32 = 0;
-    while i < run.times {
-        if entries.len() <= k {
-            break;
-        }
-        entries[k] = value;
-        value = wrapping_add_u32(value, run.step);
-        k += 1;
-        i += 1;
+    for entry in &mut entries[..count] {
+        *entry = value;
+        value = value.wrapping_add(run.step);
     }
-    k
+    count
 }
 
 // Fills numbers with runs, and answers where what follows them may begin.
 pub fn read_entries(text: &[u8], start: usize, entries: &mut [u32]) -> usize {
     let mut at = start;
     let mut k: usize = 0;
-    let mut turns: usize = 0;
-    while turns < entries.len() {
-        if entries.len() <= k {
+    for _ in 0..entries.len() {
+        if k == entries.len() {
             break;
         }
         let run = read_run(text, at);
-        k = fill_run(entries, k, run);
+        k += fill_run(&mut entries[k..], run);
         at = run.next;
-        turns += 1;
     }
     at
 }
@@ -80,14 +71,12 @@ fn write_run(out: &mut [u8], start: usize, run: Run) -> usize
 {
     let mut value = run.value;
     let mut at = start;
-    let mut i: u32 = 0;
-    while i < run.times {
+    for _ in 0..run.times {
         if out.len() < at + number_length(value) {
             break;
         }
         at = write_number(out, at, value);
-        value = wrapping_add_u32(value, run.step);
-        i += 1;
+        value = value.wrapping_add(run.step);
     }
     at
 }
@@ -98,19 +87,14 @@ pub fn read_runs(text: &[u8], start: usize, out: &mut [u8]) -> usize
 {
     let mut at = start;
     let mut count: usize = 0;
-    let mut turns: u32 = 0;
-    while turns < 512 {
+    for _ in 0..512 {
         at = past_spaces(text, at);
-        if text.len() <= at {
-            break;
-        }
-        if 9 < digit(text[at]) {
+        if !text.get(at).is_some_and(u8::is_ascii_digit) {
             break;
         }
         let run = read_run(text, at);
         count = write_run(out, count, run);
         at = run.next;
-        turns += 1;
     }
     count
 }

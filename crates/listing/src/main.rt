@@ -10,32 +10,23 @@ ghost use Rattle.plan.specs.Plan.{showing_in};
 ghost use Rattle.plan.specs.Answer.{is_plan};
 
 use lines::{
-    asked_showing, empty, has_more_arguments, plan_film, position_buffer, print, print_refusal,
-    put_next, put_number, put_text, read_full, unless_gone,
+    Showing, asked_showing, has_more_arguments, plan_film, position_buffer, print_refusal,
+    unless_gone,
 };
 use numbers::showings::PAIRS;
 use plan::{Plan, blocks_before};
+use program_input::read_full;
 use std::io;
 
-fn print_figure(rt: &impl Print, name: &[u8], figure: u32) -> io::Result<()> {
-    print(rt, put_next(put_text(empty(), name), figure as u64))
-}
-
 fn print_figures(rt: &impl Print, plan: Plan) -> io::Result<()> {
-    print_figure(rt, b"streams", plan.streams)?;
-    print_figure(rt, b"buffer", plan.buffer)?;
-    print_figure(rt, b"worst2", plan.worst2)?;
-    print_figure(rt, b"worstat", plan.worstat)?;
-    print_figure(rt, b"margin", plan.margin)
+    println!(rt; "streams {}", plan.streams)?;
+    println!(rt; "buffer {}", plan.buffer)?;
+    println!(rt; "worst2 {}", plan.worst2)?;
+    println!(rt; "worstat {}", plan.worstat)?;
+    println!(rt; "margin {}", plan.margin)
 }
 
-// The line of film i, which begins at a block, counted through the films.
-fn print_film(rt: &impl Print, i: u32, first: u32) -> io::Result<()> {
-    let film = put_next(put_text(empty(), b"film"), i as u64);
-    print(rt, put_next(put_text(film, b" at"), first as u64))
-}
-
-// The line of each film, where there is more than one.
+// The line of each film, where there is more than one: the block that it begins at, counted through the films.
 fn print_films(rt: &impl Print, plan: Plan) -> io::Result<()>
     requires { Legal (visits_of (showing_in plan)) plan.figures }
 {
@@ -44,10 +35,9 @@ fn print_films(rt: &impl Print, plan: Plan) -> io::Result<()>
     if films < 2 {
         return Ok(());
     }
-    let mut i: u32 = 0;
-    while i < films {
-        print_film(rt, i, blocks_before(&figures.blocks, i))?;
-        i += 1;
+    for i in 0..films {
+        let first = blocks_before(&figures.blocks, i);
+        println!(rt; "film {i} at {first}")?;
     }
     Ok(())
 }
@@ -66,8 +56,7 @@ fn print_block(
     let position = words::word_at(positions, b as usize);
     let time = zones::time_at(&figures.positions, &figures.times, position);
     let lead = words::word_at(leads, b as usize);
-    let start = put_next(put_number(empty(), b as u64), position as u64);
-    print(rt, put_next(put_next(start, time as u64), lead as u64))
+    println!(rt; "{b} {position} {time} {lead}")
 }
 
 // The line of block b of half blocks: its number, both positions, the time of both and its lead.
@@ -86,22 +75,19 @@ fn print_halves(
     let first = zones::time_at(&figures.positions, &figures.times, low);
     let second = zones::time_at(&figures.positions, &figures.times, high);
     let lead = words::word_at(leads, b as usize);
-    let start = put_next(put_number(empty(), b as u64), low as u64);
-    let times = put_next(put_next(start, high as u64), first as u64 + second as u64);
-    print(rt, put_next(times, lead as u64))
+    let time = u64::from(first) + u64::from(second);
+    println!(rt; "{b} {low} {high} {time} {lead}")
 }
 
 // The line of each block of a plan, whose lists begin with its positions and leads.
 fn print_blocks(rt: &impl Print, plan: Plan, positions: &[u8], leads: &[u8]) -> io::Result<()>
     requires { is_plan plan positions.now leads.now ≡ true }
 {
-    print(rt, put_text(empty(), b"block position time lead"))?;
+    println!(rt; "block position time lead")?;
     let figures = plan.figures;
     let blocks = blocks_before(&figures.blocks, figures.films);
-    let mut b: u32 = 0;
-    while b < blocks {
+    for b in 0..blocks {
         print_block(rt, plan, positions, leads, b)?;
-        b += 1;
     }
     Ok(())
 }
@@ -110,19 +96,17 @@ fn print_blocks(rt: &impl Print, plan: Plan, positions: &[u8], leads: &[u8]) -> 
 fn print_all_halves(rt: &impl Print, plan: Plan, positions: &[u8], leads: &[u8]) -> io::Result<()>
     requires { (is_plan plan positions.now leads.now ≡ true) × (showing_in plan ≡ pairs) }
 {
-    print(rt, put_text(empty(), b"block position position time lead"))?;
+    println!(rt; "block position position time lead")?;
     let figures = plan.figures;
     let blocks = blocks_before(&figures.blocks, figures.films);
-    let mut b: u32 = 0;
-    while b < blocks {
+    for b in 0..blocks {
         print_halves(rt, plan, positions, leads, b)?;
-        b += 1;
     }
     Ok(())
 }
 
 // The listing of a card: its plan, or the refusal.
-fn list(rt: &impl Print, showing: u32, card: &[u8]) -> io::Result<()> {
+fn list(rt: &impl Print, showing: Showing, card: &[u8]) -> io::Result<()> {
     let mut positions = position_buffer();
     let mut leads = [0u8; 65536];
     let planned = plan_film(showing, card, &mut positions, &mut leads);
@@ -143,7 +127,7 @@ fn list(rt: &impl Print, showing: u32, card: &[u8]) -> io::Result<()> {
 fn main(rt: HostRuntime) -> io::Result<()> {
     let showing = asked_showing(&rt);
     if has_more_arguments(&rt, showing) {
-        return print(&rt, put_text(empty(), b"usage: listing [loop|pairs]"));
+        return println!(rt; "usage: listing [loop|pairs]");
     }
     let mut input = [0u8; 4096];
     let count = read_full(&mut rt.stdin(), &mut input)?;

@@ -1,16 +1,18 @@
 -- Each way that a byte of a text can take, and what is left to write and to count.
 -- Assumes nothing.
 use Prim.Native.Nat.{ℕ, zero, suc, ◌+◌, ◌-◌, ◌*◌, ◌≤◌, ◌<◌}
-use mathlib.Core.Path.{◌≡◌, refl, sym, ap, ◌∙◌}
+use mathlib.Core.Path.{◌≡◌, refl, sym, ap, subst, ◌∙◌}
 use mathlib.Core.List.{List, [], ◌∷◌}
 use mathlib.Core.Bool.{Bool, true, false, cond, not}
 use mathlib.Core.Logic.{◌⊎◌, inl, inr}
 use native.Mathlib.Omega.{arith}
 use native.Mathlib.Numerals.{add-one}
-use lib.ListN.{length, get_or, set, take, drop, length-append, length-take, drop_of_length-le}
-use lib.Seq.{drop-cons, get_or-take, take-append_seam, set_split}
+use lib.ListN.{length, get_or, set, take, drop, length-append, drop_of_length-le}
+use lib.Seq.{drop-cons, take-append_seam, set_split}
 use lib.Dec.{ltb}
 use borrow.Author.Tests.{lt-ltb, le-ltb, eq-eqb, ne_eqb, ltb-true, ltb-false}
+use Rattle.std.specs.List.{filter}
+use Rattle.std.specs.Prelude.{Result, Ok, Err, IfOk}
 use Rattle.laws.specs.Overwrite.{overwrite, overwrite_more, overwrite_front, overwrite_length}
 use Rattle.numbers.specs.Limits.{no_number}
 use Rattle.decimal.specs.Decimal.{capped, grown}
@@ -22,7 +24,7 @@ use Rattle.card.specs.Read.{read_card}
 use Rattle.card.specs.declared.CardRead.{CardRead}
 use Rattle.card_writer.specs.Put.{Room}
 use Rattle.card_writer.proofs.WriterWays.{Writes, writes_done}
-use Rattle.mkcard.specs.declared.make.Made.{Made}
+use Rattle.mkcard.specs.declared.make.Refusal.{Refusal}
 use Rattle.mkcard.specs.declared.scan.Scan.{Scan}
 use Rattle.mkcard.specs.Scan.{most_words, most_bytes, max_line, ended, line_after, commented, longer, blank}
 use Rattle.mkcard.specs.Scan.{stepped, scanned, numbers_from, card_of_words, numbers_in, line_of, made_by, made}
@@ -209,21 +211,17 @@ module _ (s : Scan) where
 
 -- ---- the numbers before a place
 
-module _ (card : List ℕ) (place i : ℕ) where
-  pub before_more : i < length card → i < place → (t : Bool) → ltb (get_or card i 0) 128 ≡ t
-      → numbers_in (drop i (take place card)) ≡ cond t 1 0 + numbers_in (drop (i + 1) (take place card))
-  unfolding numbers_in
-  before_more h k t e =
-      let l : i < length (take place card) = omega (arith, length-take place card) in
-      rw (add-one, drop-cons (take place card) i 0 l, get_or-take place card i 0 k, e)
+pub numbers_counted : (bs : List ℕ) → length (filter (λ b. ltb b 128) bs) ≡ numbers_in bs
+unfolding numbers_in
+numbers_counted [] = refl
+numbers_counted (b ∷ bs) = next (ltb b 128) (numbers_counted bs)
+  where
+    rest : List ℕ
+    rest = filter (λ b. ltb b 128) bs
 
-  pub before_done : length card ≤ i → numbers_in (drop i (take place card)) ≡ 0
-  unfolding numbers_in
-  before_done h = rw (drop_of_length-le (take place card) {i = i} (omega (arith, length-take place card)))
-
-  pub before_place : place ≤ i → numbers_in (drop i (take place card)) ≡ 0
-  unfolding numbers_in
-  before_place h = rw (drop_of_length-le (take place card) {i = i} (omega (arith, length-take place card)))
+    next : (t : Bool) → length rest ≡ numbers_in bs → length (cond t (b ∷ rest) rest) ≡ cond t 1 0 + numbers_in bs
+    next true e = omega arith
+    next false e = omega arith
 
 -- ---- the card in the buffer
 
@@ -235,25 +233,29 @@ module _ (out bs : List ℕ) {n : ℕ} {y : List ℕ} (e : n ≡ length bs) (q :
   card_fits h = omega (arith, ap length q ∙ overwrite_length out 0 bs (omega arith))
 
 module _ (s : Scan) (r : CardRead) (e : r ≡ read_card 1 (card_of_words s)) where
-  pub made_card : r.verdict.number ≡ 0 → (n : ℕ) → n ≡ length (card_of_words s) → ◌≡◌ {A = Made} (record { number = 0; line = 0; length = n }) (made s)
+  pub made_card : r.verdict.number ≡ 0 → (n : ℕ) → n ≡ length (card_of_words s) → ◌≡◌ {A = Result ℕ Refusal} (Ok n) (made s)
   unfolding made made_by
   made_card h n q = rw (sym e, h, q)
 
   pub made_none : (r.verdict.number ≡ 0 → ⊥) → (l : ℕ) → l ≡ line_of s (numbers_in (take r.verdict.place (card_of_words s)))
-      → ◌≡◌ {A = Made} (record { number = r.verdict.number; line = l; length = 0 }) (made s)
+      → ◌≡◌ {A = Result ℕ Refusal} (Err (record { number = r.verdict.number; line = l })) (made s)
   unfolding made
   made_none h l q = rw (sym e, q) (by r.verdict.number h)
     where
       by : (k : ℕ) → (k ≡ 0 → ⊥)
-          → ◌≡◌ {A = Made} (record { number = k; line = line_of s (numbers_in (take r.verdict.place (card_of_words s))); length = 0 })
+          → ◌≡◌ {A = Result ℕ Refusal} (Err (record { number = k; line = line_of s (numbers_in (take r.verdict.place (card_of_words s))) }))
           (made_by s k r.verdict.place)
       by zero h = absurd (h refl)
       by (suc k) h = unfold made_by in refl
 
-pub made_short : (s : Scan) → (made s).length ≤ most_bytes
+pub made_short : (s : Scan) → IfOk (made s) (λ n. n ≤ most_bytes)
 unfolding made made_by
 made_short s = by (read_card 1 (card_of_words s)).verdict.number
   where
-    by : (k : ℕ) → (made_by s k (read_card 1 (card_of_words s)).verdict.place).length ≤ most_bytes
+    by : (k : ℕ) → IfOk (made_by s k (read_card 1 (card_of_words s)).verdict.place) (λ n. n ≤ most_bytes)
     by zero = card_long s
-    by (suc k) = omega arith
+    by (suc k) = tt
+
+-- the card that is made has no more bytes
+pub made_fits : (s : Scan) (n : ℕ) → ◌≡◌ {A = Result ℕ Refusal} (Ok n) (made s) → n ≤ most_bytes
+made_fits s n e = subst (λ (r : Result ℕ Refusal). IfOk r (λ n. n ≤ most_bytes)) (sym e) (made_short s)

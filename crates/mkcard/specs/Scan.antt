@@ -1,12 +1,12 @@
 -- A text of figures: which words it has, and the value and the line of each.
-use Rattle.std.specs.Prelude.{ℕ, zero, suc, ◌+◌, ◌^◌, ◌<◌, List, [], ◌∷◌, ◌++◌, Bool, true, false, cond, ◌&&◌, ◌||◌, length, get_or, set, take, replicate, ltb, eqb}
+use Rattle.std.specs.Prelude.{ℕ, zero, suc, ◌+◌, ◌^◌, ◌<◌, List, [], ◌∷◌, ◌++◌, Bool, true, false, cond, ◌&&◌, ◌||◌, length, get_or, set, take, replicate, ltb, eqb, Result, Ok, Err}
 use Rattle.numbers.specs.Limits.{no_number}
 use Rattle.decimal.specs.Decimal.{digits, capped, grown}
 use Rattle.card.specs.Card.{bytes_of}
 use Rattle.leb128.specs.Number.{group_weight}
 use Rattle.card.specs.Read.{read_card}
 use Rattle.mkcard.specs.declared.scan.Scan.{Scan}
-use Rattle.mkcard.specs.declared.make.Made.{Made}
+use Rattle.mkcard.specs.declared.make.Refusal.{Refusal}
 
 -- the words that are kept, and the bytes of their numbers, five each
 abbrev pub most_words : ℕ
@@ -94,13 +94,13 @@ numbers_in (b ∷ bs) = cond (ltb b group_weight) 1 0 + numbers_in bs
 unfoldable pub line_of : Scan → ℕ → ℕ
 line_of s i = cond (ltb i s.count && ltb i most_words) (get_or s.lines i 0) s.line
 
--- a refusal with the line of the word at the place, and no length; an accepted card with its length
-unfoldable pub made_by : Scan → ℕ → ℕ → Made
-made_by s zero place = record { number = 0; line = 0; length = length (card_of_words s) }
-made_by s (suc k) place = record { number = suc k; line = line_of s (numbers_in (take place (card_of_words s))); length = 0 }
+-- a refusal with the line of the word at the place; of an accepted card its length
+unfoldable pub made_by : Scan → ℕ → ℕ → Result ℕ Refusal
+made_by s zero place = Ok (length (card_of_words s))
+made_by s (suc k) place = Err (record { number = suc k; line = line_of s (numbers_in (take place (card_of_words s))) })
 
 -- THE ANSWER TO A TEXT THAT IS READ: what the reader says of its card
-unfoldable pub made : Scan → Made
+unfoldable pub made : Scan → Result ℕ Refusal
 made s = made_by s (read_card 1 (card_of_words s)).verdict.number (read_card 1 (card_of_words s)).verdict.place
 
 -- ---- the text of numbers

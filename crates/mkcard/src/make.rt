@@ -10,12 +10,11 @@ use crate::scan::{Scan, WORDS};
 use leb128::write_number;
 use numbers::limits::NO_NUMBER;
 
-// The refusal's number and the line of the text, or 0 and the length of the card.
+// A refusal: its number, and the line of the text.
 #[derive(Clone, Copy)]
-pub struct Made {
+pub struct Refusal {
     pub number: u32,
     pub line: u64,
-    pub length: usize,
 }
 
 // Writes the number of a word from an offset on and answers the offset after it.
@@ -37,13 +36,11 @@ fn write_words(s: Scan, out: &mut [u8]) -> usize
     ensures { (result ≡ length (card_of_words s)) × (out.new ≡ overwrite out.old 0 (card_of_words s)) }
 {
     let mut at: usize = 0;
-    let mut i: usize = 0;
-    while i < WORDS {
+    for i in 0..WORDS {
         if s.count <= i {
             return at;
         }
         at = write_word(out, at, s.values[i]);
-        i += 1;
     }
     at
 }
@@ -52,18 +49,7 @@ fn write_words(s: Scan, out: &mut [u8]) -> usize
 fn numbers_before(card: &[u8], place: usize) -> usize
     ensures { result ≡ numbers_in (take place card.now) }
 {
-    let mut count: usize = 0;
-    let mut i: usize = 0;
-    while i < card.len() {
-        if place <= i {
-            return count;
-        }
-        if card[i] < 128 {
-            count += 1;
-        }
-        i += 1;
-    }
-    count
+    card.iter().take(place).filter(|&&byte| byte < 128).count()
 }
 
 // The line of a word; past the words, where the text ends.
@@ -79,8 +65,8 @@ fn line_of(s: Scan, i: usize) -> u64
     s.lines[i]
 }
 
-// Writes the card of the words and has the reader judge it.
-pub fn make_card(s: Scan, out: &mut [u8]) -> Made
+// Writes the card of the words, has the reader judge it, and answers its length.
+pub fn make_card(s: Scan, out: &mut [u8]) -> Result<usize, Refusal>
     requires { most_bytes ≤ length out.old }
     ensures { (result ≡ made s) × (out.new ≡ overwrite out.old 0 (card_of_words s)) }
 {
@@ -88,18 +74,13 @@ pub fn make_card(s: Scan, out: &mut [u8]) -> Made
     let read = card_reader::read_card(&out[..length]);
     let verdict = read.verdict;
     if verdict.number == 0 {
-        return Made {
-            number: 0,
-            line: 0,
-            length: length,
-        };
+        return Ok(length);
     }
     let word = numbers_before(&out[..length], verdict.place);
-    Made {
+    Err(Refusal {
         number: verdict.number,
         line: line_of(s, word),
-        length: 0,
-    }
+    })
 }
 
 // A text of at most 407 numbers of 32 bits in decimal, a line for each, makes the bytes of these numbers: of figures in the card's order, their card.

@@ -102,10 +102,8 @@ pub fn read_text(s: Scan, text: &[u8]) -> Scan
     ensures { result ≡ scanned s text.now }
 {
     let mut next = s;
-    let mut i: usize = 0;
-    while i < text.len() {
-        next = step(next, text[i]);
-        i += 1;
+    for &byte in text {
+        next = step(next, byte);
     }
     next
 }

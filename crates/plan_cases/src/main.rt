@@ -14,29 +14,54 @@
 #![tactic(auto)]
 
 use card::Figures;
-use case_text::{
-    is_record, next_case, no_case, print, print_number, print_refusal, read_bytes, read_full,
-    read_number, read_record, wide,
-};
+use case_text::{next_case, no_case, print_refusal, read_bytes, read_number, read_record};
 use plan::{Plan, Planned};
+use program_input::read_full;
 use std::io;
+
+// How the film of a case is shown.
+#[derive(Clone, Copy)]
+enum Showing {
+    Once,
+    Loop,
+    Pairs,
+}
+
+// What a case asks for.
+#[derive(Clone, Copy)]
+enum Task {
+    PlanRecord(Showing),
+    PlanCard(Showing),
+    Check,
+    CheckAltered,
+}
+
+// What the letter asks for; a letter of no other task plans a card.
+fn task_of(letter: u8) -> Task {
+    match letter {
+        b'k' => Task::Check,
+        b'b' => Task::CheckAltered,
+        b'r' => Task::PlanRecord(Showing::Once),
+        b'R' => Task::PlanRecord(Showing::Loop),
+        b'h' => Task::PlanRecord(Showing::Pairs),
+        b'C' => Task::PlanCard(Showing::Loop),
+        b'H' => Task::PlanCard(Showing::Pairs),
+        _ => Task::PlanCard(Showing::Once),
+    }
+}
 
 // Fills a list with a pattern.
 fn fill(list: &mut [u8]) {
-    let mut i: usize = 0;
-    while i < list.len() {
-        list[i] = (i % 251) as u8;
-        i += 1;
+    for (i, byte) in list.iter_mut().enumerate() {
+        *byte = (i % 251) as u8;
     }
 }
 
 // A sum of a list that each byte and its place alter.
 fn sum_of(list: &[u8]) -> u64 {
     let mut sum: u64 = 0;
-    let mut i: usize = 0;
-    while i < list.len() {
-        sum = (sum * 257 + wide(list[i]) + 1) % 1000003;
-        i += 1;
+    for &byte in list {
+        sum = (sum * 257 + u64::from(byte) + 1) % 1000003;
     }
     sum
 }
@@ -53,14 +78,9 @@ fn print_answer(
         print_refusal(rt, verdict)?;
     }
     let plan = planned.plan;
-    print_number(rt, plan.streams as u64)?;
-    print_number(rt, plan.buffer as u64)?;
-    print_number(rt, plan.worst2 as u64)?;
-    print_number(rt, plan.margin as u64)?;
-    print_number(rt, plan.showing as u64)?;
-    print_number(rt, plan.worstat as u64)?;
-    print_number(rt, sum_of(positions))?;
-    print_number(rt, sum_of(leads))
+    print!(rt; " {} {} {}", plan.streams, plan.buffer, plan.worst2)?;
+    print!(rt; " {} {} {}", plan.margin, plan.showing, plan.worstat)?;
+    print!(rt; " {} {}", sum_of(positions), sum_of(leads))
 }
 
 // A plan: streams, buffer, worst2, margin, showing, worstat, and its record.
@@ -85,9 +105,9 @@ fn read_plan(text: &[u8], start: usize) -> Plan {
 // Is this the plan of its figures, with its lists?
 fn check(rt: &impl Print, plan: Plan, positions: &[u8], leads: &[u8]) -> io::Result<()> {
     if plan_check::is_plan(plan, positions, leads, true) {
-        return print(rt, b" yes");
+        return print!(rt; " yes");
     }
-    print(rt, b" no")
+    print!(rt; " no")
 }
 
 // The same with each byte altered, which then gets its value back.
@@ -97,14 +117,7 @@ fn check_altered(
     positions: &mut [u8],
     leads: &mut [u8],
 ) -> io::Result<()> {
-    let mut at: usize = 0;
-    while at < 28 {
-        if positions.len() <= at {
-            return Ok(());
-        }
-        if leads.len() <= at {
-            return Ok(());
-        }
+    for at in 0..positions.len().min(leads.len()).min(28) {
         let position = positions[at];
         positions[at] = 77;
         check(rt, plan, positions, leads)?;
@@ -113,104 +126,84 @@ fn check_altered(
         leads[at] = 77;
         check(rt, plan, positions, leads)?;
         leads[at] = lead;
-        at += 1;
     }
     Ok(())
 }
 
-// Does this letter stand before a record that is planned?
-fn plans_record(letter: u8) -> bool {
-    if letter == b'h' {
-        return true;
+// Plans a record.
+fn plan_record(
+    showing: Showing,
+    figures: Figures,
+    positions: &mut [u8],
+    leads: &mut [u8],
+) -> Planned {
+    match showing {
+        Showing::Once => planner::plan_record(figures, positions, leads),
+        Showing::Loop => planner::plan_loop_record(figures, positions, leads),
+        Showing::Pairs => planner::plan_pairs_record(figures, positions, leads),
     }
-    is_record(letter)
 }
 
-// Plans a record, by `R` as loops, by `h` as half blocks.
-fn plan_record(letter: u8, figures: Figures, positions: &mut [u8], leads: &mut [u8]) -> Planned {
-    if letter == b'R' {
-        return planner::plan_loop_record(figures, positions, leads);
+// Plans a card.
+fn plan_card(showing: Showing, card: &[u8], positions: &mut [u8], leads: &mut [u8]) -> Planned {
+    match showing {
+        Showing::Once => planner::plan_card(card, positions, leads),
+        Showing::Loop => planner::plan_loop_card(card, positions, leads),
+        Showing::Pairs => planner::plan_pairs_card(card, positions, leads),
     }
-    if letter == b'h' {
-        return planner::plan_pairs_record(figures, positions, leads);
-    }
-    planner::plan_record(figures, positions, leads)
-}
-
-// Plans a card, by `C` as loops, by `H` as half blocks.
-fn plan_card(letter: u8, card: &[u8], positions: &mut [u8], leads: &mut [u8]) -> Planned {
-    if letter == b'C' {
-        return planner::plan_loop_card(card, positions, leads);
-    }
-    if letter == b'H' {
-        return planner::plan_pairs_card(card, positions, leads);
-    }
-    planner::plan_card(card, positions, leads)
 }
 
 // Plans the card that stands from `start` on.
 fn plan_bytes(
-    rt: &impl Print,
+    showing: Showing,
     text: &[u8],
-    letter: u8,
     start: usize,
     positions: &mut [u8],
     leads: &mut [u8],
-) -> io::Result<()> {
+) -> Planned {
     let mut card = [0u8; 4096];
     let n = read_bytes(text, start, &mut card);
-    let planned = plan_card(letter, &card[..n], positions, leads);
-    print_answer(rt, planned, positions, leads)
+    plan_card(showing, &card[..n], positions, leads)
 }
 
-// Plans the record or the card that stands from `start` on, with lists of a pattern.
-fn plan_film(
-    rt: &impl Print,
-    text: &[u8],
-    letter: u8,
-    start: usize,
-    positions: &mut [u8],
-    leads: &mut [u8],
-) -> io::Result<()> {
-    fill(positions);
-    fill(leads);
-    if plans_record(letter) {
-        let planned = plan_record(letter, read_record(text, start), positions, leads);
-        return print_answer(rt, planned, positions, leads);
-    }
-    plan_bytes(rt, text, letter, start, positions, leads)
-}
-
-// Does what the letter says to what stands from `start` on, with these lists.
+// Does what is asked for with what stands from `start` on and these lists, which have a pattern where it plans.
 fn run_with(
     rt: &impl Print,
     text: &[u8],
-    letter: u8,
+    task: Task,
     start: usize,
     positions: &mut [u8],
     leads: &mut [u8],
 ) -> io::Result<()> {
-    if letter == b'k' {
-        return check(rt, read_plan(text, start), positions, leads);
-    }
-    if letter == b'b' {
-        return check_altered(rt, read_plan(text, start), positions, leads);
-    }
-    plan_film(rt, text, letter, start, positions, leads)
+    let planned = match task {
+        Task::Check => return check(rt, read_plan(text, start), positions, leads),
+        Task::CheckAltered => return check_altered(rt, read_plan(text, start), positions, leads),
+        Task::PlanRecord(showing) => {
+            fill(positions);
+            fill(leads);
+            plan_record(showing, read_record(text, start), positions, leads)
+        }
+        Task::PlanCard(showing) => {
+            fill(positions);
+            fill(leads);
+            plan_bytes(showing, text, start, positions, leads)
+        }
+    };
+    print_answer(rt, planned, positions, leads)
 }
 
 // The same with as many bytes of the lists as the case says.
 fn run_case(
     rt: &impl Print,
     text: &[u8],
-    letter: u8,
+    letter: Option<u8>,
     start: usize,
     positions: &mut [u8],
     leads: &mut [u8],
 ) -> io::Result<()> {
-    if letter == 0 {
+    let Some(letter) = letter else {
         return Ok(());
-    }
+    };
     let size = read_number(text, start);
     let p = (size.value as usize).min(positions.len());
     let other = read_number(text, size.next);
@@ -218,7 +211,7 @@ fn run_case(
     run_with(
         rt,
         text,
-        letter,
+        task_of(letter),
         other.next,
         &mut positions[..p],
         &mut leads[..l],

@@ -8,10 +8,8 @@
 // A line is printed for each: its name, the refusal if there is one, worst2, and how many layings have it.
 #![tactic(auto)]
 
-use card::Figures;
-use case_text::{
-    is_record, next_case, no_case, print_number, print_refusal, read_bytes, read_full, read_record,
-};
+use case_text::{next_case, no_case, print_refusal, read_bytes, read_record};
+use program_input::read_full;
 use std::io;
 use try_all::{Tried, try_card, try_loop_card, try_loop_record, try_record};
 
@@ -20,42 +18,36 @@ fn print_answer(rt: &impl Print, tried: Tried) -> io::Result<()> {
     if verdict.number != 0 {
         print_refusal(rt, verdict)?;
     }
-    print_number(rt, tried.worst2 as u64)?;
-    print_number(rt, tried.count as u64)
-}
-
-// Tries a record, by `R` as a loop.
-fn try_figures(letter: u8, figures: Figures) -> Tried {
-    if letter == b'R' {
-        return try_loop_record(figures);
-    }
-    try_record(figures)
+    print!(rt; " {} {}", tried.worst2, tried.count)
 }
 
 // Tries a card, by `C` as a loop.
 fn try_bytes(letter: u8, card: &[u8]) -> Tried {
-    if letter == b'C' {
-        return try_loop_card(card);
+    match letter {
+        b'C' => try_loop_card(card),
+        _ => try_card(card),
     }
-    try_card(card)
 }
 
-// Tries the card that stands from `start` on.
-fn run_card(rt: &impl Print, text: &[u8], letter: u8, start: usize) -> io::Result<()> {
-    let mut card = [0u8; 4096];
-    let n = read_bytes(text, start, &mut card);
-    print_answer(rt, try_bytes(letter, &card[..n]))
+// Tries what stands from `start` on; a letter of no record stands before a card.
+fn try_film(text: &[u8], letter: u8, start: usize) -> Tried {
+    match letter {
+        b'r' => try_record(read_record(text, start)),
+        b'R' => try_loop_record(read_record(text, start)),
+        _ => {
+            let mut card = [0u8; 4096];
+            let n = read_bytes(text, start, &mut card);
+            try_bytes(letter, &card[..n])
+        }
+    }
 }
 
-// Tries what stands from `start` on.
-fn run_case(rt: &impl Print, text: &[u8], letter: u8, start: usize) -> io::Result<()> {
-    if letter == 0 {
-        return Ok(());
+// Tries what stands from `start` on, where there is a letter.
+fn run_case(rt: &impl Print, text: &[u8], letter: Option<u8>, start: usize) -> io::Result<()> {
+    match letter {
+        Some(letter) => print_answer(rt, try_film(text, letter, start)),
+        None => Ok(()),
     }
-    if is_record(letter) {
-        return print_answer(rt, try_figures(letter, read_record(text, start)));
-    }
-    run_card(rt, text, letter, start)
 }
 
 // Every line: its name up to the colon, then the answer.

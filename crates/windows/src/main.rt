@@ -7,12 +7,13 @@ ghost use Rattle.numbers.specs.Limits.{max_films, max_window};
 ghost use Rattle.numbers.specs.Units.{micros};
 
 use lines::{
-    asked_showing, empty, has_more_arguments, plan_film, position_buffer, print, print_refusal,
-    put_next, put_number, put_text, read_full, unless_gone,
+    Showing, asked_showing, has_more_arguments, plan_film, position_buffer, print_refusal,
+    unless_gone,
 };
 use numbers::limits::MAX_WINDOW;
 use numbers::units::MICROS;
 use plan::Plan;
+use program_input::read_full;
 use std::io;
 use window::{longest, worst_window};
 
@@ -20,48 +21,43 @@ use window::{longest, worst_window};
 fn bytes_a_second(bytes: u32, time: u32) -> u64
     ensures { 0 < time → result ≡ bytes * micros / time }
 {
-    if time == 0 {
-        return 0;
-    }
-    bytes as u64 * MICROS / time as u64
+    (u64::from(bytes) * MICROS)
+        .checked_div(u64::from(time))
+        .unwrap_or(0)
 }
 
 // The line of a window: its blocks, the worst time that they take, the earliest place, their bytes, and bytes a second.
 fn print_window(rt: &impl Print, plan: Plan, positions: &[u8], count: u32) -> io::Result<()> {
     let window = worst_window(plan, positions, count);
     let rate = bytes_a_second(window.bytes, window.time);
-    let start = put_next(put_number(empty(), count as u64), window.time as u64);
-    let told = put_next(put_next(start, window.first as u64), window.bytes as u64);
-    print(rt, put_next(told, rate))
+    println!(rt;
+        "{count} {} {} {} {rate}",
+        window.time, window.first, window.bytes
+    )
 }
 
 // The blocks of the longest window, by those of the longest film.
 fn longest_window(blocks: u32) -> u32
     ensures { result ≡ min blocks max_window }
 {
-    if blocks < MAX_WINDOW {
-        return blocks;
-    }
-    MAX_WINDOW
+    blocks.min(MAX_WINDOW)
 }
 
 // The line of each window of a plan, with its list of positions.
 fn print_windows(rt: &impl Print, plan: Plan, positions: &[u8]) -> io::Result<()>
     requires { plan.figures.films ≤ max_films }
 {
-    print(rt, put_text(empty(), b"blocks time first bytes rate"))?;
+    println!(rt; "blocks time first bytes rate")?;
     let figures = plan.figures;
     let last = longest_window(longest(&figures.blocks, figures.films));
-    let mut count: u32 = 1;
-    while count <= last {
+    for count in 1..=last {
         print_window(rt, plan, positions, count)?;
-        count += 1;
     }
     Ok(())
 }
 
 // The windows of a card, or the refusal.
-fn list(rt: &impl Print, showing: u32, card: &[u8]) -> io::Result<()> {
+fn list(rt: &impl Print, showing: Showing, card: &[u8]) -> io::Result<()> {
     let mut positions = position_buffer();
     let mut leads = [0u8; 65536];
     let planned = plan_film(showing, card, &mut positions, &mut leads);
@@ -76,7 +72,7 @@ fn list(rt: &impl Print, showing: u32, card: &[u8]) -> io::Result<()> {
 fn main(rt: HostRuntime) -> io::Result<()> {
     let showing = asked_showing(&rt);
     if has_more_arguments(&rt, showing) {
-        return print(&rt, put_text(empty(), b"usage: windows [loop|pairs]"));
+        return println!(rt; "usage: windows [loop|pairs]");
     }
     let mut input = [0u8; 4096];
     let count = read_full(&mut rt.stdin(), &mut input)?;

@@ -4,38 +4,38 @@ use Rattle.placement.specs.Showing.{one, loop, pairs}
 use Rattle.lines.proofs.AcceptedPlan.{accepted_plan}
 use Rattle.lines.proofs.plan_film.Goals as goal
 
-pub returns-then-showing-eq-PAIRS-clause-plan : goal.returns-then-showing-eq-PAIRS-clause-plan
-returns-then-showing-eq-PAIRS-clause-plan c =
-    let s = c.args.card.now in
-    let r = c.plan_pairs_card in
-    (accepted_plan pairs s (bytes_fit s c.type_inv.card) _ _ r.result _ _ r.ensures).0
-
-pub returns-then-showing-eq-PAIRS-clause-legal : goal.returns-then-showing-eq-PAIRS-clause-legal
-returns-then-showing-eq-PAIRS-clause-legal c =
-    let s = c.args.card.now in
-    let r = c.plan_pairs_card in
-    (accepted_plan pairs s (bytes_fit s c.type_inv.card) _ _ r.result _ _ r.ensures).1
-
-pub returns-then-showing-eq-LOOP-clause-plan : goal.returns-then-showing-eq-LOOP-clause-plan
-returns-then-showing-eq-LOOP-clause-plan c =
-    let s = c.args.card.now in
-    let r = c.plan_loop_card in
-    (accepted_plan loop s (bytes_fit s c.type_inv.card) _ _ r.result _ _ r.ensures).0
-
-pub returns-then-showing-eq-LOOP-clause-legal : goal.returns-then-showing-eq-LOOP-clause-legal
-returns-then-showing-eq-LOOP-clause-legal c =
-    let s = c.args.card.now in
-    let r = c.plan_loop_card in
-    (accepted_plan loop s (bytes_fit s c.type_inv.card) _ _ r.result _ _ r.ensures).1
-
-pub returns-clause-plan : goal.returns-clause-plan
-returns-clause-plan c =
+pub returns-in-Once-clause-plan : goal.returns-in-Once-clause-plan
+returns-in-Once-clause-plan c =
     let s = c.args.card.now in
     let r = c.plan_card in
     (accepted_plan one s (bytes_fit s c.type_inv.card) _ _ r.result _ _ r.ensures).0
 
-pub returns-clause-legal : goal.returns-clause-legal
-returns-clause-legal c =
+pub returns-in-Once-clause-legal : goal.returns-in-Once-clause-legal
+returns-in-Once-clause-legal c =
     let s = c.args.card.now in
     let r = c.plan_card in
     (accepted_plan one s (bytes_fit s c.type_inv.card) _ _ r.result _ _ r.ensures).1
+
+pub returns-in-Loop-clause-plan : goal.returns-in-Loop-clause-plan
+returns-in-Loop-clause-plan c =
+    let s = c.args.card.now in
+    let r = c.plan_loop_card in
+    (accepted_plan loop s (bytes_fit s c.type_inv.card) _ _ r.result _ _ r.ensures).0
+
+pub returns-in-Loop-clause-legal : goal.returns-in-Loop-clause-legal
+returns-in-Loop-clause-legal c =
+    let s = c.args.card.now in
+    let r = c.plan_loop_card in
+    (accepted_plan loop s (bytes_fit s c.type_inv.card) _ _ r.result _ _ r.ensures).1
+
+pub returns-in-Pairs-clause-plan : goal.returns-in-Pairs-clause-plan
+returns-in-Pairs-clause-plan c =
+    let s = c.args.card.now in
+    let r = c.plan_pairs_card in
+    (accepted_plan pairs s (bytes_fit s c.type_inv.card) _ _ r.result _ _ r.ensures).0
+
+pub returns-in-Pairs-clause-legal : goal.returns-in-Pairs-clause-legal
+returns-in-Pairs-clause-legal c =
+    let s = c.args.card.now in
+    let r = c.plan_pairs_card in
+    (accepted_plan pairs s (bytes_fit s c.type_inv.card) _ _ r.result _ _ r.ensures).1

@@ -1,24 +1,15 @@
--- A number ends at each byte below 128; none is left at the place or at the card's end.
-use Rattle.std.proofs.Common.{arith, true, false, lt-ltb, le-ltb}
-use Rattle.mkcard.proofs.WordWays.{before_more, before_done, before_place}
+-- A number ends at each byte below 128 before the place.
+use Rattle.std.proofs.Common.{◌∙◌, rules, tests, ltb}
+use Rattle.std.proofs.lemmas.Iterator.{YieldsList-from_slice, YieldsList-from_take}
+use Rattle.std.proofs.lemmas.Iterator.Consumers.{YieldsList-at, YieldsList-from_filter, count_from_yields_List}
+use Rattle.mkcard.proofs.WordWays.{numbers_counted}
 use Rattle.mkcard.proofs.make.numbers_before.Goals as goal
-use Rattle.mkcard.proofs.make.numbers_before.Goals.{then-card-i-lt128, else-card-i-lt128}
-
-pub returns-then-place-i : goal.returns-then-place-i
-returns-then-place-i c =
-    let a = c.args in
-    omega (arith, c.loop-i.invariant, before_place a.card.now a.place c.loop-i.i c.if-place-i.true)
-
-pub loop-i-preserved : goal.loop-i-preserved
-loop-i-preserved c =
-    let l = c.loop-i in
-    let a = c.args in
-    elim c.if-card-i-lt128.branch [
-      | then-card-i-lt128 w ↦
-          omega (arith, l.invariant, w.count-is, before_more a.card.now a.place l.i (omega arith) (omega arith) true (lt-ltb _ _ w.if-card-i-lt128.true))
-      | else-card-i-lt128 w ↦
-          omega (arith, l.invariant, w.count-is, before_more a.card.now a.place l.i (omega arith) (omega arith) false (le-ltb _ _ w.if-card-i-lt128.false))
-    ]
 
 pub returns : goal.returns
-returns c = let a = c.args in omega (arith, c.loop-i.invariant, before_done a.card.now a.place c.loop-i.i (omega arith))
+returns c =
+    let a = c.args in
+    count_from_yields_List _ _ c.count.ensures.ran
+    (YieldsList-from_filter _ (λ b. ltb b 128)
+    (YieldsList-at c.filter.ensures.source (YieldsList-from_take a.place (YieldsList-from_slice a.card.now cc) cc))
+    c.filter.ensures.closure (λ x r q k. search (rules, tests)))
+    ∙ numbers_counted _

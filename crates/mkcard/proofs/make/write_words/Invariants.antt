@@ -5,7 +5,4 @@ use Rattle.mkcard.specs.Scan.{most_words, numbers_from}
 use Rattle.mkcard.proofs.make.write_words.Given as goal
 
 abbrev pub invariant-loop-i : goal.invariant-loop-i
-invariant-loop-i l = (l.i ≤ most_words) × (l.at ≤ 5 * l.i) × Writes true l.initial.out 0 (numbers_from most_words 0 l.s) l.out l.at (numbers_from (most_words - l.i) l.i l.s)
-
-abbrev pub decreases-loop-i : goal.decreases-loop-i
-decreases-loop-i l = most_words - l.i
+invariant-loop-i l = (l.at ≤ 5 * l.i) × Writes true l.initial.out 0 (numbers_from most_words 0 l.s) l.out l.at (numbers_from (most_words - l.i) l.i l.s)

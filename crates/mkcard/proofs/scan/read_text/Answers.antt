@@ -5,11 +5,12 @@ use Rattle.mkcard.specs.Scan.{scanned}
 use Rattle.mkcard.proofs.WordWays.{scanned_more, scanned_done}
 use Rattle.mkcard.proofs.scan.read_text.Goals as goal
 
-pub loop-i-preserved : goal.loop-i-preserved
-loop-i-preserved c =
-    let l = c.loop-i in
+pub loop-byte-preserved : goal.loop-byte-preserved
+loop-byte-preserved c =
+    let l = c.loop-byte in
+    let i = l.byte-index in
     let t = c.args.text.now in
-    (omega arith, ap (λ (x : Scan). scanned x (drop (l.i + 1) t)) c.step-next.ensures ∙ sym (scanned_more l.next t l.i (omega arith)) ∙ l.invariant.1)
+    ap (λ (x : Scan). scanned x (drop (i + 1) t)) c.step-next.ensures ∙ sym (scanned_more l.next t i (omega arith)) ∙ l.invariant
 
 pub returns : goal.returns
-returns c = let l = c.loop-i in sym (scanned_done l.next _ l.i (omega arith)) ∙ l.invariant.1
+returns c = let l = c.loop-byte in sym (scanned_done l.next _ l.byte-index (omega arith)) ∙ l.invariant

@@ -1,9 +1,0 @@
--- Each turn reads one zone of the 64.
-use Rattle.std.proofs.Common.{◌-◌, ◌≤◌}
-use Rattle.case_text.proofs.read_record.Given as goal
-
-abbrev pub invariant-loop-i : goal.invariant-loop-i
-invariant-loop-i l = l.i ≤ 64
-
-abbrev pub decreases-loop-i : goal.decreases-loop-i
-decreases-loop-i l = 64 - l.i

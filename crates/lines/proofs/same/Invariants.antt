@@ -1,9 +1,0 @@
--- Each turn compares one byte more; the strings are as long as each other.
-use Rattle.std.proofs.Common.{length, ◌-◌, ◌≡◌}
-use Rattle.lines.proofs.same.Given as goal
-
-abbrev pub invariant-loop-i : goal.invariant-loop-i
-invariant-loop-i l = length l.a ≡ length l.b
-
-abbrev pub decreases-loop-i : goal.decreases-loop-i
-decreases-loop-i l = length l.a - l.i

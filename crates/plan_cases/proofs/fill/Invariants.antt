@@ -1,9 +1,0 @@
--- Each turn fills one byte more of the list.
-use Rattle.std.proofs.Common.{length, ◌-◌, ◌≡◌}
-use Rattle.plan_cases.proofs.fill.Given as goal
-
-abbrev pub invariant-loop-i : goal.invariant-loop-i
-invariant-loop-i l = length l.list ≡ length l.initial.list
-
-abbrev pub decreases-loop-i : goal.decreases-loop-i
-decreases-loop-i l = length l.initial.list - l.i
