@@ -1,4 +1,4 @@
--- One turn of the loop that marks the places that are seen.
+-- What the loop that marks the places that are seen keeps, and the places where none asks.
 -- Assumes nothing.
 use Prim.Native.Nat.{ℕ, zero, suc, ◌+◌, ◌≤◌, ◌<◌}
 use mathlib.Core.Path.{◌≡◌, sym, ap, ◌∙◌}

@@ -8,7 +8,7 @@ use native.Mathlib.Omega.{arith}
 use native.Mathlib.Decide.{ℕ_discrete}
 use lib.Bits.{bit_or, or_add_and, and_le_l, and_le_r}
 use lib.Dec.{leb, eqb}
-use borrow.Author.Tests.{leb-true, eqb-true, eqb-false, le-leb, ne_eqb}
+use borrow.Author.Tests.{leb-true, eqb-false, le-leb, ne_eqb}
 use Rattle.laws.specs.Bools.{clash}
 use Rattle.numbers.specs.Slots.{free, filling, draining}
 use Rattle.numbers.specs.Showings.{loop_word}
@@ -16,9 +16,6 @@ use Rattle.soundness.specs.Facts.{Tells, LastKind, TidyWithin}
 
 pub tells_yes : {P : Type 0} → P → Tells true P
 tells_yes p = record { yes = λ _. p; no = λ e _. clash refl e }
-
-pub tells_equal : {P : Type 0} (a b : ℕ) → (a ≡ b → P) → (P → a ≡ b) → Tells (eqb a b) P
-tells_equal a b f g = record { yes = λ e. f (eqb-true a b e); no = λ e p. eqb-false a b e (g p) }
 
 pub tells_within : {P : Type 0} (a b : ℕ) → (a ≤ b → P) → (P → a ≤ b) → Tells (leb a b) P
 tells_within a b f g = record { yes = λ e. f (leb-true a b e); no = λ e p. clash (le-leb a b (g p)) e }
