@@ -1,7 +1,7 @@
 -- The answers of an opening and of a move, a law for each way that their code can take: the rows of 01's table, then what an accepted call makes.
 -- Assumes nothing.
 use Prim.Native.Nat.{ℕ, ◌+◌, ◌≤◌, ◌<◌}
-use Rattle.std.specs.Prelude.{◌≡◌, ◌≢◌, Bool, cond, List, map, length, get_or, take, ltb, eqb}
+use Rattle.std.specs.Prelude.{◌≡◌, ◌≢◌, Bool, cond, List, length, get_or, take, ltb, eqb}
 use Rattle.std.proofs.Math.Path.{refl, sym, ap}
 use Rattle.std.proofs.Common.{◌∙◌}
 use Rattle.std.proofs.Math.Logic.{by_cases}
@@ -22,7 +22,7 @@ use Rattle.plan.specs.declared.Plan.{Plan}
 use Rattle.plan.proofs.Check.{checked_legal}
 use Rattle.plan.specs.Answer.{is_plan}
 use Rattle.rules.specs.Scheduler.{Call, join, leave, joined, left}
-use Rattle.rules.specs.Order.{dropped, waiting_count, by_place}
+use Rattle.rules.specs.Order.{waiting_count, by_place}
 use Rattle.turns.specs.ArrayLaws.{slots_set}
 use Rattle.turns.specs.Facts.{Sound, sound_says}
 use Rattle.turns.specs.Places.{places_say}

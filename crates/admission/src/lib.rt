@@ -68,9 +68,9 @@ pub fn join_of(slot: u32, block: u32, film: u32) -> Move
 {
     Move {
         joins: true,
-        slot: slot,
-        block: block,
-        film: film,
+        slot,
+        block,
+        film,
     }
 }
 
@@ -80,7 +80,7 @@ pub fn leave_of(slot: u32) -> Move
 {
     Move {
         joins: false,
-        slot: slot,
+        slot,
         block: 0,
         film: 0,
     }
@@ -137,10 +137,8 @@ fn lower_places(places: &mut [u32; 256], streams: usize, gone: u32)
     requires { (length places.old ≡ max_streams) × (streams ≤ max_streams) × (0 < gone) × Placeless streams places.old }
     ensures { places.new ≡ map (dropped gone) places.old }
 {
-    let mut i: usize = 0;
-    while i < streams {
-        places[i] = lowered(places[i], gone);
-        i += 1;
+    for place in &mut places[..streams] {
+        *place = lowered(*place, gone);
     }
 }
 
@@ -225,10 +223,7 @@ fn moved(desk: Desk, positions: &[u8], leads: &[u8], listed: bool, step: Move) -
     let string = string_of(desk);
     let verdict = judge_move(&string, positions, leads, listed, step);
     if verdict.number != ACCEPTED {
-        return Answer {
-            verdict: verdict,
-            desk: desk,
-        };
+        return Answer { verdict, desk };
     }
     let slot = step.slot as usize;
     let places = places_after(&string, step);

@@ -87,12 +87,10 @@ pub fn sum_leads<'a>(
     let worst2 = worst2_in(desk);
     let starts = film_starts(desk);
     let mut sum: u32 = 0;
-    let mut i: usize = 0;
-    while i < streams {
+    for i in 0..streams {
         let kind = kind_in(desk, i);
         let number = entry_of(&starts, next_in(desk, i));
         sum += added_lead(sizes, times, worst2, positions, leads, listed, kind, number);
-        i += 1;
     }
     sum
 }
@@ -134,10 +132,7 @@ fn lower(kind: u32, held: u32, level: u64) -> u64
     match kind {
         PLAYING => {
             let own = product(PARTS, held);
-            if own < level {
-                return own;
-            }
-            level
+            own.min(level)
         }
         _ => level,
     }
@@ -150,10 +145,8 @@ pub fn least_level<'a>(kinds: &'a [u32; 256], held: &'a [u32; 256], streams: usi
         → result ≡ parts * least_held p ample (slots_of p kinds.now xs held.now) }
 {
     let mut level: u64 = AMPLE;
-    let mut i: usize = 0;
-    while i < streams {
-        level = lower(kinds[i], held[i], level);
-        i += 1;
+    for (&kind, &held) in kinds[..streams].iter().zip(&held[..streams]) {
+        level = lower(kind, held, level);
     }
     level
 }

@@ -31,7 +31,7 @@ fn spot_at<'a>(sizes: &'a [u32; 64], times: &'a [u32; 64], positions: &[u8], j: 
     let position = word_at(positions, j);
     Block {
         time: time_at(sizes, times, position),
-        position: position,
+        position,
         other: 0,
     }
 }
@@ -103,13 +103,11 @@ pub fn gather<'a>(
     let sizes = zone_sizes(desk);
     let times = zone_times(desk);
     let starts = film_starts(desk);
-    let mut i: usize = 0;
-    while i < streams {
+    for i in 0..streams {
         let number = entry_of(&starts, next_in(desk, i));
         let b = next_block(&sizes, &times, positions, visits, kinds[i], number);
         found[i] = b.time;
         spots[i] = b.position;
         others[i] = b.other;
-        i += 1;
     }
 }

@@ -1,6 +1,6 @@
 -- A slot's word for its film and next block, as the test of the slots takes it apart.
 -- Assumes nothing.
-use Prim.Native.Nat.{ℕ, ◌≤◌, ◌<◌}
+use Prim.Native.Nat.{ℕ, ◌<◌}
 use mathlib.Core.Path.{◌≡◌, sym, ap, ◌∙◌}
 use native.Mathlib.Omega.{arith}
 use Rattle.card.specs.declared.Figures.{Figures}

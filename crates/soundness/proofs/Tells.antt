@@ -7,41 +7,18 @@ use mathlib.Core.Logic.{◌≢◌, by_cases}
 use native.Mathlib.Omega.{arith}
 use native.Mathlib.Decide.{ℕ_discrete}
 use lib.Bits.{bit_or, or_add_and, and_le_l, and_le_r}
-use lib.Dec.{leb, ltb, eqb}
-use borrow.Author.Tests.{leb-true, ltb-true, eqb-true, eqb-false, lt-ltb, le-leb, ne_eqb}
+use lib.Dec.{leb, eqb}
+use borrow.Author.Tests.{leb-true, eqb-false, le-leb, ne_eqb}
 use Rattle.laws.specs.Bools.{clash}
 use Rattle.numbers.specs.Slots.{free, filling, draining}
 use Rattle.numbers.specs.Showings.{loop_word}
-use Rattle.card.specs.declared.Figures.{Figures}
-use Rattle.soundness.specs.Facts.{Tells, LastKind, Tidy, TidyWithin}
+use Rattle.soundness.specs.Facts.{Tells, LastKind, TidyWithin}
 
 pub tells_yes : {P : Type 0} → P → Tells true P
 tells_yes p = record { yes = λ _. p; no = λ e _. clash refl e }
 
-pub tells_no : {P : Type 0} → (P → ⊥) → Tells false P
-tells_no f = record { yes = λ e. clash e refl; no = λ _. f }
-
-pub tells_equal : {P : Type 0} (a b : ℕ) → (a ≡ b → P) → (P → a ≡ b) → Tells (eqb a b) P
-tells_equal a b f g = record { yes = λ e. f (eqb-true a b e); no = λ e p. eqb-false a b e (g p) }
-
-pub tells_below : {P : Type 0} (a b : ℕ) → (a < b → P) → (P → a < b) → Tells (ltb a b) P
-tells_below a b f g = record { yes = λ e. f (ltb-true a b e); no = λ e p. clash (lt-ltb a b (g p)) e }
-
 pub tells_within : {P : Type 0} (a b : ℕ) → (a ≤ b → P) → (P → a ≤ b) → Tells (leb a b) P
 tells_within a b f g = record { yes = λ e. f (leb-true a b e); no = λ e p. clash (le-leb a b (g p)) e }
-
--- a slot that is all zero is tidy
-pub zero_tidy : {w : ℕ} {f : Figures} {buffer k x h : ℕ} → k ≡ 0 → x ≡ 0 → h ≡ 0 → Tidy w f buffer k x h
-zero_tidy k x h = record {
-  kinds = omega arith;
-  zeros = λ _. (x, h);
-  empty = λ _. h;
-  named = λ a b. absurd (omega arith);
-  ends = λ e. absurd (omega arith);
-  past = λ e. absurd (omega arith);
-  some = λ e. absurd (omega arith);
-  fits = omega arith;
-}
 
 -- no bit is set in two numbers where both are zero
 pub none_set : {a b : ℕ} → a ≡ 0 → b ≡ 0 → bit_or a b ≡ 0

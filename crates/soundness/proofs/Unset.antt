@@ -3,7 +3,6 @@
 use Prim.Native.Nat.{ℕ, ◌+◌, ◌≤◌, ◌<◌}
 use mathlib.Core.Path.{◌≡◌, refl, sym, ap, ap₂, ◌∙◌}
 use mathlib.Core.Logic.{◌≢◌, by_cases}
-use mathlib.Core.List.{List}
 use native.Mathlib.Omega.{arith}
 use native.Mathlib.Decide.{ℕ_discrete}
 use borrow.Author.Count.{below_more}
@@ -14,8 +13,8 @@ use Rattle.laws.specs.Bools.{bit}
 use Rattle.numbers.specs.Slots.{waiting}
 use Rattle.desk.specs.declared.Desk.{Desk}
 use Rattle.desk.specs.Asked.{asked_count, asked_none, asked_turn_law}
-use Rattle.soundness.specs.Facts.{TidyAt, FirstTold}
-use Rattle.soundness.proofs.Tells.{tells_equal, none_set, both_unset}
+use Rattle.soundness.specs.Facts.{TidyAt}
+use Rattle.soundness.proofs.Tells.{none_set, both_unset}
 
 module _ (d : Desk) (n : ℕ) where
   -- slot j is tidy, and has no place where it does not ask
@@ -49,21 +48,13 @@ module _ (d : Desk) (n : ℕ) where
     unset_at : Passes i → (u ≡ 0) × (v ≡ 0)
     unset_at t = (slot.1 t.0, by_cases (ℕ_discrete k waiting) idle.0 (λ m. idle.1 m ∙ place ∙ t.1 (λ w. m (kind ∙ w))))
 
-    pub unset_next : Unset (bit_or (bit_or bits u) v) (asked + a) (i + 1)
+    pub unset_next : Unset (bit_or bits (bit_or u v)) (asked + a) (i + 1)
     unset_next = record {
       few = omega arith;
       tidy = λ e. let z = both_unset e in
-          let y = both_unset z.0 in
-          below_more _ i (inv.tidy y.0) (passes y.1 z.1);
-      unset = λ t. let b = unset_at (t i (omega arith)) in none_set (none_set (inv.unset (λ j h. t j (omega arith))) b.0) b.1;
+          let y = both_unset z.1 in
+          below_more _ i (inv.tidy z.0) (passes y.0 y.1);
+      unset = λ t. let b = unset_at (t i (omega arith)) in none_set (inv.unset (λ j h. t j (omega arith))) (none_set b.0 b.1);
       low = omega (arith, inv.low, adds.1);
       count = ap₂ (λ (m q : ℕ). m + q) inv.count (adds.0 ∙ ap (λ (x : ℕ). bit (eqb x waiting)) kind) ∙ asked_turn_law d.kinds i (omega arith);
     }
-
-  pub unset_end : (bits asked i : ℕ) → Unset bits asked i → i ≡ n → FirstTold d n (eqb bits 0) asked
-  unset_end bits asked i inv e = record {
-    slots = tells_equal bits 0
-        (λ b. (λ j h. (inv.tidy b j (omega arith)).0, λ j h. (inv.tidy b j (omega arith)).1))
-        (λ t. inv.unset (λ j h. (t.0 j (omega arith), t.1 j (omega arith))));
-    count = (rw e at inv.count, omega (arith, inv.low));
-  }

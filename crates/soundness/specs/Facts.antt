@@ -77,6 +77,11 @@ pub record OneFilm (f : Figures) : Type 0 where
   pub one : f.films ≡ 1
   pub few : length_in f 0 ≤ max_blocks
 
+-- there is a film, and one alone where so
+pub record Shelved (one : Bool) (f : Figures) : Type 0 where
+  pub some : 0 < f.films
+  pub alone : one ≡ true → OneFilm f
+
 -- the slots from n on and below m are zero
 abbrev pub RestZero : Desk → ℕ → ℕ → Type 0
 RestZero d n m = (i : ℕ) → i < m → n ≤ i

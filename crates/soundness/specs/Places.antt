@@ -1,13 +1,12 @@
 -- The places of a record: the rules' test of them, and the facts on its numbers that the test in code tells.
 -- Assumes nothing.
-use Rattle.std.specs.Prelude.{ℕ, ◌≤◌, ◌<◌, ◌≡◌, ◌≢◌, true, get_or, take}
-use Rattle.std.proofs.Common.{sym, ap, ◌∙◌, arith}
+use Rattle.std.specs.Prelude.{ℕ, ◌≤◌, ◌<◌, ◌≡◌, true, get_or, take}
+use Rattle.std.proofs.Common.{sym, ◌∙◌, arith}
 use Rattle.std.proofs.Math.Logic.{by_cases}
 use Rattle.std.proofs.Math.Decide.{dec_lt, ℕ_discrete}
 use Rattle.std.proofs.Math.ListN.{get_or-eq_default}
 use Rattle.numbers.specs.Limits.{max_streams}
 use Rattle.numbers.specs.Slots.{waiting}
-use Rattle.rules.specs.Scheduler.{at}
 use Rattle.rules.specs.Order.{waiting_count, by_place}
 use Rattle.turns.specs.Facts.{FreeFrom, Sound}
 use Rattle.turns.specs.Places.{Places, places_pass, places_say}
@@ -16,7 +15,7 @@ use Rattle.desk.specs.Desk.{supply_of, order_of, slots_in, view_of}
 use Rattle.desk.specs.View.{Wide}
 use Rattle.desk.specs.Asked.{asked_count, asked_slots, asked_first}
 use Rattle.desk.specs.Slots.{length_in_law, kind_in}
-use Rattle.soundness.specs.Facts.{PlacedBy, Placed, AllTidy}
+use Rattle.soundness.specs.Facts.{Placed, AllTidy}
 
 module _ (d : Desk) (w : Wide d) where
   -- how many ask, as the code counts them

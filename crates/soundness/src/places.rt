@@ -23,22 +23,14 @@ fn each_once(desk: &[u8], streams: usize, asked: u32) -> bool
     ensures { let d = desk_in (words_of desk.now) in Tells result (Placed asked streams d.kinds d.places) }
 {
     let mut seen = unseen();
-    let mut i: usize = 0;
-    while i < streams {
+    for i in 0..streams {
         if kind_in(desk, i) == WAITING {
             let place = place_in(desk, i);
-            if place == 0 {
-                return false;
-            }
-            if place > asked {
-                return false;
-            }
-            if seen[place as usize] != 0 {
+            if place == 0 || place > asked || seen[place as usize] != 0 {
                 return false;
             }
             seen[place as usize] = 1;
         }
-        i += 1;
     }
     true
 }

@@ -7,7 +7,7 @@ ghost use Rattle.words.specs.Words.{words_of};
 ghost use Rattle.card.specs.Card.{Legal};
 ghost use Rattle.desk.specs.Desk.{visits_in};
 ghost use Rattle.desk_layout.specs.Layout.{desk_in, desk_size};
-ghost use Rattle.soundness.specs.Facts.{Tells, LastKind, TidyWithin, WellNamed, OneFilm, RestZero, FirstTold, Told, PlayersHold};
+ghost use Rattle.soundness.specs.Facts.{Tells, LastKind, TidyWithin, TidyAt, WellNamed, Shelved, RestZero, FirstTold, Told, PlayersHold};
 
 use desk_columns::{
     asking, buffer_in, film_length, films_in, held_in, kind_in, length_in, next_in, place_in,
@@ -91,10 +91,8 @@ fn rest_zero(desk: &[u8], streams: usize) -> bool
     ensures { Tells result (RestZero (desk_in (words_of desk.now)) streams 256) }
 {
     let mut bits: u32 = 0;
-    let mut i = streams;
-    while i < 256 {
-        bits = bits | kind_in(desk, i) | next_in(desk, i) | held_in(desk, i) | place_in(desk, i);
-        i += 1;
+    for i in streams..256 {
+        bits |= kind_in(desk, i) | next_in(desk, i) | held_in(desk, i) | place_in(desk, i);
     }
     bits == 0
 }
@@ -109,57 +107,46 @@ fn idle_place(kind: u32, place: u32) -> u32
     place
 }
 
-// Are the first n slots tidy where the shelf has one film, and the places of those that do not ask 0? And how many ask? `streams` is n. A slot's
-// word is then its block. All are looked at, so that the compiler takes several at a time.
-fn test_film(desk: &[u8], streams: usize) -> Tested
-    requires { (streams ≤ max_streams) × (desk_size ≤ length desk.now) × OneFilm (desk_in (words_of desk.now)).plan.figures }
-    ensures { FirstTold (desk_in (words_of desk.now)) streams result.tidy result.asked }
+// Some bit where slot i of a desk is not tidy; `top` is the greatest kind. Where the shelf has one film, a slot's word is its block.
+fn untidy_at<const ONE_FILM: bool>(desk: &[u8], top: u32, i: usize) -> u32
+    requires long { desk_size ≤ length desk.now }
+    requires below { i < max_streams }
+    requires shelf { Shelved ONE_FILM (desk_in (words_of desk.now)).plan.figures }
+    requires last { LastKind (desk_in (words_of desk.now)).plan.showing top }
+    ensures { let d = desk_in (words_of desk.now) in (result ≡ 0 → TidyAt d i) × (TidyAt d i → result ≡ 0) }
 {
-    let top = last_kind(showing_in(desk));
-    let blocks = length_in(desk, 0);
     let buffer = buffer_in(desk);
-    let mut bits: u32 = 0;
-    let mut asked: u32 = 0;
-    let mut i: usize = 0;
-    while i < streams {
-        let kind = kind_in(desk, i);
-        let next = next_in(desk, i);
-        let slot = untidy(top, blocks, buffer, kind, next, held_in(desk, i));
-        bits = bits | slot | idle_place(kind, place_in(desk, i));
-        asked += asking(kind);
-        i += 1;
+    let kind = kind_in(desk, i);
+    let name = next_in(desk, i);
+    let held = held_in(desk, i);
+    if ONE_FILM {
+        return untidy(top, length_in(desk, 0), buffer, kind, name, held);
     }
-    Tested {
-        tidy: bits == 0,
-        asked: asked,
-    }
+    let blocks = film_length(desk, name);
+    let block = name % NAME_STEP;
+    untidy(top, blocks, buffer, kind, block, held) | misnamed(films_in(desk), kind, name)
 }
 
-// The same of a shelf of films: each slot by its own.
-fn test_shelf(desk: &[u8], streams: usize) -> Tested
-    requires { (streams ≤ max_streams) × (desk_size ≤ length desk.now) × (0 < (desk_in (words_of desk.now)).plan.figures.films) }
+// Are the first n slots tidy, and the places of those that do not ask 0? And how many ask? `streams` is n. All are looked at, so that the compiler
+// takes several at a time.
+fn test_first<const ONE_FILM: bool>(desk: &[u8], streams: usize) -> Tested
+    requires few { streams ≤ max_streams }
+    requires long { desk_size ≤ length desk.now }
+    requires shelf { Shelved ONE_FILM (desk_in (words_of desk.now)).plan.figures }
     ensures { FirstTold (desk_in (words_of desk.now)) streams result.tidy result.asked }
 {
     let top = last_kind(showing_in(desk));
-    let films = films_in(desk);
-    let buffer = buffer_in(desk);
     let mut bits: u32 = 0;
     let mut asked: u32 = 0;
-    let mut i: usize = 0;
-    while i < streams {
+    for i in 0..streams {
         let kind = kind_in(desk, i);
-        let name = next_in(desk, i);
-        let blocks = film_length(desk, name);
-        let block = name % NAME_STEP;
-        let slot = untidy(top, blocks, buffer, kind, block, held_in(desk, i))
-            | misnamed(films, kind, name);
-        bits = bits | slot | idle_place(kind, place_in(desk, i));
+        let slot = untidy_at::<ONE_FILM>(desk, top, i);
+        bits |= slot | idle_place(kind, place_in(desk, i));
         asked += asking(kind);
-        i += 1;
     }
     Tested {
         tidy: bits == 0,
-        asked: asked,
+        asked,
     }
 }
 
@@ -176,9 +163,9 @@ pub fn test_slots(desk: &[u8], streams: usize) -> Tested
         };
     }
     if films_in(desk) == 1 {
-        return test_film(desk, streams);
+        return test_first::<true>(desk, streams);
     }
-    test_shelf(desk, streams)
+    test_first::<false>(desk, streams)
 }
 
 // The whole bytes that hold a mark given in two-millionths of a byte: rounded up.
@@ -209,12 +196,8 @@ pub fn players_hold(desk: &[u8], streams: usize, mark: u64) -> bool
 {
     let least = least_held(mark);
     let mut all = true;
-    let mut i: usize = 0;
-    while i < streams {
-        if !holds_least(kind_in(desk, i), held_in(desk, i), least) {
-            all = false;
-        }
-        i += 1;
+    for i in 0..streams {
+        all &= holds_least(kind_in(desk, i), held_in(desk, i), least);
     }
     all
 }

@@ -1,6 +1,5 @@
 use mathlib.Core.Path.{ap, ◌∙◌}
 use borrow.Author.Rules.{rules}
-use Rattle.admission.specs.declared.Move.{Move}
 use Rattle.admission.specs.Moves.{move_desk, join_is}
 use Rattle.admission.proofs.join.Statement.{statement}
 use Rattle.admission.proofs.join.Tie as tie

@@ -6,7 +6,7 @@ use native.Mathlib.Omega.{arith}
 use lib.ListN.{length, take}
 use borrow.Author.Rules.{rules}
 use Rattle.words.specs.Words.{words_of, with_words}
-use Rattle.words.specs.Laws.{words_length, with_words_entries}
+use Rattle.words.specs.Laws.{words_length}
 use Rattle.numbers.specs.Limits.{max_streams}
 use Rattle.card.specs.Card.{Legal, total_positions, blocks_of}
 use Rattle.placement.specs.Zones.{total}
