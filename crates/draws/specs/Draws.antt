@@ -11,11 +11,15 @@ use Rattle.rules.specs.Refusals.{judged}
 use Rattle.desk.specs.Desk.{Queue, verdict}
 use Rattle.desk.specs.Shown.{Slots}
 
--- i is the first draw above its limit, or the number of draws where none is
+-- none of the first n draws is above its limit
+abbrev pub NoneAbove : (ℕ → ℕ) → List ℕ → ℕ → Type 0
+NoneAbove limit draws n = (j : ℕ) → j < n → get_or draws j 0 ≤ limit j
+
+-- draw i is the first that is
 pub record FirstAbove (limit : ℕ → ℕ) (draws : List ℕ) (i : ℕ) : Type 0 where
-  pub inside : i ≤ length draws
-  pub below : (j : ℕ) → j < i → get_or draws j 0 ≤ limit j
-  pub above : i < length draws → limit i < get_or draws i 0
+  pub inside : i < length draws
+  pub below : NoneAbove limit draws i
+  pub above : limit i < get_or draws i 0
 
 -- what a slot of kind k may draw where m is the most; `other kinds draw 0`
 unfoldable pub kind_limit : ℕ → ℕ → ℕ

@@ -1,14 +1,14 @@
 // The draws of an end, judged: each against what its slot may draw, and against what it holds.
 #![tactic(auto)]
 
-ghost use Rattle.std.specs.Prelude.{◌≡◌, List, ℕ, ◌*◌, ◌/◌, ◌≤◌, length, get_or};
+ghost use Rattle.std.specs.Prelude.{◌≡◌, List, ℕ, ◌*◌, ◌/◌, ◌≤◌, ◌<◌, length, MatchOption};
 ghost use Rattle.words.specs.Words.{words_of};
 ghost use Rattle.numbers.specs.Limits.{max_streams};
 ghost use Rattle.numbers.specs.Units.{micros};
 ghost use Rattle.rules.specs.Supply.{Supply};
 ghost use Rattle.rules.specs.Order.{Scheduler};
 ghost use Rattle.desk.specs.Desk.{Queue};
-ghost use Rattle.draws.specs.Draws.{FirstAbove, kind_limit, Sweeps, judged_draws};
+ghost use Rattle.draws.specs.Draws.{NoneAbove, FirstAbove, kind_limit, Sweeps, judged_draws};
 
 use card::Verdict;
 use numbers::refusals::{ACCEPTED, DRAW_ABOVE_HELD, DRAW_ABOVE_LIMIT, DRAW_COUNT};
@@ -28,36 +28,18 @@ pub fn draw_limit(kind: u32, most: u64) -> u64
     }
 }
 
-// The first slot whose draw is above what it may draw, or the number of draws.
-fn first_excess(kinds: &[u32; 256], most: u64, draws: &[u8]) -> usize
-    requires { length (words_of draws.now) ≤ max_streams }
-    ensures { FirstAbove (λ j. kind_limit most (get_or kinds.now j 0)) (words_of draws.now) result }
+// The first slot whose draw is above its limit, if there is one.
+fn first_above<F: Fn(usize) -> u64>(limit: F, draws: &[u8]) -> Option<usize>
+    requires { (i : ℕ) → i < length (words_of draws.now) → F.pre limit i }
+    ensures { let ds = words_of draws.now in
+        (most : ℕ → ℕ) → ((i m : ℕ) → i < length ds → F.post limit i m → m ≡ most i) → MatchOption result (NoneAbove most ds (length ds)) (FirstAbove most ds) }
 {
-    let count = entries(draws);
-    let mut i: usize = 0;
-    while i < count {
-        if draw_limit(kinds[i], most) < word_at(draws, i) as u64 {
-            return i;
+    for i in 0..entries(draws) {
+        if limit(i) < word_at(draws, i) as u64 {
+            return Some(i);
         }
-        i += 1;
     }
-    i
-}
-
-// The first slot whose draw is above what it holds, or the number of draws.
-fn first_overdrawn(held: &[u32; 256], draws: &[u8]) -> usize
-    requires { length (words_of draws.now) ≤ max_streams }
-    ensures { FirstAbove (λ j. get_or held.now j 0) (words_of draws.now) result }
-{
-    let count = entries(draws);
-    let mut i: usize = 0;
-    while i < count {
-        if held[i] < word_at(draws, i) {
-            return i;
-        }
-        i += 1;
-    }
-    i
+    None
 }
 
 // The most that a slot may draw in a sweep: c × bound / 1,000,000, rounded down.
@@ -86,18 +68,18 @@ pub fn judge_draws<'a>(
             place: 0,
         };
     }
-    let excess = first_excess(kinds, most, draws);
-    let overdrawn = first_overdrawn(held, draws);
-    if excess < streams {
+    let excess = first_above(|i| draw_limit(kinds[i], most), draws);
+    let overdrawn = first_above(|i| held[i] as u64, draws);
+    if let Some(place) = excess {
         return Verdict {
             number: DRAW_ABOVE_LIMIT,
-            place: excess,
+            place,
         };
     }
-    if overdrawn < streams {
+    if let Some(place) = overdrawn {
         return Verdict {
             number: DRAW_ABOVE_HELD,
-            place: overdrawn,
+            place,
         };
     }
     Verdict {

@@ -69,14 +69,14 @@ fn swept(slot: Slot, draw: u32, showing: u32, blocks: u32, bytes: u32, room: u32
     if is_past(blocks, next) {
         return Slot {
             kind: DRAINING,
-            next: next,
-            held: held,
+            next,
+            held,
         };
     }
     Slot {
         kind: slot.kind,
-        next: next,
-        held: held,
+        next,
+        held,
     }
 }
 
@@ -129,9 +129,7 @@ pub fn end_slots(
     let showing = showing_in(desk);
     let bytes = bytes_in(desk);
     let room = buffer_in(desk) - bytes;
-    let count = streams_in(desk) as usize;
-    let mut i: usize = 0;
-    while i < count {
+    for i in 0..streams_in(desk) as usize {
         let slot = Slot {
             kind: kinds[i],
             next: next[i],
@@ -142,6 +140,5 @@ pub fn end_slots(
         kinds[i] = after.kind;
         next[i] = after.next;
         held[i] = after.held;
-        i += 1;
     }
 }

@@ -34,11 +34,8 @@ pub fn write_fetches(fetches: Fetches, out: &mut [Fetch])
     requires { (fetches.count ≤ length out.old) × (fetches.count ≤ 256) }
     ensures { out.new ≡ written fetches fetches.count out.old }
 {
-    let n = entries(fetches);
-    let mut i = 0;
-    while i < n {
+    for i in 0..entries(fetches) {
         out[i] = entry(fetches, i);
-        i += 1;
     }
 }
 

@@ -118,14 +118,13 @@ module _ (qs : List ℕ) (n : ℕ) (q : Queued qs n) where
   -- ---- the loop: the first i slots stand in the line, and so many of them ask
 
   pub record Standing (line : List ℕ) (count i : ℕ) : Type 0 where
-    pub few : i ≤ n
     pub long : length line ≡ 257
     pub many : count ≡ asking (take i qs)
     pub stands : (j : ℕ) → j < i → 0 < get_or qs j 0 → get_or line (get_or qs j 0) 0 ≡ j
 
   pub none_stand : (line : List ℕ) → length line ≡ 257 → Standing line 0 0
   unfolding asking
-  none_stand line l = record { few = omega arith; long = l; many = sym (sum_none taken qs); stands = λ j u v. absurd (omega arith) }
+  none_stand line l = record { long = l; many = sym (sum_none taken qs); stands = λ j u v. absurd (omega arith) }
 
   -- every place is one of the line's
   pub place_within : (i : ℕ) → get_or qs i 0 < 257
@@ -136,7 +135,6 @@ module _ (qs : List ℕ) (n : ℕ) (q : Queued qs n) where
     pub one_stands : i < n → n ≤ 256 → Standing (set line (get_or qs i 0) i) (count + taken (get_or qs i 0)) (i + 1)
     unfolding asking
     one_stands l h = record {
-      few = omega arith;
       long = length-set line (get_or qs i 0) i ∙ inv.long;
       many = omega (arith, inv.many, sum_next taken 0 qs i (omega (arith, q.long)));
       stands = λ j u v. by_cases (ℕ_discrete (get_or qs j 0) (get_or qs i 0))

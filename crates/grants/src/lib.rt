@@ -42,10 +42,8 @@ pub fn start_playing(kinds: &mut [u32; 256], held: &[u32; 256], streams: usize, 
     ensures { (p : Supply ℕ) (xs : List ℕ) → Slots p streams kinds.old xs held.now
         → slots_of p kinds.new xs held.now ≡ started p mark (slots_of p kinds.old xs held.now) }
 {
-    let mut i: usize = 0;
-    while i < streams {
+    for i in 0..streams {
         kinds[i] = started_kind(kinds[i], held[i], mark);
-        i += 1;
     }
 }
 
@@ -72,13 +70,10 @@ pub fn line_up(places: &[u32; 256], streams: usize, line: &mut [u8; 257]) -> usi
     requires { (streams ≤ max_streams) × (Queued places.now streams) × (length line.old ≡ 257) }
     ensures { Lined places.now line.new result }
 {
-    let mut count: usize = 0;
-    let mut i: usize = 0;
-    while i < streams {
-        let place = places[i];
+    let mut count = 0;
+    for (i, &place) in places[..streams].iter().enumerate() {
         line[place as usize] = i as u8;
         count += asks(place);
-        i += 1;
     }
     count
 }
@@ -155,8 +150,7 @@ pub fn grant_asked(
     let times = zone_times(desk);
     let starts = film_starts(desk);
     let mut mark = floor;
-    let mut granted: usize = 0;
-    while granted < count {
+    for granted in 0..count {
         let slot = slot_at(line, granted + 1);
         let lead = next_lead(
             desk, slot, &sizes, &times, &starts, positions, leads, listed,
@@ -166,19 +160,15 @@ pub fn grant_asked(
             return granted as u32;
         }
         kinds[slot] = FILLING;
-        granted += 1;
     }
-    granted as u32
+    count as u32
 }
 
 // A place after so many were granted: theirs are 0.
 fn dropped(place: u32, granted: u32) -> u32
     ensures { result ≡ place - granted }
 {
-    if place > granted {
-        return place - granted;
-    }
-    0
+    place.saturating_sub(granted)
 }
 
 // Drops every place by the number of grants. The slots from `streams` on have none.
@@ -186,9 +176,7 @@ pub fn drop_places(places: &mut [u32; 256], streams: usize, granted: u32)
     requires { (streams ≤ max_streams) × (length places.old ≡ 256) × ((i : ℕ) → streams ≤ i → get_or places.old i 0 ≡ 0) }
     ensures { places.new ≡ dropped_by granted places.old }
 {
-    let mut i: usize = 0;
-    while i < streams {
+    for i in 0..streams {
         places[i] = dropped(places[i], granted);
-        i += 1;
     }
 }

@@ -35,7 +35,6 @@ lowered_in m D = map (dropped m) (places_in D)
 
 -- t is the string D with the first i of them, of n
 pub record Lowered (D : List ℕ) (n m : ℕ) (t : List ℕ) (i : ℕ) : Type 0 where
-  pub few : i ≤ n
   pub so_far : t ≡ with_words D places_at (take i (lowered_in m D))
 
 -- ---- words
@@ -72,7 +71,7 @@ module _ (D : List ℕ) (h : desk_size ≤ length D) (n m : ℕ) (most : n ≤ m
   lowered_long = length-map (places_in D) (dropped m) ∙ (sized_in D h).places
 
   pub lower_start : Lowered D n m D 0
-  lower_start = record { few = omega arith; so_far = sym (with_words_none D places_at) }
+  lower_start = record { so_far = sym (with_words_none D places_at) }
 
   module _ (t : List ℕ) (i : ℕ) (l : Lowered D n m t i) where
     pub lower_long : length t ≡ length D
@@ -92,7 +91,6 @@ module _ (D : List ℕ) (h : desk_size ≤ length D) (n m : ℕ) (most : n ≤ m
     -- one turn of the loop
     pub lower_more : (t' : List ℕ) (x : ℕ) → i < n → x ≡ dropped m (get_or (places_in t) i 0) → t' ≡ with_word t (places_at + i) x → Lowered D n m t' (i + 1)
     lower_more t' x u e w = record {
-      few = omega arith;
       so_far = w
           ∙ ap₂ (λ (s : List ℕ) (v : ℕ). with_word s (places_at + i) v) l.so_far
           (e ∙ ap (dropped m) (lower_read u) ∙ sym (get_map (dropped m) (places_in D) i none_stays))

@@ -30,11 +30,9 @@ fn lower_places(desk: &mut [u8], streams: usize, gone: u32)
     ensures { let d = desk_in (words_of desk.old) in desk.new ≡ with_words desk.old 0
         (desk_words (with_places d (map (dropped gone) d.places))) }
 {
-    let mut i: usize = 0;
-    while i < streams {
+    for i in 0..streams {
         let place = place_in(desk, i);
         put_word(desk, offsets::PLACES + i, lowered(place, gone));
-        i += 1;
     }
 }
 

@@ -1,22 +1,16 @@
 -- A begin that writes its fetches into a lent byte string.
 -- Assumes nothing.
 use Prim.Native.Nat.{ℕ, ◌*◌, ◌/◌, ◌≤◌}
-use mathlib.Core.Path.{◌≡◌, refl, sym, ap, ◌∙◌}
-use mathlib.Core.Bool.{Bool, true, false}
+use mathlib.Core.Path.{◌≡◌, ap}
 use mathlib.Core.List.{List}
 use native.Mathlib.Omega.{arith}
 use lib.ListN.{length}
 use Rattle.numbers.specs.Limits.{max_streams}
 use Rattle.words.specs.Words.{words_of, with_words}
-use Rattle.words.specs.Laws.{with_words_none}
 use Rattle.legality.specs.Legality as legality
-use Rattle.plan.specs.Scratch.{scratch_short}
 use Rattle.desk.specs.declared.Desk.{Desk}
-use Rattle.desk.specs.declared.Fetches.{Fetches}
 use Rattle.desk.specs.declared.Begun.{Begun}
-use Rattle.desk.specs.Desk.{fetches_of, begin_desk, entries_of, fetch_list_after}
-use Rattle.desk.specs.Records.{not_begun}
-use Rattle.desk.specs.Scratch.{desk_leads, begin_scratch, fetch_list_scratch}
+use Rattle.desk.specs.Desk.{begin_desk, entries_of, fetch_list_after}
 use Rattle.desk.specs.View.{Wide}
 use Rattle.scheduler.specs.Count.{begin_few}
 use Rattle.entry_layout.specs.Entries.{rows, rows_of}
@@ -29,31 +23,13 @@ Fit b F = (b.fetches.count ≤ max_streams) × (3 * b.fetches.count ≤ length (
 abbrev pub fetched : Begun → List ℕ → List ℕ
 fetched b F = with_words F 0 (rows 0 b.fetches.count b.fetches)
 
-module _ (d : Desk) (w : Wide d) (z : legality.Wide d.plan.figures) (ps F : List ℕ) where
+module _ (d : Desk) (w : Wide d) (z : legality.Wide d.plan.figures) (ps F ls : List ℕ) where
   abbrev room : ℕ
   room = length (words_of F) / 3
 
-  module _ (ls : List ℕ) where
-    pub begun_fits : Fit (begin_desk d ps ls room) F
-    begun_fits = omega (arith, begin_few d w z ps ls room)
+  pub begun_fits : Fit (begin_desk d ps ls room) F
+  begun_fits = omega (arith, begin_few d w z ps ls room)
 
-    pub begun_list : fetched (begin_desk d ps ls room) F ≡ fetch_list_after d ps ls room F
-    unfolding begin_desk fetch_list_after
-    begun_list = ap (with_words F 0) (rows_of (entries_of d ps ls room))
-
-  module _ (s : List ℕ) where
-    pub scratch_fits : Fit (begin_scratch d ps s room) F
-    unfolding begin_scratch not_begun fetches_of
-    scratch_fits = go (scratch_short s) refl
-      where
-        go : (t : Bool) → scratch_short s ≡ t → Fit (begin_scratch d ps s room) F
-        go true e = rw e (omega arith)
-        go false e = rw e (begun_fits (desk_leads d))
-
-    pub scratch_list : fetched (begin_scratch d ps s room) F ≡ fetch_list_scratch d ps s room F
-    unfolding begin_scratch fetch_list_scratch not_begun fetches_of rows
-    scratch_list = go (scratch_short s) refl
-      where
-        go : (t : Bool) → scratch_short s ≡ t → fetched (begin_scratch d ps s room) F ≡ fetch_list_scratch d ps s room F
-        go true e = rw e (with_words_none F 0)
-        go false e = rw e (begun_list (desk_leads d))
+  pub begun_list : fetched (begin_desk d ps ls room) F ≡ fetch_list_after d ps ls room F
+  unfolding begin_desk fetch_list_after
+  begun_list = ap (with_words F 0) (rows_of (entries_of d ps ls room))

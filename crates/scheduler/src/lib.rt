@@ -103,16 +103,24 @@ fn put_fetches(list: Fetches, fetches: &mut [u8])
     );
 }
 
+// A begin with its lists, or with a scratch in the lead list's place, whose fetches are written into a lent byte string.
+fn begun_into(desk: Desk, positions: &[u8], leads: &[u8], listed: bool, fetches: &mut [u8]) -> Begun
+    ensures { let ls = leads_by listed desk.plan leads.now in let room = length (words_of fetches.old) / 3 in
+        (result ≡ begin_desk desk positions.now ls room) × (fetches.new ≡ fetch_list_after desk positions.now ls room fetches.old) }
+{
+    let room = words::entries(fetches) / 3;
+    let answer = begun(desk, positions, leads, listed, room);
+    put_fetches(answer.fetches, fetches);
+    answer
+}
+
 // Begins a sweep and writes its fetches into a lent byte string.
 pub fn begin_into(desk: Desk, positions: &[u8], leads: &[u8], fetches: &mut [u8]) -> Begun
     ensures { (result ≡ begin_desk desk positions.now leads.now (length (words_of fetches.old) / 3))
         × (fetches.new ≡ fetch_list_after desk positions.now leads.now (length (words_of fetches.old) / 3)
         fetches.old) }
 {
-    let room = words::entries(fetches) / 3;
-    let begun = begin(desk, positions, leads, room);
-    put_fetches(begun.fetches, fetches);
-    begun
+    begun_into(desk, positions, leads, true, fetches)
 }
 
 // The same with a scratch.
@@ -121,10 +129,11 @@ pub fn begin_into_scratch(desk: Desk, positions: &[u8], scratch: &[u8], fetches:
         (result ≡ begin_scratch desk positions.now scratch.now room)
         × (fetches.new ≡ fetch_list_scratch desk positions.now scratch.now room fetches.old) }
 {
-    let room = words::entries(fetches) / 3;
-    let begun = begin_scratch(desk, positions, scratch, room);
-    put_fetches(begun.fetches, fetches);
-    begun
+    if is_short(scratch) {
+        not_begun(desk, TOO_SHORT)
+    } else {
+        begun_into(desk, positions, scratch, false, fetches)
+    }
 }
 
 // Judges an end of the desk in a lent string, with a draw for each of the n slots: 14, 15, 19, 20, 21.

@@ -1,7 +1,6 @@
 use mathlib.Core.Path.{ap, ◌∙◌}
 use borrow.Author.Rules.{rules}
 use Rattle.desk.specs.declared.Answer.{Answer}
-use Rattle.admission.specs.declared.Move.{Move}
 use Rattle.admission.specs.Moves.{leave_is}
 use Rattle.layout.specs.Answers.{verdict_answer}
 use Rattle.desk_calls.specs.Calls.{said, answer_by, string_by, leave_answer, leave_string}

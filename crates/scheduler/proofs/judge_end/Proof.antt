@@ -8,7 +8,6 @@ use borrow.Author.Tests.{not-true, not-false}
 use Rattle.numbers.specs.Limits.{max_streams}
 use Rattle.numbers.specs.Slots.{sweeping}
 use Rattle.card.specs.CardLaws.{table_range}
-use Rattle.legality.specs.Legality as legality
 use Rattle.words.specs.Words.{words_of}
 use Rattle.plan.specs.Scratch.{leads_by}
 use Rattle.desk.specs.declared.Desk.{Desk}
