@@ -34,10 +34,8 @@ fn put_turns(list: &mut [u8], from: u32, to: u32, total: u32, blocks: u32, odd: 
     requires { (Within list.old from to) × (Turns total blocks from to odd) }
     ensures { list.new ≡ written list.old (turn_of total blocks odd) from to }
 {
-    let mut b = from;
-    while b < to {
+    for b in from..to {
         put_word(list, b as usize, turn(total, blocks, odd, b));
-        b += 1;
     }
 }
 
@@ -61,11 +59,9 @@ pub fn write_positions(showing: u32, total: u32, blocks: u32, positions: &mut [u
         put_ring(positions, total, blocks);
         return;
     }
-    let mut b: u32 = 0;
-    while b < blocks {
+    for b in 0..blocks {
         let entry = b as usize;
         put_word(positions, entry, position_of(showing, total, blocks, b));
-        b += 1;
     }
 }
 
@@ -74,10 +70,8 @@ fn put_run(list: &mut [u8], from: u32, to: u32, even: u32, odd: u32)
     requires { Within list.old from to }
     ensures { list.new ≡ written list.old (side_of even odd) from to }
 {
-    let mut b = from;
-    while b < to {
+    for b in from..to {
         put_word(list, b as usize, side(b, even, odd));
-        b += 1;
     }
 }
 
@@ -129,11 +123,9 @@ fn same_turns(list: &[u8], from: u32, to: u32, total: u32, blocks: u32, odd: u32
     ensures { result ≡ has (turn_of total blocks odd) (words_of list.now) from to }
 {
     let mut same = true;
-    let mut b = from;
-    while b < to {
+    for b in from..to {
         let have = word_at(list, b as usize);
         same = both(have == turn(total, blocks, odd, b), same);
-        b += 1;
     }
     same
 }
@@ -162,11 +154,9 @@ pub fn same_positions(showing: u32, total: u32, blocks: u32, positions: &[u8]) -
         return same_ring(positions, total, blocks);
     }
     let mut same = true;
-    let mut b: u32 = 0;
-    while b < blocks {
+    for b in 0..blocks {
         let have = word_at(positions, b as usize);
         same = both(have == position_of(showing, total, blocks, b), same);
-        b += 1;
     }
     same
 }
@@ -177,11 +167,9 @@ fn same_run(list: &[u8], from: u32, to: u32, even: u32, odd: u32) -> bool
     ensures { result ≡ has (side_of even odd) (words_of list.now) from to }
 {
     let mut same = true;
-    let mut b = from;
-    while b < to {
+    for b in from..to {
         let have = word_at(list, b as usize);
         same = both(have == side(b, even, odd), same);
-        b += 1;
     }
     same
 }
