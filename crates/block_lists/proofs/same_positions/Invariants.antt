@@ -1,8 +1,0 @@
-use Rattle.words.specs.Words.{words_of}
-use Rattle.placement.specs.Showing.{laying}
-use Rattle.plan.specs.Plan.{walk_of}
-use Rattle.block_lists.proofs.Runs.{Compares}
-use Rattle.block_lists.proofs.same_positions.Given as goal
-
-abbrev pub invariant-loop-b : goal.invariant-loop-b
-invariant-loop-b l = Compares (words_of l.fn.positions) (laying (walk_of l.fn.showing) l.fn.total l.fn.blocks) 0 l.fn.blocks l.same l.b
