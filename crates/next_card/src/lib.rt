@@ -141,9 +141,7 @@ fn enter(entries: [u32; 3]) -> [u32; 64]
     ensures { result ≡ entered entries }
 {
     let mut all = [0u32; 64];
-    all[0] = entries[0];
-    all[1] = entries[1];
-    all[2] = entries[2];
+    all[..3].copy_from_slice(&entries);
     all
 }
 
