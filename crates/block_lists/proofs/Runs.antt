@@ -10,7 +10,7 @@ use lib.Seq.{drop-cons, drop-drop}
 use lib.Dec.{eqb}
 use Rattle.placement.specs.Zones.{time_at}
 use Rattle.words.specs.Words.{words_of, with_word, with_words}
-use Rattle.words.specs.Laws.{with_words_none, with_words_cons, with_words_append, with_words_length, with_words_entries}
+use Rattle.words.specs.Laws.{with_words_none, with_words_cons, with_words_append, with_words_entries}
 use Rattle.walk.specs.declared.Walk.{Walk}
 use Rattle.walk.specs.Walk.{side_of, Runs}
 use Rattle.plan.specs.Plan.{row}
@@ -80,7 +80,6 @@ pub record Writes (s : List ℕ) (g : ℕ → ℕ) (a c : ℕ) (t : List ℕ) (b
   pub from : a ≤ b
   pub to : b ≤ c
   pub is : t ≡ written s g a b
-  pub kept : length t ≡ length s
   pub entries : length (words_of t) ≡ length (words_of s)
 
 writes : {s : List ℕ} {g : ℕ → ℕ} {a c : ℕ} {t : List ℕ} {b : ℕ} → a ≤ b → b ≤ c → t ≡ written s g a b → Writes s g a c t b
@@ -88,7 +87,6 @@ writes {s} {g} {a} {c} {t} {b} l u e = record {
   from = l;
   to = u;
   is = e;
-  kept = ap length e ∙ with_words_length s a (row g a (b - a));
   entries = ap (λ (x : List ℕ). length (words_of x)) e ∙ with_words_entries s a (row g a (b - a));
 }
 

@@ -1,5 +1,5 @@
 -- Entries of a list from one up to another.
-use Rattle.std.specs.Prelude.{ℕ, ◌-◌, ◌≤◌, Bool, List, length, drop}
+use Rattle.std.specs.Prelude.{ℕ, ◌-◌, ◌≤◌, ◌<◌, ◌≡◌, Bool, List, length, drop}
 use Rattle.words.specs.Words.{words_of, with_words}
 use Rattle.plan.specs.Plan.{row}
 use Rattle.plan.specs.Answer.{begins}
@@ -8,6 +8,10 @@ use Rattle.plan.specs.Answer.{begins}
 pub record Within (s : List ℕ) (a b : ℕ) : Type 0 where
   pub order : a ≤ b
   pub long : b ≤ length (words_of s)
+
+-- what calls give for the entries from a up to b are the values of g; `gives k v` says that a call for entry k may give v
+abbrev pub Gives : (ℕ → ℕ → Type 0) → (ℕ → ℕ) → ℕ → ℕ → Type 0
+Gives gives g a b = (k v : ℕ) → a ≤ k → k < b → gives k v → v ≡ g k
 
 -- s with the values of g as its entries from a up to b
 abbrev pub written : List ℕ → (ℕ → ℕ) → ℕ → ℕ → List ℕ

@@ -2,16 +2,15 @@
 // showing of twice as many, and their leads, which are 0, by the walk of one showing.
 #![tactic(auto)]
 
-ghost use Rattle.std.specs.Prelude.{◌≡◌, ◌&&◌, ◌≤◌, ◌<◌, length};
+ghost use Rattle.std.specs.Prelude.{◌≡◌, ℕ, ◌&&◌, ◌≤◌, ◌<◌, length};
 ghost use Rattle.numbers.specs.Limits.{max_positions};
 ghost use Rattle.placement.specs.Circle.{ring};
 ghost use Rattle.placement.specs.Showing.{laying};
 ghost use Rattle.words.specs.Words.{words_of, with_words};
-ghost use Rattle.walk.specs.Walk.{side_of};
 ghost use Rattle.plan.specs.Plan.{walk_of, row};
 ghost use Rattle.plan.specs.Answer.{begins};
 ghost use Rattle.plan.specs.Disk.{OnDisk, lead_at};
-ghost use Rattle.block_lists.specs.Runs.{Within, written, has};
+ghost use Rattle.block_lists.specs.Runs.{Within, Gives, written, has};
 ghost use Rattle.block_lists.specs.Turns.{turn_of, Turns};
 
 use numbers::showings::LOOP;
@@ -29,15 +28,14 @@ fn turn(total: u32, blocks: u32, odd: u32, b: u32) -> u32
     side(b + odd, total - b, total - blocks + b - 1)
 }
 
-// Writes the positions of such a run.
-fn put_turns(list: &mut [u8], from: u32, to: u32, total: u32, blocks: u32, odd: u32)
-    requires { (Within list.old from to) × (Turns total blocks from to odd) }
-    ensures { list.new ≡ written list.old (turn_of total blocks odd) from to }
+// Writes the entries from `from` up to `to`, each as `entry` has it.
+fn put_each<F: Fn(u32) -> u32>(list: &mut [u8], from: u32, to: u32, entry: F)
+    requires within { Within list.old from to }
+    requires calls { (b : ℕ) → from ≤ b → b < to → F.pre entry b }
+    ensures { (g : ℕ → ℕ) → Gives (F.post entry) g from to → list.new ≡ written list.old g from to }
 {
-    let mut b = from;
-    while b < to {
-        put_word(list, b as usize, turn(total, blocks, odd, b));
-        b += 1;
+    for b in from..to {
+        put_word(list, b as usize, entry(b));
     }
 }
 
@@ -48,8 +46,8 @@ fn put_ring(list: &mut [u8], total: u32, blocks: u32)
 {
     let past = blocks / 2 + 1;
     put_word(list, 0, total - blocks);
-    put_turns(list, 1, past, total, blocks, 1);
-    put_turns(list, past, blocks, total, blocks, blocks % 2);
+    put_each(list, 1, past, |b| turn(total, blocks, 1, b));
+    put_each(list, past, blocks, |b| turn(total, blocks, blocks % 2, b));
 }
 
 // Writes the first `blocks` positions; `total` is P.
@@ -61,24 +59,8 @@ pub fn write_positions(showing: u32, total: u32, blocks: u32, positions: &mut [u
         put_ring(positions, total, blocks);
         return;
     }
-    let mut b: u32 = 0;
-    while b < blocks {
-        let entry = b as usize;
-        put_word(positions, entry, position_of(showing, total, blocks, b));
-        b += 1;
-    }
-}
-
-// Writes a run of entries, alike for all even and for all odd numbers.
-fn put_run(list: &mut [u8], from: u32, to: u32, even: u32, odd: u32)
-    requires { Within list.old from to }
-    ensures { list.new ≡ written list.old (side_of even odd) from to }
-{
-    let mut b = from;
-    while b < to {
-        put_word(list, b as usize, side(b, even, odd));
-        b += 1;
-    }
+    let entry = |b: u32| position_of(showing, total, blocks, b);
+    put_each(positions, 0, blocks, entry);
 }
 
 // Writes the first `blocks` leads; `total` is P.
@@ -102,13 +84,9 @@ pub fn write_leads<'a>(
         let high = zone_of(sizes, showing, total, blocks, walk.high, b + 1 - b % 2);
         walk = run_from(sizes, times, showing, total, blocks, low, high, b);
         let to = walk.until;
-        put_run(
-            leads,
-            b,
-            to,
-            lead(walk.even, worst2),
-            lead(walk.odd, worst2),
-        );
+        let even = lead(walk.even, worst2);
+        let odd = lead(walk.odd, worst2);
+        put_each(leads, b, to, |k| side(k, even, odd));
         b = to;
     }
 }
@@ -123,17 +101,16 @@ pub fn both(a: bool, b: bool) -> bool
     false
 }
 
-// A list has the positions of such a run.
-fn same_turns(list: &[u8], from: u32, to: u32, total: u32, blocks: u32, odd: u32) -> bool
-    requires { (Within list.now from to) × (Turns total blocks from to odd) }
-    ensures { result ≡ has (turn_of total blocks odd) (words_of list.now) from to }
+// A list has the entries from `from` up to `to`, each as `entry` has it.
+fn same_each<F: Fn(u32) -> u32>(list: &[u8], from: u32, to: u32, entry: F) -> bool
+    requires within { Within list.now from to }
+    requires calls { (b : ℕ) → from ≤ b → b < to → F.pre entry b }
+    ensures { (g : ℕ → ℕ) → Gives (F.post entry) g from to → result ≡ has g (words_of list.now) from to }
 {
     let mut same = true;
-    let mut b = from;
-    while b < to {
+    for b in from..to {
         let have = word_at(list, b as usize);
-        same = both(have == turn(total, blocks, odd, b), same);
-        b += 1;
+        same = both(have == entry(b), same);
     }
     same
 }
@@ -145,8 +122,9 @@ fn same_ring(list: &[u8], total: u32, blocks: u32) -> bool
 {
     let past = blocks / 2 + 1;
     let first = both(word_at(list, 0) == total - blocks, true);
-    let early = both(same_turns(list, 1, past, total, blocks, 1), first);
-    let late = same_turns(list, past, blocks, total, blocks, blocks % 2);
+    let half = same_each(list, 1, past, |b| turn(total, blocks, 1, b));
+    let early = both(half, first);
+    let late = same_each(list, past, blocks, |b| turn(total, blocks, blocks % 2, b));
     both(late, early)
 }
 
@@ -161,29 +139,8 @@ pub fn same_positions(showing: u32, total: u32, blocks: u32, positions: &[u8]) -
     if showing == LOOP {
         return same_ring(positions, total, blocks);
     }
-    let mut same = true;
-    let mut b: u32 = 0;
-    while b < blocks {
-        let have = word_at(positions, b as usize);
-        same = both(have == position_of(showing, total, blocks, b), same);
-        b += 1;
-    }
-    same
-}
-
-// A list has a run of entries, alike for all even and for all odd numbers.
-fn same_run(list: &[u8], from: u32, to: u32, even: u32, odd: u32) -> bool
-    requires { Within list.now from to }
-    ensures { result ≡ has (side_of even odd) (words_of list.now) from to }
-{
-    let mut same = true;
-    let mut b = from;
-    while b < to {
-        let have = word_at(list, b as usize);
-        same = both(have == side(b, even, odd), same);
-        b += 1;
-    }
-    same
+    let entry = |b: u32| position_of(showing, total, blocks, b);
+    same_each(positions, 0, blocks, entry)
 }
 
 // The list begins with the `blocks` leads of the film; `total` is P.
@@ -211,13 +168,9 @@ pub fn same_leads<'a>(
         let high = zone_of(sizes, showing, total, blocks, walk.high, b + 1 - b % 2);
         walk = run_from(sizes, times, showing, total, blocks, low, high, b);
         let to = walk.until;
-        let run = same_run(
-            leads,
-            b,
-            to,
-            lead(walk.even, worst2),
-            lead(walk.odd, worst2),
-        );
+        let even = lead(walk.even, worst2);
+        let odd = lead(walk.odd, worst2);
+        let run = same_each(leads, b, to, |k| side(k, even, odd));
         same = both(run, same);
         b = to;
     }

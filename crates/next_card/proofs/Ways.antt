@@ -4,13 +4,13 @@ use Prim.Native.Nat.{ℕ, zero, suc, ◌+◌, ◌-◌, ◌≤◌, ◌<◌}
 use mathlib.Core.Path.{◌≡◌, refl, sym}
 use mathlib.Core.Bool.{Bool, true, false}
 use mathlib.Core.List.{List}
+use Rattle.std.specs.Prelude.{Ok, Err}
 use native.Mathlib.Omega.{arith}
 use lib.ListN.{length, get_or, set}
 use lib.Seq.{set_out}
 use borrow.Author.Tests.{lt-ltb, le-ltb}
 use Rattle.small_cards.specs.declared.SmallCard.{SmallCard}
-use Rattle.small_cards.specs.declared.Risen.{Risen}
-use Rattle.small_cards.specs.Next.{limit_of, risen, most_blocks, zone_more, positions_more, times_more, next_card}
+use Rattle.small_cards.specs.Next.{limit_of, risen, most_blocks, zone_more, times_more, next_card}
 
 -- ---- the most of an entry
 
@@ -32,7 +32,7 @@ limit_free falls ds (suc i) n e = rw e
 
 module _ (falls : Bool) (ds : List ℕ) where
   pub risen_here : (i : ℕ) → 0 < i → get_or ds (i - 1) 0 < limit_of falls ds (i - 1)
-      → ◌≡◌ {A = Risen} (record { entries = set ds (i - 1) (get_or ds (i - 1) 0 + 1); over = false }) (risen falls i ds)
+      → Ok (set ds (i - 1) (get_or ds (i - 1) 0 + 1)) ≡ risen falls i ds
   unfolding risen
   risen_here zero p h = absurd (omega arith)
   risen_here (suc i) p h = let e : suc i - 1 ≡ i = omega arith in rw (e, lt-ltb (get_or ds i 0) (limit_of falls ds i) (rw e at h))
@@ -42,7 +42,7 @@ module _ (falls : Bool) (ds : List ℕ) where
   risen_later zero p h = absurd (omega arith)
   risen_later (suc i) p h = let e : suc i - 1 ≡ i = omega arith in rw (e, le-ltb (get_or ds i 0) (limit_of falls ds i) (rw e at h))
 
-  pub risen_none : (i : ℕ) → i ≡ 0 → ◌≡◌ {A = Risen} (record { entries = ds; over = true }) (risen falls i ds)
+  pub risen_none : (i : ℕ) → i ≡ 0 → Err ds ≡ risen falls i ds
   unfolding risen
   risen_none i e = rw e
 
@@ -59,24 +59,6 @@ module _ (c : SmallCard) where
   unfolding zone_more
   zone_past ps ts p t =
       λ i. record { zones = c.zones + 1; positions = sym (set_out ps c.zones 1 p) i; times = sym (set_out ts c.zones 1 t) i; blocks = 2 }
-
-  pub positions_over : (ts : List ℕ) (r : Risen) → r.over ≡ true → zone_more c r.entries ts ≡ positions_more c ts r
-  unfolding positions_more
-  positions_over ts r e = rw e
-
-  pub positions_risen : (ts : List ℕ) (r : Risen) → r.over ≡ false
-      → ◌≡◌ {A = SmallCard} (record { zones = c.zones; positions = r.entries; times = ts; blocks = 2 }) (positions_more c ts r)
-  unfolding positions_more
-  positions_risen ts r e = rw e
-
-  pub times_over : (r : Risen) → r.over ≡ true → positions_more c r.entries (risen false c.zones c.positions) ≡ times_more c r
-  unfolding times_more
-  times_over r e = rw e
-
-  pub times_risen : (r : Risen) → r.over ≡ false
-      → ◌≡◌ {A = SmallCard} (record { zones = c.zones; positions = c.positions; times = r.entries; blocks = 2 }) (times_more c r)
-  unfolding times_more
-  times_risen r e = rw e
 
   pub block_more : c.blocks < most_blocks c.positions
       → ◌≡◌ {A = SmallCard} (record { zones = c.zones; positions = c.positions; times = c.times; blocks = c.blocks + 1 }) (next_card c)

@@ -12,7 +12,7 @@ ghost use Rattle.small_cards.specs.Steps.{Stepped};
 use card::{Figures, one_film};
 use card_table::fill_straight;
 use numbers::limits::{MAX_TRIED, MIN_BLOCKS, STRAIGHT};
-use small_cards::{Risen, SmallCard};
+use small_cards::SmallCard;
 
 // The first card: one zone of two positions, since one position has no room for a film.
 pub fn first_card() -> SmallCard
@@ -40,29 +40,21 @@ fn limit(entries: [u32; 3], i: usize, falls: bool) -> u32
     3
 }
 
-// The last of the first `count` entries that may rise does; those after it start again from 1.
-fn rise(entries: [u32; 3], count: u32, falls: bool) -> Risen
+// The last of the first `count` entries that may rise does; those after it start again from 1. An error where none may: all start again.
+fn rise(entries: [u32; 3], count: u32, falls: bool) -> Result<[u32; 3], [u32; 3]>
     requires { count ≤ 3 }
     ensures { result ≡ risen falls count entries }
 {
     let mut next = entries;
-    let mut i = count as usize;
-    while 0 < i {
-        i -= 1;
+    for i in (0..count as usize).rev() {
         let entry = next[i];
         if entry < limit(next, i, falls) {
             next[i] = entry + 1;
-            return Risen {
-                entries: next,
-                over: false,
-            };
+            return Ok(next);
         }
         next[i] = 1;
     }
-    Risen {
-        entries: next,
-        over: true,
-    }
+    Err(next)
 }
 
 // A zone more, with one position of time 1; past the third only the count.
@@ -74,8 +66,8 @@ fn next_zone(card: SmallCard, positions: [u32; 3], times: [u32; 3]) -> SmallCard
     if 3 <= at {
         return SmallCard {
             zones: card.zones + 1,
-            positions: positions,
-            times: times,
+            positions,
+            times,
             blocks: MIN_BLOCKS,
         };
     }
@@ -96,17 +88,14 @@ fn next_positions(card: SmallCard, times: [u32; 3]) -> SmallCard
     requires { card.zones ≤ 3 }
     ensures { result ≡ positions_more card times (risen false card.zones card.positions) }
 {
-    let before = card.positions;
-    let next = rise(before, card.zones, false);
-    let positions = next.entries;
-    if next.over {
-        return next_zone(card, positions, times);
-    }
-    SmallCard {
-        zones: card.zones,
-        positions: positions,
-        times: times,
-        blocks: MIN_BLOCKS,
+    match rise(card.positions, card.zones, false) {
+        Ok(positions) => SmallCard {
+            zones: card.zones,
+            positions,
+            times,
+            blocks: MIN_BLOCKS,
+        },
+        Err(positions) => next_zone(card, positions, times),
     }
 }
 
@@ -115,18 +104,13 @@ fn next_times(card: SmallCard) -> SmallCard
     requires { card.zones ≤ 3 }
     ensures { result ≡ times_more card (risen true card.zones card.times) }
 {
-    let before = card.times;
-    let next = rise(before, card.zones, true);
-    let times = next.entries;
-    if next.over {
-        return next_positions(card, times);
-    }
-    let positions = card.positions;
-    SmallCard {
-        zones: card.zones,
-        positions: positions,
-        times: times,
-        blocks: MIN_BLOCKS,
+    match rise(card.times, card.zones, true) {
+        Ok(times) => SmallCard {
+            times,
+            blocks: MIN_BLOCKS,
+            ..card
+        },
+        Err(times) => next_positions(card, times),
     }
 }
 
@@ -135,11 +119,7 @@ fn most_blocks(positions: [u32; 3]) -> u32
     requires { Each (λ (p : ℕ). p ≤ 3) positions }
     ensures { result ≡ most_blocks positions }
 {
-    let total = positions[0] + positions[1] + positions[2];
-    if total < MAX_TRIED {
-        return total;
-    }
-    MAX_TRIED
+    (positions[0] + positions[1] + positions[2]).min(MAX_TRIED)
 }
 
 // The card after this one: a block more, else the next times.
@@ -147,14 +127,10 @@ pub fn next_card(card: SmallCard) -> SmallCard
     requires { Stepped card }
     ensures { result ≡ next_card card }
 {
-    let positions = card.positions;
-    if card.blocks < most_blocks(positions) {
-        let times = card.times;
+    if card.blocks < most_blocks(card.positions) {
         return SmallCard {
-            zones: card.zones,
-            positions: positions,
-            times: times,
             blocks: card.blocks + 1,
+            ..card
         };
     }
     next_times(card)
@@ -165,9 +141,7 @@ fn enter(entries: [u32; 3]) -> [u32; 64]
     ensures { result ≡ entered entries }
 {
     let mut all = [0u32; 64];
-    all[0] = entries[0];
-    all[1] = entries[1];
-    all[2] = entries[2];
+    all[..3].copy_from_slice(&entries);
     all
 }
 
@@ -190,15 +164,11 @@ fn overheads() -> [u32; 257]
 pub fn figures_of(card: SmallCard) -> Figures
     ensures { result ≡ figures_of card }
 {
-    let sizes = card.positions;
-    let speeds = card.times;
-    let positions = enter(sizes);
-    let times = enter(speeds);
     Figures {
         kind: STRAIGHT,
         zones: card.zones,
-        positions: positions,
-        times: times,
+        positions: enter(card.positions),
+        times: enter(card.times),
         films: 1,
         blocks: one_film(card.blocks),
         bytes: 1000,

@@ -11,7 +11,7 @@ use lib.ListN.{length, take, drop, length-drop}
 use Rattle.laws.specs.Starts.{start_of, start_none, start_next, start_rises}
 use Rattle.numbers.specs.Limits.{max_blocks}
 use Rattle.words.specs.Words.{words_of, with_words}
-use Rattle.words.specs.Laws.{words_length, with_words_length, words_lent, words_returned}
+use Rattle.words.specs.Laws.{words_length, with_words_length, with_words_entries, words_lent, words_returned}
 use Rattle.placement.specs.Showing.{Showing, visits_of, visits_few, laying, walked, walked_laying}
 use Rattle.placement.specs.Shelf.{free_for, laying_in}
 use Rattle.plan.specs.Plan.{row, rows_of}
@@ -34,6 +34,11 @@ module _ (n : ℕ → ℕ) (F i at : ℕ) (u : i < F) (here : at ≡ 4 * start_o
   part_room s h =
       let e = ap length (words_lent (start_of n i) s at here) ∙ length-drop (start_of n i) (words_of s) in
       omega (arith, rows_end)
+
+  -- as it does in one that is written in part
+  pub part_roomy : (s t vs : List ℕ) → start_of n F ≤ length (words_of s) → t ≡ with_words s 0 vs → start_of n F ≤ length (words_of t)
+  part_roomy s t vs h e =
+      let k = ap (λ (r : List ℕ). length (words_of r)) e ∙ with_words_entries s 0 vs in omega arith
 
   -- one film more is written
   pub part_written : (g : ℕ → ℕ → ℕ) (s t ys vs : List ℕ) → start_of n F ≤ length (words_of s) → t ≡ with_words s 0 (rows_of g n i)
@@ -72,6 +77,9 @@ module _ (x : Showing) (bs : List ℕ) where
 
   pub visits_start : (i : ℕ) → start_of visits_at i ≡ visits_of x * start_of (length_at bs) i
   visits_start i = start_visits (visits_of x) (length_at bs) i
+
+  pub visits_room : (F : ℕ) (s : List ℕ) → visits_of x * start_of (length_at bs) F ≤ length (words_of s) → start_of visits_at F ≤ length (words_of s)
+  visits_room F s h = omega (arith, visits_start F)
 
   module _ (P F : ℕ) (ok : Shelved x P bs F) where
     -- few in all

@@ -30,13 +30,11 @@ pub fn write_shelf_positions(
     let count = films as usize;
     let mut free = total;
     let mut at: usize = 0;
-    let mut i: usize = 0;
-    while i < count {
+    for i in 0..count {
         let taken = visits * blocks[i];
         write_positions(showing, free, taken, &mut positions[at..]);
         free -= taken;
         at += 4 * taken as usize;
-        i += 1;
     }
 }
 
@@ -60,13 +58,11 @@ pub fn write_shelf_leads<'a>(
     let count = films as usize;
     let mut free = total;
     let mut at: usize = 0;
-    let mut i: usize = 0;
-    while i < count {
+    for i in 0..count {
         let film = blocks[i];
         write_leads(sizes, times, showing, free, film, worst2, &mut leads[at..]);
         free -= visits * film;
         at += 4 * film as usize;
-        i += 1;
     }
 }
 
@@ -89,14 +85,12 @@ pub fn same_shelf_positions(
     let mut same = true;
     let mut free = total;
     let mut at: usize = 0;
-    let mut i: usize = 0;
-    while i < count {
+    for i in 0..count {
         let all = visits * blocks[i];
         let film = same_positions(showing, free, all, &positions[at..]);
         same = both(same, film);
         free -= all;
         at += 4 * all as usize;
-        i += 1;
     }
     same
 }
@@ -124,14 +118,12 @@ pub fn same_shelf_leads<'a>(
     let mut same = true;
     let mut free = total;
     let mut at: usize = 0;
-    let mut i: usize = 0;
-    while i < count {
+    for i in 0..count {
         let film = blocks[i];
         let led = same_leads(sizes, times, showing, free, film, worst2, &leads[at..]);
         same = both(same, led);
         free -= visits * film;
         at += 4 * film as usize;
-        i += 1;
     }
     same
 }

@@ -1,6 +1,6 @@
 -- Laws of what specs/Listed defines.
-use Rattle.std.specs.Prelude.{ℕ, suc, ◌-◌, ◌≤◌, ◌<◌, ◌≡◌, List, map, length, get_or, take}
-use Rattle.std.proofs.Common.{sym, ap, subst, arith, get_or-take, length-take-le}
+use Rattle.std.specs.Prelude.{ℕ, suc, ◌≤◌, ◌<◌, ◌≡◌, List, map, length, take}
+use Rattle.std.proofs.Common.{sym, subst, arith, get_or-take, length-take-le}
 use Rattle.laws.specs.Members.{In, upto, each, in_map, in_upto, in_each}
 use Rattle.laws.specs.Runs.{sum_by}
 use Rattle.numbers.specs.Limits.{max_zones, min_blocks}

@@ -1,11 +1,11 @@
 -- Laws of what specs/Steps defines.
-use Rattle.std.specs.Prelude.{ℕ, ◌≤◌, ◌<◌, ◌≡◌, true, List, map, length, get_or, take}
+use Rattle.std.specs.Prelude.{ℕ, ◌≤◌, ◌<◌, ◌≡◌, true, List, length, get_or, take}
 use Rattle.std.proofs.Common.{sym, ap, ◌∙◌, arith}
 use Rattle.std.proofs.Math.Dec.{leb}
 use borrow.Author.Tests.{leb-true}
 use Rattle.laws.specs.Bools.{and_left, and_right}
 use Rattle.laws.specs.Each.{each_map, each_of_all}
-use Rattle.laws.specs.Members.{each, map_at}
+use Rattle.laws.specs.Members.{map_at}
 use Rattle.laws.specs.Runs.{all_at}
 use Rattle.card.specs.declared.Figures.{Figures}
 use Rattle.card.specs.Read.{blank_figures}

@@ -5,7 +5,7 @@ use Rattle.std.proofs.Common.{sym, ap, ◌∙◌, inl, arith, length-append, ext
 use Rattle.std.proofs.Math.Logic.{by_cases}
 use Rattle.std.proofs.Math.Decide.{dec_lt}
 use Rattle.std.proofs.Math.ListN.{get_or-append}
-use Rattle.laws.specs.Members.{In, upto, each, in_map, in_upto, in_each}
+use Rattle.laws.specs.Members.{In, upto, in_map, in_upto, in_each}
 use Rattle.numbers.specs.Limits.{max_zones}
 use Rattle.card.specs.declared.Figures.{Figures}
 use Rattle.card.specs.Card.{length_in}

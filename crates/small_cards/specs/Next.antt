@@ -1,9 +1,8 @@
 -- The small cards one after the other, as the code steps through them: the last of N, times, positions and zones that may rise does.
-use Rattle.std.specs.Prelude.{ℕ, zero, suc, ◌+◌, min, Bool, true, false, cond, List, [], ◌∷◌, get_or, set, ltb}
+use Rattle.std.specs.Prelude.{ℕ, zero, suc, ◌+◌, min, Bool, true, false, cond, List, [], ◌∷◌, get_or, set, ltb, Result, Ok, Err}
 use Rattle.numbers.specs.Limits.{min_blocks, max_tried}
 use Rattle.card.specs.declared.Figures.{Figures}
 use Rattle.small_cards.specs.declared.SmallCard.{SmallCard}
-use Rattle.small_cards.specs.declared.Risen.{Risen}
 use Rattle.small_cards.specs.Cards.{small_figures}
 
 -- the figures of a state
@@ -15,11 +14,10 @@ unfoldable pub limit_of : Bool → List ℕ → ℕ → ℕ
 limit_of falls ds zero = 3
 limit_of falls ds (suc i) = cond falls (get_or ds i 0) 3
 
--- the last of the first n entries that may rise does, and those after it start again from 1; over where none may
-unfoldable pub risen : Bool → ℕ → List ℕ → Risen
-risen falls zero ds = record { entries = ds; over = true }
-risen falls (suc i) ds =
-    cond (ltb (get_or ds i 0) (limit_of falls ds i)) (record { entries = set ds i (get_or ds i 0 + 1); over = false }) (risen falls i (set ds i 1))
+-- the last of the first n entries that may rise does, and those after it start again from 1: an error where none may
+unfoldable pub risen : Bool → ℕ → List ℕ → Result (List ℕ) (List ℕ)
+risen falls zero ds = Err ds
+risen falls (suc i) ds = cond (ltb (get_or ds i 0) (limit_of falls ds i)) (Ok (set ds i (get_or ds i 0 + 1))) (risen falls i (set ds i 1))
 
 -- the most blocks of a card
 unfoldable pub most_blocks : List ℕ → ℕ
@@ -29,13 +27,13 @@ most_blocks ps = min max_tried (get_or ps 0 0 + get_or ps 1 0 + get_or ps 2 0)
 unfoldable pub zone_more : SmallCard → List ℕ → List ℕ → SmallCard
 zone_more c ps ts = record { zones = c.zones + 1; positions = set ps c.zones 1; times = set ts c.zones 1; blocks = min_blocks }
 
-unfoldable pub positions_more : SmallCard → List ℕ → Risen → SmallCard
-positions_more c ts r = cond r.over (zone_more c r.entries ts) (record { zones = c.zones; positions = r.entries; times = ts; blocks = min_blocks })
+unfoldable pub positions_more : SmallCard → List ℕ → Result (List ℕ) (List ℕ) → SmallCard
+positions_more c ts (Ok ps) = record { zones = c.zones; positions = ps; times = ts; blocks = min_blocks }
+positions_more c ts (Err ps) = zone_more c ps ts
 
-unfoldable pub times_more : SmallCard → Risen → SmallCard
-times_more c r =
-    cond r.over (positions_more c r.entries (risen false c.zones c.positions))
-    (record { zones = c.zones; positions = c.positions; times = r.entries; blocks = min_blocks })
+unfoldable pub times_more : SmallCard → Result (List ℕ) (List ℕ) → SmallCard
+times_more c (Ok ts) = record { zones = c.zones; positions = c.positions; times = ts; blocks = min_blocks }
+times_more c (Err ts) = positions_more c ts (risen false c.zones c.positions)
 
 unfoldable pub next_card : SmallCard → SmallCard
 next_card c =

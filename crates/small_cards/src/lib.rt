@@ -18,13 +18,6 @@ pub struct SmallCard {
     pub blocks: u32,
 }
 
-// Entries of which one has risen by one; over where none could.
-#[derive(Clone, Copy)]
-pub struct Risen {
-    pub entries: [u32; 3],
-    pub over: bool,
-}
-
 // The list has every small card, nothing else, and each once.
 pub fn every_small_card_is_listed()
     ensures every { (f : Figures) → Small f → In f small_cards }

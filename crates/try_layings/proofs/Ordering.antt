@@ -93,12 +93,6 @@ module _ (count number : ℕ) (times row : List ℕ) (rest size next : ℕ) (few
       at : (i : ℕ) → get_or row i 0 ≤ max_time
       at i = each_at Small row i 0 o.small (omega arith)
 
-pub ordering_first : (count number : ℕ) (times : List ℕ) (size : ℕ) → length times ≡ max_tried → size ≡ factorial count → number < factorial count
-    → Each (λ (t : ℕ). t ≤ max_time) times → Ordering count number times times number size 0
-ordering_first count number times size l e h small =
-    let z : count - 0 ≡ count = omega arith in
-    record { upto = omega arith; long = l; sized = rw z e; below = rw z h; order = rw z; small = small }
-
 pub ordering_last : (count number : ℕ) (times row : List ℕ) (rest size next : ℕ) → count ≤ next → Ordering count number times row rest size next
     → take count row ≡ numbered count number times
 unfolding numbered

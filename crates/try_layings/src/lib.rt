@@ -55,11 +55,9 @@ pub fn try_layings(times: [u32; 8], blocks: u32, showing: u32) -> Search
         least: MAX_NUMBER,
         count: 0,
     };
-    let mut number: u32 = 0;
-    while number < total {
+    for number in 0..total {
         let row = order(times, blocks, number);
         found = met(found, worst_of(row, blocks, showing));
-        number += 1;
     }
     found
 }

@@ -10,10 +10,8 @@ pub fn factorial(count: u32) -> u32
     ensures { result ≡ factorial count }
 {
     let mut product: u32 = 1;
-    let mut n: u32 = 0;
-    while n < count {
-        n += 1;
-        product = n * product;
+    for n in 0..count {
+        product = (n + 1) * product;
     }
     product
 }
@@ -27,16 +25,11 @@ pub fn order(times: [u32; 8], count: u32, number: u32) -> [u32; 8]
     let mut row = times;
     let mut rest = number;
     let mut size = factorial(count);
-    let mut next: u32 = 0;
-    while next < count {
+    for next in 0..count {
         size = size / (count - next);
-        let here = next as usize;
         let there = (next + rest / size) as usize;
-        let chosen = row[there];
-        row[there] = row[here];
-        row[here] = chosen;
+        row.swap(there, next as usize);
         rest = rest % size;
-        next += 1;
     }
     row
 }

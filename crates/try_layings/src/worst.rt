@@ -1,5 +1,5 @@
 // The worst time of one order.
-ghost use Rattle.std.specs.Prelude.{◌≡◌, ℕ, ◌*◌, ◌≤◌, ◌<◌, max};
+ghost use Rattle.std.specs.Prelude.{◌≡◌, ℕ, ◌*◌, ◌≤◌, ◌<◌};
 ghost use Rattle.laws.specs.Each.{Each};
 ghost use Rattle.numbers.specs.Limits.{max_tried, max_time};
 ghost use Rattle.placement.specs.Circle.{round};
@@ -8,15 +8,6 @@ ghost use Rattle.plan.specs.Plan.{walk_of};
 ghost use Rattle.layings.specs.Layings.{worst_in};
 
 use numbers::showings::LOOP;
-
-fn greater(a: u32, b: u32) -> u32
-    ensures { result ≡ max a b }
-{
-    if a < b {
-        return b;
-    }
-    a
-}
 
 // The block after b of a loop.
 fn next_block(blocks: u32, b: u32) -> u32
@@ -48,12 +39,10 @@ pub fn worst_of(row: [u32; 8], blocks: u32, showing: u32) -> u32
 {
     let pairs = count_pairs(blocks, showing);
     let mut worst: u32 = 0;
-    let mut b: u32 = 0;
-    while b < pairs {
+    for b in 0..pairs {
         let here = b as usize;
         let next = next_block(blocks, b) as usize;
-        worst = greater(worst, row[here] + row[next]);
-        b += 1;
+        worst = worst.max(row[here] + row[next]);
     }
     worst
 }
