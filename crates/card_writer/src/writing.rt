@@ -16,10 +16,7 @@ pub fn not_written(number: u32) -> CardWritten
     ensures { result ≡ not_written number }
 {
     CardWritten {
-        verdict: Verdict {
-            number,
-            place: 0,
-        },
+        verdict: Verdict { number, place: 0 },
         length: 0,
     }
 }
