@@ -1,15 +1,8 @@
 // Lists of 32-bit numbers in lent byte strings: four bytes an entry, lowest byte first, no padding. Spare bytes at the end are ignored and kept.
-#![tactic(auto)]
+#![tactic(auto, using(crate::specs::Laws::words_length))]
 
 ghost use Rattle.std.specs.Prelude.{◌≡◌, ◌+◌, ◌*◌, ◌≤◌, ◌<◌, length, get_or, take, drop};
 ghost use Rattle.words.specs.Words.{words_of, with_word, with_words, zero_words};
-
-// A byte as a number of 32 bits.
-fn wide(b: u8) -> u32
-    ensures { (result ≡ b) × (result < 256) }
-{
-    b as u32
-}
 
 // How many entries a list has.
 pub fn entries(list: &[u8]) -> usize
@@ -23,11 +16,7 @@ fn number_at(list: &[u8], at: usize) -> u32
     requires { at + 3 < length list.now }
     ensures { let s = list.now in result ≡ get_or s at 0 + 256 * get_or s (at + 1) 0 + 65536 * get_or s (at + 2) 0 + 16777216 * get_or s (at + 3) 0 }
 {
-    let b0 = wide(list[at]);
-    let b1 = wide(list[at + 1]);
-    let b2 = wide(list[at + 2]);
-    let b3 = wide(list[at + 3]);
-    b0 + 256 * b1 + 65536 * b2 + 16777216 * b3
+    u32::from_le_bytes([list[at], list[at + 1], list[at + 2], list[at + 3]])
 }
 
 // The entry i.
@@ -43,11 +32,7 @@ pub fn put_word(list: &mut [u8], i: usize, v: u32)
     requires { i < length (words_of list.old) }
     ensures { list.new ≡ with_word list.old i v }
 {
-    let at = 4 * i;
-    list[at] = (v % 256) as u8;
-    list[at + 1] = (v / 256 % 256) as u8;
-    list[at + 2] = (v / 65536 % 256) as u8;
-    list[at + 3] = (v / 16777216 % 256) as u8;
+    list[4 * i..4 * i + 4].copy_from_slice(&v.to_le_bytes());
 }
 
 // Fills out with the entries from start on.
