@@ -48,8 +48,8 @@ fn refused(plan: &mut [u8], number: u32, place: usize) -> FilmdiskAnswer
 {
     clear_plan(plan);
     verdict_answer(Verdict {
-        number: number,
-        place: place,
+        number,
+        place,
     })
 }
 
@@ -120,12 +120,12 @@ fn plan_showing(
         Told::Refused(number, place) => refused(plan, number, place),
         Told::Figures(kind, zones, films, bytes, rate) => plan_into(
             Scalars {
-                kind: kind,
-                zones: zones,
-                films: films,
-                blocks: blocks,
-                bytes: bytes,
-                rate: rate,
+                kind,
+                zones,
+                films,
+                blocks,
+                bytes,
+                rate,
             },
             &sizes,
             &times,
