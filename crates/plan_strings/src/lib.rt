@@ -47,10 +47,7 @@ fn refused(plan: &mut [u8], number: u32, place: usize) -> FilmdiskAnswer
         × (plan.new ≡ with_words plan.old 0 (plan_words blank_plan)) }
 {
     clear_plan(plan);
-    verdict_answer(Verdict {
-        number,
-        place,
-    })
+    verdict_answer(Verdict { number, place })
 }
 
 // Plans the legal figures of a card, their arrays lent, where the plan string has its length: 13, then 12. Where it is not `listed`, `leads` is
