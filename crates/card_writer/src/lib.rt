@@ -28,6 +28,6 @@ pub fn write_card(figures: Figures, out: &mut [u8]) -> CardWritten
             number: ACCEPTED,
             place: 0,
         },
-        length: length,
+        length,
     }
 }

@@ -9,17 +9,14 @@ ghost use Rattle.card_writer.specs.Put.{Room, Puts};
 use card::{CardWritten, Figures, Verdict};
 use card_table::hop_in;
 use leb128::{number_length, write_number};
-use numbers::limits::{STRAIGHT, TABLE_LENGTH};
+use numbers::limits::STRAIGHT;
 
 // A card that is not written.
 pub fn not_written(number: u32) -> CardWritten
     ensures { result ≡ not_written number }
 {
     CardWritten {
-        verdict: Verdict {
-            number: number,
-            place: 0,
-        },
+        verdict: Verdict { number, place: 0 },
         length: 0,
     }
 }
@@ -41,10 +38,8 @@ fn put_entries(table: &[u32; 257], out: &mut [u8], start: usize, write: bool) ->
     ensures { Puts write out.old start (bytes_of table.now) result out.new }
 {
     let mut at = start;
-    let mut k: usize = 0;
-    while k < TABLE_LENGTH as usize {
-        at = put_number(out, at, table[k], write);
-        k += 1;
+    for &entry in table {
+        at = put_number(out, at, entry, write);
     }
     at
 }
@@ -78,10 +73,8 @@ fn put_films(figures: Figures, out: &mut [u8], start: usize, write: bool) -> usi
 {
     let films = figures.films as usize;
     let mut at = put_number(out, start, figures.films, write);
-    let mut i: usize = 0;
-    while i < films {
+    for i in 0..films {
         at = put_number(out, at, figures.blocks[i], write);
-        i += 1;
     }
     put_measures(figures, out, at, write)
 }
@@ -94,11 +87,9 @@ fn put_zones(figures: Figures, out: &mut [u8], start: usize, write: bool) -> usi
 {
     let zones = figures.zones as usize;
     let mut at = start;
-    let mut i: usize = 0;
-    while i < zones {
+    for i in 0..zones {
         at = put_number(out, at, figures.positions[i], write);
         at = put_number(out, at, figures.times[i], write);
-        i += 1;
     }
     put_films(figures, out, at, write)
 }

@@ -1,5 +1,5 @@
 // A desk where it lies in a lent byte string: one reader for each number, and for each array one of an entry or of all; how many slots ask.
-#![tactic(auto)]
+#![tactic(auto, using(words::specs::Laws::words_length), unfolding(desk_layout::specs::Layout::desk_in))]
 
 ghost use Rattle.std.specs.Prelude.{◌≡◌, ◌≤◌, ◌<◌, length, get_or, take, eqb};
 ghost use Rattle.laws.specs.Bools.{bit};
@@ -18,7 +18,7 @@ use numbers::limits::{MAX_FILMS, NAME_STEP};
 use numbers::slots::WAITING;
 use plan::visits_of;
 use plan_layout::offsets as plan_offsets;
-use words::{read_16, read_64, read_256, read_257, word_at};
+use words::{read_array, word_at};
 
 // The zones of the disk.
 pub fn zones_in(desk: &[u8]) -> u32
@@ -61,14 +61,7 @@ pub fn all_lengths(desk: &[u8]) -> [u32; 16]
     requires { desk_size ≤ length desk.now }
     ensures { result ≡ (desk_in (words_of desk.now)).plan.figures.blocks }
 {
-    read_16(desk, plan_offsets::BLOCKS)
-}
-
-// No film begins anywhere yet.
-fn no_starts() -> [u32; 16]
-    ensures { length result ≡ max_films }
-{
-    [0u32; 16]
+    read_array(desk, plan_offsets::BLOCKS)
 }
 
 // Where each film begins in the lists, behind the blocks of those before it.
@@ -77,13 +70,11 @@ pub fn film_starts(desk: &[u8]) -> [u32; 16]
     ensures { StartsOf (desk_in (words_of desk.now)).plan.figures result }
 {
     let films = films_in(desk) as usize;
-    let mut starts = no_starts();
+    let mut starts = [0u32; 16];
     let mut sum: u32 = 0;
-    let mut i: usize = 0;
-    while i < films {
+    for i in 0..films {
         starts[i] = sum;
         sum += length_in(desk, i);
-        i += 1;
     }
     starts
 }
@@ -198,7 +189,7 @@ pub fn all_kinds(desk: &[u8]) -> [u32; 256]
     requires { desk_size ≤ length desk.now }
     ensures { result ≡ (desk_in (words_of desk.now)).kinds }
 {
-    read_256(desk, offsets::KINDS)
+    read_array(desk, offsets::KINDS)
 }
 
 // The next blocks of all slots.
@@ -206,7 +197,7 @@ pub fn all_next(desk: &[u8]) -> [u32; 256]
     requires { desk_size ≤ length desk.now }
     ensures { result ≡ (desk_in (words_of desk.now)).next }
 {
-    read_256(desk, offsets::NEXT)
+    read_array(desk, offsets::NEXT)
 }
 
 // The held bytes of all slots.
@@ -214,7 +205,7 @@ pub fn all_held(desk: &[u8]) -> [u32; 256]
     requires { desk_size ≤ length desk.now }
     ensures { result ≡ (desk_in (words_of desk.now)).held }
 {
-    read_256(desk, offsets::HELD)
+    read_array(desk, offsets::HELD)
 }
 
 // The places of all slots.
@@ -222,17 +213,14 @@ pub fn all_places(desk: &[u8]) -> [u32; 256]
     requires { desk_size ≤ length desk.now }
     ensures { result ≡ (desk_in (words_of desk.now)).places }
 {
-    read_256(desk, offsets::PLACES)
+    read_array(desk, offsets::PLACES)
 }
 
 // What a slot of this kind adds to the number that ask.
 pub fn asking(kind: u32) -> u32
     ensures { (result ≡ bit (eqb kind waiting)) × (result ≤ 1) }
 {
-    if kind == WAITING {
-        return 1;
-    }
-    0
+    u32::from(kind == WAITING)
 }
 
 // How many of the first `streams` slots ask.
@@ -241,10 +229,8 @@ pub fn asked_in(desk: &[u8], streams: usize) -> u32
     ensures { (result ≡ asked_count (take streams (desk_in (words_of desk.now)).kinds)) × (result ≤ streams) }
 {
     let mut asked: u32 = 0;
-    let mut i: usize = 0;
-    while i < streams {
+    for i in 0..streams {
         asked += asking(kind_in(desk, i));
-        i += 1;
     }
     asked
 }
@@ -254,7 +240,7 @@ pub fn zone_sizes(desk: &[u8]) -> [u32; 64]
     requires { desk_size ≤ length desk.now }
     ensures { result ≡ (desk_in (words_of desk.now)).plan.figures.positions }
 {
-    read_64(desk, plan_offsets::POSITIONS)
+    read_array(desk, plan_offsets::POSITIONS)
 }
 
 // The times of the zones.
@@ -262,7 +248,7 @@ pub fn zone_times(desk: &[u8]) -> [u32; 64]
     requires { desk_size ≤ length desk.now }
     ensures { result ≡ (desk_in (words_of desk.now)).plan.figures.times }
 {
-    read_64(desk, plan_offsets::TIMES)
+    read_array(desk, plan_offsets::TIMES)
 }
 
 // The table of overheads.
@@ -270,5 +256,5 @@ pub fn overheads(desk: &[u8]) -> [u32; 257]
     requires { desk_size ≤ length desk.now }
     ensures { result ≡ (desk_in (words_of desk.now)).plan.figures.table }
 {
-    read_257(desk, plan_offsets::TABLE)
+    read_array(desk, plan_offsets::TABLE)
 }

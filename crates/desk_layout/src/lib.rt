@@ -14,7 +14,7 @@ ghost use Rattle.desk_layout.specs.Layout.{desk_words, desk_in, desk_size, with_
 use card::Scalars;
 use plan::Numbers;
 use plan_layout::write_parts;
-use words::{clear_words, write_256, write_words};
+use words::{clear_words, write_array, write_words};
 
 // Bytes of a desk.
 pub const DESK_BYTES: usize = 4 * offsets::DESK_WORDS;
@@ -64,7 +64,7 @@ pub fn put_kinds(list: &mut [u8], phase: u32, kinds: &[u32; 256])
         × (length kinds.now ≡ max_streams) }
 {
     write_words(list, offsets::PHASE, &[phase]);
-    write_256(list, offsets::KINDS, kinds);
+    write_array(list, offsets::KINDS, kinds);
 }
 
 // Writes the phase and all slots of the desk at the front of a string. Their places stay.
@@ -80,8 +80,8 @@ pub fn put_slots<'a>(
         (desk_words (record_of d.plan phase kinds.now next.now held.now d.places)) }
 {
     put_kinds(list, phase, kinds);
-    write_256(list, offsets::NEXT, next);
-    write_256(list, offsets::HELD, held);
+    write_array(list, offsets::NEXT, next);
+    write_array(list, offsets::HELD, held);
 }
 
 // Writes the places of the desk at the front of a string.
@@ -91,5 +91,5 @@ pub fn put_places(list: &mut [u8], places: &[u32; 256])
         (desk_words (with_places (desk_in (words_of list.old)) places.now)))
         × (length places.now ≡ max_streams) }
 {
-    write_256(list, offsets::PLACES, places);
+    write_array(list, offsets::PLACES, places);
 }

@@ -19,12 +19,7 @@ pub fn write_entries<'a>(
     ensures { out.new ≡ with_words out.old 0
         (rows 0 count (list_of count positions.now slots.now blocks.now)) }
 {
-    let mut i: usize = 0;
-    while i < count {
-        let position = positions[i];
-        let slot = slots[i];
-        let block = blocks[i];
-        write_words(out, 3 * i, &[position, slot, block]);
-        i += 1;
+    for i in 0..count {
+        write_words(out, 3 * i, &[positions[i], slots[i], blocks[i]]);
     }
 }

@@ -59,9 +59,9 @@ pub fn window_answer(verdict: Verdict, time: u32, first: u32, bytes: u32) -> Fil
     FilmdiskWindowAnswer {
         number: verdict.number,
         place: verdict.place,
-        time: time,
-        first: first,
-        bytes: bytes,
+        time,
+        first,
+        bytes,
     }
 }
 

@@ -10,7 +10,7 @@ use Rattle.words.specs.Words.{Words}
 use Rattle.card.specs.declared.Figures.{Figures}
 use Rattle.card.specs.Card.{Legal}
 use Rattle.card.specs.CardLaws.{table_range, table_long}
-use Rattle.placement.specs.Zones.{total, total_turn, total_take}
+use Rattle.placement.specs.Zones.{total_turn, total_take}
 use Rattle.placement.specs.Showing.{Showing, one, loop, pairs, visits_of, visits_few}
 use Rattle.pacing.specs.Streams.{cap_visits}
 use Rattle.plan.specs.Plan.{word_of, streams_of, plan_of}

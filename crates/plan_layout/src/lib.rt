@@ -14,9 +14,7 @@ ghost use Rattle.plan_layout.specs.RoundTrip.{FiguresSized};
 
 use card::{Figures, Scalars};
 use plan::{Numbers, Plan};
-use words::{
-    clear_words, read_16, read_64, read_257, word_at, write_16, write_64, write_257, write_words,
-};
+use words::{clear_words, read_array, word_at, write_array, write_words};
 
 // Bytes of a plan.
 pub const PLAN_BYTES: usize = 4 * offsets::PLAN_WORDS;
@@ -29,13 +27,13 @@ fn figures_at(list: &[u8]) -> Figures
     Figures {
         kind: word_at(list, offsets::KIND),
         zones: word_at(list, offsets::ZONES),
-        positions: read_64(list, offsets::POSITIONS),
-        times: read_64(list, offsets::TIMES),
+        positions: read_array(list, offsets::POSITIONS),
+        times: read_array(list, offsets::TIMES),
         films: word_at(list, offsets::FILMS),
-        blocks: read_16(list, offsets::BLOCKS),
+        blocks: read_array(list, offsets::BLOCKS),
         bytes: word_at(list, offsets::BYTES),
         rate: word_at(list, offsets::RATE),
-        table: read_257(list, offsets::TABLE),
+        table: read_array(list, offsets::TABLE),
     }
 }
 
@@ -73,7 +71,7 @@ pub fn scalars_at(list: &[u8]) -> Scalars
         kind: word_at(list, offsets::KIND),
         zones: word_at(list, offsets::ZONES),
         films: word_at(list, offsets::FILMS),
-        blocks: read_16(list, offsets::BLOCKS),
+        blocks: read_array(list, offsets::BLOCKS),
         bytes: word_at(list, offsets::BYTES),
         rate: word_at(list, offsets::RATE),
     }
@@ -99,21 +97,21 @@ pub fn sizes_at(list: &[u8]) -> [u32; 64]
     requires { plan_word_count ≤ length (words_of list.now) }
     ensures { result ≡ (plan_in (words_of list.now)).figures.positions }
 {
-    read_64(list, offsets::POSITIONS)
+    read_array(list, offsets::POSITIONS)
 }
 
 pub fn times_at(list: &[u8]) -> [u32; 64]
     requires { plan_word_count ≤ length (words_of list.now) }
     ensures { result ≡ (plan_in (words_of list.now)).figures.times }
 {
-    read_64(list, offsets::TIMES)
+    read_array(list, offsets::TIMES)
 }
 
 pub fn table_at(list: &[u8]) -> [u32; 257]
     requires { plan_word_count ≤ length (words_of list.now) }
     ensures { result ≡ (plan_in (words_of list.now)).figures.table }
 {
-    read_257(list, offsets::TABLE)
+    read_array(list, offsets::TABLE)
 }
 
 // Writes the figures of a plan, their arrays lent, at the front of a string.
@@ -129,12 +127,12 @@ fn write_figures<'a>(
         (list.new ≡ stored figure_fields 0 list.old [] (figure_values f)) × FiguresSized f }
 {
     write_words(list, offsets::KIND, &[figures.kind, figures.zones]);
-    write_64(list, offsets::POSITIONS, sizes);
-    write_64(list, offsets::TIMES, times);
+    write_array(list, offsets::POSITIONS, sizes);
+    write_array(list, offsets::TIMES, times);
     write_words(list, offsets::FILMS, &[figures.films]);
-    write_16(list, offsets::BLOCKS, &figures.blocks);
+    write_array(list, offsets::BLOCKS, &figures.blocks);
     write_words(list, offsets::BYTES, &[figures.bytes, figures.rate]);
-    write_257(list, offsets::TABLE, table);
+    write_array(list, offsets::TABLE, table);
 }
 
 // Writes a plan, its arrays lent, at the front of a string.

@@ -47,10 +47,7 @@ fn refused(plan: &mut [u8], number: u32, place: usize) -> FilmdiskAnswer
         × (plan.new ≡ with_words plan.old 0 (plan_words blank_plan)) }
 {
     clear_plan(plan);
-    verdict_answer(Verdict {
-        number: number,
-        place: place,
-    })
+    verdict_answer(Verdict { number, place })
 }
 
 // Plans the legal figures of a card, their arrays lent, where the plan string has its length: 13, then 12. Where it is not `listed`, `leads` is
@@ -120,12 +117,12 @@ fn plan_showing(
         Told::Refused(number, place) => refused(plan, number, place),
         Told::Figures(kind, zones, films, bytes, rate) => plan_into(
             Scalars {
-                kind: kind,
-                zones: zones,
-                films: films,
-                blocks: blocks,
-                bytes: bytes,
-                rate: rate,
+                kind,
+                zones,
+                films,
+                blocks,
+                bytes,
+                rate,
             },
             &sizes,
             &times,

@@ -326,7 +326,7 @@ row_stored s start (suc n) (suc i) v y h l =
 -- ---- the bytes of numbers
 
 -- an entry is four bytes in a row
-with_word_overwrite : (s : List ℕ) (i v : ℕ) → i < length (words_of s) → with_word s i v ≡ overwrite s (4 * i) (bytes_of (v ∷ []))
+pub with_word_overwrite : (s : List ℕ) (i v : ℕ) → i < length (words_of s) → with_word s i v ≡ overwrite s (4 * i) (bytes_of (v ∷ []))
 unfolding with_word bytes_of overwrite
 with_word_overwrite s i v h =
     rw (add-one, add-two, add-three)
