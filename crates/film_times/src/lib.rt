@@ -20,11 +20,8 @@ pub fn film_times(figures: Figures) -> [u32; 8]
     let total = sum_positions(&figures.positions, figures.zones);
     let blocks = figures.blocks[0];
     let mut times = [0u32; 8];
-    let mut i: u32 = 0;
-    while i < blocks {
-        let here = i as usize;
-        times[here] = time_at(&figures.positions, &figures.times, total - blocks + i);
-        i += 1;
+    for i in 0..blocks {
+        times[i as usize] = time_at(&figures.positions, &figures.times, total - blocks + i);
     }
     times
 }

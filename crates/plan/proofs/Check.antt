@@ -10,7 +10,7 @@ use Rattle.placement.specs.Showing.{Showing, visits_of}
 use Rattle.plan.specs.declared.Plan.{Plan}
 use Rattle.plan.specs.Plan.{showing_in, entries_of, streams_of}
 use Rattle.plan.specs.Plan.{plan_of, positions_of, leads_of}
-use Rattle.plan.specs.Answer.{begins, same_numbers, has_numbers, has_positions, has_leads, is_plan}
+use Rattle.plan.specs.Answer.{has_numbers, has_positions, has_leads, is_plan}
 use Rattle.plan.specs.Rows.{begins_long}
 use Rattle.plan.specs.Films.{positions_length, leads_length, positions_at, leads_at}
 use Rattle.plan.proofs.Films.{positions_words, leads_words}

@@ -1,12 +1,11 @@
 -- Laws of what specs/Films defines.
 use Prim.Native.Nat.{◌*◌}
 use native.Mathlib.Omega.{arith}
-use Rattle.std.proofs.Math.ListN.{length}
 use Rattle.words.specs.Words.{Words}
 use Rattle.card.specs.declared.Figures.{Figures}
 use Rattle.card.specs.Card.{Legal, length_in}
 use Rattle.placement.specs.Showing.{Showing, visits_of}
-use Rattle.plan.specs.Plan.{position_in, lead_in, row, positions_of, leads_of}
+use Rattle.plan.specs.Plan.{position_in, lead_in, positions_of, leads_of}
 use Rattle.plan.proofs.Legal.{position_below, lead_small}
 use Rattle.plan.specs.Films.{rows_words}
 

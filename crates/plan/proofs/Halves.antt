@@ -1,5 +1,5 @@
 -- Laws of what specs/Halves defines.
-use Rattle.std.specs.Prelude.{ℕ, suc, ◌+◌, ◌*◌, ◌-◌, ◌≤◌, ◌<◌, ◌≡◌, refl, get_or}
+use Rattle.std.specs.Prelude.{ℕ, suc, ◌+◌, ◌*◌, ◌≤◌, ◌<◌, ◌≡◌, refl, get_or}
 use Rattle.std.proofs.Math.Path.{sym, ap}
 use Rattle.std.proofs.Common.{◌∙◌}
 use native.Mathlib.Omega.{arith}
@@ -11,7 +11,7 @@ use Rattle.placement.specs.Placement.{Laying, zigzag_even, zigzag_odd}
 use Rattle.placement.specs.Showing.{pairs, laying_high, greatest_twice}
 use Rattle.pacing.specs.Streams.{overhead_entry, load, buffer_of}
 use Rattle.pacing.specs.Shelves.{worst_shelf}
-use Rattle.plan.specs.Plan.{free_in, position_in, time_in, worst2_of, over_of, streams_of, buffer_size}
+use Rattle.plan.specs.Plan.{free_in, position_in, worst2_of, over_of, streams_of, buffer_size}
 use Rattle.plan.specs.Legal.{halves_margin, streams_few}
 use Rattle.plan.proofs.Legal.{room_in_law, legal_laying, halves_lead, streams_fit}
 use Rattle.plan.proofs.GreatestLaws.{pair_earliest}

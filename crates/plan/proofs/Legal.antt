@@ -1,7 +1,7 @@
 -- Laws of what specs/Legal defines.
-use Rattle.std.specs.Prelude.{ℕ, suc, ◌+◌, ◌*◌, ◌-◌, ◌≤◌, ◌<◌, ◌≡◌, take}
+use Rattle.std.specs.Prelude.{ℕ, suc, ◌+◌, ◌*◌, ◌-◌, ◌≤◌, ◌<◌, ◌≡◌}
 use Rattle.std.proofs.Math.Path.{refl}
-use Rattle.std.proofs.Common.{ap, ◌∙◌, mul-le-mul, mul-le-mul_left}
+use Rattle.std.proofs.Common.{ap, ◌∙◌, mul-le-mul_left}
 use Rattle.std.proofs.Math.Logic.{by_cases}
 use native.Mathlib.Omega.{arith}
 use Rattle.std.proofs.Math.Decide.{dec_lt}
@@ -16,7 +16,6 @@ use Rattle.placement.specs.Best.{zigzag_laying, zigzag_high}
 use Rattle.placement.specs.Showing.{Showing, one, loop, pairs, visits_of, worst_at, pair_time, pairs_of, some_pairs}
 use Rattle.placement.specs.Showing.{block_positive, block_within, laying, walked, laying_first, laying_high}
 use Rattle.placement.proofs.Shelf.{film_room, film_lays, film_below, free_next}
-use Rattle.placement.specs.Zones.{total}
 use Rattle.pacing.specs.Film.{lead}
 use Rattle.pacing.specs.Streams.{cap_of, load, buffer_of, streams_fits, buffer_bound}
 use Rattle.pacing.specs.Laid.{slowest, time_within, slowest_pairs}
@@ -24,7 +23,7 @@ use Rattle.pacing.specs.Shown.{shown_end}
 use Rattle.pacing.specs.Shelf.{film_lead}
 use Rattle.pacing.specs.Shelves.{slowest_in, slowest_above, shelf_within, slowest_less, next_named, slowest_last}
 use Rattle.plan.specs.Plan.{start_in, time_on, free_in, position_in, entries_of, first_in, others_in, time_in, worst2_in, worst2_of, worst_film_of, worst_at_of}
-use Rattle.plan.specs.Plan.{over_of, streams_of, slowest_of, margin_of, film_at, film_of, lead_in, buffer_size}
+use Rattle.plan.specs.Plan.{over_of, streams_of, slowest_of, margin_of, film_at, lead_in, buffer_size}
 use Rattle.plan.specs.Legal.{time_positive, time_small, some_film, film_two, start_ends, film_named, P as P_in_specs, N as N_in_specs, F as F_in_specs, legal_falling, worst2_above, halves_margin, lead_is}
 use Rattle.pacing.specs.Shelves as S
 

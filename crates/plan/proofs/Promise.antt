@@ -1,5 +1,5 @@
 -- Laws of what specs/Promise defines.
-use Rattle.std.specs.Prelude.{ℕ, suc, ◌+◌, ◌*◌, ◌-◌, ◌≤◌, ◌<◌, ◌≡◌, ◌≢◌}
+use Rattle.std.specs.Prelude.{ℕ, suc, ◌+◌, ◌*◌, ◌≤◌, ◌<◌, ◌≡◌, ◌≢◌}
 use Rattle.std.proofs.Common.{ap, arith, mul-le-mul_left}
 use Rattle.std.proofs.Math.Logic.{by_cases}
 use Rattle.std.proofs.Math.Decide.{dec_lt}
@@ -16,7 +16,7 @@ use Rattle.pacing.specs.Streams.{cap_of, load}
 use Rattle.pacing.specs.Laid.{pair_within}
 use Rattle.pacing.specs.Shelves.{shelf_is_paced, no_film_feeds_more}
 use Rattle.plan.specs.Plan.{start_in, time_on, free_in, position_in, time_in, worst2_in, worst2_of, over_of, streams_of}
-use Rattle.plan.specs.Plan.{slowest_of, margin_of, film_of, lead_in}
+use Rattle.plan.specs.Plan.{slowest_of, film_of, lead_in}
 use Rattle.plan.specs.Legal.{legal_falling, film_two, film_named, worst2_above}
 use Rattle.plan.proofs.Legal.{shelf_room, room_in_law, legal_laying, block_time_law, worst2_small}
 use Rattle.plan.specs.Legal.{lead_is, over_rises, streams_few}

@@ -23,7 +23,7 @@ use Rattle.plan.specs.Plan.{lead_in, leads_of}
 use Rattle.plan.specs.Disk.{walked_leads, shelf_leads, walked_worst, walked_at}
 use Rattle.plan.specs.Legal.{some_film, film_two, free_falling}
 use Rattle.plan.proofs.Legal.{room_in_law, margin_less, walked_lead}
-use Rattle.plan.specs.Answer.{plan_fault, fault_after, refusal, answer, planned, positions_after}
+use Rattle.plan.specs.Answer.{plan_fault, fault_after, refusal, planned, positions_after}
 use Rattle.plan.specs.Films.{rows_same}
 use Rattle.plan.specs.Scratch.{scratch_leads, leads_lent, entries_asked, lists_short}
 use Rattle.plan.specs.ScratchLaws.{scratch_short_law, scratch_long, short_leads_none}

@@ -10,7 +10,6 @@ use Rattle.card.specs.Card.{length_in}
 use Rattle.placement.specs.Placement.{Laying}
 use Rattle.placement.specs.Pairs.{worst_match}
 use Rattle.placement.specs.Showing.{pairs}
-use Rattle.pacing.specs.Streams.{load}
 use Rattle.plan.specs.Plan.{start_in, time_on, free_in, position_in, time_in, worst2_of, worst_at_of, streams_of, margin_of, lead_in, buffer_size}
 
 module _ (f : Figures) where

@@ -2,7 +2,7 @@
 -- Assumes nothing.
 use Rattle.std.specs.Prelude.{ℕ, suc, ◌+◌, ◌*◌, ◌-◌, ◌≤◌, ◌<◌, ◌≡◌, true, take}
 use Rattle.std.proofs.Math.Path.{refl}
-use Rattle.std.proofs.Common.{sym, ap, ◌∙◌, subst, mul-pos, mul-le-mul, mul-le-mul_left, lt-ltb}
+use Rattle.std.proofs.Common.{sym, ◌∙◌, subst, mul-pos, mul-le-mul, mul-le-mul_left, lt-ltb}
 use Rattle.std.proofs.Math.Logic.{by_cases}
 use native.Mathlib.Omega.{arith}
 use Rattle.std.proofs.Math.Decide.{dec_lt}
@@ -13,17 +13,15 @@ use Rattle.card.specs.declared.Figures.{Figures}
 use Rattle.card.specs.Card.{Legal, total_positions, length_in, blocks_of}
 use Rattle.card.specs.CardLaws.{table_rises}
 use Rattle.placement.specs.Placement.{Falling}
-use Rattle.placement.specs.Showing.{Showing, one, pairs, visits_of, visits_few}
+use Rattle.placement.specs.Showing.{Showing, pairs, visits_of, visits_few}
 use Rattle.placement.specs.Shelf.{falling_less}
 use Rattle.placement.specs.Zones.{total, total_first, time_at_positive, time_at_within, descending_first, zones_falling}
-use Rattle.pacing.specs.Film.{lead}
 use Rattle.pacing.specs.Streams.{cap_of, overhead_rises, streams_le}
 use Rattle.pacing.specs.Shelf.{name_of, film_of_name, block_of_name}
 use Rattle.pacing.specs.Shelves.{worst_above, shelf_lead, no_margin_shelf}
 use Rattle.plan.specs.Disk.{Zoned, Disk}
 use Rattle.plan.specs.Plan.{start_in, time_on, free_in, entries_of, time_in, worst2_in, worst2_of}
 use Rattle.plan.specs.Plan.{over_of, streams_of, margin_of, film_of, lead_in}
-use Rattle.pacing.specs.Shelves as S
 
 module _ {k : ℕ} (f : Figures) (ok : Legal k f) where
   -- P is the total of all the entries, those past the last zone being zero

@@ -1,6 +1,6 @@
 -- The blocks of a shelf by their names, 65,536 × film + block (document 02, ticket 14): which they are, where the lists have them, their sizes.
 -- Assumes nothing.
-use Rattle.std.specs.Prelude.{ℕ, ◌+◌, ◌*◌, ◌-◌, ◌<◌, ◌≡◌, true, List, ltb, get_or}
+use Rattle.std.specs.Prelude.{ℕ, ◌+◌, ◌*◌, ◌<◌, ◌≡◌, true, List, ltb, get_or}
 use Rattle.std.proofs.Common.{ap, ◌∙◌, arith, mul-le-mul_left, ltb-true, lt-ltb}
 use Rattle.laws.specs.Bools.{and_left, and_right, and_both}
 use Rattle.laws.specs.Through.{through_below}

@@ -1,7 +1,7 @@
 -- What the planner promises of the plan of legal figures: all that the desk relies on, and that no laying is better.
 -- Assumes nothing.
 use Rattle.std.specs.Prelude.{ℕ, ◌+◌, ◌*◌, ◌-◌, ◌≤◌, ◌<◌, ◌≡◌, refl}
-use Rattle.std.proofs.Common.{ap, arith}
+use Rattle.std.proofs.Common.{arith}
 use Rattle.laws.specs.Greatest.{greatest_of_reached}
 use Rattle.numbers.specs.Limits.{max_time}
 use Rattle.numbers.specs.Units.{parts, whole_bytes}

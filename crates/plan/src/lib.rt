@@ -83,14 +83,7 @@ pub fn blocks_before(blocks: &[u32; 16], films: u32) -> u32
     requires { (films ≤ max_films) × (start_of (λ i. get_or blocks.now i 0) films ≤ max_number) }
     ensures { result ≡ start_of (λ i. get_or blocks.now i 0) films }
 {
-    let count = films as usize;
-    let mut sum: u32 = 0;
-    let mut i: usize = 0;
-    while i < count {
-        sum += blocks[i];
-        i += 1;
-    }
-    sum
+    blocks[..films as usize].iter().sum()
 }
 
 // The single numbers among a plan's figures, and its films.
@@ -103,7 +96,7 @@ pub fn scalars_in(plan: Plan) -> Scalars
         kind: figures.kind,
         zones: figures.zones,
         films: figures.films,
-        blocks: blocks,
+        blocks,
         bytes: figures.bytes,
         rate: figures.rate,
     }
@@ -162,7 +155,7 @@ pub fn judged_figures_of(figures: Figures, visits: u32) -> CardRead
 {
     CardRead {
         verdict: card::judge_figures_of(figures, visits),
-        figures: figures,
+        figures,
     }
 }
 

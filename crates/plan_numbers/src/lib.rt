@@ -45,20 +45,16 @@ fn worst_of_films<'a>(
         (walked_at sizes.now times.now (showing_of showing) total blocks.now) films result.time result.first }
 {
     let visits = visits_of(showing);
-    let count = films as usize;
     let mut worst = Pair { time: 0, first: 0 };
     let mut free = total;
     let mut start: u32 = 0;
-    let mut i: usize = 0;
-    while i < count {
-        let film = blocks[i];
+    for &film in &blocks[..films as usize] {
         let all = visits * film;
         let own = worst_pair(sizes, times, showing, free, all);
         let time = visits * own.time;
         worst = worse(worst, time, start + own.first / visits);
         free -= all;
         start += film;
-        i += 1;
     }
     worst
 }
@@ -86,10 +82,10 @@ pub fn plan_numbers<'a>(
     let streams = count_streams(figures.rate, worst.time, table, figures.bytes, visits);
     let buffer = buffer_size(figures.rate, streams, margin, figures.bytes);
     Numbers {
-        streams: streams,
-        buffer: buffer,
+        streams,
+        buffer,
         worst2: worst.time,
-        margin: margin,
+        margin,
         showing: known_word(showing),
         worstat: worst.first,
     }

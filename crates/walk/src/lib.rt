@@ -1,7 +1,7 @@
 // One walk over a film, for one showing or a loop, in runs of blocks that lie in the same two zones: how long each block takes where it lies.
 #![tactic(auto)]
 
-ghost use Rattle.std.specs.Prelude.{◌≡◌, ◌+◌, ◌-◌, ◌%◌, ◌≤◌, ◌<◌, min};
+ghost use Rattle.std.specs.Prelude.{◌≡◌, ◌+◌, ◌-◌, ◌%◌, ◌≤◌, ◌<◌};
 ghost use Rattle.numbers.specs.Limits.{max_positions};
 ghost use Rattle.placement.specs.Placement.{zigzag};
 ghost use Rattle.placement.specs.Circle.{ring};
@@ -26,16 +26,6 @@ pub struct Walk {
     pub until: u32,
 }
 
-// The lesser of two numbers.
-pub fn lesser(a: u32, b: u32) -> u32
-    ensures { result ≡ min a b }
-{
-    if a < b {
-        return a;
-    }
-    b
-}
-
 // How far a film shown once stays in a zone of the even and one of the odd blocks: even positions rise, odd ones fall.
 fn once_end(total: u32, blocks: u32, b: u32, low: Zone, high: Zone) -> u32
     requires { Ends total blocks (zigzag total blocks) b low high }
@@ -43,7 +33,7 @@ fn once_end(total: u32, blocks: u32, b: u32, low: Zone, high: Zone) -> u32
 {
     let even = 2 * (low.end - (total - blocks));
     let odd = 2 * (total - high.first) + 1;
-    lesser(blocks, lesser(even, odd))
+    blocks.min(even.min(odd))
 }
 
 // The first block that is an even one above `even` or an odd one above `odd`.
@@ -51,7 +41,7 @@ fn first_past(even: u32, odd: u32) -> u32
     requires { (even ≤ max_positions) × (odd ≤ max_positions) }
     ensures { result ≡ first_past even odd }
 {
-    lesser(2 * (even / 2) + 2, 2 * ((odd + 1) / 2) + 1)
+    (2 * (even / 2) + 2).min(2 * ((odd + 1) / 2) + 1)
 }
 
 // How far a loop stays in a zone of the even and one of the odd blocks. Positions of the even ones rise and those of the odd ones fall; past half of
@@ -63,15 +53,15 @@ fn loop_end(total: u32, blocks: u32, b: u32, low: Zone, high: Zone) -> u32
     let below = total - blocks;
     let half = blocks / 2;
     if blocks % 2 == 1 {
-        return lesser(blocks, first_past(low.end - below, total - high.first));
+        return blocks.min(first_past(low.end - below, total - high.first));
     }
     if b < half {
-        return lesser(half + 1, first_past(low.end - below, total - high.first));
+        return (half + 1).min(first_past(low.end - below, total - high.first));
     }
     if b == half {
-        return lesser(blocks, b + 2);
+        return blocks.min(b + 2);
     }
-    lesser(blocks, first_past(total - low.first, high.end - below))
+    blocks.min(first_past(total - low.first, high.end - below))
 }
 
 // How far the laying of a showing stays in a zone of the even and one of the odd blocks, from block b on.
@@ -127,8 +117,8 @@ pub fn run_from<'a>(
     let inner = low.index;
     let outer = high.index;
     Walk {
-        low: low,
-        high: high,
+        low,
+        high,
         even: times[inner],
         odd: times[outer],
         until: run_end(showing, total, blocks, b, low, high),

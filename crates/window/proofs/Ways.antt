@@ -7,12 +7,10 @@ use mathlib.Core.List.{List}
 use native.Mathlib.Omega.{arith}
 use lib.Dec.{ltb, eqb}
 use borrow.Author.Tests.{eqb-false, ltb-false}
-use Rattle.laws.specs.Bools.{and_left, clash}
+use Rattle.laws.specs.Bools.{clash}
 use Rattle.laws.specs.Greatest.{Peak, peak_earliest, peak_same}
 use Rattle.numbers.specs.Limits.{max_window}
 use Rattle.numbers.specs.Refusals.{not_sound, wrong_window}
-use Rattle.card.specs.Card.{Legal}
-use Rattle.legality.specs.Legality.{Wide}
 use Rattle.placement.specs.Placement.{Falling}
 use Rattle.placement.specs.Showing.{Showing, visits_of, laying, walked, walked_single}
 use Rattle.placement.specs.Zones.{time_at}
@@ -20,8 +18,6 @@ use Rattle.pacing.specs.Window.{places_of, window_time, worst_window, window_at}
 use Rattle.pacing.proofs.HalfWindows.{walked_window, walked_window_at}
 use Rattle.plan.specs.declared.Plan.{Plan}
 use Rattle.plan.specs.Plan.{showing_in, longest_of}
-use Rattle.plan.specs.Answer.{has_numbers}
-use Rattle.plan.proofs.Check.{numbered}
 use Rattle.window.specs.declared.Window.{Window}
 use Rattle.worst_row.specs.Rows.{row_time}
 use Rattle.window.specs.Window.{worst_window_of, window_at_of, is_laid, is_outside, window_fault, refusal, window_answer}

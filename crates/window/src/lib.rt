@@ -2,7 +2,7 @@
 // whose time is that of both halves.
 #![tactic(auto)]
 
-ghost use Rattle.std.specs.Prelude.{◌≡◌, cond, suc, ◌*◌, ◌≤◌, ◌<◌, max, ltb};
+ghost use Rattle.std.specs.Prelude.{◌≡◌, cond, suc, ◌*◌, ◌≤◌, ◌<◌, ltb};
 ghost use Rattle.laws.specs.Greatest.{greatest_of};
 ghost use Rattle.laws.specs.Through.{Found};
 ghost use Rattle.numbers.specs.Limits.{no_number, max_films, max_window};
@@ -40,10 +40,7 @@ pub fn refused(number: u32) -> Window
     ensures { result ≡ refusal number }
 {
     Window {
-        verdict: Verdict {
-            number: number,
-            place: 0,
-        },
+        verdict: Verdict { number, place: 0 },
         time: 0,
         first: 0,
         bytes: 0,
@@ -156,30 +153,16 @@ fn worst_of_films<'a>(
         Found (film_window (showing_of showing) τ total N count) (film_window_at (showing_of showing) τ total N count) films result.time result.first }
 {
     let visits = visits_of(showing);
-    let number = films as usize;
     let mut worst = Pair { time: 0, first: 0 };
     let mut free = total;
     let mut start: u32 = 0;
-    let mut i: usize = 0;
-    while i < number {
-        let film = blocks[i];
+    for &film in &blocks[..films as usize] {
         let own = film_window(sizes, times, showing, free, film, count);
         worst = worse(worst, own.time, start + own.first);
         free -= visits * film;
         start += film;
-        i += 1;
     }
     worst
-}
-
-// The greater of two numbers.
-fn greater(a: u32, b: u32) -> u32
-    ensures { result ≡ max a b }
-{
-    if a < b {
-        return b;
-    }
-    a
 }
 
 // The blocks of the longest film.
@@ -187,12 +170,9 @@ pub fn longest(blocks: &[u32; 16], films: u32) -> u32
     requires { films ≤ max_films }
     ensures { result ≡ greatest_of (length_at blocks.now) films }
 {
-    let number = films as usize;
     let mut most: u32 = 0;
-    let mut i: usize = 0;
-    while i < number {
-        most = greater(most, blocks[i]);
-        i += 1;
+    for &film in &blocks[..films as usize] {
+        most = most.max(film);
     }
     most
 }

@@ -11,7 +11,7 @@ ghost use Rattle.plan.specs.Plan.{walk_of};
 ghost use Rattle.plan.specs.Disk.{Zoned, OnDisk};
 ghost use Rattle.worst_row.specs.Rows.{max_row, past, Comes, Stands, row_time, Slides};
 
-use walk::{Walk, lesser, set_out, side, walk_on};
+use walk::{Walk, set_out, side, walk_on};
 use worst_pair::{Pair, worse};
 
 // A walk that has passed a block: its time, and the block that comes next.
@@ -94,7 +94,7 @@ fn step_on<'a>(
     let b = at.next;
     let walk = walk_to(sizes, times, showing, total, blocks, at.walk, b);
     Step {
-        walk: walk,
+        walk,
         time: side(b, walk.even, walk.odd),
         next: following(blocks, b),
     }
@@ -117,16 +117,11 @@ fn first_row<'a>(
 {
     let mut ahead = start(sizes);
     let mut sum: u32 = 0;
-    let mut i: u32 = 0;
-    while i < count {
+    for _ in 0..count {
         ahead = step_on(sizes, times, showing, total, blocks, ahead);
         sum += ahead.time;
-        i += 1;
     }
-    Row {
-        ahead: ahead,
-        time: sum,
-    }
+    Row { ahead, time: sum }
 }
 
 // The row that has slid on to a block: its time, and the worst up to it.
@@ -145,18 +140,12 @@ fn slide(ahead: Walk, behind: Walk, front: u32, from: u32, to: u32, row: Slid) -
 {
     let mut sum = row.sum;
     let mut worst = row.worst;
-    let mut a = front;
-    let mut b = from;
-    while b < to {
+    for b in from..to {
+        let a = front + (b - from);
         sum = sum + side(a, ahead.even, ahead.odd) - side(b, behind.even, behind.odd);
-        a += 1;
-        b += 1;
-        worst = worse(worst, sum, b);
+        worst = worse(worst, sum, b + 1);
     }
-    Slid {
-        sum: sum,
-        worst: worst,
-    }
+    Slid { sum, worst }
 }
 
 // The worst row of `count` blocks of those that start at block 0 to `last`, the earliest where several are equal; `total` is P.
@@ -188,7 +177,7 @@ pub fn worst_row<'a>(
     while b < last {
         ahead = walk_to(sizes, times, showing, total, blocks, ahead, a);
         behind = walk_to(sizes, times, showing, total, blocks, behind, b);
-        let to = lesser(last, lesser(behind.until, b + (ahead.until - a)));
+        let to = last.min(behind.until.min(b + (ahead.until - a)));
         row = slide(ahead, behind, a, b, to, row);
         a = following(blocks, a + (to - b) - 1);
         b = to;

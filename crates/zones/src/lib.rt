@@ -20,14 +20,7 @@ pub fn sum_positions(sizes: &[u32; 64], zones: u32) -> u32
     requires { (Zoned sizes.now) × (zones ≤ max_zones) }
     ensures { result ≡ total (take zones sizes.now) }
 {
-    let count = zones as usize;
-    let mut sum: u32 = 0;
-    let mut i: usize = 0;
-    while i < count {
-        sum += sizes[i];
-        i += 1;
-    }
-    sum
+    sizes[..zones as usize].iter().sum()
 }
 
 // The innermost zone.
@@ -52,11 +45,7 @@ fn zone_above(sizes: &[u32; 64], at: Zone, q: u32) -> Zone
         let index = zone.index + 1;
         let first = zone.end;
         let end = first + sizes[index];
-        zone = Zone {
-            index: index,
-            first: first,
-            end: end,
-        };
+        zone = Zone { index, first, end };
     }
     zone
 }
@@ -71,11 +60,7 @@ fn zone_below(sizes: &[u32; 64], at: Zone, q: u32) -> Zone
         let index = zone.index - 1;
         let end = zone.first;
         let first = end - sizes[index];
-        zone = Zone {
-            index: index,
-            first: first,
-            end: end,
-        };
+        zone = Zone { index, first, end };
     }
     zone
 }

@@ -9,7 +9,7 @@ sub-first-past c = low_room c.requires
 returns : tie.Need-returns-then-blocks-eq1
 returns c = let f = c in
     let t = c in
-    rw (c.lesser.ensures, f.first_past.ensures) (odd_run t.requires t.if-blocks-eq1.true)
+    rw (c.min.ensures, f.first_past.ensures) (odd_run t.requires t.if-blocks-eq1.true)
 
 sub-first-past-3 : tie.Need-overflow_sub-low-then-b-half
 sub-first-past-3 c = low_room c.requires
@@ -17,10 +17,10 @@ sub-first-past-3 c = low_room c.requires
 returns-2 : tie.Need-returns-then-b-half
 returns-2 c = let f = c in
     let t = c in
-    rw (c.lesser-then-b-half.ensures, f.first_past-then-b-half.ensures) (early_run t.requires t.if-blocks-eq1.false t.if-b-half.true)
+    rw (c.min-then-b-half.ensures, f.first_past-then-b-half.ensures) (early_run t.requires t.if-blocks-eq1.false t.if-b-half.true)
 
 returns-3 : tie.Need-returns-then-b-half-2
-returns-3 c = rw c.lesser-then-b-half-2.ensures (turn_run c.requires)
+returns-3 c = rw c.min-then-b-half-2.ensures (turn_run c.requires)
 
 sub-first-past-6 : tie.Need-overflow_sub-high
 sub-first-past-6 c = high_room c.requires
@@ -28,7 +28,7 @@ sub-first-past-6 c = high_room c.requires
 returns-4 : tie.Need-returns
 returns-4 c = let f = c in
     let t = c in
-    rw (c.lesser-2.ensures, f.first_past-2.ensures)
+    rw (c.min-2.ensures, f.first_past-2.ensures)
     (late_run t.requires t.if-blocks-eq1.false t.if-b-half.false t.if-b-half-2.false)
 
 pub loop_end_spec : {M : Type 1} → statement M

@@ -7,7 +7,7 @@ sub-even-2 : tie.Need-overflow_sub-even-2
 sub-even-2 c = once_low c.requires
 
 returns : tie.Need-returns
-returns c = rw (c.lesser-2.ensures, c.lesser.ensures) (once_run c.requires)
+returns c = rw (c.min-2.ensures, c.min.ensures) (once_run c.requires)
 
 pub once_end_spec : {M : Type 1} → statement M
 once_end_spec =

@@ -1,5 +1,5 @@
 use Prim.Native.Nat.{ℕ, ◌*◌, ◌≤◌, ◌<◌}
-use mathlib.Core.Path.{◌≡◌, sym, ap, subst}
+use mathlib.Core.Path.{sym, subst}
 use native.Mathlib.Nat.{mul-pos, mul-le-mul, mul-le-mul_left}
 use native.Mathlib.Omega.{arith}
 use Rattle.placement.specs.Showing.{visits_few}

@@ -52,8 +52,8 @@ walk-to-requires-2 c κs = let l = c.loop-b in
     let s = c in
     (s.requires.0, l.invariant.rear, omega (arith, l.invariant.within, s.requires.2))
 
-add-lesser : tie.Need-overflow_add-b invariant-loop decreases-loop
-add-lesser c = let l = c in
+add-min : tie.Need-overflow_add-b invariant-loop decreases-loop
+add-min c = let l = c in
     let s = c in
     let f = s.requires.0 in
     omega (arith, c.walk_to-ahead.ensures.film, c.loop-b-test.true, s.requires.2, f.room, f.whole, f.disk.zoned.small)
@@ -66,24 +66,24 @@ record Far (N last : ℕ) (ahead : Walk) (a : ℕ) (behind : Walk) (b to : ℕ) 
   far : to ≤ behind.until
   film : ahead.until ≤ N
 
-far : (c : tie.After-lesser-to invariant-loop decreases-loop)
+far : (c : tie.After-min-to invariant-loop decreases-loop)
     → (let w = c.before.before.before in let l = w.loop-b in
     let a = w.args in
-    Far a.blocks a.last w.walk_to-ahead.result l.a w.walk_to-behind.result l.b c.lesser-to.result)
+    Far a.blocks a.last w.walk_to-ahead.result l.a w.walk_to-behind.result l.b c.min-to.result)
 far c = let w = c in
     let i = w.walk_to-ahead.ensures.within in
     let o = w.walk_to-behind.ensures.within in
     let u = w.loop-b-test.true in
-    let e = c.lesser.ensures in
-    let d = c.lesser-to.ensures in
+    let e = c.min.ensures in
+    let d = c.min-to.ensures in
     record { on = omega arith; within = omega arith; near = omega arith; far = omega arith; film = w.walk_to-ahead.ensures.film }
 
 -- the rows slide
-run : (c : tie.After-lesser-to invariant-loop decreases-loop)
+run : (c : tie.After-min-to invariant-loop decreases-loop)
     → (let w = c.before.before.before in let l = w.loop-b in
     let a = w.args in
     Slides (row_time a.sizes.now a.times.now (laying (walk_of a.showing) a.total a.blocks) a.blocks a.count)
-    w.walk_to-ahead.result w.walk_to-behind.result l.a l.b c.lesser-to.result l.row.sum l.row.worst)
+    w.walk_to-ahead.result w.walk_to-behind.result l.a l.b c.min-to.result l.row.sum l.row.worst)
 run c = let w = c in
     let l = w.loop-b in
     let s = c in
@@ -112,7 +112,7 @@ loop-again c = let w = c in
     let s = c in
     let a = s.args in
     let L = laying (walk_of a.showing) a.total a.blocks in
-    let to = c.lesser-to.result in
+    let to = c.min-to.result in
     let f = far c.before.before in
     let r = c.slide-row.ensures _ (run c.before.before) in
     let inside : to < a.blocks = omega (arith, f.within, s.requires.2) in
@@ -144,7 +144,7 @@ worst_row_spec =
     walk-to-requires
     walk-to-requires-2
     (λ c. omega (arith, c.walk_to-ahead.ensures.within))
-    add-lesser
+    add-min
     (λ c κs. search rules)
     (λ c κs. search rules)
     slide-requires
