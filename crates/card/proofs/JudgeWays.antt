@@ -1,19 +1,20 @@
 -- Each way that the code of the judge can take.
 -- Assumes nothing.
-use Prim.Native.Nat.{ℕ, zero, suc, ◌+◌, ◌≤◌, ◌<◌}
+use Prim.Native.Nat.{ℕ, zero, suc, ◌+◌, ◌-◌, ◌≤◌, ◌<◌}
 use mathlib.Core.Path.{◌≡◌, refl, ap, ◌∙◌}
 use mathlib.Core.Bool.{Bool, true, false, cond, ◌&&◌}
-use mathlib.Core.List.{List}
+use mathlib.Core.List.{List, [], ◌∷◌}
+use Rattle.std.specs.List.{list_all}
+use borrow.Rule.Slice.PartMut.{mid_of}
 use native.Mathlib.Omega.{arith}
-use lib.ListN.{length, get_or, drop_of_length-le}
-use lib.Seq.{drop-cons}
+use lib.ListN.{length, get_or, take, drop}
+use lib.Seq.{take-length}
+use Rattle.std.proofs.Common.{length-drop}
 use lib.Dec.{eqb}
-use borrow.Author.Tests.{eq-eqb, ne_eqb}
 use Rattle.card.specs.declared.Figures.{Figures}
 use Rattle.card_field.specs.declared.Rule.TheVariants.{Positions}
 use Rattle.laws.specs.Runs.{all_by}
-use Rattle.numbers.specs.Limits.{max_zones, max_films}
-use Rattle.numbers.specs.Refusals.{wrong_zones, wrong_films}
+use Rattle.numbers.specs.Refusals.{wrong_zones}
 use Rattle.card.specs.Card.{zeros, film_fault, zone_faults, zeros_from}
 use Rattle.card_field.specs.Ranges.{fault_of, time_fault}
 use Rattle.card_field.specs.Row.{row_fault}
@@ -68,46 +69,30 @@ module _ {A : Type 0} (judge : A → ℕ → ℕ) (after : A → ℕ → A) (x :
       let q : fewer ≡ left = omega arith in
       ap (λ (n : ℕ). row_fault judge after n (after x (get_or vs i 0)) (i + 1) vs) q ∙ first_goes e _ z
 
--- ---- the unused films
+-- ---- unused entries
 
-module _ (ns : List ℕ) (i : ℕ) (w : length ns ≡ max_films) where
-  idle_here : i < max_films → zeros i ns ≡ (eqb (get_or ns i 0) 0 && zeros (suc i) ns)
-  unfolding all_by
-  idle_here h = rw (drop-cons ns i 0 (omega arith))
+-- the test of the code is that of `zeros`
+pub all_zeros : (vs : List ℕ) → list_all (λ v. eqb v 0) vs ≡ all_by (λ v. eqb v 0) vs
+unfolding all_by
+all_zeros [] = refl
+all_zeros (v ∷ vs) = ap (λ (t : Bool). eqb v 0 && t) (all_zeros vs)
 
-  pub idle_film : i < max_films → (get_or ns i 0 ≡ 0 → ⊥) → ◌≡◌ {A = ℕ} wrong_films (cond (zeros i ns) 0 wrong_films)
-  idle_film h n = rw (idle_here h, ne_eqb _ _ n)
+-- the entries of a list from the i-th on, lent
+pub zeros_rest : (i n : ℕ) (vs : List ℕ) → n ≡ length vs - i → zeros 0 (mid_of i n vs) ≡ zeros i vs
+zeros_rest i n vs h =
+    let all : n ≡ length (drop i vs) = omega (arith, length-drop i vs) in
+    ap (λ (ws : List ℕ). zeros 0 ws) (ap (λ (k : ℕ). take k (drop i vs)) all ∙ take-length (drop i vs))
 
-  pub idle_more : i < max_films → get_or ns i 0 ≡ 0 → zeros (i + 1) ns ≡ zeros i ns
-  idle_more h z = let e : i + 1 ≡ suc i = omega arith in rw (e, idle_here h, eq-eqb _ _ z)
+-- the unused zones: their positions, then their times
+module _ (i : ℕ) (ps ts : List ℕ) where
+  pub unused_clear : zeros i ps ≡ true → zeros i ts ≡ true → ◌≡◌ {A = ℕ} 0 (cond (zeros_from i ps ts) 0 wrong_zones)
+  unfolding zeros_from
+  unused_clear p t = rw (p, t)
 
-  pub idle_end : max_films ≤ i → ◌≡◌ {A = ℕ} 0 (cond (zeros i ns) 0 wrong_films)
-  unfolding all_by
-  idle_end h = rw (drop_of_length-le ns {i = i} (omega arith))
+  pub unused_positions : zeros i ps ≡ false → ◌≡◌ {A = ℕ} wrong_zones (cond (zeros_from i ps ts) 0 wrong_zones)
+  unfolding zeros_from
+  unused_positions p = rw p
 
--- ---- the unused zones
-
-module _ (ps ts : List ℕ) (i : ℕ) (p : length ps ≡ max_zones) (t : length ts ≡ max_zones) where
-  zeros_here : i < max_zones → zeros_from i ps ts ≡ ((eqb (get_or ps i 0) 0 && zeros (suc i) ps) && (eqb (get_or ts i 0) 0 && zeros (suc i) ts))
-  unfolding zeros_from all_by
-  zeros_here h = rw (drop-cons ps i 0 (omega arith), drop-cons ts i 0 (omega arith))
-
-  pub unused_positions : i < max_zones → (get_or ps i 0 ≡ 0 → ⊥) → ◌≡◌ {A = ℕ} wrong_zones (cond (zeros_from i ps ts) 0 wrong_zones)
-  unused_positions h n = rw (zeros_here h, ne_eqb _ _ n)
-
-  pub unused_times : i < max_zones → get_or ps i 0 ≡ 0 → (get_or ts i 0 ≡ 0 → ⊥) → ◌≡◌ {A = ℕ} wrong_zones (cond (zeros_from i ps ts) 0 wrong_zones)
-  unused_times h z n = rw (zeros_here h, eq-eqb _ _ z, ne_eqb _ _ n) (go (zeros (suc i) ps))
-    where
-      go : (x : Bool) → ◌≡◌ {A = ℕ} wrong_zones (cond ((true && x) && false) 0 wrong_zones)
-      go true = refl
-      go false = refl
-
-  pub unused_more : i < max_zones → get_or ps i 0 ≡ 0 → get_or ts i 0 ≡ 0 → zeros_from (i + 1) ps ts ≡ zeros_from i ps ts
-  unused_more h z y = let e : i + 1 ≡ suc i = omega arith in rw (e, zeros_here h, eq-eqb _ _ z, eq-eqb _ _ y) (last e)
-    where
-      last : i + 1 ≡ suc i → zeros_from (suc i) ps ts ≡ (zeros (suc i) ps && zeros (suc i) ts)
-      last e = unfold zeros_from in refl
-
-  pub unused_end : max_zones ≤ i → ◌≡◌ {A = ℕ} 0 (cond (zeros_from i ps ts) 0 wrong_zones)
-  unfolding zeros_from all_by
-  unused_end h = rw (drop_of_length-le ps {i = i} (omega arith), drop_of_length-le ts {i = i} (omega arith))
+  pub unused_times : zeros i ps ≡ true → zeros i ts ≡ false → ◌≡◌ {A = ℕ} wrong_zones (cond (zeros_from i ps ts) 0 wrong_zones)
+  unfolding zeros_from
+  unused_times p t = rw (p, t)

@@ -11,22 +11,25 @@ ghost use Rattle.card.specs.Read.{figures_from};
 use crate::{Figures, Scalars};
 use card_field::{Rule, fault, fault_of_blocks, fault_of_time};
 use card_table::fault_of_table;
-use numbers::limits::{MAX_BYTES, MAX_FILMS, MAX_RATE, MAX_TIME, MAX_ZONES};
+use numbers::limits::{MAX_BYTES, MAX_RATE, MAX_TIME};
 use numbers::refusals::{WRONG_FILMS, WRONG_ZONES};
+
+// Whether each number of a list is zero.
+fn all_zero(list: &[u32]) -> bool
+    ensures { result ≡ zeros 0 list.now }
+{
+    list.iter().all(|&v| v == 0)
+}
 
 // 30 where an entry past the films is not zero, else 0.
 fn fault_of_idle(films: u32, blocks: &[u32; 16]) -> u32
     requires { (films ≤ max_films) × (length blocks.now ≡ max_films) }
     ensures { result ≡ cond (zeros films blocks.now) 0 wrong_films }
 {
-    let mut i = films as usize;
-    while i < MAX_FILMS as usize {
-        if blocks[i] != 0 {
-            return WRONG_FILMS;
-        }
-        i += 1;
+    if all_zero(&blocks[films as usize..]) {
+        return 0;
     }
-    0
+    WRONG_FILMS
 }
 
 // N of each film, of which each block takes so many positions.
@@ -35,15 +38,12 @@ fn fault_of_lengths(visits: u32, total: u32, films: u32, blocks: &[u32; 16]) -> 
     ensures { result ≡ row_fault (blocks_fault visits total) ◌+◌ films 0 0 blocks.now }
 {
     let mut sofar: u32 = 0;
-    let mut i: usize = 0;
-    while i < films as usize {
-        let n = blocks[i];
+    for &n in &blocks[..films as usize] {
         let number = fault_of_blocks(visits, total, sofar, n);
         if number != 0 {
             return number;
         }
         sofar += n;
-        i += 1;
     }
     0
 }
@@ -99,10 +99,7 @@ fn fault_of_zones<'a>(zones: u32, positions: &'a [u32; 64], times: &'a [u32; 64]
     let innermost = times[0];
     let mut total: u32 = 0;
     let mut before: u32 = MAX_TIME;
-    let mut i: usize = 0;
-    while i < zones as usize {
-        let count = positions[i];
-        let time = times[i];
+    for (&count, &time) in positions[..zones as usize].iter().zip(times) {
         let few = fault(Rule::Positions, total, count);
         if few != 0 {
             return Judged::Refused(few);
@@ -113,7 +110,6 @@ fn fault_of_zones<'a>(zones: u32, positions: &'a [u32; 64], times: &'a [u32; 64]
         }
         total += count;
         before = time;
-        i += 1;
     }
     Judged::Total(total)
 }
@@ -123,17 +119,11 @@ fn fault_of_unused<'a>(zones: u32, positions: &'a [u32; 64], times: &'a [u32; 64
     requires { (zones ≤ max_zones) × (length positions.now ≡ max_zones) × (length times.now ≡ max_zones) }
     ensures { result ≡ cond (zeros_from zones positions.now times.now) 0 wrong_zones }
 {
-    let mut i = zones as usize;
-    while i < MAX_ZONES as usize {
-        if positions[i] != 0 {
-            return WRONG_ZONES;
-        }
-        if times[i] != 0 {
-            return WRONG_ZONES;
-        }
-        i += 1;
+    let zones = zones as usize;
+    if all_zero(&positions[zones..]) && all_zero(&times[zones..]) {
+        return 0;
     }
-    0
+    WRONG_ZONES
 }
 
 // The refusal of figures whose arrays are lent, 0 where they are legal; each block takes so many positions.

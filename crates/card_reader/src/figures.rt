@@ -75,8 +75,7 @@ pub fn read_zones(
     let mut at = start;
     let mut total: u32 = 0;
     let mut before: u32 = MAX_TIME;
-    let mut i: usize = 0;
-    while i < zones as usize {
+    for i in 0..zones as usize {
         let first = read_field(card, at, Rule::Positions, total);
         let Field::Value(positions, middle) = first else {
             return first;
@@ -91,7 +90,6 @@ pub fn read_zones(
         total += positions;
         before = time;
         at = next;
-        i += 1;
     }
     Field::Value(total, at)
 }

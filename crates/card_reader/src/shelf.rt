@@ -23,8 +23,7 @@ fn read_lengths(
 {
     let mut at = start;
     let mut sofar: u32 = 0;
-    let mut i: usize = 0;
-    while i < films as usize {
+    for i in 0..films as usize {
         let film = read_blocks(card, at, visits, total, sofar);
         let Field::Value(n, next) = film else {
             return film;
@@ -32,7 +31,6 @@ fn read_lengths(
         blocks[i] = n;
         sofar += n;
         at = next;
-        i += 1;
     }
     Field::Value(sofar, at)
 }

@@ -7,7 +7,7 @@ ghost use Rattle.card_reader.specs.Told.{row_with};
 
 use card_field::{Field, Rule, read_field};
 use card_table::fill_straight;
-use numbers::limits::{MAX_MOVE, STRAIGHT, TABLE_LENGTH};
+use numbers::limits::{MAX_MOVE, STRAIGHT};
 
 // Hop and return, and the table that they make.
 fn read_moves(card: &[u8], at: usize, table: &mut [u32; 257]) -> Field
@@ -33,16 +33,14 @@ fn read_entries(card: &[u8], start: usize, table: &mut [u32; 257]) -> Field
 {
     let mut at = start;
     let mut before: u32 = 0;
-    let mut k: usize = 0;
-    while k < TABLE_LENGTH as usize {
-        let entry = read_field(card, at, Rule::Overhead, before);
-        let Field::Value(overhead, next) = entry else {
-            return entry;
+    for entry in table.iter_mut() {
+        let field = read_field(card, at, Rule::Overhead, before);
+        let Field::Value(overhead, next) = field else {
+            return field;
         };
-        table[k] = overhead;
+        *entry = overhead;
         before = overhead;
         at = next;
-        k += 1;
     }
     Field::Value(before, at)
 }

@@ -2,9 +2,9 @@
 -- Assumes nothing.
 use Prim.Native.Nat.{ℕ, suc, ◌+◌, ◌*◌, ◌≤◌, ◌<◌}
 use mathlib.Core.Path.{◌≡◌, refl, sym, ◌∙◌, subst}
-use mathlib.Core.Logic.{inl, inr, by_cases}
+use mathlib.Core.Logic.{inr, by_cases}
 use mathlib.Core.List.{List}
-use mathlib.Core.Bool.{Bool, true, false, cond, true≢false}
+use mathlib.Core.Bool.{Bool, true, false, cond}
 use native.Mathlib.Omega.{arith}
 use native.Mathlib.Nat.{mul-le-mul}
 use native.Mathlib.Decide.{ℕ_discrete}
@@ -46,47 +46,22 @@ module _ (hop back : ℕ) (table : List ℕ) (value k : ℕ) (f : Filled hop bac
   filled_all h = ext_get_or 0 table (straight hop back) (f.long ∙ sym (straight_long hop back))
       (λ i l. f.on i (omega (arith, f.long)) ∙ sym (straight_at hop back i (omega (arith, f.long))))
 
--- ---- a loop that looks at each of n places and keeps the refusal of a bad one
+-- ---- the entries of hop and return, one by one
 
-module _ (wrong n : ℕ) (Good : ℕ → Type 0) where
-  abbrev pub All : Type 0
-  All = (i : ℕ) → i < n → Good i
+module _ (t : List ℕ) (hop back : ℕ) where
+  pub line_broken : (k : ℕ) → k < table_length → (get_or t k 0 ≡ hop * k + back → ⊥) → wrong_measure ≡ cond (is_line table_length 0 t hop back) 0 wrong_measure
+  line_broken k h n = by (is_line table_length 0 t hop back) refl
+    where
+      by : (x : Bool) → is_line table_length 0 t hop back ≡ x → ◌≡◌ {A = ℕ} wrong_measure (cond x 0 wrong_measure)
+      by true e = absurd (n (line_at table_length 0 t hop back e k (omega arith) (omega arith)))
+      by false e = refl
 
-  pub record Seen (number k : ℕ) : Type 0 where
-    pub clear : number ≡ 0 → (i : ℕ) → i < k → Good i
-    pub broken : (number ≡ 0 → ⊥) → (number ≡ wrong) × (All → ⊥)
+  pub line_whole : ((k : ℕ) → k < table_length → get_or t k 0 ≡ hop * k + back) → ◌≡◌ {A = ℕ} 0 (cond (is_line table_length 0 t hop back) 0 wrong_measure)
+  line_whole h = rw (at_line table_length 0 t hop back (λ k l u. h k (omega arith)))
 
-  pub seen_none : Seen 0 0
-  seen_none = record { clear = λ e i h. absurd (omega arith); broken = λ n. absurd (n refl) }
-
-  pub seen_good : (number k : ℕ) {m : ℕ} → m ≡ number → Good k → Seen number k → Seen m (k + 1)
-  seen_good number k same g s = subst (λ (m : ℕ). Seen m (k + 1)) (sym same) (record {
-    clear = λ e i h. by_cases (ℕ_discrete k i) (λ q. subst Good q g) (λ q. s.clear e i (omega arith));
-    broken = s.broken;
-  })
-
-  pub seen_bad : (k : ℕ) {m : ℕ} → m ≡ wrong → 0 < wrong → k < n → (Good k → ⊥) → Seen m (k + 1)
-  seen_bad k same w h b = record { clear = λ e. absurd (omega arith); broken = λ q. (same, λ a. b (a k h)) }
-
-  pub seen_all : (number k : ℕ) → n ≤ k → Seen number k → Judges number wrong All
-  seen_all number k h s = by_cases (ℕ_discrete number 0) (λ e. inl (e, λ i l. s.clear e i (omega arith))) (λ e. inr (s.broken e))
-
--- the entries of hop and return, one by one
-pub line_judged : (t : List ℕ) (hop back number : ℕ) → Judges number wrong_measure (All wrong_measure table_length (λ k. get_or t k 0 ≡ hop * k + back))
-    → number ≡ cond (is_line table_length 0 t hop back) 0 wrong_measure
-line_judged t hop back number j =
-    judges_same j (test (is_line table_length 0 t hop back)) (λ a. at_line table_length 0 t hop back (λ i l h. a i (omega arith)))
-    (λ e i h. line_at table_length 0 t hop back e i (omega arith) (omega arith))
-  where
-    test : (x : Bool) → Judges (cond x 0 wrong_measure) wrong_measure (x ≡ true)
-    test true = inl (refl, refl)
-    test false = inr (refl, λ e. true≢false (sym e))
-
--- no entry below the one before, one by one
-pub fall_judged : (t : List ℕ) (number : ℕ) → Judges number wrong_overhead (All wrong_overhead max_streams (λ k. get_or t k 0 ≤ get_or t (k + 1) 0))
-    → Judges number wrong_overhead (NoFall t)
-fall_judged t number (inl (e, a)) = inl (e, λ k h. let q : k + 1 ≡ suc k = omega arith in rw q at (a k (omega arith)))
-fall_judged t number (inr (e, n)) = inr (e, λ f. n (λ k h. let q : k + 1 ≡ suc k = omega arith in rw q (f k (omega arith))))
+-- an entry below the one before
+pub falls_at : (t : List ℕ) (k : ℕ) → k + 1 < table_length → get_or t (k + 1) 0 < get_or t k 0 → NoFall t → ⊥
+falls_at t k h below rises = let next : k + 1 ≡ suc k = omega arith in omega (arith, rises k (omega arith), rw next at below)
 
 -- ---- a table of kind 2
 

@@ -9,7 +9,7 @@ ghost use Rattle.card_table.specs.TableLaws.{NoFall};
 ghost use Rattle.card_table.specs.TableFaults.{Judges};
 
 use card_field::{Rule, fault};
-use numbers::limits::{MAX_MOVE, MAX_OVERHEAD, MAX_STREAMS, STRAIGHT, TABLE_LENGTH};
+use numbers::limits::{MAX_MOVE, MAX_OVERHEAD, MAX_STREAMS, STRAIGHT};
 use numbers::refusals::{WRONG_MEASURE, WRONG_OVERHEAD};
 
 // The hop of a table; 0 where its entries fall.
@@ -30,11 +30,9 @@ pub fn fill_straight(table: &mut [u32; 257], hop: u32, back: u32)
     ensures { table.new ≡ straight hop back }
 {
     let mut value = back;
-    let mut k: usize = 0;
-    while k < TABLE_LENGTH as usize {
-        table[k] = value;
+    for entry in table.iter_mut() {
+        *entry = value;
         value += hop;
-        k += 1;
     }
 }
 
@@ -43,17 +41,14 @@ fn fault_of_line(table: &[u32; 257], hop: u32, back: u32) -> u32
     requires { (hop ≤ max_move) × (back ≤ max_move) }
     ensures { result ≡ cond (is_line table_length 0 table.now hop back) 0 wrong_measure }
 {
-    let mut number: u32 = 0;
     let mut expected = back;
-    let mut i: usize = 0;
-    while i < TABLE_LENGTH as usize {
-        if table[i] != expected {
-            number = WRONG_MEASURE;
+    for &entry in table {
+        if entry != expected {
+            return WRONG_MEASURE;
         }
         expected += hop;
-        i += 1;
     }
-    number
+    0
 }
 
 // A table of kind 1: its hop, its return, then each of its entries.
@@ -77,15 +72,7 @@ fn fault_of_straight(table: &[u32; 257]) -> u32
 fn fault_of_fall(table: &[u32; 257]) -> u32
     ensures { Judges result wrong_overhead (NoFall table.now) }
 {
-    let mut number: u32 = 0;
-    let mut k: usize = 0;
-    while k < MAX_STREAMS as usize {
-        if table[k + 1] < table[k] {
-            number = WRONG_OVERHEAD;
-        }
-        k += 1;
-    }
-    number
+    if table.is_sorted() { 0 } else { WRONG_OVERHEAD }
 }
 
 // A table of kind 2. If no entry is below the one before, all are in range where the first and the last are: law `ends_measured`.

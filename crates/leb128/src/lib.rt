@@ -43,8 +43,7 @@ pub fn read_number(s: &[u8], start: usize) -> Number
     let mut sum: u64 = 0;
     let mut shift: u64 = 0;
     let mut at = start;
-    let mut left: u8 = 5;
-    while 0 < left {
+    for turn in 0..5u8 {
         if s.len() <= at {
             return Number::CutOff(s.len());
         }
@@ -55,7 +54,6 @@ pub fn read_number(s: &[u8], start: usize) -> Number
         sum += (b % 128) << shift;
         shift += 7;
         at += 1;
-        left -= 1;
     }
     Number::Malformed(start)
 }
