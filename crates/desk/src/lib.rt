@@ -68,7 +68,7 @@ pub fn fresh_desk(plan: Plan) -> Desk
     ensures { result ≡ fresh_desk plan }
 {
     Desk {
-        plan: plan,
+        plan,
         phase: 0,
         kinds: zeros(),
         next: zeros(),
@@ -88,10 +88,7 @@ pub fn blank_desk() -> Desk
 pub fn verdict(number: u32, place: usize) -> Verdict
     ensures { result ≡ verdict number place }
 {
-    Verdict {
-        number: number,
-        place: place,
-    }
+    Verdict { number, place }
 }
 
 // A desk with them.
@@ -99,11 +96,8 @@ pub fn answer_with(desk: Desk, number: u32, place: usize) -> Answer
     ensures { result ≡ answers desk number place }
 {
     Answer {
-        verdict: Verdict {
-            number: number,
-            place: place,
-        },
-        desk: desk,
+        verdict: Verdict { number, place },
+        desk,
     }
 }
 
@@ -137,11 +131,8 @@ pub fn not_begun(desk: Desk, number: u32) -> Begun
     ensures { result ≡ not_begun desk number }
 {
     Begun {
-        verdict: Verdict {
-            number: number,
-            place: 0,
-        },
-        desk: desk,
+        verdict: Verdict { number, place: 0 },
+        desk,
         bound: 0,
         fetches: no_fetches(),
     }

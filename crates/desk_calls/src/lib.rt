@@ -11,8 +11,5 @@ use layout::{FilmdiskAnswer, verdict_answer};
 pub fn number_answer(number: u32) -> FilmdiskAnswer
     ensures { result ≡ refused_by number }
 {
-    verdict_answer(Verdict {
-        number: number,
-        place: 0,
-    })
+    verdict_answer(Verdict { number, place: 0 })
 }

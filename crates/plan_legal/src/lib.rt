@@ -43,7 +43,7 @@ fn not_made(number: u32) -> Made
     ensures { result.number ≡ number }
 {
     Made {
-        number: number,
+        number,
         plan: Numbers {
             streams: 0,
             buffer: 0,
@@ -107,10 +107,7 @@ pub fn plan_legal<'a>(
         return not_made(number);
     }
     let worst2 = own.worst2;
-    let made = Made {
-        number: number,
-        plan: own,
-    };
+    let made = Made { number, plan: own };
     let total = sum_positions(sizes, figures.zones);
     write_shelf_positions(showing, total, &blocks, films, positions);
     if !listed {

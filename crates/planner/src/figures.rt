@@ -17,10 +17,7 @@ fn refused(number: u32, place: usize) -> Planned
     ensures { result ≡ refusal number place }
 {
     Planned {
-        verdict: Verdict {
-            number: number,
-            place: place,
-        },
+        verdict: Verdict { number, place },
         plan: blank_plan(),
     }
 }
@@ -35,7 +32,7 @@ fn planned_with(figures: Figures, own: Numbers) -> Planned
             place: 0,
         },
         plan: Plan {
-            figures: figures,
+            figures,
             streams: own.streams,
             buffer: own.buffer,
             worst2: own.worst2,
@@ -71,7 +68,7 @@ pub fn plan_figures(
             kind: figures.kind,
             zones: figures.zones,
             films: figures.films,
-            blocks: blocks,
+            blocks,
             bytes: figures.bytes,
             rate: figures.rate,
         },

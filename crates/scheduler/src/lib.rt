@@ -65,10 +65,10 @@ fn begun(desk: Desk, positions: &[u8], leads: &[u8], listed: bool, room: usize) 
     begun.kinds = kinds;
     begun.places = places;
     Begun {
-        verdict: verdict,
+        verdict,
         desk: begun,
         bound: swept.bound,
-        fetches: fetches,
+        fetches,
     }
 }
 
@@ -180,10 +180,7 @@ fn ended(desk: Desk, positions: &[u8], leads: &[u8], listed: bool, draws: &[u8])
     let string = string_of(desk);
     let verdict = judge_end(&string, positions, leads, listed, draws);
     if verdict.number != ACCEPTED {
-        return Answer {
-            verdict: verdict,
-            desk: desk,
-        };
+        return Answer { verdict, desk };
     }
     answer_with(end_sweep(desk, draws), ACCEPTED, 0)
 }

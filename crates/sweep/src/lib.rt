@@ -41,10 +41,7 @@ pub fn not_swept(desk: &[u8], number: u32) -> Swept
     ensures { result ≡ not_swept (desk_in (words_of desk.now)) number }
 {
     Swept {
-        verdict: Verdict {
-            number: number,
-            place: 0,
-        },
+        verdict: Verdict { number, place: 0 },
         kinds: all_kinds(desk),
         places: all_places(desk),
         bound: 0,
@@ -88,10 +85,7 @@ fn serve(
         desk, &mut kinds, &line, count, positions, leads, listed, floor, level,
     );
     drop_places(&mut places, streams, granted);
-    Served {
-        kinds: kinds,
-        places: places,
-    }
+    Served { kinds, places }
 }
 
 // A begin of the desk in a lent string: filling slots start to play, asked slots are granted, and the sweep's fetches are listed; `sum` is what
@@ -126,10 +120,10 @@ pub fn begin_sweep(desk: &[u8], positions: &[u8], leads: &[u8], listed: bool, su
     let fetches = list_fetches(&kinds, &next, &held, &spots, &others, streams, room, visits);
     Swept {
         verdict: verdict(ACCEPTED, 0),
-        kinds: kinds,
-        places: places,
-        bound: bound,
-        fetches: fetches,
+        kinds,
+        places,
+        bound,
+        fetches,
     }
 }
 

@@ -38,10 +38,7 @@ fn refused(number: u32, place: usize) -> Tried
     ensures { result ≡ not_tried number place }
 {
     Tried {
-        verdict: Verdict {
-            number: number,
-            place: place,
-        },
+        verdict: Verdict { number, place },
         worst2: 0,
         count: 0,
     }

@@ -23,10 +23,7 @@ pub fn worse(found: Pair, time: u32, first: u32) -> Pair
     ensures lower { time ≤ found.time → (result.time ≡ found.time) × (result.first ≡ found.first) }
 {
     if found.time < time {
-        return Pair {
-            time: time,
-            first: first,
-        };
+        return Pair { time, first };
     }
     found
 }

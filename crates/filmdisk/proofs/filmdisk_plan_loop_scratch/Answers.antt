@@ -1,0 +1,4 @@
+use Rattle.filmdisk.proofs.filmdisk_plan_loop_scratch.Goals as goal
+
+pub returns : goal.returns
+returns c = c.plan_loop_scratch.ensures

@@ -1,0 +1,26 @@
+use mathlib.Core.Path.{refl, sym, ap, ◌∙◌}
+use Rattle.desk.specs.declared.Answer.{Answer}
+use Rattle.admission.specs.Moves.{join_is}
+use Rattle.layout.specs.Answers.{verdict_answer}
+use Rattle.desk_calls.specs.Calls.{said, answer_by, string_by, leads_of_desk, join_answer, join_string}
+use Rattle.desk_calls.specs.Inner.{move_answer, move_string}
+use Rattle.desk_calls.specs.Calls.{join_scratch_answer, join_scratch_string}
+use Rattle.move_strings.proofs.scratch.join.Goals as goal
+
+pub returns-then-is_short : goal.returns-then-is_short
+unfolding join_scratch_answer join_scratch_string
+returns-then-is_short c = rw (sym c.is_short.ensures ∙ c.if-is_short.true) (c.number_answer.ensures, refl)
+
+pub returns : goal.returns
+unfolding join_scratch_answer join_scratch_string join_answer join_string move_answer move_string
+returns c =
+    let a = c.args in
+    let D = a.desk.now in
+    let ps = a.positions.now in
+    let ls = leads_of_desk D in
+    let step = c.join_of.ensures in
+    let same = join_is (said D) ps ls a.slot a.block a.film in
+    rw (sym c.is_short.ensures ∙ c.if-is_short.false) (
+      c.make_move.ensures.0 ∙ ap (move_answer D ps ls) step ∙ ap (λ (x : Answer). answer_by D (verdict_answer x.verdict)) same,
+      c.make_move.ensures.1 ∙ ap (move_string D ps ls) step ∙ ap (λ (x : Answer). string_by D x.desk) same,
+    )

@@ -1,0 +1,30 @@
+use native.Mathlib.Omega.{arith}
+use borrow.Author.Tests.{lt-ltb, le-ltb}
+use Rattle.placement.specs.Zones.{time_at}
+use Rattle.placement.specs.Showing.{laying}
+use Rattle.plan.specs.Plan.{showing_of}
+use Rattle.window.specs.WindowLaws.{window_at_few}
+use Rattle.window.proofs.film_window.Goals as goal
+
+pub returns-then-blocks-count : goal.returns-then-blocks-count
+returns-then-blocks-count c = let a = c.args in rw (lt-ltb a.blocks a.count c.if-blocks-count.true) (omega arith)
+
+pub worst_blocks-requires : goal.worst_blocks-requires
+worst_blocks-requires c = let p = c.requires in (p.0, p.1, p.2, p.3, c.if-blocks-count.false)
+
+pub returns : goal.returns
+returns c =
+    let a = c.args in
+    let τ = time_at a.sizes.now a.times.now in
+    let w = c.worst_blocks.ensures in
+    rw (le-ltb a.blocks a.count c.if-blocks-count.false) (
+      w.0,
+      (
+        w.1,
+        omega (
+          arith,
+          w.1,
+          window_at_few (showing_of a.showing) τ (laying (showing_of a.showing) a.total a.blocks) a.blocks a.count c.requires.2,
+        ),
+      ),
+    )
