@@ -15,7 +15,10 @@ use Rattle.card.specs.declared.Figures.{Figures}
 use Rattle.card_field.specs.declared.Rule.TheVariants.{Positions}
 use Rattle.laws.specs.Runs.{all_by}
 use Rattle.numbers.specs.Refusals.{wrong_zones}
-use Rattle.card.specs.Card.{zeros, film_fault, zone_faults, zeros_from}
+use Rattle.card.specs.Card.{zeros, film_fault, zone_faults, fault_with, zeros_from}
+use Rattle.std.specs.Prelude.{Result, Ok, Err, IsErrAnd}
+use Rattle.numbers.specs.declared.refusals.Refusal.{Refusal}
+use Rattle.numbers.specs.Numbered.{number_of}
 use Rattle.card_field.specs.Ranges.{fault_of, time_fault}
 use Rattle.card_field.specs.Row.{row_fault}
 use Rattle.card_field.specs.RangeLaws.{first_stops, first_goes}
@@ -47,6 +50,12 @@ module _ (k : ℕ) (f : Figures) (i total before : ℕ) where
   zones_more (suc left) fewer h d z e y =
       let q : fewer ≡ left = omega arith in
       ap (λ (x : ℕ). zone_faults k x (i + 1) f (total + get_or f.positions i 0) (get_or f.times i 0)) q ∙ first_goes e _ y ∙ first_goes d _ z
+
+-- a zone's refusal that is handed on
+pub handed_zone : (k : ℕ) (f : Figures) (R : Result ℕ Refusal) (r : Refusal) → IsErrAnd R (λ e. e ≡ r) → fault_with k f R ≡ number_of r
+unfolding fault_with
+handed_zone k f (Ok x) r h = absurd h
+handed_zone k f (Err e) r h = ap number_of h
 
 -- ---- numbers in a row
 

@@ -1,5 +1,5 @@
 -- The figures of a record, their judge (R23), and the card that is made of them (K3).
-use Rattle.std.specs.Prelude.{ℕ, zero, suc, ◌+◌, ◌*◌, ◌≤◌, ◌<◌, ◌≡◌, ◌⊎◌, List, [], ◌∷◌, ◌++◌, Bool, cond, ◌&&◌, length, get_or, take, drop, set, replicate, leb, eqb}
+use Rattle.std.specs.Prelude.{ℕ, zero, suc, ◌+◌, ◌*◌, ◌≤◌, ◌<◌, ◌≡◌, ◌⊎◌, List, [], ◌∷◌, ◌++◌, Bool, cond, ◌&&◌, length, get_or, take, drop, set, replicate, leb, eqb, Result, Ok, Err}
 use Rattle.laws.specs.Runs.{all_by, sum_by}
 use Rattle.laws.specs.Starts.{start_of}
 use Rattle.numbers.specs.Limits.{straight_kind, measured_kind, max_zones, max_positions, max_time, times_as_fast, min_blocks, max_blocks, max_films}
@@ -9,8 +9,8 @@ use Rattle.leb128.specs.Number.{groups}
 use Rattle.card.specs.declared.Figures.{Figures}
 use Rattle.card.specs.declared.Verdict.{Verdict}
 use Rattle.card.specs.declared.CardWritten.{CardWritten}
-use Rattle.card.specs.declared.judge.Judged.{Judged}
-use Rattle.card.specs.declared.judge.Judged.TheVariants.{Total, Refused}
+use Rattle.numbers.specs.declared.refusals.Refusal.{Refusal}
+use Rattle.numbers.specs.Numbered.{number_of}
 use Rattle.card_field.specs.declared.Rule.TheVariants.{Kind, Zones, Positions, Films, Measure}
 use Rattle.card_field.specs.Ranges.{first, fault_of, time_fault, blocks_fault}
 use Rattle.card_field.specs.Row.{row_fault, row_numbers}
@@ -88,9 +88,9 @@ zone_faults k (suc left) i f total before =
     (zone_faults k left (i + 1) f (total + get_or f.positions i 0) (get_or f.times i 0)))
 
 -- the fault of figures whose zones are judged: that of a zone, or of the films, given P
-unfoldable pub fault_with : ℕ → Figures → Judged → ℕ
-fault_with k f (Refused number) = number
-fault_with k f (Total total) = film_fault k f total
+unfoldable pub fault_with : ℕ → Figures → Result ℕ Refusal → ℕ
+fault_with k f (Err r) = number_of r
+fault_with k f (Ok total) = film_fault k f total
 
 -- positions and times are zero from the i-th on
 unfoldable pub zeros_from : ℕ → List ℕ → List ℕ → Bool

@@ -7,10 +7,8 @@ use Rattle.card.specs.declared.Scalars.{Scalars}
 use Rattle.card.specs.declared.Verdict.{Verdict}
 use Rattle.card.specs.declared.CardRead.{CardRead}
 use Rattle.card_field.specs.declared.Rule.TheVariants.{Kind, Zones, Positions, Films, Measure, Overhead}
-use Rattle.card_field.specs.declared.Field.{Field}
-use Rattle.card_field.specs.declared.Field.TheVariants.{Value, Refused}
 use Rattle.card_field.specs.Ranges.{fault_of, time_fault, blocks_fault}
-use Rattle.card_field.specs.Figure.{field_at}
+use Rattle.card_field.specs.Figure.{Field, Value, Refused, field_at}
 use Rattle.card_table.specs.Table.{straight, last_entry}
 
 -- ---- the answer

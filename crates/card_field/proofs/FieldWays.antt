@@ -1,7 +1,7 @@
 -- Each way that the code of a figure can take.
 -- Assumes nothing.
 use Prim.Native.Nat.{ℕ, zero, suc, ◌+◌, ◌*◌, ◌-◌, ◌/◌, ◌≤◌, ◌<◌}
-use mathlib.Core.Path.{◌≡◌, refl, sym, ap, ◌∙◌}
+use mathlib.Core.Path.{◌≡◌, refl, sym, ap, ap₂, ◌∙◌}
 use mathlib.Core.Logic.{by_cases}
 use mathlib.Core.Bool.{true, false, cond}
 use native.Mathlib.Nat.{le-div_iff_mul-le, div-lt_iff_lt-mul}
@@ -16,11 +16,11 @@ use mathlib.Core.List.{List}
 use Rattle.numbers.specs.Limits.{max_time, times_as_fast, min_blocks, max_blocks}
 use Rattle.numbers.specs.Refusals.{wrong_time, rising_time, half_dead_time, wrong_blocks, blocks_above_positions, halves_above_positions, wrong_films}
 use Rattle.card_field.specs.declared.Rule.{Rule}
-use Rattle.card_field.specs.declared.Field.{Field}
-use Rattle.card_field.specs.declared.Field.TheVariants.{Value, Refused}
 use Rattle.card_field.specs.Ranges.{first, below, above, outside, then_above, then_below, fault_of, time_fault, room_fault, blocks_fault}
 use Rattle.card_field.specs.RangeLaws.{first_stops, room_left, left_room}
-use Rattle.card_field.specs.Figure.{value_in, on_fault, on_number, field_at}
+use Rattle.std.specs.Prelude.{Result, Ok, Err, IsErrAnd}
+use Rattle.numbers.specs.declared.refusals.Refused as placed
+use Rattle.card_field.specs.Figure.{Field, Value, Refused, field_in, on_fault, on_number, field_at}
 
 -- ---- ranges
 
@@ -41,35 +41,23 @@ module _ (least most k v : ℕ) where
   unfolding outside below above first
   outside_none l h = rw (le-leb least v l, le-leb v most h)
 
-module _ (fault most k v : ℕ) where
-  pub then_first : (fault ≡ 0 → ⊥) → fault ≡ then_above fault most k v
-  unfolding then_above first
-  then_first n = first_left fault n
-    where
-      first_left : (f : ℕ) → (f ≡ 0 → ⊥) → f ≡ first f (above most k v)
-      first_left zero n = absurd (n refl)
-      first_left (suc f) n = refl
+module _ (most k v : ℕ) where
+  pub above_high : most < v → k ≡ above most k v
+  unfolding above
+  above_high h = rw (lt-leb v most h)
 
-  pub then_high : fault ≡ 0 → most < v → k ≡ then_above fault most k v
-  unfolding then_above above first
-  then_high e h = rw (e, lt-leb v most h)
+  pub above_none : v ≤ most → 0 ≡ above most k v
+  unfolding above
+  above_none h = rw (le-leb v most h)
 
-  pub then_none : fault ≡ 0 → v ≤ most → 0 ≡ then_above fault most k v
-  unfolding then_above above first
-  then_none e h = rw (e, le-leb v most h)
+module _ (least k v : ℕ) where
+  pub below_low : v < least → k ≡ below least k v
+  unfolding below
+  below_low h = rw (lt-leb least v h)
 
-module _ (fault least k v : ℕ) where
-  pub below_first : (fault ≡ 0 → ⊥) → fault ≡ then_below fault least k v
-  unfolding then_below
-  below_first n = first_stops refl _ n
-
-  pub below_low : fault ≡ 0 → v < least → k ≡ then_below fault least k v
-  unfolding then_below below first
-  below_low e h = rw (e, lt-leb least v h)
-
-  pub below_none : fault ≡ 0 → least ≤ v → 0 ≡ then_below fault least k v
-  unfolding then_below below first
-  below_none e h = rw (e, le-leb least v h)
+  pub below_none : least ≤ v → 0 ≡ below least k v
+  unfolding below
+  below_none h = rw (le-leb least v h)
 
 -- a zone's time: 6, then 7, then 26
 module _ (innermost before v : ℕ) {k : ℕ} (judged : k ≡ outside 1 max_time wrong_time v) where
@@ -140,14 +128,30 @@ module _ (at v next : ℕ) where
   on_some zero n = absurd (n refl)
   on_some (suc k) n = refl
 
--- a number whose form is right, and whose value is judged
-pub number_judged : (judge : ℕ → ℕ) (at : ℕ) {v next k : ℕ} {n : Number} {F : Field} → F ≡ on_fault k at v next → k ≡ judge (value_in n) → n ≡ number.Value v next
-    → F ≡ on_number judge at n
-unfolding on_number value_in
-number_judged judge at {v} {next} f e h =
-    f ∙ ap (λ (j : ℕ). on_fault j at v next) (e ∙ ap (λ (m : Number). judge (value_in m)) h) ∙ ap (on_number judge at) (sym h)
+-- a refusal that is handed on
+pub passed_on : (R : Result (ℕ × ℕ) placed.Refused) (r : placed.Refused) → IsErrAnd R (λ e. e ≡ r) → field_in R ≡ field_in (Err r)
+passed_on (Ok x) r h = absurd h
+passed_on (Err e) r h = ap (λ (x : placed.Refused). field_in (Err x)) h
 
--- a number that is read, judged by its value, is the figure at its offset
-pub field_read : (judge : ℕ → ℕ) (s : List ℕ) (at : ℕ) {n : Number} {F : Field} → n ≡ number_at s at → F ≡ on_number judge at n → F ≡ field_at judge s at
-unfolding field_at
-field_read judge s at e f = f ∙ ap (on_number judge at) e
+-- a number that is read, of which no value is refused, and the figure at its offset
+module _ (judge : ℕ → ℕ) (s : List ℕ) (at : ℕ) {F : Field} (read : F ≡ field_at (λ v. 0) s at) where
+  pub number_refused : {k o : ℕ} → F ≡ Refused k o → Refused k o ≡ field_at judge s at
+  unfolding field_at on_number on_fault
+  number_refused {k} {o} e = go (number_at s at) (sym e ∙ read)
+    where
+      go : (n : Number) → Refused k o ≡ on_number (λ v. 0) at n → Refused k o ≡ on_number judge at n
+      go (number.Value w m) d = absurd (let z : ◌≡◌ {A = ℕ} 0 1 = cc in omega arith)
+      go (number.CutOff size) d = d
+      go (number.Malformed start) d = d
+
+  pub number_judged : {v next : ℕ} → F ≡ Value v next → on_fault (judge v) at v next ≡ field_at judge s at
+  unfolding field_at on_number on_fault
+  number_judged {v} {next} e = go (number_at s at) (sym e ∙ read)
+    where
+      go : (n : Number) → Value v next ≡ on_number (λ v. 0) at n → on_fault (judge v) at v next ≡ on_number judge at n
+      go (number.Value w m) d =
+          let same : v ≡ w = cc in
+          let after : next ≡ m = cc in
+          ap₂ (λ (x y : ℕ). on_fault (judge x) at x y) same after
+      go (number.CutOff size) d = absurd (let z : ◌≡◌ {A = ℕ} 0 1 = cc in omega arith)
+      go (number.Malformed start) d = absurd (let z : ◌≡◌ {A = ℕ} 0 1 = cc in omega arith)

@@ -1,11 +1,20 @@
 -- One figure of a card: its form, then its range (R22).
-use Rattle.std.specs.Prelude.{ℕ, zero, suc, List}
+use Rattle.std.specs.Prelude.{ℕ, zero, suc, List, Result, Ok, Err}
 use Rattle.numbers.specs.Refusals.{card_ends, number_form}
+use Rattle.numbers.specs.declared.refusals.Refused as placed
+use Rattle.numbers.specs.Numbered.{number_of}
 use Rattle.leb128.specs.declared.Number.{Number}
 use Rattle.leb128.specs.declared.Number.TheVariants as number
 use Rattle.leb128.specs.Number.{number_at}
-use Rattle.card_field.specs.declared.Field.{Field}
-use Rattle.card_field.specs.declared.Field.TheVariants.{Value, Refused}
+
+-- a figure that is read: its value with the offset after it, or the number of its refusal with its place
+pub data Field : Type 0 where
+  Value Refused : ℕ → ℕ → Field
+
+-- the answer of the code, over numbers
+abbrev pub field_in : Result (ℕ × ℕ) placed.Refused → Field
+field_in (Ok p) = Value p.0 p.1
+field_in (Err e) = Refused (number_of e.refusal) e.place
 
 -- the value of a number, 0 where there is none
 unfoldable pub value_in : Number → ℕ

@@ -1,20 +1,17 @@
 // One figure of a card: its form, then its range.
 #![tactic(auto)]
 
-ghost use Rattle.std.specs.Prelude.{◌≡◌, ℕ};
-ghost use Rattle.card_field.specs.Ranges.{outside, then_above, then_below, fault_of, time_fault, room_fault, blocks_fault};
-ghost use Rattle.card_field.specs.Figure.{value_in, field_at, on_number, on_fault};
+ghost use Rattle.std.specs.Prelude.{◌≡◌};
+ghost use Rattle.numbers.specs.Numbered.{number_of, fault_in};
+ghost use Rattle.card_field.specs.Ranges.{above, below, outside, fault_of, time_fault, room_fault, blocks_fault};
+ghost use Rattle.card_field.specs.Figure.{field_in, field_at, on_fault};
 
 use leb128::Number;
 use numbers::limits::{
     MAX_BLOCKS, MAX_FILMS, MAX_NUMBER, MAX_OVERHEAD, MAX_POSITIONS, MAX_TIME, MAX_ZONES, MEASURED,
     MIN_BLOCKS, STRAIGHT, TIMES_AS_FAST,
 };
-use numbers::refusals::{
-    BLOCKS_ABOVE_POSITIONS, CARD_ENDS, HALF_DEAD_TIME, HALVES_ABOVE_POSITIONS, NUMBER_FORM,
-    RISING_TIME, WRONG_BLOCKS, WRONG_FILMS, WRONG_KIND, WRONG_MEASURE, WRONG_OVERHEAD,
-    WRONG_POSITIONS, WRONG_TIME, WRONG_ZONES,
-};
+use numbers::refusals::{Refusal, Refused};
 
 // Which figure is judged, and what its bound is.
 #[derive(Clone, Copy)]
@@ -33,176 +30,167 @@ pub enum Rule {
     Overhead,
 }
 
-// A figure with the offset after it, or the refusal's number with its offset.
-#[derive(Clone, Copy)]
-pub enum Field {
-    Value(u32, usize),
-    Refused(u32, usize),
-}
-
-// The given number where v is not from least to most, else 0.
-fn outside(least: u32, most: u32, number: u32, v: u32) -> u32
-    ensures { result ≡ outside least most number v }
+// Refuses v below least.
+fn below(least: u32, refusal: Refusal, v: u32) -> Result<(), Refusal>
+    ensures { fault_in result ≡ below least (number_of refusal) v }
 {
     if v < least {
-        return number;
+        return Err(refusal);
     }
-    if most < v {
-        return number;
-    }
-    0
+    Ok(())
 }
 
-// An earlier fault, else the given number where v is above most, else 0.
-fn then_above(fault: u32, most: u64, number: u32, v: u64) -> u32
-    ensures { result ≡ then_above fault most number v }
+// Refuses v above most.
+fn above(most: u64, refusal: Refusal, v: u64) -> Result<(), Refusal>
+    ensures { fault_in result ≡ above most (number_of refusal) v }
 {
-    if fault != 0 {
-        return fault;
-    }
     if most < v {
-        return number;
+        return Err(refusal);
     }
-    0
+    Ok(())
 }
 
-// An earlier fault, else the given number where v is below least, else 0.
-fn then_below(fault: u32, least: u32, number: u32, v: u32) -> u32
-    ensures { result ≡ then_below fault least number v }
+// Refuses v where it is not from least to most.
+fn outside(least: u32, most: u32, refusal: Refusal, v: u32) -> Result<(), Refusal>
+    ensures { fault_in result ≡ outside least most (number_of refusal) v }
 {
-    if fault != 0 {
-        return fault;
-    }
     if v < least {
-        return number;
+        return Err(refusal);
     }
-    0
+    if most < v {
+        return Err(refusal);
+    }
+    Ok(())
 }
 
-// The refusal of a zone's time v: its range, then the time of the zone before (the greatest time for the first), then the first zone's
+// Refuses a zone's time: its range, then the time of the zone before (the greatest time for the first), then the first zone's
 // (0 where that one is still to be read).
-pub fn fault_of_time(innermost: u32, before: u32, v: u32) -> u32
-    ensures { result ≡ time_fault innermost before v }
+pub fn fault_of_time(innermost: u32, before: u32, v: u32) -> Result<(), Refusal>
+    ensures { fault_in result ≡ time_fault innermost before v }
 {
-    let slow = outside(1, MAX_TIME, WRONG_TIME, v);
-    if slow != 0 {
-        return slow;
-    }
+    outside(1, MAX_TIME, Refusal::WrongTime, v)?;
     if before < v {
-        return RISING_TIME;
+        return Err(Refusal::RisingTime);
     }
     // A time in its range, times three, is a u32: law `thrice_fits`.
     if TIMES_AS_FAST * v < innermost {
-        return HALF_DEAD_TIME;
+        return Err(Refusal::HalfDeadTime);
     }
-    0
+    Ok(())
 }
 
 // The refusal of a film without room, of which each block takes so many positions: 9, for half blocks 28.
-fn room_fault(visits: u32) -> u32
-    ensures { result ≡ room_fault visits }
+fn room_fault(visits: u32) -> Refusal
+    ensures { number_of result ≡ room_fault visits }
 {
     if visits <= 1 {
-        return BLOCKS_ABOVE_POSITIONS;
+        return Refusal::BlocksAbovePositions;
     }
-    HALVES_ABOVE_POSITIONS
+    Refusal::HalvesAbovePositions
 }
 
-// The refusal of a film's N after films of so many blocks: its range, then the blocks of all of them, then the positions that are left, of
+// Refuses a film's N after films of so many blocks: its range, then the blocks of all of them, then the positions that are left, of
 // which each block takes so many: they are too few where all positions, shared out to all blocks, are.
-pub fn fault_of_blocks(visits: u32, total: u32, sofar: u32, v: u32) -> u32
-    ensures { result ≡ blocks_fault visits total sofar v }
+pub fn fault_of_blocks(visits: u32, total: u32, sofar: u32, v: u32) -> Result<(), Refusal>
+    ensures { fault_in result ≡ blocks_fault visits total sofar v }
 {
-    let range = outside(MIN_BLOCKS, MAX_BLOCKS, WRONG_BLOCKS, v);
-    if range != 0 {
-        return range;
-    }
+    outside(MIN_BLOCKS, MAX_BLOCKS, Refusal::WrongBlocks, v)?;
     if MAX_BLOCKS - v < sofar {
-        return WRONG_FILMS;
+        return Err(Refusal::WrongFilms);
     }
     if total / (sofar + v) < visits {
-        return room_fault(visits);
+        return Err(room_fault(visits));
     }
-    0
+    Ok(())
 }
 
-// The refusal of the value v of any other figure; 0 where it is in range.
-pub fn fault(rule: Rule, bound: u32, v: u32) -> u32
-    ensures { result ≡ fault_of rule bound v }
+// Refuses the value v of any other figure where it is out of range.
+pub fn fault(rule: Rule, bound: u32, v: u32) -> Result<(), Refusal>
+    ensures { fault_in result ≡ fault_of rule bound v }
 {
     match rule {
-        Rule::Kind => outside(STRAIGHT, MEASURED, WRONG_KIND, v),
-        Rule::Zones => outside(1, MAX_ZONES, WRONG_ZONES, v),
-        Rule::Positions => then_above(
-            outside(1, MAX_NUMBER, WRONG_POSITIONS, v),
-            MAX_POSITIONS as u64,
-            WRONG_POSITIONS,
-            bound as u64 + v as u64,
-        ),
-        Rule::Films => outside(1, MAX_FILMS, WRONG_FILMS, v),
-        Rule::Measure => outside(1, bound, WRONG_MEASURE, v),
-        Rule::Overhead => then_below(
-            outside(1, MAX_OVERHEAD, WRONG_OVERHEAD, v),
-            bound,
-            WRONG_OVERHEAD,
-            v,
-        ),
+        Rule::Kind => outside(STRAIGHT, MEASURED, Refusal::WrongKind, v),
+        Rule::Zones => outside(1, MAX_ZONES, Refusal::WrongZones, v),
+        Rule::Positions => {
+            outside(1, MAX_NUMBER, Refusal::WrongPositions, v)?;
+            above(
+                MAX_POSITIONS as u64,
+                Refusal::WrongPositions,
+                bound as u64 + v as u64,
+            )
+        }
+        Rule::Films => outside(1, MAX_FILMS, Refusal::WrongFilms, v),
+        Rule::Measure => outside(1, bound, Refusal::WrongMeasure, v),
+        Rule::Overhead => {
+            outside(1, MAX_OVERHEAD, Refusal::WrongOverhead, v)?;
+            below(bound, Refusal::WrongOverhead, v)
+        }
+    }
+}
+
+// The number at an offset of a card, with the offset after it.
+fn number_at(card: &[u8], at: usize) -> Result<(u32, usize), Refused>
+    ensures { field_in result ≡ field_at (λ v. 0) card.now at }
+{
+    match leb128::read_number(card, at) {
+        Number::Value(v, next) => Ok((v, next)),
+        Number::CutOff(size) => Err(Refused {
+            refusal: Refusal::CardEnds,
+            place: size,
+        }),
+        Number::Malformed(start) => Err(Refused {
+            refusal: Refusal::NumberForm,
+            place: start,
+        }),
     }
 }
 
 // A figure whose form is right: its refusal, or its value.
-fn judged(number: u32, v: u32, at: usize, next: usize) -> Field
-    ensures { result ≡ on_fault number at v next }
+fn judged(
+    fault: Result<(), Refusal>,
+    v: u32,
+    at: usize,
+    next: usize,
+) -> Result<(u32, usize), Refused>
+    ensures { field_in result ≡ on_fault (fault_in fault) at v next }
 {
-    if number == 0 {
-        Field::Value(v, next)
-    } else {
-        Field::Refused(number, at)
+    match fault {
+        Ok(()) => Ok((v, next)),
+        Err(refusal) => Err(Refused { refusal, place: at }),
     }
 }
 
-// The value of a number, 0 where there is none.
-fn value_in(n: Number) -> u32
-    ensures { result ≡ value_in n }
+// The figure at an offset of a card, with the offset after it: its form, then its range.
+pub fn read_field(card: &[u8], at: usize, rule: Rule, bound: u32) -> Result<(u32, usize), Refused>
+    ensures { field_in result ≡ field_at (fault_of rule bound) card.now at }
 {
-    match n {
-        Number::Value(v, _) => v,
-        Number::CutOff(_) => 0,
-        Number::Malformed(_) => 0,
-    }
-}
-
-// What a number says of the figure: its form, then its range, of which the value has this refusal.
-fn field_of(number: u32, at: usize, n: Number) -> Field
-    ensures { (judge : ℕ → ℕ) → number ≡ judge (value_in n) → result ≡ on_number judge at n }
-{
-    match n {
-        Number::Value(v, next) => judged(number, v, at, next),
-        Number::CutOff(size) => Field::Refused(CARD_ENDS, size),
-        Number::Malformed(start) => Field::Refused(NUMBER_FORM, start),
-    }
-}
-
-// The figure at an offset of a card.
-pub fn read_field(card: &[u8], at: usize, rule: Rule, bound: u32) -> Field
-    ensures { result ≡ field_at (fault_of rule bound) card.now at }
-{
-    let n = leb128::read_number(card, at);
-    field_of(fault(rule, bound, value_in(n)), at, n)
+    let (v, next) = number_at(card, at)?;
+    judged(fault(rule, bound, v), v, at, next)
 }
 
 // The zone's time at an offset of a card.
-pub fn read_time(card: &[u8], at: usize, innermost: u32, before: u32) -> Field
-    ensures { result ≡ field_at (time_fault innermost before) card.now at }
+pub fn read_time(
+    card: &[u8],
+    at: usize,
+    innermost: u32,
+    before: u32,
+) -> Result<(u32, usize), Refused>
+    ensures { field_in result ≡ field_at (time_fault innermost before) card.now at }
 {
-    let n = leb128::read_number(card, at);
-    field_of(fault_of_time(innermost, before, value_in(n)), at, n)
+    let (v, next) = number_at(card, at)?;
+    judged(fault_of_time(innermost, before, v), v, at, next)
 }
 
 // A film's N at an offset of a card, after films of so many blocks; each block takes so many positions.
-pub fn read_blocks(card: &[u8], at: usize, visits: u32, total: u32, sofar: u32) -> Field
-    ensures { result ≡ field_at (blocks_fault visits total sofar) card.now at }
+pub fn read_blocks(
+    card: &[u8],
+    at: usize,
+    visits: u32,
+    total: u32,
+    sofar: u32,
+) -> Result<(u32, usize), Refused>
+    ensures { field_in result ≡ field_at (blocks_fault visits total sofar) card.now at }
 {
-    let n = leb128::read_number(card, at);
-    field_of(fault_of_blocks(visits, total, sofar, value_in(n)), at, n)
+    let (v, next) = number_at(card, at)?;
+    judged(fault_of_blocks(visits, total, sofar, v), v, at, next)
 }

@@ -6,7 +6,7 @@ use mathlib.Core.List.{List}
 use native.Mathlib.Omega.{arith}
 use lib.ListN.{length, get_or, set}
 use borrow.Author.Tests.{lt-ltb, le-ltb, eq-eqb, ne_eqb}
-use Rattle.numbers.specs.Limits.{straight_kind, max_zones, max_positions, max_time, max_blocks, max_films, max_move, table_length}
+use Rattle.numbers.specs.Limits.{straight_kind, max_zones, max_positions, max_time, max_blocks, max_films, max_bytes, max_rate, max_move, table_length}
 use Rattle.numbers.specs.Refusals.{card_goes_on}
 use Rattle.leb128.specs.declared.Number.{Number}
 use Rattle.leb128.specs.declared.Number.TheVariants as number
@@ -14,13 +14,14 @@ use Rattle.leb128.specs.Number.{number_at}
 use Rattle.card.specs.declared.Figures.{Figures}
 use Rattle.card.specs.declared.CardRead.{CardRead}
 use Rattle.card_field.specs.declared.Rule.TheVariants.{Zones, Positions, Films, Measure}
-use Rattle.card_field.specs.declared.Field.{Field}
-use Rattle.card_field.specs.declared.Field.TheVariants.{Value, Refused}
+use Rattle.std.specs.Prelude.{Result, Ok, Err, IsErrAnd}
+use Rattle.numbers.specs.declared.refusals.Refused as placed
+use Rattle.numbers.specs.Numbered.{number_of}
 use Rattle.card_field.specs.RangeLaws.{positions_range, zones_range, films_range, blocks_range, measure_range}
 use Rattle.card_field.specs.Ranges.{fault_of, time_fault, blocks_fault}
-use Rattle.card_field.specs.Figure.{on_fault, on_number, field_at}
-use Rattle.card.specs.Read.{blank_zones, blank_table, then_field, refused_card, card_end, row_from, moves_from, entries_from, table_from, zones_from}
-use Rattle.card_reader.specs.Told.{accepted_card}
+use Rattle.card_field.specs.Figure.{Field, Value, Refused, field_in, on_fault, on_number, field_at}
+use Rattle.card.specs.Read.{blank_zones, blank_table, then_field, refused_card, card_end, row_from, moves_from, entries_from, table_from, shelf_from, film_from, zones_from}
+use Rattle.card_reader.specs.Told.{accepted_card, told_in, told_card, row_with, zones_with, shelf_with}
 
 module _ {F G : Field} (same : F ≡ G) where
   pub card_stops : (go go' : ℕ → ℕ → CardRead) {k o : ℕ} → F ≡ Refused k o → then_field F go' ≡ then_field G go
@@ -30,6 +31,54 @@ module _ {F G : Field} (same : F ≡ G) where
   pub card_goes : (go : ℕ → ℕ → CardRead) {v next : ℕ} → F ≡ Value v next → go v next ≡ then_field G go
   unfolding then_field
   card_goes go e = ap (λ (x : Field). then_field x go) (sym e ∙ same)
+
+-- a refusal that is handed on ends the card as it ended what was read
+abbrev ended : placed.Refused → CardRead
+ended e = refused_card (number_of e.refusal) e.place
+
+module _ {r : placed.Refused} {S : Result (ℕ × ℕ) placed.Refused} (was : S ≡ Err r) (go : ℕ → ℕ → CardRead) where
+  ends_so : ended r ≡ then_field (field_in S) go
+  unfolding then_field
+  ends_so = ap (λ (x : Result (ℕ × ℕ) placed.Refused). then_field (field_in x) go) (sym was)
+
+  pub handed_field : (R : Result (ℕ × ℕ) placed.Refused) (stop : ℕ → ℕ → CardRead) → IsErrAnd R (λ e. e ≡ r)
+      → then_field (field_in R) stop ≡ then_field (field_in S) go
+  unfolding then_field
+  handed_field (Ok x) stop h = absurd h
+  handed_field (Err e) stop h = ap ended h ∙ ends_so
+
+  pub handed_card : (ps ts ns os : List ℕ) (R : Result (ℕ × ℕ × ℕ × ℕ × ℕ) placed.Refused) → IsErrAnd R (λ e. e ≡ r)
+      → told_card ps ts ns os (told_in R) ≡ then_field (field_in S) go
+  unfolding told_card
+  handed_card ps ts ns os (Ok x) h = absurd h
+  handed_card ps ts ns os (Err e) h = ap ended h ∙ ends_so
+
+-- what is read goes on with the rest
+module _ {S : Result (ℕ × ℕ) placed.Refused} {v next : ℕ} (was : S ≡ Ok (v, next)) where
+  pub row_goes : (vs : List ℕ) (go : List ℕ → ℕ → CardRead) → go vs next ≡ row_with vs (field_in S) go
+  row_goes vs go = card_goes refl (λ u after. go vs after) (ap field_in was)
+
+  pub shelf_goes : (ns : List ℕ) (go : ℕ → List ℕ → ℕ → CardRead) → go v ns next ≡ shelf_with ns (field_in S) go
+  shelf_goes ns go = card_goes refl (λ films after. go films ns after) (ap field_in was)
+
+  pub zones_go : (ps ts : List ℕ) (go : List ℕ → List ℕ → ℕ → ℕ → CardRead) → go ps ts v next ≡ zones_with ps ts (field_in S) go
+  zones_go ps ts go = card_goes refl (go ps ts) (ap field_in was)
+
+-- after the films B is left, and after B and c the overheads
+module _ (k : ℕ) (s : List ℕ) (at total : ℕ) {S : Result (ℕ × ℕ) placed.Refused} {films at₁ : ℕ} (shelf : S ≡ Ok (films, at₁)) (ns : List ℕ)
+    (read : (go : ℕ → List ℕ → ℕ → CardRead) → shelf_with ns (field_in S) go ≡ shelf_from k s at total go) where
+  pub bytes_left : (go : ℕ → List ℕ → ℕ → CardRead) → go films ns at₁ ≡ shelf_from k s at total go
+  bytes_left go = shelf_goes shelf ns go ∙ read go
+
+  module _ {B C : Result (ℕ × ℕ) placed.Refused} {b at₂ c at₃ : ℕ} (bytes : B ≡ Ok (b, at₂)) (e : field_in B ≡ field_at (fault_of Measure max_bytes) s at₁)
+      (rate : C ≡ Ok (c, at₃)) (d : field_in C ≡ field_at (fault_of Measure max_rate) s at₂) where
+    pub overheads_left : (go : ℕ → List ℕ → ℕ → ℕ → ℕ → CardRead) → go films ns b c at₃ ≡ film_from k s at total go
+    unfolding film_from
+    overheads_left go =
+        card_goes d (go films ns b) (ap field_in rate)
+        ∙ card_goes e (λ u after. then_field (field_at (fault_of Measure max_rate) s after) (go films ns u)) (ap field_in bytes)
+        ∙ bytes_left (λ m ms start. then_field (field_at (fault_of Measure max_bytes) s start) (λ u after.
+        then_field (field_at (fault_of Measure max_rate) s after) (go m ms u)))
 
 module _ (s : List ℕ) (at : ℕ) (f : Figures) where
   pub end_left : at < length s → refused_card card_goes_on at ≡ card_end s at f

@@ -1,11 +1,13 @@
 -- What is told of a card while it is read, and the card that it ends.
 -- Assumes nothing.
-use Rattle.std.specs.Prelude.{ℕ, ◌≡◌, List}
+use Rattle.std.specs.Prelude.{ℕ, ◌≡◌, List, Result, Ok, Err}
 use Rattle.std.proofs.Common.{sym}
 use Rattle.std.proofs.Math.Path.{ap}
 use Rattle.card.specs.declared.Figures.{Figures}
 use Rattle.card.specs.declared.CardRead.{CardRead}
-use Rattle.card_field.specs.declared.Field.{Field}
+use Rattle.numbers.specs.declared.refusals.Refused as placed
+use Rattle.numbers.specs.Numbered.{number_of}
+use Rattle.card_field.specs.Figure.{Field}
 use Rattle.card.specs.Read.{accepted, refused_card, then_field, figures_from}
 use Rattle.card_reader.specs.declared.Told.{Told}
 use Rattle.card_reader.specs.declared.Told.TheVariants as told
@@ -17,6 +19,11 @@ accepted_card f = record { verdict = accepted; figures = f }
 abbrev pub told_figures : List ℕ → List ℕ → List ℕ → List ℕ → ℕ → ℕ → ℕ → ℕ → ℕ → Figures
 told_figures ps ts ns os kind z films b c =
     figures_from (record { kind = kind; zones = z; films = films; blocks = ns; bytes = b; rate = c }) ps ts os
+
+-- the answer of the code, over numbers
+abbrev pub told_in : Result (ℕ × ℕ × ℕ × ℕ × ℕ) placed.Refused → Told
+told_in (Ok p) = told.Figures p.0 p.1 p.2 p.3 p.4
+told_in (Err e) = told.Refused (number_of e.refusal) e.place
 
 -- THE CARD THAT IS TOLD: with these figures, or refused
 unfoldable pub told_card : List ℕ → List ℕ → List ℕ → List ℕ → Told → CardRead

@@ -7,17 +7,35 @@ mod table; // the overheads
 
 ghost use Rattle.std.specs.Prelude.{◌≡◌};
 ghost use Rattle.card.specs.Read.{blank_zones, blank_films, blank_table, refused_card, read_card};
-ghost use Rattle.card_reader.specs.Told.{told_card};
+ghost use Rattle.card_reader.specs.Told.{told_in, told_card};
 
 use card::{CardRead, Figures, Verdict};
-use card_field::{Field, Rule, read_field};
-use numbers::refusals::ACCEPTED;
+use card_field::{Rule, read_field};
+use numbers::refusals::{ACCEPTED, Refused};
 
 // What a card tells beside its arrays: kind, zones, films, B and c, or the refusal's number with its offset.
 #[derive(Clone, Copy)]
 pub enum Told {
     Figures(u32, u32, u32, u32, u32),
     Refused(u32, usize),
+}
+
+// The parts of a card, in their order, into lent arrays that are all zero.
+fn read_parts(
+    card: &[u8],
+    sizes: &mut [u32; 64],
+    times: &mut [u32; 64],
+    blocks: &mut [u32; 16],
+    table: &mut [u32; 257],
+    visits: u32,
+) -> Result<(u32, u32, u32, u32, u32), Refused>
+    requires { (sizes.old ≡ blank_zones) × (times.old ≡ blank_zones) × (blocks.old ≡ blank_films) × (table.old ≡ blank_table) }
+    ensures { told_card sizes.new times.new blocks.new table.new (told_in result) ≡ read_card visits card.now }
+{
+    let (kind, at) = read_field(card, 0, Rule::Kind, 0)?;
+    let (zones, start) = read_field(card, at, Rule::Zones, 0)?;
+    let (total, next) = figures::read_zones(card, start, zones, sizes, times)?;
+    figures::read_film(card, next, visits, total, kind, zones, blocks, table)
 }
 
 // Reads a card, of which each block takes so many positions, into lent arrays that are all zero: refusals 1 to 11, 26 right after 7, 30
@@ -33,19 +51,10 @@ pub fn read_into(
     requires { (sizes.old ≡ blank_zones) × (times.old ≡ blank_zones) × (blocks.old ≡ blank_films) × (table.old ≡ blank_table) }
     ensures { told_card sizes.new times.new blocks.new table.new result ≡ read_card visits card.now }
 {
-    let first = read_field(card, 0, Rule::Kind, 0);
-    let Field::Value(kind, at) = first else {
-        return figures::refused_field(first);
-    };
-    let second = read_field(card, at, Rule::Zones, 0);
-    let Field::Value(zones, start) = second else {
-        return figures::refused_field(second);
-    };
-    let third = figures::read_zones(card, start, zones, sizes, times);
-    let Field::Value(total, next) = third else {
-        return figures::refused_field(third);
-    };
-    figures::read_film(card, next, visits, total, kind, zones, blocks, table)
+    match read_parts(card, sizes, times, blocks, table, visits) {
+        Ok((kind, zones, films, bytes, rate)) => Told::Figures(kind, zones, films, bytes, rate),
+        Err(refused) => Told::Refused(refused.refusal.number(), refused.place),
+    }
 }
 
 // A refused card.

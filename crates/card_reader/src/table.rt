@@ -3,52 +3,50 @@ ghost use Rattle.std.specs.Prelude.{◌≡◌, ℕ, List, length};
 ghost use Rattle.numbers.specs.Limits.{table_length};
 ghost use Rattle.card.specs.declared.CardRead.{CardRead};
 ghost use Rattle.card.specs.Read.{blank_table, moves_from, entries_from, table_from};
+ghost use Rattle.card_field.specs.Figure.{field_in};
 ghost use Rattle.card_reader.specs.Told.{row_with};
 
-use card_field::{Field, Rule, read_field};
+use card_field::{Rule, read_field};
 use card_table::fill_straight;
 use numbers::limits::{MAX_MOVE, STRAIGHT};
+use numbers::refusals::Refused;
 
 // Hop and return, and the table that they make.
-fn read_moves(card: &[u8], at: usize, table: &mut [u32; 257]) -> Field
+fn read_moves(card: &[u8], at: usize, table: &mut [u32; 257]) -> Result<(u32, usize), Refused>
     requires { length table.old ≡ table_length }
-    ensures { (go : List ℕ → ℕ → CardRead) → row_with table.new result go ≡ moves_from card.now at go }
+    ensures { (go : List ℕ → ℕ → CardRead) → row_with table.new (field_in result) go ≡ moves_from card.now at go }
 {
-    let first = read_field(card, at, Rule::Measure, MAX_MOVE);
-    let Field::Value(hop, middle) = first else {
-        return first;
-    };
-    let second = read_field(card, middle, Rule::Measure, MAX_MOVE);
-    let Field::Value(back, _) = second else {
-        return second;
-    };
+    let (hop, middle) = read_field(card, at, Rule::Measure, MAX_MOVE)?;
+    let (back, end) = read_field(card, middle, Rule::Measure, MAX_MOVE)?;
     fill_straight(table, hop, back);
-    second
+    Ok((back, end))
 }
 
 // The table entry by entry.
-fn read_entries(card: &[u8], start: usize, table: &mut [u32; 257]) -> Field
+fn read_entries(card: &[u8], start: usize, table: &mut [u32; 257]) -> Result<(u32, usize), Refused>
     requires { table.old ≡ blank_table }
-    ensures { (go : List ℕ → ℕ → CardRead) → row_with table.new result go ≡ entries_from card.now start go }
+    ensures { (go : List ℕ → ℕ → CardRead) → row_with table.new (field_in result) go ≡ entries_from card.now start go }
 {
     let mut at = start;
     let mut before: u32 = 0;
     for entry in table.iter_mut() {
-        let field = read_field(card, at, Rule::Overhead, before);
-        let Field::Value(overhead, next) = field else {
-            return field;
-        };
+        let (overhead, next) = read_field(card, at, Rule::Overhead, before)?;
         *entry = overhead;
         before = overhead;
         at = next;
     }
-    Field::Value(before, at)
+    Ok((before, at))
 }
 
 // By the kind of the card.
-pub fn read_table(card: &[u8], at: usize, kind: u32, table: &mut [u32; 257]) -> Field
+pub fn read_table(
+    card: &[u8],
+    at: usize,
+    kind: u32,
+    table: &mut [u32; 257],
+) -> Result<(u32, usize), Refused>
     requires { table.old ≡ blank_table }
-    ensures { (go : List ℕ → ℕ → CardRead) → row_with table.new result go ≡ table_from kind card.now at go }
+    ensures { (go : List ℕ → ℕ → CardRead) → row_with table.new (field_in result) go ≡ table_from kind card.now at go }
 {
     if kind == STRAIGHT {
         return read_moves(card, at, table);

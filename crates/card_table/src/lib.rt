@@ -4,13 +4,14 @@
 ghost use Rattle.std.specs.Prelude.{◌≡◌, cond, ◌≤◌, length};
 ghost use Rattle.numbers.specs.Limits.{max_move, table_length};
 ghost use Rattle.numbers.specs.Refusals.{wrong_measure, wrong_overhead};
+ghost use Rattle.numbers.specs.Numbered.{fault_in};
 ghost use Rattle.card_table.specs.Table.{straight, hop_in, is_line, straight_fault, measured_fault, table_fault};
 ghost use Rattle.card_table.specs.TableLaws.{NoFall};
 ghost use Rattle.card_table.specs.TableFaults.{Judges};
 
 use card_field::{Rule, fault};
 use numbers::limits::{MAX_MOVE, MAX_OVERHEAD, MAX_STREAMS, STRAIGHT};
-use numbers::refusals::{WRONG_MEASURE, WRONG_OVERHEAD};
+use numbers::refusals::Refusal;
 
 // The hop of a table; 0 where its entries fall.
 pub fn hop_in(table: &[u32; 257]) -> u32
@@ -36,61 +37,59 @@ pub fn fill_straight(table: &mut [u32; 257], hop: u32, back: u32)
     }
 }
 
-// 10 where an entry is not that of hop and return, else 0.
-fn fault_of_line(table: &[u32; 257], hop: u32, back: u32) -> u32
+// Refuses an entry that is not that of hop and return.
+fn fault_of_line(table: &[u32; 257], hop: u32, back: u32) -> Result<(), Refusal>
     requires { (hop ≤ max_move) × (back ≤ max_move) }
-    ensures { result ≡ cond (is_line table_length 0 table.now hop back) 0 wrong_measure }
+    ensures { fault_in result ≡ cond (is_line table_length 0 table.now hop back) 0 wrong_measure }
 {
     let mut expected = back;
     for &entry in table {
         if entry != expected {
-            return WRONG_MEASURE;
+            return Err(Refusal::WrongMeasure);
         }
         expected += hop;
     }
-    0
+    Ok(())
 }
 
 // A table of kind 1: its hop, its return, then each of its entries.
-fn fault_of_straight(table: &[u32; 257]) -> u32
-    ensures { result ≡ straight_fault table.now }
+fn fault_of_straight(table: &[u32; 257]) -> Result<(), Refusal>
+    ensures { fault_in result ≡ straight_fault table.now }
 {
     let hop = hop_in(table);
-    let far = fault(Rule::Measure, MAX_MOVE, hop);
-    if far != 0 {
-        return far;
-    }
+    fault(Rule::Measure, MAX_MOVE, hop)?;
     let back = table[0];
-    let long = fault(Rule::Measure, MAX_MOVE, back);
-    if long != 0 {
-        return long;
-    }
+    fault(Rule::Measure, MAX_MOVE, back)?;
     fault_of_line(table, hop, back)
 }
 
-// 25 where an entry is below the one before, else 0.
-fn fault_of_fall(table: &[u32; 257]) -> u32
-    ensures { Judges result wrong_overhead (NoFall table.now) }
+// Refuses an entry below the one before.
+fn fault_of_fall(table: &[u32; 257]) -> Result<(), Refusal>
+    ensures { Judges (fault_in result) wrong_overhead (NoFall table.now) }
 {
-    if table.is_sorted() { 0 } else { WRONG_OVERHEAD }
+    if table.is_sorted() {
+        Ok(())
+    } else {
+        Err(Refusal::WrongOverhead)
+    }
 }
 
 // A table of kind 2. If no entry is below the one before, all are in range where the first and the last are: law `ends_measured`.
-fn fault_of_measured(table: &[u32; 257]) -> u32
-    ensures { result ≡ measured_fault table.now }
+fn fault_of_measured(table: &[u32; 257]) -> Result<(), Refusal>
+    ensures { fault_in result ≡ measured_fault table.now }
 {
     if table[0] == 0 {
-        return WRONG_OVERHEAD;
+        return Err(Refusal::WrongOverhead);
     }
     if MAX_OVERHEAD < table[MAX_STREAMS as usize] {
-        return WRONG_OVERHEAD;
+        return Err(Refusal::WrongOverhead);
     }
     fault_of_fall(table)
 }
 
 // The table of a record, by its kind.
-pub fn fault_of_table(kind: u32, table: &[u32; 257]) -> u32
-    ensures { result ≡ table_fault kind table.now }
+pub fn fault_of_table(kind: u32, table: &[u32; 257]) -> Result<(), Refusal>
+    ensures { fault_in result ≡ table_fault kind table.now }
 {
     if kind == STRAIGHT {
         return fault_of_straight(table);

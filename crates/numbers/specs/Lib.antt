@@ -1,4 +1,5 @@
 pub mod Limits
+pub mod Numbered
 pub mod Refusals
 pub mod Showings
 pub mod Slots

@@ -1,5 +1,5 @@
 // The numbers of document 01 by name: the limits of its figures, the units of its formulas, its refusal numbers, and the kinds and phases
-// of a desk; and the showings of document 02. The definitions have the same names in `specs`; a contract that names one ties the two. No functions.
+// of a desk; and the showings of document 02. The definitions have the same names in `specs`; a contract that names one ties the two.
 #![tactic(auto)]
 
 pub mod limits; // the greatest and least figures

@@ -15,9 +15,8 @@ use Rattle.leb128.specs.Number.{Bytes, groups, number_at}
 use Rattle.leb128.specs.NumberLaws.{Stands, written_read, read_written}
 use Rattle.card.specs.declared.Figures.{Figures}
 use Rattle.card.specs.declared.CardRead.{CardRead}
-use Rattle.card_field.specs.declared.Field.TheVariants.{Value}
 use Rattle.card.specs.Card.{bytes_of}
-use Rattle.card_field.specs.Figure.{on_fault, on_number, field_at}
+use Rattle.card_field.specs.Figure.{Value, on_fault, on_number, field_at}
 use Rattle.card.specs.Read.{accepted, refused_card, then_field, card_end}
 
 -- ---- what is written is read back
