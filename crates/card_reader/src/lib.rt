@@ -63,10 +63,7 @@ fn refused_card(number: u32, place: usize) -> CardRead
 {
     let none = [0u32; 64];
     CardRead {
-        verdict: Verdict {
-            number: number,
-            place: place,
-        },
+        verdict: Verdict { number, place },
         figures: Figures {
             kind: 0,
             zones: 0,
@@ -112,15 +109,15 @@ pub fn read_card_of(card: &[u8], visits: u32) -> CardRead
                 place: 0,
             },
             figures: Figures {
-                kind: kind,
-                zones: zones,
+                kind,
+                zones,
                 positions: sizes,
-                times: times,
-                films: films,
-                blocks: blocks,
-                bytes: bytes,
-                rate: rate,
-                table: table,
+                times,
+                films,
+                blocks,
+                bytes,
+                rate,
+                table,
             },
         },
     }
