@@ -1,4 +1,4 @@
-use Rattle.std.proofs.Common.{sym, ap, ◌∙◌}
+use Rattle.std.proofs.Common.{ap, ◌∙◌}
 use Rattle.card_field.specs.Ranges.{blocks_fault}
 use Rattle.card_field.specs.Figure.{field_in, on_fault}
 use Rattle.card_field.proofs.FieldWays.{number_refused, number_judged, passed_on}

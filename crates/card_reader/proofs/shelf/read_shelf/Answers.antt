@@ -1,4 +1,4 @@
-use Rattle.std.proofs.Common.{ℕ, ◌+◌, List, refl, ap, ◌∙◌}
+use Rattle.std.proofs.Common.{ℕ, ◌+◌, List, ap, ◌∙◌}
 use Rattle.card_field.specs.Ranges.{blocks_fault}
 use Rattle.card_field.specs.Figure.{field_in}
 use Rattle.card.specs.Read.{then_field, row_from, shelf_from}

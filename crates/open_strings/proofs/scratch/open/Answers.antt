@@ -1,4 +1,4 @@
-use mathlib.Core.Path.{refl, sym, ap, ◌∙◌}
+use mathlib.Core.Path.{refl, sym, ◌∙◌}
 use Rattle.desk_calls.specs.Calls.{open_scratch_answer, open_scratch_string}
 use Rattle.open_strings.proofs.scratch.open.Goals as goal
 

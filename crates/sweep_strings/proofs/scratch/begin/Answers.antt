@@ -1,4 +1,4 @@
-use mathlib.Core.Path.{refl, sym, ap, ◌∙◌}
+use mathlib.Core.Path.{refl, sym, ◌∙◌}
 use Rattle.desk_calls.specs.Calls.{begin_scratch_answer, begin_scratch_string, fetch_scratch_string}
 use Rattle.sweep_strings.proofs.scratch.begin.Goals as goal
 

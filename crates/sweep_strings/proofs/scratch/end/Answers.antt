@@ -1,4 +1,4 @@
-use mathlib.Core.Path.{refl, sym, ap, ◌∙◌}
+use mathlib.Core.Path.{refl, sym, ◌∙◌}
 use Rattle.desk_calls.specs.Calls.{end_scratch_answer, end_scratch_string}
 use Rattle.sweep_strings.proofs.scratch.end.Goals as goal
 
