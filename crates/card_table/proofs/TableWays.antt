@@ -59,10 +59,6 @@ module _ (t : List ℕ) (hop back : ℕ) where
   pub line_whole : ((k : ℕ) → k < table_length → get_or t k 0 ≡ hop * k + back) → ◌≡◌ {A = ℕ} 0 (cond (is_line table_length 0 t hop back) 0 wrong_measure)
   line_whole h = rw (at_line table_length 0 t hop back (λ k l u. h k (omega arith)))
 
--- an entry below the one before
-pub falls_at : (t : List ℕ) (k : ℕ) → k + 1 < table_length → get_or t (k + 1) 0 < get_or t k 0 → NoFall t → ⊥
-falls_at t k h below rises = let next : k + 1 ≡ suc k = omega arith in omega (arith, rises k (omega arith), rw next at below)
-
 -- ---- a table of kind 2
 
 module _ (t : List ℕ) where
