@@ -14,7 +14,7 @@ use Rattle.leb128.specs.Number.{number_at}
 use Rattle.card.specs.declared.Figures.{Figures}
 use Rattle.card.specs.declared.CardRead.{CardRead}
 use Rattle.card_field.specs.declared.Rule.TheVariants.{Zones, Positions, Films, Measure}
-use Rattle.std.specs.Prelude.{Result, Ok, Err, IsErrAnd}
+use Rattle.std.specs.Prelude.{Result, Ok, Err, IfErr}
 use Rattle.numbers.specs.declared.refusals.Refused as placed
 use Rattle.numbers.specs.Numbered.{number_of}
 use Rattle.card_field.specs.RangeLaws.{positions_range, zones_range, films_range, blocks_range, measure_range}
@@ -41,17 +41,11 @@ module _ {r : placed.Refused} {S : Result (ℕ × ℕ) placed.Refused} (was : S 
   unfolding then_field
   ends_so = ap (λ (x : Result (ℕ × ℕ) placed.Refused). then_field (field_in x) go) (sym was)
 
-  pub handed_field : (R : Result (ℕ × ℕ) placed.Refused) (stop : ℕ → ℕ → CardRead) → IsErrAnd R (λ e. e ≡ r)
-      → then_field (field_in R) stop ≡ then_field (field_in S) go
-  unfolding then_field
-  handed_field (Ok x) stop h = absurd h
-  handed_field (Err e) stop h = ap ended h ∙ ends_so
-
-  pub handed_card : (ps ts ns os : List ℕ) (R : Result (ℕ × ℕ × ℕ × ℕ × ℕ) placed.Refused) → IsErrAnd R (λ e. e ≡ r)
+  pub handed_card : (ps ts ns os : List ℕ) (R : Result (ℕ × ℕ × ℕ × ℕ × ℕ) placed.Refused) → IfErr S (λ e. R ≡ Err e)
       → told_card ps ts ns os (told_in R) ≡ then_field (field_in S) go
   unfolding told_card
-  handed_card ps ts ns os (Ok x) h = absurd h
-  handed_card ps ts ns os (Err e) h = ap ended h ∙ ends_so
+  handed_card ps ts ns os R h =
+      let e : R ≡ Err r = rw was at h in ap (λ (x : Result (ℕ × ℕ × ℕ × ℕ × ℕ) placed.Refused). told_card ps ts ns os (told_in x)) e ∙ ends_so
 
 -- what is read goes on with the rest
 module _ {S : Result (ℕ × ℕ) placed.Refused} {v next : ℕ} (was : S ≡ Ok (v, next)) where

@@ -1,5 +1,5 @@
 // The numbers of a card, in their order; the first fault ends it.
-ghost use Rattle.std.specs.Prelude.{◌≡◌, ℕ, ◌≤◌, List};
+ghost use Rattle.std.specs.Prelude.{◌≡◌, ℕ, ◌≤◌, List, Err, IsErr, IfErr};
 ghost use Rattle.numbers.specs.Limits.{max_zones, max_time};
 ghost use Rattle.card.specs.Read.{blank_films, blank_table, zones_from, after_zones};
 ghost use Rattle.card.specs.declared.CardRead.{CardRead};
@@ -11,6 +11,17 @@ use crate::table::read_table;
 use card_field::{Rule, read_field, read_time};
 use numbers::limits::{MAX_BYTES, MAX_RATE, MAX_TIME};
 use numbers::refusals::{Refusal, Refused};
+
+// What a refused number makes of the card.
+pub fn refused(number: Result<(u32, usize), Refused>) -> Result<(u32, u32, u32, u32, u32), Refused>
+    requires { IsErr number }
+    ensures { IfErr number (λ e. result ≡ Err e) }
+{
+    match number {
+        Err(refused) => Err(refused),
+        Ok(_) => unreachable!(),
+    }
+}
 
 // The films, each block on so many positions, B, c, and the overheads into a table; after the last of these no byte is left over. Kind and
 // zones are those of the card.
@@ -28,10 +39,22 @@ pub fn read_film(
     ensures { (ps ts : List ℕ) → told_card ps ts blocks.new table.new (told_in result)
         ≡ after_zones visits card.now kind zones ps ts total at }
 {
-    let (films, at1) = read_shelf(card, at, visits, total, blocks)?;
-    let (bytes, at2) = read_field(card, at1, Rule::Measure, MAX_BYTES)?;
-    let (rate, at3) = read_field(card, at2, Rule::Measure, MAX_RATE)?;
-    let (_, end) = read_table(card, at3, kind, table)?;
+    let first = read_shelf(card, at, visits, total, blocks);
+    let Ok((films, at1)) = first else {
+        return refused(first);
+    };
+    let second = read_field(card, at1, Rule::Measure, MAX_BYTES);
+    let Ok((bytes, at2)) = second else {
+        return refused(second);
+    };
+    let third = read_field(card, at2, Rule::Measure, MAX_RATE);
+    let Ok((rate, at3)) = third else {
+        return refused(third);
+    };
+    let last = read_table(card, at3, kind, table);
+    let Ok((_, end)) = last else {
+        return refused(last);
+    };
     if end < card.len() {
         return Err(Refused {
             refusal: Refusal::CardGoesOn,
@@ -57,9 +80,15 @@ pub fn read_zones(
     let mut total: u32 = 0;
     let mut before: u32 = MAX_TIME;
     for i in 0..zones as usize {
-        let (positions, middle) = read_field(card, at, Rule::Positions, total)?;
+        let first = read_field(card, at, Rule::Positions, total);
+        let Ok((positions, middle)) = first else {
+            return first;
+        };
         let innermost = times[0];
-        let (time, next) = read_time(card, middle, innermost, before)?;
+        let second = read_time(card, middle, innermost, before);
+        let Ok((time, next)) = second else {
+            return second;
+        };
         sizes[i] = positions;
         times[i] = time;
         total += positions;

@@ -32,9 +32,18 @@ fn read_parts(
     requires { (sizes.old ≡ blank_zones) × (times.old ≡ blank_zones) × (blocks.old ≡ blank_films) × (table.old ≡ blank_table) }
     ensures { told_card sizes.new times.new blocks.new table.new (told_in result) ≡ read_card visits card.now }
 {
-    let (kind, at) = read_field(card, 0, Rule::Kind, 0)?;
-    let (zones, start) = read_field(card, at, Rule::Zones, 0)?;
-    let (total, next) = figures::read_zones(card, start, zones, sizes, times)?;
+    let first = read_field(card, 0, Rule::Kind, 0);
+    let Ok((kind, at)) = first else {
+        return figures::refused(first);
+    };
+    let second = read_field(card, at, Rule::Zones, 0);
+    let Ok((zones, start)) = second else {
+        return figures::refused(second);
+    };
+    let third = figures::read_zones(card, start, zones, sizes, times);
+    let Ok((total, next)) = third else {
+        return figures::refused(third);
+    };
     figures::read_film(card, next, visits, total, kind, zones, blocks, table)
 }
 

@@ -26,7 +26,10 @@ fn read_lengths(
     let mut at = start;
     let mut sofar: u32 = 0;
     for i in 0..films as usize {
-        let (n, next) = read_blocks(card, at, visits, total, sofar)?;
+        let film = read_blocks(card, at, visits, total, sofar);
+        let Ok((n, next)) = film else {
+            return film;
+        };
         blocks[i] = n;
         sofar += n;
         at = next;
@@ -45,7 +48,13 @@ pub fn read_shelf(
     requires { blocks.old ≡ blank_films }
     ensures { (go : ℕ → List ℕ → ℕ → CardRead) → shelf_with blocks.new (field_in result) go ≡ shelf_from visits card.now at total go }
 {
-    let (films, next) = read_field(card, at, Rule::Films, 0)?;
-    let (_, end) = read_lengths(card, next, visits, total, films, blocks)?;
+    let first = read_field(card, at, Rule::Films, 0);
+    let Ok((films, next)) = first else {
+        return first;
+    };
+    let last = read_lengths(card, next, visits, total, films, blocks);
+    let Ok((_, end)) = last else {
+        return last;
+    };
     Ok((films, end))
 }

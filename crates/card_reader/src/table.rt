@@ -16,10 +16,16 @@ fn read_moves(card: &[u8], at: usize, table: &mut [u32; 257]) -> Result<(u32, us
     requires { length table.old ≡ table_length }
     ensures { (go : List ℕ → ℕ → CardRead) → row_with table.new (field_in result) go ≡ moves_from card.now at go }
 {
-    let (hop, middle) = read_field(card, at, Rule::Measure, MAX_MOVE)?;
-    let (back, end) = read_field(card, middle, Rule::Measure, MAX_MOVE)?;
+    let first = read_field(card, at, Rule::Measure, MAX_MOVE);
+    let Ok((hop, middle)) = first else {
+        return first;
+    };
+    let second = read_field(card, middle, Rule::Measure, MAX_MOVE);
+    let Ok((back, _)) = second else {
+        return second;
+    };
     fill_straight(table, hop, back);
-    Ok((back, end))
+    second
 }
 
 // The table entry by entry.
@@ -30,7 +36,10 @@ fn read_entries(card: &[u8], start: usize, table: &mut [u32; 257]) -> Result<(u3
     let mut at = start;
     let mut before: u32 = 0;
     for entry in table.iter_mut() {
-        let (overhead, next) = read_field(card, at, Rule::Overhead, before)?;
+        let number = read_field(card, at, Rule::Overhead, before);
+        let Ok((overhead, next)) = number else {
+            return number;
+        };
         *entry = overhead;
         before = overhead;
         at = next;

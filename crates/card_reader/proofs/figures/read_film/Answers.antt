@@ -5,50 +5,50 @@ use Rattle.card_reader.specs.Told.{told_figures, told_card}
 use Rattle.card_reader.proofs.ReaderWays.{handed_card, row_goes, bytes_left, overheads_left, card_stops, card_goes, end_left, end_none}
 use Rattle.card_reader.proofs.figures.read_film.Goals as goal
 
-pub returns-in_err-films : goal.returns-in_err-films
+pub returns-in_default : goal.returns-in_default
 unfolding film_from
-returns-in_err-films c = λ ps ts. handed_card c.in_err-films.was _ _ _ _ _ _ c.from_residual.ensures.1 ∙ c.read_shelf.ensures _
+returns-in_default c = λ ps ts. handed_card c.in_default.is _ _ _ _ _ _ c.refused.ensures ∙ c.read_shelf-first.ensures _
 
-pub returns-in_err-bytes : goal.returns-in_err-bytes
+pub returns-in_default-second : goal.returns-in_default-second
 unfolding film_from
-returns-in_err-bytes c =
-    λ ps ts. handed_card c.in_err-bytes.was (λ v next. refused_card 0 0) _ _ _ _ _ c.from_residual-in_err-bytes.ensures.1
-    ∙ card_stops c.read_field.ensures _ _ (ap field_in c.in_err-bytes.was)
-    ∙ bytes_left _ _ _ _ c.in_ok-films.was c.read_shelf.new.blocks (λ go. c.read_shelf.ensures go) _
+returns-in_default-second c =
+    λ ps ts. handed_card c.in_default-second.is (λ v next. refused_card 0 0) _ _ _ _ _ c.refused-in_default-second.ensures
+    ∙ card_stops c.read_field-second.ensures _ _ (ap field_in c.in_default-second.is)
+    ∙ bytes_left _ _ _ _ c.in-Ok.is c.read_shelf-first.new.blocks (λ go. c.read_shelf-first.ensures go) _
 
-pub returns-in_err-rate : goal.returns-in_err-rate
+pub returns-in_default-third : goal.returns-in_default-third
 unfolding film_from
-returns-in_err-rate c =
-    λ ps ts. handed_card c.in_err-rate.was (λ v next. refused_card 0 0) _ _ _ _ _ c.from_residual-in_err-rate.ensures.1
-    ∙ card_stops c.read_field-2.ensures _ _ (ap field_in c.in_err-rate.was)
-    ∙ card_goes c.read_field.ensures _ (ap field_in c.in_ok-bytes.was)
-    ∙ bytes_left _ _ _ _ c.in_ok-films.was c.read_shelf.new.blocks (λ go. c.read_shelf.ensures go) _
+returns-in_default-third c =
+    λ ps ts. handed_card c.in_default-third.is (λ v next. refused_card 0 0) _ _ _ _ _ c.refused-in_default-third.ensures
+    ∙ card_stops c.read_field-third.ensures _ _ (ap field_in c.in_default-third.is)
+    ∙ card_goes c.read_field-second.ensures _ (ap field_in c.in-Ok-second.is)
+    ∙ bytes_left _ _ _ _ c.in-Ok.is c.read_shelf-first.new.blocks (λ go. c.read_shelf-first.ensures go) _
 
-pub returns-in_err-end : goal.returns-in_err-end
-returns-in_err-end c =
-    λ ps ts. handed_card c.in_err-end.was _ _ _ _ _ _ c.from_residual-in_err-end.ensures.1
-    ∙ c.read_table.ensures _
-    ∙ overheads_left _ _ _ _ c.in_ok-films.was c.read_shelf.new.blocks (λ go. c.read_shelf.ensures go)
-    c.in_ok-bytes.was c.read_field.ensures c.in_ok-rate.was c.read_field-2.ensures _
+pub returns-in_default-last : goal.returns-in_default-last
+returns-in_default-last c =
+    λ ps ts. handed_card c.in_default-last.is _ _ _ _ _ _ c.refused-in_default-last.ensures
+    ∙ c.read_table-last.ensures _
+    ∙ overheads_left _ _ _ _ c.in-Ok.is c.read_shelf-first.new.blocks (λ go. c.read_shelf-first.ensures go)
+    c.in-Ok-second.is c.read_field-second.ensures c.in-Ok-third.is c.read_field-third.ensures _
 
 pub returns-then-end-card : goal.returns-then-end-card
 unfolding told_card
 returns-then-end-card c =
-    λ ps ts. end_left _ _ (told_figures ps ts c.read_shelf.new.blocks c.read_table.new.table c.args.kind c.args.zones c.in_ok-films.films c.in_ok-bytes.bytes c.in_ok-rate.rate)
+    λ ps ts. end_left _ _ (told_figures ps ts c.read_shelf-first.new.blocks c.read_table-last.new.table c.args.kind c.args.zones c.in-Ok.films c.in-Ok-second.bytes c.in-Ok-third.rate)
     c.if-end-card.true
-    ∙ row_goes c.in_ok-end.was c.read_table.new.table (λ os end. card_end c.args.card.now end (told_figures ps ts c.read_shelf.new.blocks os c.args.kind c.args.zones c.in_ok-films.films
-    c.in_ok-bytes.bytes c.in_ok-rate.rate))
-    ∙ c.read_table.ensures _
-    ∙ overheads_left _ _ _ _ c.in_ok-films.was c.read_shelf.new.blocks (λ go. c.read_shelf.ensures go)
-    c.in_ok-bytes.was c.read_field.ensures c.in_ok-rate.was c.read_field-2.ensures _
+    ∙ row_goes c.in-Ok-last.is c.read_table-last.new.table (λ os end. card_end c.args.card.now end (told_figures ps ts c.read_shelf-first.new.blocks os c.args.kind c.args.zones c.in-Ok.films
+    c.in-Ok-second.bytes c.in-Ok-third.rate))
+    ∙ c.read_table-last.ensures _
+    ∙ overheads_left _ _ _ _ c.in-Ok.is c.read_shelf-first.new.blocks (λ go. c.read_shelf-first.ensures go)
+    c.in-Ok-second.is c.read_field-second.ensures c.in-Ok-third.is c.read_field-third.ensures _
 
 pub returns : goal.returns
 unfolding told_card
 returns c =
-    λ ps ts. end_none _ _ (told_figures ps ts c.read_shelf.new.blocks c.read_table.new.table c.args.kind c.args.zones c.in_ok-films.films c.in_ok-bytes.bytes c.in_ok-rate.rate)
+    λ ps ts. end_none _ _ (told_figures ps ts c.read_shelf-first.new.blocks c.read_table-last.new.table c.args.kind c.args.zones c.in-Ok.films c.in-Ok-second.bytes c.in-Ok-third.rate)
     c.if-end-card.false
-    ∙ row_goes c.in_ok-end.was c.read_table.new.table (λ os end. card_end c.args.card.now end (told_figures ps ts c.read_shelf.new.blocks os c.args.kind c.args.zones c.in_ok-films.films
-    c.in_ok-bytes.bytes c.in_ok-rate.rate))
-    ∙ c.read_table.ensures _
-    ∙ overheads_left _ _ _ _ c.in_ok-films.was c.read_shelf.new.blocks (λ go. c.read_shelf.ensures go)
-    c.in_ok-bytes.was c.read_field.ensures c.in_ok-rate.was c.read_field-2.ensures _
+    ∙ row_goes c.in-Ok-last.is c.read_table-last.new.table (λ os end. card_end c.args.card.now end (told_figures ps ts c.read_shelf-first.new.blocks os c.args.kind c.args.zones c.in-Ok.films
+    c.in-Ok-second.bytes c.in-Ok-third.rate))
+    ∙ c.read_table-last.ensures _
+    ∙ overheads_left _ _ _ _ c.in-Ok.is c.read_shelf-first.new.blocks (λ go. c.read_shelf-first.ensures go)
+    c.in-Ok-second.is c.read_field-second.ensures c.in-Ok-third.is c.read_field-third.ensures _
