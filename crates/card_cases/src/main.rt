@@ -13,8 +13,7 @@
 
 use card::Figures;
 use case_text::runs::read_runs;
-use case_text::{next_case, no_case, print_refusal, read_bytes, read_number, read_record};
-use program_input::read_full;
+use case_text::{print_refusal, read_bytes, read_number, read_record, run_cases};
 use std::io;
 
 // The number of films, and N of each.
@@ -61,20 +60,20 @@ fn show_written(rt: &impl Print, f: Figures, size: u32) -> io::Result<()> {
 }
 
 // Does what the letter says to what stands from `start` on.
-fn run_case(rt: &impl Print, text: &[u8], letter: Option<u8>, start: usize) -> io::Result<()> {
+fn run_case(rt: &impl Print, text: &[u8], letter: u8, start: usize) -> io::Result<()> {
     match letter {
-        Some(b'c') => {
+        b'c' => {
             let mut card = [0u8; 4096];
             let n = read_bytes(text, start, &mut card);
             show_card(rt, &card[..n])
         }
-        Some(b'n') => {
+        b'n' => {
             let mut card = [0u8; 4096];
             let n = read_runs(text, start, &mut card);
             show_card(rt, &card[..n])
         }
-        Some(b'j') => print_refusal(rt, card::judge_figures(read_record(text, start))),
-        Some(b'w') => {
+        b'j' => print_refusal(rt, card::judge_figures(read_record(text, start))),
+        b'w' => {
             let size = read_number(text, start);
             show_written(rt, read_record(text, size.next), size.value)
         }
@@ -82,18 +81,10 @@ fn run_case(rt: &impl Print, text: &[u8], letter: Option<u8>, start: usize) -> i
     }
 }
 
-// Every line: its name up to the colon, then the answer.
-fn run_cases(rt: &impl Print, text: &[u8]) -> io::Result<()> {
-    let mut case = no_case();
-    while case.end < text.len() {
-        case = next_case(rt, text, case)?;
-        run_case(rt, text, case.letter, case.start)?;
-    }
-    Ok(())
-}
-
 fn main(rt: HostRuntime) -> io::Result<()> {
-    let mut input = [0u8; 65536];
-    let count = read_full(&mut rt.stdin(), &mut input)?;
-    run_cases(&rt, &input[..count])
+    run_cases(
+        &rt,
+        &mut rt.stdin(),
+        |text, letter, start| run_case(&rt, text, letter, start),
+    )
 }

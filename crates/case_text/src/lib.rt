@@ -3,11 +3,13 @@
 
 pub mod runs; // numbers that rise by the same step
 
-ghost use Rattle.std.specs.Prelude.{◌+◌, ◌<◌, ◌≤◌, length, IfOk, IfSome};
+ghost use Rattle.std.specs.Prelude.{◌≡◌, ◌+◌, ◌<◌, ◌≤◌, length, IfOk, IfSome, IsOk};
 
 use crate::runs::read_entries;
 use card::{Figures, Verdict};
+use program_io::read_full;
 use std::io;
+use std::io::Read;
 
 // A number of a line, and where the next one may begin.
 #[derive(Clone, Copy)]
@@ -126,14 +128,14 @@ pub fn read_bytes(text: &[u8], start: usize, out: &mut [u8]) -> usize
 
 // A case: the letter for what is done, none where its line has no colon or no end; where what follows the letter begins; and where its line ends.
 #[derive(Clone, Copy)]
-pub struct Case {
-    pub letter: Option<u8>,
-    pub start: usize,
-    pub end: usize,
+struct Case {
+    letter: Option<u8>,
+    start: usize,
+    end: usize,
 }
 
 // Before the first case.
-pub fn no_case() -> Case {
+fn no_case() -> Case {
     Case {
         letter: None,
         start: 0,
@@ -154,7 +156,7 @@ fn next_letter(letter: Option<u8>, byte: u8) -> Option<u8> {
 }
 
 // The case after the last one. Its name is printed up to the colon, and before it the line feed that ends the last one.
-pub fn next_case(rt: &impl Print, text: &[u8], last: Case) -> io::Result<Case>
+fn next_case(rt: &impl Print, text: &[u8], last: Case) -> io::Result<Case>
     requires { last.end < length text.now }
     ensures { IfOk result (λ next. last.end < next.end) }
 {
@@ -183,6 +185,48 @@ pub fn next_case(rt: &impl Print, text: &[u8], last: Case) -> io::Result<Case>
     })
 }
 
+// Every line of a text: its name up to the colon, then what the program answers to the letter and what stands from a place on. Nothing is asked of it
+// where there is no letter.
+fn answer_lines<F: FnMut(&[u8], u8, usize) -> io::Result<()>>(
+    rt: &impl Print,
+    text: &[u8],
+    mut answer: F,
+) -> io::Result<()>
+    requires { F.IsAlwaysCallable answer }
+{
+    let mut case = no_case();
+    while case.end < text.len() {
+        case = next_case(rt, text, case)?;
+        if let Some(letter) = case.letter {
+            answer(text, letter, case.start)?;
+        }
+    }
+    Ok(())
+}
+
+// The same of the lines of the input.
+pub fn run_cases<F: FnMut(&[u8], u8, usize) -> io::Result<()>>(
+    rt: &impl Print,
+    input: &mut impl Read,
+    answer: F,
+) -> io::Result<()>
+    requires { F.IsAlwaysCallable answer }
+{
+    let mut text = [0u8; 65536];
+    let count = read_full(input, &mut text)?;
+    answer_lines(rt, &text[..count], answer)
+}
+
 pub fn print_refusal(rt: &impl Print, verdict: Verdict) -> io::Result<()> {
     print!(rt; " refused {} at {}", verdict.number, verdict.place)
+}
+
+// The refusal, where there is one.
+pub fn print_if_refused(rt: &impl Print, verdict: Verdict) -> io::Result<()>
+    ensures { verdict.number ≡ 0 → IsOk result }
+{
+    if verdict.number == 0 {
+        return Ok(());
+    }
+    print_refusal(rt, verdict)
 }

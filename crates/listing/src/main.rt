@@ -9,13 +9,9 @@ ghost use Rattle.placement.specs.Showing.{pairs, visits_of};
 ghost use Rattle.plan.specs.Plan.{showing_in};
 ghost use Rattle.plan.specs.Answer.{is_plan};
 
-use lines::{
-    Showing, asked_showing, has_more_arguments, plan_film, position_buffer, print_refusal,
-    unless_gone,
-};
+use lines::print_planned;
 use numbers::showings::PAIRS;
 use plan::{Plan, blocks_before};
-use program_input::read_full;
 use std::io;
 
 fn print_figures(rt: &impl Print, plan: Plan) -> io::Result<()> {
@@ -105,31 +101,21 @@ fn print_all_halves(rt: &impl Print, plan: Plan, positions: &[u8], leads: &[u8])
     Ok(())
 }
 
-// The listing of a card: its plan, or the refusal.
-fn list(rt: &impl Print, showing: Showing, card: &[u8]) -> io::Result<()> {
-    let mut positions = position_buffer();
-    let mut leads = [0u8; 65536];
-    let planned = plan_film(showing, card, &mut positions, &mut leads);
-    let verdict = planned.verdict;
-    if verdict.number != 0 {
-        return print_refusal(rt, verdict);
-    }
-    let plan = planned.plan;
+// The listing of a plan, whose lists begin with its positions and leads.
+fn list(rt: &impl Print, plan: Plan, positions: &[u8], leads: &[u8]) -> io::Result<()>
+    requires plan { is_plan plan positions.now leads.now ≡ true }
+    requires legal { Legal (visits_of (showing_in plan)) plan.figures }
+{
     print_figures(rt, plan)?;
     print_films(rt, plan)?;
     if plan.showing == PAIRS {
-        return print_all_halves(rt, plan, &positions, &leads);
+        return print_all_halves(rt, plan, positions, leads);
     }
-    print_blocks(rt, plan, &positions, &leads)
+    print_blocks(rt, plan, positions, leads)
 }
 
-// Every refusal of a card is decided within its first 1,520 bytes, so what is read is enough of any input.
 fn main(rt: HostRuntime) -> io::Result<()> {
-    let showing = asked_showing(&rt);
-    if has_more_arguments(&rt, showing) {
-        return println!(rt; "usage: listing [loop|pairs]");
-    }
-    let mut input = [0u8; 4096];
-    let count = read_full(&mut rt.stdin(), &mut input)?;
-    unless_gone(list(&rt, showing, &input[..count]))
+    print_planned(&rt, &mut rt.stdin(), "listing", |plan, positions, leads| {
+        list(&rt, plan, positions, leads)
+    })
 }

@@ -5,10 +5,10 @@ ghost use Rattle.std.specs.Prelude.{◌≡◌, length};
 
 use card::{Figures, Verdict};
 use numbers::refusals::{
-    BLOCKS_ABOVE_POSITIONS, HALF_DEAD_TIME, LINE_FORM, RISING_TIME, WRONG_BLOCKS, WRONG_HEADING,
-    WRONG_POSITIONS, WRONG_ROW, WRONG_TIME, WRONG_ZONES,
+    HALF_DEAD_TIME, LINE_FORM, RISING_TIME, WRONG_HEADING, WRONG_ROW, WRONG_ZONES,
 };
-use program_input::read_full;
+use program_io::read_full;
+use program_io::refused::{Refused, common_cause};
 use std::env::{Env, FillError};
 use std::io;
 
@@ -61,26 +61,23 @@ fn cause(number: u32) -> &'static str {
         WRONG_HEADING => "turns, track switch time, heads or sectors in a block out of range",
         WRONG_ROW => "row out of range, or not following on the cylinder before",
         WRONG_ZONES => "no zone, or over 64",
-        WRONG_POSITIONS => "zone without positions, or total so far too great",
-        WRONG_TIME => "zone time out of range",
         RISING_TIME => "zone time above that of the next zone inward",
-        WRONG_BLOCKS => "film blocks out of range",
-        BLOCKS_ABOVE_POSITIONS => "film blocks above positions",
         HALF_DEAD_TIME => "zone time, times three, below the innermost zone's time",
-        _ => "rate, hop or return out of range",
+        _ => common_cause(number).unwrap_or("rate, hop or return out of range"),
     }
 }
 
 // A refusal of the text names its line, a later one none.
-fn print_refusal(err: &impl Print, verdict: Verdict) -> io::Result<()> {
-    let why = cause(verdict.number);
-    if verdict.place == 0 {
-        return println!(err; "makercard: refused {}: {why}", verdict.number);
+fn refused(verdict: Verdict) -> Refused {
+    let line = match verdict.place {
+        0 => None,
+        place => Some(place as u64),
+    };
+    Refused {
+        number: verdict.number,
+        line,
+        cause: cause(verdict.number),
     }
-    println!(err;
-        "makercard: refused {} at line {}: {why}",
-        verdict.number, verdict.place
-    )
 }
 
 // Writes the card of figures.
@@ -111,7 +108,7 @@ fn answer(rt: HostRuntime, arguments: Arguments) -> io::Result<()> {
     let read = maker::read_maker(&text[..count], blocks, rate, hop, back);
     let verdict = read.verdict;
     if verdict.number != 0 {
-        return print_refusal(&err, verdict);
+        return println!(err; "makercard: {}", refused(verdict));
     }
     write_card(&rt, &err, read.figures)
 }

@@ -3,7 +3,7 @@
 use Prim.Native.Nat.{ℕ, zero, suc, ◌+◌, ◌-◌, ◌*◌, ◌≤◌, ◌<◌}
 use mathlib.Core.Path.{◌≡◌, refl, sym, ap, subst, ◌∙◌}
 use mathlib.Core.List.{List, [], ◌∷◌}
-use mathlib.Core.Bool.{Bool, true, false, cond, not}
+use mathlib.Core.Bool.{Bool, true, false, cond}
 use mathlib.Core.Logic.{◌⊎◌, inl, inr}
 use native.Mathlib.Omega.{arith}
 use native.Mathlib.Numerals.{add-one}
@@ -12,7 +12,7 @@ use lib.Seq.{drop-cons, take-append_seam, set_split}
 use lib.Dec.{ltb}
 use borrow.Author.Tests.{lt-ltb, le-ltb, eq-eqb, ne_eqb, ltb-true, ltb-false}
 use Rattle.std.specs.List.{filter}
-use Rattle.std.specs.Prelude.{Result, Ok, Err, IfOk}
+use Rattle.std.specs.Prelude.{Option, Some, None, min, unwrap_or, Result, Ok, Err, IfOk}
 use Rattle.laws.specs.Overwrite.{overwrite, overwrite_more, overwrite_front, overwrite_length}
 use Rattle.numbers.specs.Limits.{no_number}
 use Rattle.decimal.specs.Decimal.{capped, grown}
@@ -26,55 +26,53 @@ use Rattle.card_writer.specs.Put.{Room}
 use Rattle.card_writer.proofs.WriterWays.{Writes, writes_done}
 use Rattle.mkcard.specs.declared.make.Refusal.{Refusal}
 use Rattle.mkcard.specs.declared.scan.Scan.{Scan}
-use Rattle.mkcard.specs.Scan.{most_words, most_bytes, max_line, ended, line_after, commented, longer, blank}
+use Rattle.mkcard.specs.Scan.{most_words, most_bytes, max_line, ended, ended_by, line_after, commented, longer, blank}
 use Rattle.mkcard.specs.Scan.{stepped, scanned, numbers_from, card_of_words, numbers_in, line_of, made_by, made}
 
 -- ---- one byte
 
 -- a scan with the words of s, in a line, in a comment or not, in a word of this value or not
-abbrev scan_at : Scan → ℕ → Bool → Bool → ℕ → Scan
-scan_at s line comment inside value = record {
+abbrev scan_at : Scan → ℕ → Bool → Option ℕ → Scan
+scan_at s line comment word = record {
   line = line;
   comment = comment;
-  inside = inside;
-  value = value;
+  word = word;
   count = s.count;
   values = s.values;
   lines = s.lines;
 }
 
 module _ (s : Scan) where
-  pub ended_none : s.inside ≡ false → s ≡ ended s
-  unfolding ended
+  pub ended_none : s.word ≡ None → s ≡ ended s
+  unfolding ended ended_by
   ended_none e = rw e
 
-  module _ (e : s.inside ≡ true) where
+  module _ (value : ℕ) (e : s.word ≡ Some value) where
     pub ended_full : most_words ≤ s.count
-        → scan_at s s.line s.comment false 0 ≡ ended s
-    unfolding ended
+        → scan_at s s.line s.comment None ≡ ended s
+    unfolding ended ended_by
     ended_full h = rw (e, le-ltb s.count most_words h)
 
     pub ended_kept : s.count < most_words
         → ◌≡◌ {A = Scan} (record {
           line = s.line;
           comment = s.comment;
-          inside = false;
-          value = 0;
+          word = None;
           count = s.count + 1;
-          values = set s.values s.count s.value;
+          values = set s.values s.count value;
           lines = set s.lines s.count s.line;
         }) (ended s)
-    unfolding ended
+    unfolding ended ended_by
     ended_kept h = rw (e, lt-ltb s.count most_words h)
 
 module _ (s : Scan) (b : ℕ) where
   pub step_last : (t : Scan) → t ≡ ended s → b ≡ 10 → max_line ≤ t.line
-      → scan_at t t.line false t.inside t.value ≡ stepped s b
+      → scan_at t t.line false t.word ≡ stepped s b
   unfolding stepped line_after
   step_last t e h k = rw (eq-eqb b 10 h, sym e, le-ltb t.line max_line k)
 
   pub step_line : (t : Scan) → t ≡ ended s → b ≡ 10 → t.line < max_line
-      → scan_at t (t.line + 1) false t.inside t.value ≡ stepped s b
+      → scan_at t (t.line + 1) false t.word ≡ stepped s b
   unfolding stepped line_after
   step_line t e h k = rw (eq-eqb b 10 h, sym e, lt-ltb t.line max_line k)
 
@@ -85,7 +83,7 @@ module _ (s : Scan) (b : ℕ) where
 
     module _ (o : s.comment ≡ false) where
       pub step_hash : (t : Scan) → t ≡ ended s → b ≡ 35
-          → scan_at t t.line true t.inside t.value ≡ stepped s b
+          → scan_at t t.line true t.word ≡ stepped s b
       unfolding stepped commented
       step_hash t e h = rw (sym e, ne_eqb b 10 n, o, eq-eqb b 35 h)
 
@@ -94,18 +92,10 @@ module _ (s : Scan) (b : ℕ) where
         unfolding stepped
         step_blank e = rw (ne_eqb b 10 n, o, ne_eqb b 35 x, e)
 
-        pub step_word : blank b ≡ false → (v : ℕ) → v ≡ grown s.value b
-            → scan_at s s.line s.comment true v ≡ stepped s b
+        pub step_word : blank b ≡ false → (v : ℕ) → v ≡ grown (unwrap_or s.word 0) b
+            → scan_at s s.line s.comment (Some v) ≡ stepped s b
         unfolding stepped longer
         step_word e v q = rw (ne_eqb b 10 n, ne_eqb b 35 x, e, q, o)
-
-pub off : (b : Bool) → not b ≡ true → b ≡ false
-off true e = sym e
-off false e = refl
-
-pub on : (b : Bool) → not b ≡ false → b ≡ true
-on true e = refl
-on false e = sym e
 
 pub blank_key : (b : ℕ) → (b ≡ 9) ⊎ ((b ≡ 13) ⊎ (b ≡ 32)) → blank b ≡ true
 unfolding blank
@@ -166,10 +156,11 @@ module _ (s : Scan) where
   numbers_end zero i h = refl
   numbers_end (suc left) i h = rw (le-ltb i s.count h)
 
-  pub numbers_done : (left i : ℕ) → left ≤ 0 → numbers_from left i s ≡ []
+  -- past the words, or past those that are kept
+  pub numbers_done : (left i : ℕ) → i + left ≡ most_words → min s.count most_words ≤ i → numbers_from left i s ≡ []
   unfolding numbers_from
-  numbers_done zero i h = refl
-  numbers_done (suc left) i h = absurd (omega arith)
+  numbers_done zero i e h = refl
+  numbers_done (suc left) i e h = rw (le-ltb i s.count (omega arith))
 
   numbers_long : (left i : ℕ) → length (bytes_of (numbers_from left i s)) ≤ 5 * left
   unfolding numbers_from bytes_of

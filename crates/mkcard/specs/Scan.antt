@@ -1,5 +1,5 @@
 -- A text of figures: which words it has, and the value and the line of each.
-use Rattle.std.specs.Prelude.{ℕ, zero, suc, ◌+◌, ◌^◌, ◌<◌, List, [], ◌∷◌, ◌++◌, Bool, true, false, cond, ◌&&◌, ◌||◌, length, get_or, set, take, replicate, ltb, eqb, Result, Ok, Err}
+use Rattle.std.specs.Prelude.{ℕ, zero, suc, ◌+◌, ◌^◌, ◌<◌, List, [], ◌∷◌, ◌++◌, Bool, true, false, cond, ◌&&◌, ◌||◌, length, get_or, set, take, replicate, ltb, eqb, Option, Some, None, unwrap_or, Result, Ok, Err}
 use Rattle.numbers.specs.Limits.{no_number}
 use Rattle.decimal.specs.Decimal.{digits, capped, grown}
 use Rattle.card.specs.Card.{bytes_of}
@@ -17,24 +17,25 @@ most_bytes = 2035
 
 -- before the first byte
 unfoldable pub begun : Scan
-begun = record { line = 1; comment = false; inside = false; value = 0; count = 0; values = replicate most_words 0; lines = replicate most_words 0 }
+begun = record { line = 1; comment = false; word = None; count = 0; values = replicate most_words 0; lines = replicate most_words 0 }
 
--- a word ends: its value and its line are kept, if it is among the first 407
-unfoldable pub ended : Scan → Scan
-ended s =
-    cond s.inside
-    (cond (ltb s.count most_words)
+-- a word ends, if there is one: its value and its line are kept, if it is among the first 407
+unfoldable pub ended_by : Scan → Option ℕ → Scan
+ended_by s None = s
+ended_by s (Some value) =
+    cond (ltb s.count most_words)
     (record {
       line = s.line;
       comment = s.comment;
-      inside = false;
-      value = 0;
+      word = None;
       count = s.count + 1;
-      values = set s.values s.count s.value;
+      values = set s.values s.count value;
       lines = set s.lines s.count s.line;
     })
-    (record { line = s.line; comment = s.comment; inside = false; value = 0; count = s.count; values = s.values; lines = s.lines }))
-    s
+    (record { line = s.line; comment = s.comment; word = None; count = s.count; values = s.values; lines = s.lines })
+
+unfoldable pub ended : Scan → Scan
+ended s = ended_by s s.word
 
 -- lines are counted to 2^64 - 1
 abbrev pub max_line : ℕ
@@ -45,18 +46,17 @@ unfoldable pub line_after : Scan → Scan
 line_after s = record {
   line = cond (ltb s.line max_line) (s.line + 1) s.line;
   comment = false;
-  inside = s.inside;
-  value = s.value;
+  word = s.word;
   count = s.count;
   values = s.values;
   lines = s.lines;
 }
 
 unfoldable pub commented : Scan → Scan
-commented s = record { line = s.line; comment = true; inside = s.inside; value = s.value; count = s.count; values = s.values; lines = s.lines }
+commented s = record { line = s.line; comment = true; word = s.word; count = s.count; values = s.values; lines = s.lines }
 
 unfoldable pub longer : Scan → ℕ → Scan
-longer s b = record { line = s.line; comment = s.comment; inside = true; value = grown s.value b; count = s.count; values = s.values; lines = s.lines }
+longer s b = record { line = s.line; comment = s.comment; word = Some (grown (unwrap_or s.word 0) b); count = s.count; values = s.values; lines = s.lines }
 
 -- tab, carriage return, space
 unfoldable pub blank : ℕ → Bool

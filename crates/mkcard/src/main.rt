@@ -4,14 +4,14 @@
 mod make; // the card of the words
 mod scan; // the words of a text
 
-use crate::make::make_card;
+use crate::make::{Refusal, make_card};
 use crate::scan::{Scan, end_word, read_text};
 use numbers::refusals::{
-    BLOCKS_ABOVE_POSITIONS, CARD_ENDS, HALF_DEAD_TIME, NUMBER_FORM, RISING_TIME, WRONG_BLOCKS,
-    WRONG_FILMS, WRONG_KIND, WRONG_MEASURE, WRONG_OVERHEAD, WRONG_POSITIONS, WRONG_TIME,
-    WRONG_ZONES,
+    CARD_ENDS, HALF_DEAD_TIME, NUMBER_FORM, RISING_TIME, WRONG_FILMS, WRONG_KIND, WRONG_MEASURE,
+    WRONG_OVERHEAD, WRONG_ZONES,
 };
-use program_input::read_full;
+use program_io::read_full;
+use program_io::refused::{Refused, common_cause};
 use std::io;
 
 // The cause of a refusal, 1 to 11 of document 01 or 25, 26 and 30 of document 02.
@@ -21,16 +21,21 @@ fn cause(number: u32) -> &'static str {
         NUMBER_FORM => "not a decimal number, or above 4,294,967,295",
         WRONG_KIND => "kind not 1 or 2",
         WRONG_ZONES => "zones out of range",
-        WRONG_POSITIONS => "zone without positions, or total so far too great",
-        WRONG_TIME => "zone time out of range",
         RISING_TIME => "zone time above the one before",
-        WRONG_BLOCKS => "film blocks out of range",
-        BLOCKS_ABOVE_POSITIONS => "film blocks above positions",
         WRONG_MEASURE => "block bytes, rate, hop or return out of range",
         WRONG_OVERHEAD => "overhead out of range, or below the one before",
         HALF_DEAD_TIME => "zone time, times three, below the first zone's time",
         WRONG_FILMS => "films out of range, or blocks of all films above 16,384",
-        _ => "numbers left over",
+        _ => common_cause(number).unwrap_or("numbers left over"),
+    }
+}
+
+// A refusal names the line of the number at fault.
+fn refused(refusal: Refusal) -> Refused {
+    Refused {
+        number: refusal.number,
+        line: Some(refusal.line),
+        cause: cause(refusal.number),
     }
 }
 
@@ -44,13 +49,7 @@ fn answer(out: &impl Print, err: &impl Print, s: Scan) -> io::Result<()> {
             }
             Ok(())
         }
-        Err(refusal) => {
-            let why = cause(refusal.number);
-            println!(err;
-                "mkcard: refused {} at line {}: {why}",
-                refusal.number, refusal.line
-            )
-        }
+        Err(refusal) => println!(err; "mkcard: {}", refused(refusal)),
     }
 }
 

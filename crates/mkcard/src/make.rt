@@ -36,11 +36,8 @@ fn write_words(s: Scan, out: &mut [u8]) -> usize
     ensures { (result ≡ length (card_of_words s)) × (out.new ≡ overwrite out.old 0 (card_of_words s)) }
 {
     let mut at: usize = 0;
-    for i in 0..WORDS {
-        if s.count <= i {
-            return at;
-        }
-        at = write_word(out, at, s.values[i]);
+    for &value in &s.values[..s.count.min(WORDS)] {
+        at = write_word(out, at, value);
     }
     at
 }

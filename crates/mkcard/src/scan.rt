@@ -18,10 +18,8 @@ pub struct Scan {
     pub line: u64,
     // In a comment.
     pub comment: bool,
-    // In a word.
-    pub inside: bool,
-    // The value of the word so far; 0 outside of words, NO_NUMBER where it is none.
-    pub value: u64,
+    // The value of the word so far, NO_NUMBER where it is no number; outside of words there is none.
+    pub word: Option<u64>,
     // How many words are kept.
     pub count: usize,
     // The value and the line of each word.
@@ -36,8 +34,7 @@ pub fn start() -> Scan
     Scan {
         line: 1,
         comment: false,
-        inside: false,
-        value: 0,
+        word: None,
         count: 0,
         values: [0u64; WORDS],
         lines: [0u64; WORDS],
@@ -48,17 +45,16 @@ pub fn start() -> Scan
 pub fn end_word(s: Scan) -> Scan
     ensures { result ≡ ended s }
 {
-    if !s.inside {
+    let Some(value) = s.word else {
         return s;
-    }
+    };
     let i = s.count;
     let mut next = s;
-    next.inside = false;
-    next.value = 0;
+    next.word = None;
     if WORDS <= i {
         return next;
     }
-    next.values[i] = s.value;
+    next.values[i] = value;
     next.lines[i] = s.line;
     next.count = i + 1;
     next
@@ -90,8 +86,7 @@ fn step(s: Scan, byte: u8) -> Scan
         b' ' | b'\t' | b'\r' => end_word(s),
         _ => {
             let mut next = s;
-            next.inside = true;
-            next.value = grow(s.value, byte);
+            next.word = Some(grow(s.word.unwrap_or(0), byte));
             next
         }
     }

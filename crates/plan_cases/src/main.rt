@@ -14,9 +14,8 @@
 #![tactic(auto)]
 
 use card::Figures;
-use case_text::{next_case, no_case, print_refusal, read_bytes, read_number, read_record};
+use case_text::{print_if_refused, read_bytes, read_number, read_record, run_cases};
 use plan::{Plan, Planned};
-use program_input::read_full;
 use std::io;
 
 // How the film of a case is shown.
@@ -73,10 +72,7 @@ fn print_answer(
     positions: &[u8],
     leads: &[u8],
 ) -> io::Result<()> {
-    let verdict = planned.verdict;
-    if verdict.number != 0 {
-        print_refusal(rt, verdict)?;
-    }
+    print_if_refused(rt, planned.verdict)?;
     let plan = planned.plan;
     print!(rt; " {} {} {}", plan.streams, plan.buffer, plan.worst2)?;
     print!(rt; " {} {} {}", plan.margin, plan.showing, plan.worstat)?;
@@ -196,14 +192,11 @@ fn run_with(
 fn run_case(
     rt: &impl Print,
     text: &[u8],
-    letter: Option<u8>,
+    letter: u8,
     start: usize,
     positions: &mut [u8],
     leads: &mut [u8],
 ) -> io::Result<()> {
-    let Some(letter) = letter else {
-        return Ok(());
-    };
     let size = read_number(text, start);
     let p = (size.value as usize).min(positions.len());
     let other = read_number(text, size.next);
@@ -218,25 +211,10 @@ fn run_case(
     )
 }
 
-// Every line: its name up to the colon, then the answer.
-fn run_cases(
-    rt: &impl Print,
-    text: &[u8],
-    positions: &mut [u8],
-    leads: &mut [u8],
-) -> io::Result<()> {
-    let mut case = no_case();
-    while case.end < text.len() {
-        case = next_case(rt, text, case)?;
-        run_case(rt, text, case.letter, case.start, positions, leads)?;
-    }
-    Ok(())
-}
-
 fn main(rt: HostRuntime) -> io::Result<()> {
-    let mut input = [0u8; 65536];
-    let count = read_full(&mut rt.stdin(), &mut input)?;
     let mut positions = [0u8; 65536];
     let mut leads = [0u8; 65536];
-    run_cases(&rt, &input[..count], &mut positions, &mut leads)
+    run_cases(&rt, &mut rt.stdin(), |text, letter, start| {
+        run_case(&rt, text, letter, start, &mut positions, &mut leads)
+    })
 }

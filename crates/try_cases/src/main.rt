@@ -8,16 +8,12 @@
 // A line is printed for each: its name, the refusal if there is one, worst2, and how many layings have it.
 #![tactic(auto)]
 
-use case_text::{next_case, no_case, print_refusal, read_bytes, read_record};
-use program_input::read_full;
+use case_text::{print_if_refused, read_bytes, read_record, run_cases};
 use std::io;
 use try_all::{Tried, try_card, try_loop_card, try_loop_record, try_record};
 
 fn print_answer(rt: &impl Print, tried: Tried) -> io::Result<()> {
-    let verdict = tried.verdict;
-    if verdict.number != 0 {
-        print_refusal(rt, verdict)?;
-    }
+    print_if_refused(rt, tried.verdict)?;
     print!(rt; " {} {}", tried.worst2, tried.count)
 }
 
@@ -42,26 +38,8 @@ fn try_film(text: &[u8], letter: u8, start: usize) -> Tried {
     }
 }
 
-// Tries what stands from `start` on, where there is a letter.
-fn run_case(rt: &impl Print, text: &[u8], letter: Option<u8>, start: usize) -> io::Result<()> {
-    match letter {
-        Some(letter) => print_answer(rt, try_film(text, letter, start)),
-        None => Ok(()),
-    }
-}
-
-// Every line: its name up to the colon, then the answer.
-fn run_cases(rt: &impl Print, text: &[u8]) -> io::Result<()> {
-    let mut case = no_case();
-    while case.end < text.len() {
-        case = next_case(rt, text, case)?;
-        run_case(rt, text, case.letter, case.start)?;
-    }
-    Ok(())
-}
-
 fn main(rt: HostRuntime) -> io::Result<()> {
-    let mut input = [0u8; 65536];
-    let count = read_full(&mut rt.stdin(), &mut input)?;
-    run_cases(&rt, &input[..count])
+    run_cases(&rt, &mut rt.stdin(), |text, letter, start| {
+        print_answer(&rt, try_film(text, letter, start))
+    })
 }

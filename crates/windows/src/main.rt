@@ -6,14 +6,10 @@ ghost use Rattle.std.specs.Prelude.{◌≡◌, ◌*◌, ◌/◌, ◌≤◌, ◌<
 ghost use Rattle.numbers.specs.Limits.{max_films, max_window};
 ghost use Rattle.numbers.specs.Units.{micros};
 
-use lines::{
-    Showing, asked_showing, has_more_arguments, plan_film, position_buffer, print_refusal,
-    unless_gone,
-};
+use lines::print_planned;
 use numbers::limits::MAX_WINDOW;
 use numbers::units::MICROS;
 use plan::Plan;
-use program_input::read_full;
 use std::io;
 use window::{longest, worst_window};
 
@@ -56,25 +52,8 @@ fn print_windows(rt: &impl Print, plan: Plan, positions: &[u8]) -> io::Result<()
     Ok(())
 }
 
-// The windows of a card, or the refusal.
-fn list(rt: &impl Print, showing: Showing, card: &[u8]) -> io::Result<()> {
-    let mut positions = position_buffer();
-    let mut leads = [0u8; 65536];
-    let planned = plan_film(showing, card, &mut positions, &mut leads);
-    let verdict = planned.verdict;
-    if verdict.number != 0 {
-        return print_refusal(rt, verdict);
-    }
-    print_windows(rt, planned.plan, &positions)
-}
-
-// Every refusal of a card is decided within its first 1,520 bytes, so what is read is enough of any input.
 fn main(rt: HostRuntime) -> io::Result<()> {
-    let showing = asked_showing(&rt);
-    if has_more_arguments(&rt, showing) {
-        return println!(rt; "usage: windows [loop|pairs]");
-    }
-    let mut input = [0u8; 4096];
-    let count = read_full(&mut rt.stdin(), &mut input)?;
-    unless_gone(list(&rt, showing, &input[..count]))
+    print_planned(&rt, &mut rt.stdin(), "windows", |plan, positions, _| {
+        print_windows(&rt, plan, positions)
+    })
 }

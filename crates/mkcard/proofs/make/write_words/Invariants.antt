@@ -4,5 +4,7 @@ use Rattle.card_writer.proofs.WriterWays.{Writes}
 use Rattle.mkcard.specs.Scan.{most_words, numbers_from}
 use Rattle.mkcard.proofs.make.write_words.Given as goal
 
-abbrev pub invariant-loop-i : goal.invariant-loop-i
-invariant-loop-i l = (l.at ≤ 5 * l.i) × Writes true l.initial.out 0 (numbers_from most_words 0 l.s) l.out l.at (numbers_from (most_words - l.i) l.i l.s)
+abbrev pub invariant-loop-value : goal.invariant-loop-value
+invariant-loop-value l =
+    let i = l.value-index in
+    (l.at ≤ 5 * i) × Writes true l.initial.out 0 (numbers_from most_words 0 l.fn.s) l.out l.at (numbers_from (most_words - i) i l.fn.s)

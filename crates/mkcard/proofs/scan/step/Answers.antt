@@ -19,4 +19,4 @@ pub returns-in-32 : goal.returns-in-32
 returns-in-32 c = c.end_word.ensures ∙ step_blank _ _ c.if-byte-eq10.false c.if-s.false c.if-byte-eq35.false (blank_key _ c.in-32.is)
 
 pub returns-in_default : goal.returns-in_default
-returns-in_default c = step_word _ _ c.if-byte-eq10.false c.if-s.false c.if-byte-eq35.false (blank_none c.args.byte (search rules)) c.grow.result c.grow.ensures
+returns-in_default c = step_word _ _ c.if-byte-eq10.false c.if-s.false c.if-byte-eq35.false (blank_none c.args.byte (search rules)) c.grow.result (search rules)

@@ -1,6 +1,6 @@
 -- `read_full` ends, since each turn leaves less to fill.
 use Rattle.std.proofs.Common.{length, ◌-◌, ◌≡◌, ◌≤◌, ◌<◌, ◌^◌}
-use Rattle.program_input.proofs.read_full.Given as goal
+use Rattle.program_io.proofs.read_full.Given as goal
 
 abbrev pub invariant-loop-done : goal.invariant-loop-done
 invariant-loop-done g l = (length l.room ≡ length l.initial.room) × (l.done ≤ length l.room) × (length l.room < 2 ^ 64)

@@ -1,5 +1,7 @@
-// What the programs read of their input.
+// What the programs share of their input and of what they say: reading, and the refusal of a text of figures.
 #![tactic(auto)]
+
+pub mod refused; // the refusal of a text of figures
 
 ghost use Rattle.std.specs.Prelude.{◌≤◌, length, IfOk};
 
