@@ -19,7 +19,7 @@ pub struct Entry {
 }
 
 // What a digit stands for, a to f being 10 to 15.
-fn digit(byte: u8) -> Option<u8>
+pub fn digit(byte: u8) -> Option<u8>
     ensures { IfSome result (λ d. d < 16) }
 {
     match byte {
@@ -128,14 +128,14 @@ pub fn read_bytes(text: &[u8], start: usize, out: &mut [u8]) -> usize
 
 // A case: the letter for what is done, none where its line has no colon or no end; where what follows the letter begins; and where its line ends.
 #[derive(Clone, Copy)]
-struct Case {
-    letter: Option<u8>,
-    start: usize,
-    end: usize,
+pub struct Case {
+    pub letter: Option<u8>,
+    pub start: usize,
+    pub end: usize,
 }
 
 // Before the first case.
-fn no_case() -> Case {
+pub fn no_case() -> Case {
     Case {
         letter: None,
         start: 0,
@@ -156,7 +156,7 @@ fn next_letter(letter: Option<u8>, byte: u8) -> Option<u8> {
 }
 
 // The case after the last one. Its name is printed up to the colon, and before it the line feed that ends the last one.
-fn next_case(rt: &impl Print, text: &[u8], last: Case) -> io::Result<Case>
+pub fn next_case(rt: &impl Print, text: &[u8], last: Case) -> io::Result<Case>
     requires { last.end < length text.now }
     ensures { IfOk result (λ next. last.end < next.end) }
 {

@@ -19,14 +19,14 @@ use std::io::{ErrorKind, Read};
 
 // How the films of a card are shown.
 #[derive(Clone, Copy)]
-enum Showing {
+pub enum Showing {
     Once,
     Loop,
     Pairs,
 }
 
 // What came of printing; a reader that has gone, as `head` does after its lines, is no failure.
-fn unless_gone(done: io::Result<()>) -> io::Result<()>
+pub fn unless_gone(done: io::Result<()>) -> io::Result<()>
     ensures printed { OnOk done (IsOk result) }
     ensures gone { IfErr done (λ e. error_kind e ≡ ErrorKind.BrokenPipe → IsOk result) }
     ensures failed { IfErr done (λ e. error_kind e ≢ ErrorKind.BrokenPipe → result ≡ Err e) }
@@ -43,7 +43,7 @@ fn unless_gone(done: io::Result<()>) -> io::Result<()>
 }
 
 // The line of a refused card.
-fn print_refusal(rt: &impl Print, verdict: Verdict) -> io::Result<()> {
+pub fn print_refusal(rt: &impl Print, verdict: Verdict) -> io::Result<()> {
     println!(rt; "refused {} at {}", verdict.number, verdict.place)
 }
 
@@ -57,7 +57,7 @@ fn showing_of(word: &[u8]) -> Showing {
 }
 
 // The showing that the first argument asks for. A longer one than fits is read as none.
-fn asked_showing(rt: &impl Env) -> Showing {
+pub fn asked_showing(rt: &impl Env) -> Showing {
     let mut word = [0u8; 8];
     match rt.arg(1, &mut word) {
         Ok(length) => showing_of(&word[..length]),
@@ -74,20 +74,20 @@ fn most_arguments(showing: Showing) -> usize {
 }
 
 // Has the program more arguments than it reads?
-fn has_more_arguments(rt: &impl Env, showing: Showing) -> bool {
+pub fn has_more_arguments(rt: &impl Env, showing: Showing) -> bool {
     let next = rt.arg(most_arguments(showing), &mut []);
     !matches!(next, Err(FillError::NotPresent))
 }
 
 // Room for the positions of all films, two for each of their half blocks.
-fn position_buffer() -> [u8; 131072]
+pub fn position_buffer() -> [u8; 131072]
     ensures { 131072 ≡ length result }
 {
     [0; 131072]
 }
 
 // The plan of a card for half blocks, as a loop or for one showing, and its lists.
-fn plan_film(showing: Showing, card: &[u8], positions: &mut [u8], leads: &mut [u8]) -> Planned
+pub fn plan_film(showing: Showing, card: &[u8], positions: &mut [u8], leads: &mut [u8]) -> Planned
     ensures plan { result.verdict.number ≡ 0 → is_plan result.plan positions.new leads.new ≡ true }
     ensures legal { result.verdict.number ≡ 0 → Legal (visits_of (showing_in result.plan)) result.plan.figures }
 {
