@@ -34,11 +34,11 @@ fn read_digits(text: &[u8], start: usize) -> (u64, usize)
 {
     let mut value: u64 = 0;
     let mut next = start;
-    for &byte in text.iter().skip(start) {
-        if !is_digit(byte) {
+    for at in start..text.len() {
+        if !is_digit(text[at]) {
             break;
         }
-        value = grow(value, byte);
+        value = grow(value, text[at]);
         next += 1;
     }
     (value, next)

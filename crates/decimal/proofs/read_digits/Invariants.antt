@@ -1,6 +1,6 @@
-use Rattle.std.proofs.Common.{◌≡◌, ◌+◌, length}
+use Rattle.std.proofs.Common.{◌≡◌}
 use Rattle.decimal.proofs.DigitWays.{Reading}
 use Rattle.decimal.proofs.read_digits.Given as goal
 
-abbrev pub invariant-loop-byte : goal.invariant-loop-byte
-invariant-loop-byte l = (l.next ≡ l.fn.start + length l.yielded) × Reading l.fn.text l.fn.start l.value l.next
+abbrev pub invariant-loop-at : goal.invariant-loop-at
+invariant-loop-at l = (l.next ≡ l.at) × Reading l.fn.text l.fn.start l.value l.at
