@@ -32,7 +32,8 @@ pub fn put_word(list: &mut [u8], i: usize, v: u32)
     requires { i < length (words_of list.old) }
     ensures { list.new ≡ with_word list.old i v }
 {
-    list[4 * i..4 * i + 4].copy_from_slice(&v.to_le_bytes());
+    let at = 4 * i;
+    list[at..at + 4].copy_from_slice(&v.to_le_bytes());
 }
 
 // Fills out with the entries from start on.
