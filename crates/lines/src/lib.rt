@@ -8,8 +8,10 @@ ghost use Rattle.placement.specs.Showing.{visits_of};
 ghost use Rattle.plan.specs.Plan.{showing_in};
 ghost use Rattle.plan.specs.Answer.{is_plan};
 ghost use Rattle.lines.specs.Printed.{TakesPlans};
+ghost use Rattle.lines.specs.Shown.{numbered};
 
 use card::Verdict;
+use numbers::showings::{LOOP, PAIRS};
 use plan::{Plan, Planned};
 use planner::{plan_card, plan_loop_card, plan_pairs_card};
 use program_io::read_full;
@@ -23,6 +25,20 @@ pub enum Showing {
     Once,
     Loop,
     Pairs,
+}
+
+// The showing of a number of `numbers::showings`, once through of any other.
+impl From<u32> for Showing {
+    ghost from_gives = { λ number showing. showing ≡ numbered number };
+
+    #[tactic(auto, unfolding(crate::specs::Shown::numbered))]
+    fn from(number: u32) -> Showing {
+        match number {
+            LOOP => Showing::Loop,
+            PAIRS => Showing::Pairs,
+            _ => Showing::Once,
+        }
+    }
 }
 
 // What came of printing; a reader that has gone, as `head` does after its lines, is no failure.
@@ -74,8 +90,8 @@ fn most_arguments(showing: Showing) -> usize {
 }
 
 // Has the program more arguments than it reads?
-pub fn has_more_arguments(rt: &impl Env, showing: Showing) -> bool {
-    let next = rt.arg(most_arguments(showing), &mut []);
+pub fn has_more_arguments(rt: &impl Env, showing: impl Into<Showing>) -> bool {
+    let next = rt.arg(most_arguments(showing.into()), &mut []);
     !matches!(next, Err(FillError::NotPresent))
 }
 
@@ -87,7 +103,7 @@ pub fn position_buffer() -> [u8; 131072]
 }
 
 // The plan of a card for half blocks, as a loop or for one showing, and its lists.
-pub fn plan_film(showing: Showing, card: &[u8], positions: &mut [u8], leads: &mut [u8]) -> Planned
+fn plan_shown(showing: Showing, card: &[u8], positions: &mut [u8], leads: &mut [u8]) -> Planned
     ensures plan { result.verdict.number ≡ 0 → is_plan result.plan positions.new leads.new ≡ true }
     ensures legal { result.verdict.number ≡ 0 → Legal (visits_of (showing_in result.plan)) result.plan.figures }
 {
@@ -96,6 +112,19 @@ pub fn plan_film(showing: Showing, card: &[u8], positions: &mut [u8], leads: &mu
         Showing::Loop => plan_loop_card(card, positions, leads),
         Showing::Pairs => plan_pairs_card(card, positions, leads),
     }
+}
+
+// The same, by a showing or by its number.
+pub fn plan_film(
+    showing: impl Into<Showing>,
+    card: &[u8],
+    positions: &mut [u8],
+    leads: &mut [u8],
+) -> Planned
+    ensures plan { result.verdict.number ≡ 0 → is_plan result.plan positions.new leads.new ≡ true }
+    ensures legal { result.verdict.number ≡ 0 → Legal (visits_of (showing_in result.plan)) result.plan.figures }
+{
+    plan_shown(showing.into(), card, positions, leads)
 }
 
 // Prints what a program prints of the plan of a card and of its lists, or the refusal.

@@ -8,6 +8,7 @@ ghost use Rattle.maker.specs.Maker.{read_maker};
 
 use crate::figures::{answer, figures_of, refused_text, zones_of};
 use card::{Figures, Verdict};
+pub use maker_lines::Drive;
 use maker_lines::read_heading;
 use maker_rows::read_rows;
 use numbers::limits::MAX_ZONES;

@@ -2,7 +2,7 @@
 use Rattle.words.specs.Laws.{bytes_fit}
 use Rattle.placement.specs.Showing.{one, loop, pairs}
 use Rattle.lines.proofs.AcceptedPlan.{accepted_plan}
-use Rattle.lines.proofs.plan_film.Goals as goal
+use Rattle.lines.proofs.plan_shown.Goals as goal
 
 pub returns-in-Once-clause-plan : goal.returns-in-Once-clause-plan
 returns-in-Once-clause-plan c =
