@@ -23,6 +23,7 @@ fn refuse_open(desk: &mut [u8]) -> FilmdiskAnswer
 {
     if desk.len() == DESK_BYTES {
         clear_desk(desk);
+        return number_answer(NOT_SOUND);
     }
     number_answer(NOT_SOUND)
 }
