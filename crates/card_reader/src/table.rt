@@ -8,7 +8,7 @@ ghost use Rattle.card_reader.specs.Told.{row_with};
 
 use card_field::{Rule, read_field};
 use card_table::fill_straight;
-use numbers::limits::{MAX_MOVE, STRAIGHT};
+use numbers::limits::{MAX_MOVE, STRAIGHT, TABLE_LENGTH};
 use numbers::refusals::Refused;
 
 // Hop and return, and the table that they make.
@@ -35,12 +35,12 @@ fn read_entries(card: &[u8], start: usize, table: &mut [u32; 257]) -> Result<(u3
 {
     let mut at = start;
     let mut before: u32 = 0;
-    for entry in table.iter_mut() {
+    for k in 0..TABLE_LENGTH as usize {
         let number = read_field(card, at, Rule::Overhead, before);
         let Ok((overhead, next)) = number else {
             return number;
         };
-        *entry = overhead;
+        table[k] = overhead;
         before = overhead;
         at = next;
     }

@@ -59,7 +59,9 @@ fn fault_of_straight(table: &[u32; 257]) -> Result<(), Refusal>
     ensures { fault_in result ≡ straight_fault table.now }
 {
     let hop = hop_in(table);
-    fault(Rule::Measure, MAX_MOVE, hop)?;
+    if let Err(far) = fault(Rule::Measure, MAX_MOVE, hop) {
+        return Err(far);
+    }
     let back = table[0];
     fault(Rule::Measure, MAX_MOVE, back)?;
     fault_of_line(table, hop, back)

@@ -1,7 +1,7 @@
 -- The verdict on the draws of an end.
 -- Assumes nothing.
-use Prim.Native.Nat.{ℕ, ◌≤◌}
-use mathlib.Core.Path.{◌≡◌, sym, ap, ◌∙◌}
+use Prim.Native.Nat.{ℕ, ◌≤◌, ◌<◌}
+use mathlib.Core.Path.{◌≡◌, sym, ap, ◌∙◌, subst}
 use mathlib.Core.Logic.{◌≢◌, by_cases}
 use mathlib.Core.Bool.{true}
 use mathlib.Core.List.{List}
@@ -9,6 +9,7 @@ use native.Mathlib.Omega.{arith}
 use native.Mathlib.Decide.{ℕ_discrete}
 use lib.ListN.{length, get_or}
 use borrow.Author.Tests.{ne_eqb}
+use Rattle.std.specs.Prelude.{Option, None, Some, MatchOption, unwrap_or}
 use Rattle.laws.specs.Indices.{all_from}
 use Rattle.numbers.specs.Refusals.{draw_count, draw_above_limit, draw_above_held}
 use Rattle.numbers.specs.Slots.{playing, draining}
@@ -32,6 +33,19 @@ kind_draws m k a b = by_cases (ℕ_discrete k playing) (λ e. rw e) (λ e. let q
 pub kind_other : (m k : ℕ) → k ≢ playing → k ≢ draining → 0 ≡ kind_limit m k
 unfolding kind_limit
 kind_other m k a b = rw (ne_eqb k playing a, ne_eqb k draining b)
+
+-- ---- a search that answers n where it finds none
+
+module _ (limit : ℕ → ℕ) (ds : List ℕ) {n place : ℕ} (count : length ds ≡ n) where
+  pub found_first : (r : Option ℕ) → MatchOption r (NoneAbove limit ds (length ds)) (FirstAbove limit ds) → place ≡ unwrap_or r n → place < n
+      → FirstAbove limit ds place
+  found_first None m e h = absurd (omega (arith, e, h))
+  found_first (Some i) m e h = subst (FirstAbove limit ds) (sym e) m
+
+  pub found_none : (r : Option ℕ) → MatchOption r (NoneAbove limit ds (length ds)) (FirstAbove limit ds) → place ≡ unwrap_or r n → n ≤ place
+      → NoneAbove limit ds (length ds)
+  found_none None m e h = m
+  found_none (Some i) m e h = absurd (omega (arith, m.inside, count, e, h))
 
 -- ---- the verdict
 

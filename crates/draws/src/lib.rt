@@ -68,18 +68,18 @@ pub fn judge_draws<'a>(
             place: 0,
         };
     }
-    let excess = first_above(|i| draw_limit(kinds[i], most), draws);
-    let overdrawn = first_above(|i| held[i] as u64, draws);
-    if let Some(place) = excess {
+    let excess = first_above(|i| draw_limit(kinds[i], most), draws).unwrap_or(streams);
+    let overdrawn = first_above(|i| held[i] as u64, draws).unwrap_or(streams);
+    if excess < streams {
         return Verdict {
             number: DRAW_ABOVE_LIMIT,
-            place,
+            place: excess,
         };
     }
-    if let Some(place) = overdrawn {
+    if overdrawn < streams {
         return Verdict {
             number: DRAW_ABOVE_HELD,
-            place,
+            place: overdrawn,
         };
     }
     Verdict {

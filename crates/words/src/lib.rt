@@ -33,7 +33,8 @@ pub fn put_word(list: &mut [u8], i: usize, v: u32)
     ensures { list.new ≡ with_word list.old i v }
 {
     let at = 4 * i;
-    list[at..at + 4].copy_from_slice(&v.to_le_bytes());
+    let [b0, b1, b2, b3] = v.to_le_bytes();
+    list[at..at + 4].copy_from_slice(&[b0, b1, b2, b3]);
 }
 
 // Fills out with the entries from start on.

@@ -1,5 +1,5 @@
 use borrow.Rule.Slice.PartMut.{put_mid}
-use Rattle.std.specs.Prelude.{ℕ, ◌+◌, ◌-◌, ◌*◌, ◌<◌, ◌≡◌, List, [], ◌∷◌, ◌++◌, length, take}
+use Rattle.std.specs.Prelude.{ℕ, ◌+◌, ◌-◌, ◌*◌, ◌<◌, ◌≡◌, List, [], ◌∷◌, ◌++◌, length, get_or, take}
 use Rattle.std.proofs.Common.{sym, ap, ◌∙◌, arith, drop-drop}
 use Rattle.laws.specs.Overwrite.{overwrite}
 use Rattle.words.specs.Words.{words_of, with_word, bytes_of}
@@ -15,4 +15,6 @@ stored s ys i v h e =
 
 pub returns : goal.returns
 unfolding bytes_of
-returns c = stored _ _ _ _ c.requires cc
+returns c =
+    let taken = ap (λ (b : List ℕ). get_or b 0 0 ∷ (get_or b 1 0 ∷ (get_or b 2 0 ∷ (get_or b 3 0 ∷ [])))) c.to_le_bytes.ensures in
+    stored _ _ _ _ c.requires (c.copy_from_slice.ensures.after ∙ taken)

@@ -7,8 +7,8 @@ use Rattle.card.specs.declared.CardRead.{CardRead}
 use Rattle.card.specs.Read.{row_from, entries_from}
 use Rattle.card_reader.proofs.table.read_entries.Given as goal
 
--- the entries before this one are read
-abbrev pub invariant-loop-entry : goal.invariant-loop-entry
-invariant-loop-entry l =
+-- the entries before k are read
+abbrev pub invariant-loop-k : goal.invariant-loop-k
+invariant-loop-k l =
     (go : List ℕ → ℕ → CardRead)
-    → row_from (fault_of Overhead) last_entry (table_length - l.entry-index) l.card l.at l.before l.entry-index l.table go ≡ entries_from l.card l.start go
+    → row_from (fault_of Overhead) last_entry (table_length - l.k) l.card l.at l.before l.k l.table go ≡ entries_from l.card l.start go
