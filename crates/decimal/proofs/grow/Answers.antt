@@ -18,4 +18,4 @@ pub returns : goal.returns
 returns c =
     let d = digit_range _ (sym c.is_digit.ensures ∙ c.if-not-is_digit.false) in
     let next : c.min.result ≡ min (c.args.value * 10 + (c.args.byte - 48)) no_number = omega arith in
-    next ∙ capped_min _ ∙ grown_capped _ _ d.0 d.1
+    omega (arith, next, capped_min (c.args.value * 10 + (c.args.byte - 48)), grown_capped c.args.value c.args.byte d.0 d.1)
